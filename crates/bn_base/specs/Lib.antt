@@ -1,0 +1,4 @@
+pub mod Number
+pub mod NumberLaws
+pub mod Line
+pub mod LineLaws

@@ -1,0 +1,10 @@
+//! Numbers and lines of text, which all the texts of this project are made of.
+#![tactic(auto)]
+
+mod lines;
+mod numbers;
+#[cfg(test)]
+mod tests;
+
+pub use lines::{Lines, NextLine, one_cut};
+pub use numbers::{Digits, NoMemory, one_spelling, push_u64, read_u64};

@@ -1,0 +1,141 @@
+//! Numbers in decimal digits.
+ghost use Rattle.std.specs.Prelude.{◌≡◌, ◌↔◌, ℕ, ◌+◌, ◌^◌, ◌-◌, ◌≤◌, List, [], ◌++◌, length, take_while, drop, min, decimal, IfOk, OnOk, OnErr, IsErrOf};
+ghost use Rattle.std.specs.List.{prefix_len};
+ghost use Rattle.std.specs.Char.{is_ascii_digit};
+ghost use Rattle.std.specs.Str.Parse.{digits_value};
+ghost use Rattle.bn_base.specs.Number.{AreDigits, digits_at, HasLeadingZero, IsTooLarge, number_of, read_number, greatest, WhatIsReadIsSpelled, WhatIsSpelledIsRead, SpellingsDiffer};
+
+use itoa::Buffer;
+use std::alloc::AllocError;
+
+/// Why the bytes at a place are no number.
+#[derive(Clone, Copy, Debug, PartialEq, Eq)]
+pub enum Digits {
+    /// No digit stands there.
+    NoDigit,
+    /// There are two digits or more, and the first is a zero.
+    LeadingZero,
+    /// The number is above 2^62.
+    TooLarge,
+}
+
+/// Memory ran out.
+#[derive(Clone, Copy, Debug, PartialEq, Eq)]
+pub struct NoMemory;
+
+impl From<AllocError> for NoMemory {
+    fn from(_error: AllocError) -> NoMemory {
+        NoMemory
+    }
+}
+
+/// The greatest number that is read.
+const GREATEST: u64 = 1 << 62;
+
+/// Reads the longest run of ASCII digits from the place `at` on, which counts from 0 and is at most
+/// the length, and answers its value and the place behind it. `NoDigit` comes exactly where the run
+/// is empty, `LeadingZero` where it has two digits or more and begins with a zero, and `TooLarge`
+/// where it has neither fault and its value is above 2^62. It takes no memory.
+pub fn read_u64(bytes: &[u8], at: usize) -> Result<(u64, usize), Digits>
+    requires { at ≤ length bytes.now }
+    ensures reads { result ≡ read_number bytes.now at }
+    ensures value { IfOk result (λ read. read.0 ≡ digits_value 10 (digits_at bytes.now at)) }
+    ensures bound { IfOk result (λ read. read.0 ≤ greatest) }
+    ensures behind { IfOk result (λ read. read.1 ≡ at + length (digits_at bytes.now at)) }
+    ensures within { IfOk result (λ read. read.1 ≤ length bytes.now) }
+    ensures spelled { IfOk result (λ read.
+        drop at bytes.now ≡ decimal read.0 ++ drop read.1 bytes.now) }
+
+    ensures no_digit { IsErrOf result Digits.NoDigit ↔ (digits_at bytes.now at ≡ []) }
+    ensures leading_zero { IsErrOf result Digits.LeadingZero ↔
+        HasLeadingZero (digits_at bytes.now at) }
+    ensures too_large { IsErrOf result Digits.TooLarge ↔ IsTooLarge (digits_at bytes.now at) }
+{
+    read_run(bytes, at)
+}
+
+// As `read_u64`, whose clauses follow from this one.
+fn read_run(bytes: &[u8], at: usize) -> Result<(u64, usize), Digits>
+    requires { at ≤ length bytes.now }
+    ensures reads { result ≡ read_number bytes.now at }
+    ensures within { IfOk result (λ read. read.1 ≤ length bytes.now) }
+{
+    let digits = run_at(bytes, at);
+    match number(digits) {
+        Ok(value) => Ok((value, at + digits.len())),
+        Err(fault) => Err(fault),
+    }
+}
+
+// The longest run of ASCII digits from this place on.
+fn run_at(bytes: &[u8], at: usize) -> &[u8]
+    requires { at ≤ length bytes.now }
+    ensures run { result.now ≡ digits_at bytes.now at }
+    ensures within { at + length result.now ≤ length bytes.now }
+{
+    let rest = &bytes[at..];
+    &rest[..run_len(rest)]
+}
+
+// How many ASCII digits stand at the front.
+fn run_len(bytes: &[u8]) -> usize
+    ensures value { result ≡ prefix_len is_ascii_digit bytes.now }
+    ensures within { result ≤ length bytes.now }
+{
+    bytes
+        .iter()
+        .take_while(|byte| byte.is_ascii_digit())
+        .count()
+}
+
+// What a run of digits spells.
+fn number(digits: &[u8]) -> Result<u64, Digits>
+    requires { AreDigits digits.now }
+    ensures { result ≡ number_of digits.now }
+{
+    if digits.is_empty() {
+        return Err(Digits::NoDigit);
+    }
+    if digits.len() > 1 && digits[0] == b'0' {
+        return Err(Digits::LeadingZero);
+    }
+    let value = capped_value(digits);
+    if value > GREATEST {
+        return Err(Digits::TooLarge);
+    }
+    Ok(value)
+}
+
+// The value of a run of digits, or the last value of the type where it is above that.
+fn capped_value(digits: &[u8]) -> u64
+    requires { AreDigits digits.now }
+    ensures { result ≡ min (digits_value 10 digits.now) (2 ^ 64 - 1) }
+{
+    let mut value: u64 = 0;
+    for digit in digits {
+        value = value
+            .saturating_mul(10)
+            .saturating_add(u64::from(*digit - b'0'));
+    }
+    value
+}
+
+/// Appends the decimal text of `value`, which has no zero in front. After `NoMemory` nothing was
+/// appended.
+pub fn push_u64(out: &mut Vec<u8>, value: u64) -> Result<(), NoMemory>
+    ensures ok { OnOk result (out.new.items ≡ out.old.items ++ decimal value) }
+    ensures err { OnErr result (out.new.items ≡ out.old.items) }
+{
+    let mut buffer = Buffer::new();
+    out.extend_from_slice(buffer.format(value).as_bytes())?;
+    Ok(())
+}
+
+/// The law of reading and writing numbers, with nothing to run. What `read_u64` reads stands there
+/// in its decimal text, this text is read back whatever stands round it but a further digit, and no
+/// two numbers have one text.
+pub fn one_spelling()
+    ensures read { WhatIsReadIsSpelled }
+    ensures spelled { WhatIsSpelledIsRead }
+    ensures one { SpellingsDiffer }
+{}

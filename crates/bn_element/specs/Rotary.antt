@@ -1,0 +1,52 @@
+-- The rotary element. Its bar lies along west and east (state H) or along north and south (state V). A signal that comes in along the bar goes straight on and changes nothing; one that comes in across the bar turns right and turns the bar. The idea and the name are Morita's (2017); the names of lines and states are this project's own profile.
+use Rattle.std.specs.Prelude.{ℕ, List, [], ◌∷◌, refl}
+use Rattle.std.proofs.Common.{arith}
+use Rattle.bn_theory.specs.Tables.{Table, IsReversible, Move, table_by, table_by-IsReversible}
+
+-- the two states of the bar
+abbrev pub horizontal : ℕ
+horizontal = 0
+
+abbrev pub vertical : ℕ
+vertical = 1
+
+-- the four lines, in and out
+abbrev pub north : ℕ
+north = 0
+
+abbrev pub east : ℕ
+east = 1
+
+abbrev pub south : ℕ
+south = 2
+
+abbrev pub west : ℕ
+west = 3
+
+-- a move: in this state, in by this line, to that state, out by that line
+abbrev pub moves : ℕ → ℕ → ℕ → ℕ → Move
+moves state input next output = record { state = state; input = input; next = next; output = output }
+
+-- the eight rows
+abbrev pub rotary_moves : List Move
+rotary_moves =
+    moves horizontal north vertical west
+    ∷ moves horizontal east horizontal west
+    ∷ moves horizontal south vertical east
+    ∷ moves horizontal west horizontal east
+    ∷ moves vertical north vertical south
+    ∷ moves vertical east horizontal north
+    ∷ moves vertical south vertical north
+    ∷ moves vertical west horizontal south
+    ∷ []
+
+-- the rotary element as a table
+abbrev pub rotary : Table
+rotary = table_by 2 4 4 rotary_moves
+
+-- it is reversible
+pub rotary-IsReversible : IsReversible rotary
+rotary-IsReversible =
+    table_by-IsReversible 2 4 4 rotary_moves
+    (refl, refl, (refl, refl, (refl, refl, (refl, refl, (refl, refl, (refl, refl, (refl, refl, (refl, refl, tt))))))))
+    (omega arith, omega arith, omega arith, omega arith, (omega arith, omega arith, omega arith, omega arith, (omega arith, omega arith, omega arith, omega arith, (omega arith, omega arith, omega arith, omega arith, (omega arith, omega arith, omega arith, omega arith, (omega arith, omega arith, omega arith, omega arith, (omega arith, omega arith, omega arith, omega arith, (omega arith, omega arith, omega arith, omega arith, tt))))))))

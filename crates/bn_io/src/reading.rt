@@ -1,0 +1,136 @@
+//! Reading a whole input within a limit.
+ghost use Rattle.std.specs.Prelude.{◌≡◌, ◌↔◌, ℕ, ◌+◌, ◌-◌, ◌<◌, ◌≤◌, List, [], ◌++◌, length, min, vec_len, false, IfOk, IfErr, OnOk, IfSome, IsErrOf, IsTrue};
+ghost use Rattle.bn_io.specs.Faults.{Rose};
+ghost use Rattle.bn_io.specs.Told.{ReadsWithin};
+
+use crate::sources::{Source, SourceFailed};
+use std::alloc::{AllocError, Global};
+
+/// How many bytes one call asks of a source, at most.
+const CHUNK: usize = 65536;
+
+/// Why an input was not read whole.
+#[derive(Clone, Copy, Debug, PartialEq, Eq)]
+pub enum ReadRefusal {
+    /// The source failed.
+    ReadFault,
+    /// The source gave more bytes than the limit.
+    TooLong,
+    /// Memory ran out.
+    NoMemory,
+}
+
+impl From<AllocError> for ReadRefusal {
+    ghost use Rattle.std.specs.Prelude.{◌≡◌};
+    ghost use Rattle.bn_io.specs.declared.reading.ReadRefusal.TheVariants.{NoMemory};
+
+    ghost from_gives = { λ _ e. e ≡ NoMemory };
+
+    fn from(_error: AllocError) -> ReadRefusal {
+        ReadRefusal::NoMemory
+    }
+}
+
+/// Reads to the end of input, and answers all the bytes, which are at most `limit`. `TooLong` comes
+/// exactly where the source gave more than `limit` bytes; the read ends at the first byte above it.
+/// `ReadFault` comes only where the source's count of faults rose in this call or stands at its
+/// last value. After each answer a source that told its bytes still does, and has lost just those
+/// that were read.
+pub fn read_all<S: Source>(
+    alloc: Global,
+    source: &mut S,
+    limit: u64,
+) -> Result<Vec<u8>, ReadRefusal>
+    ensures whole { IfOk result (λ bytes. IfSome (S.left source.old)
+        (λ xs. (bytes.items ≡ xs) × (S.left source.new ≡ Some []))) }
+    ensures within { IfOk result (λ bytes. vec_len bytes ≤ limit) }
+    ensures too_long { IsErrOf result ReadRefusal.TooLong → IfSome (S.left source.old)
+        (λ xs. limit < length xs) }
+    ensures taken { (piece : List ℕ) × ReadsWithin (S.left source.old) (S.left source.new) limit
+        (IsErrOf result ReadRefusal.TooLong) piece }
+    ensures later { S.faults source.old ≤ S.faults source.new }
+    ensures read_fault { IsErrOf result ReadRefusal.ReadFault →
+        Rose (S.faults source.old) (S.faults source.new) }
+{
+    let mut buffer = chunk(alloc)?;
+    let mut bytes = Vec::new(alloc);
+    read_onto(source, buffer.as_mut_slice(), &mut bytes, limit)?;
+    Ok(bytes)
+}
+
+// A buffer for one call of a source.
+fn chunk(alloc: Global) -> Result<Vec<u8>, ReadRefusal>
+    ensures room { IfOk result (λ buffer. 0 < vec_len buffer) }
+    ensures refused { IfErr result (λ e. e ≡ ReadRefusal.NoMemory) }
+{
+    let buffer = vec![in alloc; 0u8; CHUNK]?;
+    Ok(buffer)
+}
+
+// Reads to the end of input, by way of `buffer`, into `bytes`, which begins empty.
+fn read_onto<S: Source>(
+    source: &mut S,
+    buffer: &mut [u8],
+    bytes: &mut Vec<u8>,
+    limit: u64,
+) -> Result<(), ReadRefusal>
+    requires space { 0 < length buffer.old }
+    requires empty { bytes.old.items ≡ [] }
+    ensures whole { OnOk result (IfSome (S.left source.old)
+        (λ xs. (bytes.new.items ≡ xs) × (S.left source.new ≡ Some []))) }
+    ensures within { OnOk result (vec_len bytes.new ≤ limit) }
+    ensures taken { (piece : List ℕ) × ReadsWithin (S.left source.old) (S.left source.new) limit
+        (IsErrOf result ReadRefusal.TooLong) piece }
+    ensures later { S.faults source.old ≤ S.faults source.new }
+    ensures read_fault { IsErrOf result ReadRefusal.ReadFault →
+        Rose (S.faults source.old) (S.faults source.new) }
+{
+    while !read_piece(source, buffer, bytes, limit)? {}
+    Ok(())
+}
+
+// Reads the next bytes behind `bytes`, by way of `buffer`, and answers whether the input has ended.
+fn read_piece<S: Source>(
+    source: &mut S,
+    buffer: &mut [u8],
+    bytes: &mut Vec<u8>,
+    limit: u64,
+) -> Result<bool, ReadRefusal>
+    requires space { 0 < length buffer.old }
+    requires within { vec_len bytes.old ≤ limit }
+    ensures taken { (piece : List ℕ) × ReadsWithin (S.left source.old) (S.left source.new)
+        (limit - vec_len bytes.old) (IsErrOf result ReadRefusal.TooLong) piece
+        × OnOk result (bytes.new.items ≡ bytes.old.items ++ piece) }
+    ensures ended { IfOk result (λ ended. IsTrue ended →
+        (bytes.new.items ≡ bytes.old.items)
+        × IfSome (S.left source.old) (λ xs. (xs ≡ []) × (S.left source.new ≡ Some []))) }
+    ensures more { IfOk result (λ ended. ended ≡ false → vec_len bytes.old < vec_len bytes.new) }
+    ensures within { OnOk result (vec_len bytes.new ≤ limit) }
+    ensures later { S.faults source.old ≤ S.faults source.new }
+    ensures read_fault { IsErrOf result ReadRefusal.ReadFault →
+        Rose (S.faults source.old) (S.faults source.new) }
+{
+    let room = limit - bytes.len() as u64;
+    let asked = wanted(room, buffer.len());
+    let count = match source.take(&mut buffer[..asked]) {
+        Ok(count) => count,
+        Err(SourceFailed) => return Err(ReadRefusal::ReadFault),
+    };
+    if count as u64 > room {
+        return Err(ReadRefusal::TooLong);
+    }
+    bytes.extend_from_slice(&buffer[..count])?;
+    Ok(count == 0)
+}
+
+// How many bytes to ask for: as many as there is space for, and at most one more than may still
+// come.
+fn wanted(room: u64, space: usize) -> usize
+    ensures { result ≡ min space (room + 1) }
+{
+    if room < space as u64 {
+        room as usize + 1
+    } else {
+        space
+    }
+}

@@ -1,0 +1,29 @@
+//! Where bytes come from.
+ghost use Rattle.std.specs.Prelude.{◌≡◌, ◌↔◌, ℕ, ◌<◌, ◌≤◌, List, [], length, take, Option, OnErr, IfOk, IfSome};
+ghost use Rattle.bn_io.specs.Faults.{HasCause};
+ghost use Rattle.bn_io.specs.Told.{Loses};
+
+/// A source could not give its next bytes. It has given none of them.
+#[derive(Clone, Copy, Debug, PartialEq, Eq)]
+pub struct SourceFailed;
+
+/// A source of bytes. It may tell which bytes it has left, and it counts its failures, up to the
+/// last value of a counter.
+pub trait Source {
+    ghost left: { Self → Option (List ℕ) };
+
+    ghost faults: { Self → ℕ };
+
+    /// Gives the next bytes into the front of `into`, which is not empty, and answers how many: 0
+    /// only at the end of input. After `SourceFailed` nothing was taken, and what stands in `into`
+    /// is open.
+    fn take(&mut self, into: &mut [u8]) -> Result<usize, SourceFailed>
+        requires { 0 < length into.old }
+        ensures bound { IfOk result (λ c. c ≤ length into.old) }
+        ensures given { IfOk result (λ c.
+            Loses (left self.old) (left self.new) (take c into.new)) }
+        ensures ended { IfOk result (λ c.
+            IfSome (left self.old) (λ xs. (c ≡ 0) ↔ (xs ≡ []))) }
+        ensures kept { OnErr result (left self.new ≡ left self.old) }
+        ensures cause { HasCause (faults self.old) (faults self.new) result };
+}

@@ -1,0 +1,6 @@
+use Rattle.bn_machine.specs.Steps.{run_anywhere}
+use Rattle.bn_machine.specs.Turns.{after_inside}
+use Rattle.bn_machine.proofs.laws.rooms_change_nothing.Goals as goal
+
+pub returns : goal.returns
+returns c = (run_anywhere, after_inside)

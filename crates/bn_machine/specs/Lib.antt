@@ -1,0 +1,13 @@
+pub mod Tape
+pub mod Window
+pub mod TapeCalls
+pub mod Machine
+pub mod MachineCalls
+pub mod Run
+pub mod Outcome
+pub mod Steps
+pub mod Output
+pub mod OutcomeLaws
+pub mod Turns
+pub mod Laws
+pub mod Cut

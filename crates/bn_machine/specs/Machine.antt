@@ -1,0 +1,167 @@
+-- Machines given by quintuples, and the step of such a machine (Bennett 1973).
+use Rattle.std.specs.Prelude.{◌≡◌, ◌≢◌, ℕ, zero, suc, ◌<◌, ◌≤◌, ◌^◌, List, [], ◌∷◌, length, Option, Some, None, slice_get, All}
+use Rattle.std.proofs.Common.{refl, subst, arith, get_or, inl, inr, ◌⊎◌}
+use Rattle.std.proofs.lemmas.Option.{slice_get_within, slice_get-get_or}
+use Rattle.std.proofs.lemmas.Bool.{cases_lt}
+use Rattle.bn_machine.specs.Tape.{Tape, scanned, write, shift, word_tape}
+use Rattle.bn_machine.specs.Window.{Room, Allows, Windowed, Leaves}
+use Rattle.bn_machine.specs.declared.quint.Quint.{Quint}
+use Rattle.bn_machine.specs.declared.quint.Side.{Side}
+
+-- the n-th entry of a list, counted from 1
+abbrev pub nth : {X : Type 0} → List X → ℕ → Option X
+nth xs zero = None
+nth xs (suc i) = slice_get xs i
+
+-- each entry that stands before the n-th has the property
+pub record AllBefore {X : Type 0} (P : X → Type 0) (xs : List X) (n : ℕ) : Type 0 where
+  pub each : (m : ℕ) (x : X) → m < n → nth xs m ≡ Some x → P x
+
+pub nth_within : {X : Type 0} (xs : List X) (n : ℕ) (x : X) → nth xs n ≡ Some x → n ≤ length xs
+nth_within xs zero x e = omega arith
+nth_within xs (suc i) x e = slice_get_within xs i x e
+
+pub nth-get_or : {X : Type 0} (xs : List X) (i : ℕ) (d : X) → i < length xs → nth xs (suc i) ≡ Some (get_or xs i d)
+nth-get_or xs i d h = slice_get-get_or xs i d h
+
+pub nth_once : {X : Type 0} (xs : List X) (n : ℕ) (x y : X) → nth xs n ≡ Some x → nth xs n ≡ Some y → x ≡ y
+nth_once xs n x y e f = cc
+
+-- no entry is numbered 0
+pub all_before_one : {X : Type 0} (P : X → Type 0) (xs : List X) → AllBefore P xs 1
+all_before_one P xs = record { each = λ m x h e. none_at_zero P xs m x h e }
+  where
+    none_at_zero : {X : Type 0} (P : X → Type 0) (xs : List X) (m : ℕ) (x : X) → m < 1 → nth xs m ≡ Some x → P x
+    none_at_zero P xs zero x h e = absurd (cc)
+    none_at_zero P xs (suc m) x h e = absurd (omega arith)
+
+-- one entry more
+pub all_before_more : {X : Type 0} (P : X → Type 0) (xs : List X) (n : ℕ) (y : X) → AllBefore P xs n → nth xs n ≡ Some y → P y → AllBefore P xs (suc n)
+all_before_more P xs n y all here holds = record { each = λ m x h e. step m x e (cases_lt m n) h }
+  where
+    step : (m : ℕ) (x : _) → nth xs m ≡ Some x → (m < n) ⊎ (n ≤ m) → m < suc n → P x
+    step m x e (inl h) k = all.each m x h e
+    step m x e (inr h) k = let same : m ≡ n = omega arith in subst P (nth_once xs n y x here (subst (λ i. nth xs i ≡ Some x) same e)) holds
+
+-- all entries
+pub all_from_before : {X : Type 0} (P : X → Type 0) (xs : List X) (n : ℕ) → length xs < n → AllBefore P xs n → All P xs
+all_from_before P xs n past all = λ k d h. all.each (suc k) (get_or xs k d) (omega arith) (nth-get_or xs k d h)
+
+-- a machine: its quintuples in order, and how many states and symbols it has
+pub record Program : Type 0 where
+  pub quints : List Quint
+  pub states : ℕ
+  pub symbols : ℕ
+
+abbrev pub program_of : List Quint → ℕ → ℕ → Program
+program_of qs f z = record { quints = qs; states = f; symbols = z }
+
+-- the start state is that of the first quintuple, the final state is the last one's next
+abbrev pub start_of : List Quint → ℕ
+start_of [] = 0
+start_of (q ∷ qs) = q.state
+
+abbrev pub final_of : List Quint → ℕ
+final_of [] = 0
+final_of (q ∷ []) = q.next
+final_of (q ∷ r ∷ qs) = final_of (r ∷ qs)
+
+-- every number of the quintuple is one of the machine's states or symbols
+pub record IsInRange (states symbols : ℕ) (q : Quint) : Type 0 where
+  pub state : q.state < states
+  pub read : q.read < symbols
+  pub write : q.write < symbols
+  pub next : q.next < states
+
+-- There is a quintuple, there are fewer than 2^32 of them, and all their numbers are in range.
+pub record IsMachine (p : Program) : Type 0 where
+  pub some : 0 < length p.quints
+  pub few : length p.quints < 2 ^ 32
+  pub in_range : All (IsInRange p.states p.symbols) p.quints
+
+-- quintuple i, counted from 1, is the first one out of range
+pub record IsFirstFault (states symbols : ℕ) (qs : List Quint) (i : ℕ) : Type 0 where
+  pub faulty : (q : Quint) × (nth qs i ≡ Some q) × (IsInRange states symbols q → ⊥)
+  pub first : (m : ℕ) (q : Quint) → m < i → nth qs m ≡ Some q → IsInRange states symbols q
+
+-- what the machine is at between two steps
+pub record Moment : Type 0 where
+  pub state : ℕ
+  pub tape : Tape
+
+-- the quintuple has this state and reads this symbol
+pub record Matches (q : Quint) (state symbol : ℕ) : Type 0 where
+  pub from : state ≡ q.state
+  pub reads : symbol ≡ q.read
+
+-- Quintuple n, counted from 1, is the first of the list that has this state and reads this symbol.
+pub record IsFirstMatch (qs : List Quint) (state symbol n : ℕ) (q : Quint) : Type 0 where
+  pub stands : nth qs n ≡ Some q
+  pub matches : Matches q state symbol
+  pub first : (m : ℕ) (r : Quint) → m < n → nth qs m ≡ Some r → Matches r state symbol → ⊥
+
+-- No quintuple has this state and reads this symbol.
+pub record HasNoMatch (qs : List Quint) (state symbol : ℕ) : Type 0 where
+  pub none : (n : ℕ) (q : Quint) → nth qs n ≡ Some q → Matches q state symbol → ⊥
+
+-- A step by this quintuple leads from c to d: it has c's state and scanned symbol, writes, shifts and changes the state.
+pub record Applies (q : Quint) (c d : Moment) : Type 0 where
+  pub from : c.state ≡ q.state
+  pub reads : scanned c.tape ≡ q.read
+  pub writes : d.tape ≡ shift (write c.tape q.write) q.shift
+  pub to : d.state ≡ q.next
+
+-- The machine is in its final state.
+abbrev pub IsFinal : Program → Moment → Type 0
+IsFinal p c = c.state ≡ final_of p.quints
+
+-- One step of the machine, by quintuple n: the state isn't the final one, the first quintuple that matches is applied, and the head comes to a position that the room allows.
+pub record GoesBy (room : Room) (p : Program) (n : ℕ) (c d : Moment) : Type 0 where
+  pub going : c.state ≢ final_of p.quints
+  pub quint : Quint
+  pub match : IsFirstMatch p.quints c.state (scanned c.tape) n quint
+  pub applies : Applies quint c d
+  pub stays : Allows room d.tape.head
+
+abbrev pub Goes : Room → Program → Moment → Moment → Type 0
+Goes room p c d = (n : ℕ) × GoesBy room p n c d
+
+-- the machine can't go on: no quintuple matches, and the state isn't the final one
+pub record IsStuck (p : Program) (c : Moment) : Type 0 where
+  pub going : c.state ≢ final_of p.quints
+  pub none : HasNoMatch p.quints c.state (scanned c.tape)
+
+-- the start: the first quintuple's state, the word at 1 and on, the head at 0
+abbrev pub start : Program → List ℕ → Moment
+start p word = record { state = start_of p.quints; tape = word_tape word }
+
+-- ---- the step in a window
+
+-- the moment of a state and a tape in a window
+abbrev pub moment : ℕ → Windowed → Moment
+moment state w = record { state = state; tape = w.tape }
+
+-- The first quintuple that matches would take the head out of the window at this end.
+pub record IsLeaving (p : Program) (state : ℕ) (w : Windowed) (side : Side) : Type 0 where
+  pub going : state ≢ final_of p.quints
+  pub number : ℕ
+  pub quint : Quint
+  pub match : IsFirstMatch p.quints state (scanned w.tape) number quint
+  pub leaves : Leaves w quint.shift side
+
+-- ---- the first that matches, and the last
+
+-- the entry at the last place is the last
+pub final_of-last : (qs : List Quint) (k : ℕ) (d : Quint) → suc k ≡ length qs → (get_or qs k d).next ≡ final_of qs
+final_of-last [] k d e = absurd (omega arith)
+final_of-last (q ∷ []) zero d e = refl
+final_of-last (q ∷ []) (suc k) d e = absurd (omega arith)
+final_of-last (q ∷ r ∷ qs) zero d e = absurd (omega arith)
+final_of-last (q ∷ r ∷ qs) (suc k) d e = final_of-last (r ∷ qs) k d (omega arith)
+
+-- a search that has come to an entry that matches, and one that has come to the end
+pub first_match_at : (qs : List Quint) (state symbol n : ℕ) (q : Quint) → AllBefore (λ r. Matches r state symbol → ⊥) qs n → nth qs n ≡ Some q → Matches q state symbol → IsFirstMatch qs state symbol n q
+first_match_at qs state symbol n q before here matches = record { stands = here; matches = matches; first = before.each }
+
+pub no_match : (qs : List Quint) (state symbol n : ℕ) → length qs < n → AllBefore (λ r. Matches r state symbol → ⊥) qs n → HasNoMatch qs state symbol
+no_match qs state symbol n past before = record { none = λ m q e. let known : m ≤ length qs = nth_within qs m q e in before.each m q (omega arith) e }

@@ -1,0 +1,4 @@
+pub mod RowLemmas
+pub mod WireLemmas
+pub mod NetSteps
+pub mod FaultLemmas

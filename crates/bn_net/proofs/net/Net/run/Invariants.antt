@@ -1,0 +1,7 @@
+use Rattle.bn_theory.specs.Runs.{Reaches}
+use Rattle.bn_theory.specs.Circuits.{Goes, IsConfig}
+use Rattle.bn_net.specs.Parts.{circuit}
+use Rattle.bn_net.proofs.net.Net.run.Given as goal
+
+abbrev pub invariant-loop-made : goal.invariant-loop-made
+invariant-loop-made g l = Reaches (Goes (circuit g.E.Element.table l.self)) l.made l.fn.config l.config × IsConfig (circuit g.E.Element.table l.self) l.config

@@ -1,0 +1,13 @@
+-- A net as contracts see it: its elements, and its wires in the order of their output lines.
+use Rattle.std.specs.Prelude.{List, map}
+use Rattle.bn_theory.specs.Tables.{Table}
+use Rattle.bn_theory.specs.Circuits.{Circuit}
+use Rattle.bn_theory.specs.declared.line.Wire.{Wire}
+
+pub record Parts (E : Type 0) : Type 0 where
+  pub elements : List E
+  pub wires : List Wire
+
+-- the circuit of a net, by the table of each element
+abbrev pub circuit : {E : Type 0} → (E → Table) → Parts E → Circuit
+circuit table net = record { tables = map table net.elements; wires = net.wires }

@@ -1,0 +1,12 @@
+//! Nets of elements with wires, run forward and backward by one signal.
+#![tactic(auto)]
+
+mod net;
+mod refusal;
+mod row_map;
+mod watch;
+
+pub use bn_theory::{CLOCK, Config, Line, Place, States, Wire};
+pub use net::Net;
+pub use refusal::{NetRefusal, NoMemory};
+pub use watch::{MemWatch, Quiet, Watch};

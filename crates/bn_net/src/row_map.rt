@@ -1,0 +1,96 @@
+//! A flat map from lines to lines: a row of cells an element, all rows in one array.
+
+ghost use Rattle.std.specs.Prelude.{◌≡◌, ℕ, ◌+◌, ◌^◌, ◌<◌, ◌≤◌, List, [], length, map, replicate, None, IfOk, slice_get};
+ghost use Rattle.bn_net.specs.Rows.{entry, width, put, rows_at, AreStarts, starts_from};
+
+use crate::refusal::NoMemory;
+use bn_theory::Line;
+use std::alloc::Global;
+use std::marker::Model;
+
+/// For each element a row with a cell for each of its lines; a cell holds a line or nothing.
+#[derive(Debug, Drop)]
+pub(crate) struct RowMap {
+    // Where each row begins among the cells, and at last the number of cells.
+    starts: Vec<usize>,
+    cells: Vec<Option<Line>>,
+}
+
+impl Model for RowMap {
+    ghost use Rattle.bn_net.specs.Rows.{Rows, rows_at, AreStarts};
+    ghost use Rattle.std.specs.Prelude.{length};
+
+    ghost Value = { Rows };
+
+    ghost view = { λ m. rows_at m.starts.items m.cells.items };
+
+    ghost invariant = { λ m. AreStarts m.starts.items (length m.cells.items) };
+}
+
+impl RowMap {
+    /// What the cell of this line holds.
+    pub(crate) fn get(&self, line: Line) -> Option<Line>
+        requires { line.line < width self.now line.element }
+        ensures { result ≡ entry self.now line }
+    {
+        cell_at(self.starts.as_slice(), self.cells.as_slice(), line)
+    }
+
+    /// Writes a line into the cell of this line.
+    pub(crate) fn set(&mut self, line: Line, to: Line)
+        requires { line.line < width self.old line.element }
+        ensures { self.new ≡ put self.old line to }
+    {
+        write_at(self.starts.as_slice(), self.cells.as_mut_slice(), line, to);
+    }
+
+    /// Rows of these widths whose cells are all empty.
+    pub(crate) fn try_new(alloc: Global, widths: &[u32]) -> Result<RowMap, NoMemory>
+        requires { length widths.now < 2 ^ 32 }
+        ensures { IfOk result (λ m. m ≡ map (λ w. replicate w None) widths.now) }
+    {
+        let starts = starts_of(alloc, widths)?;
+        let total = starts[widths.len()];
+        let Ok(cells) = vec![in alloc; None; total] else {
+            return Err(NoMemory);
+        };
+        Ok(RowMap { starts, cells })
+    }
+}
+
+// What the cell of this line holds, among rows that begin at these starts.
+fn cell_at(starts: &[usize], cells: &[Option<Line>], line: Line) -> Option<Line>
+    requires are { AreStarts starts.now (length cells.now) }
+    requires within { line.line < width (rows_at starts.now cells.now) line.element }
+    ensures { result ≡ entry (rows_at starts.now cells.now) line }
+{
+    let start = starts[line.element as usize];
+    cells[start + line.line as usize]
+}
+
+// Writes a line into the cell of this line.
+fn write_at(starts: &[usize], cells: &mut [Option<Line>], line: Line, to: Line)
+    requires are { AreStarts starts.now (length cells.old) }
+    requires within { line.line < width (rows_at starts.now cells.old) line.element }
+    ensures { rows_at starts.now cells.new ≡ put (rows_at starts.now cells.old) line to }
+{
+    let start = starts[line.element as usize];
+    cells[start + line.line as usize] = Some(to);
+}
+
+// Where each row of these widths begins, and at last where all end.
+fn starts_of(alloc: Global, widths: &[u32]) -> Result<Vec<usize>, NoMemory>
+    requires { length widths.now < 2 ^ 32 }
+    ensures { IfOk result (λ v. v.items ≡ starts_from 0 widths.now) }
+{
+    let Ok(mut starts) = Vec::with_capacity(alloc, widths.len() + 1) else {
+        return Err(NoMemory);
+    };
+    let mut total: usize = 0;
+    starts.push(total).map_err(|_| NoMemory)?;
+    for width in widths {
+        total += *width as usize;
+        starts.push(total).map_err(|_| NoMemory)?;
+    }
+    Ok(starts)
+}

@@ -1,0 +1,5 @@
+use Rattle.bn_standard.specs.VerdictLaws.{standard_accepted}
+use Rattle.bn_standard.proofs.laws.standard_is_accepted.Goals as goal
+
+pub returns : goal.returns
+returns c = standard_accepted

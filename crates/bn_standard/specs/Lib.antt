@@ -1,0 +1,4 @@
+pub mod Standard
+pub mod Verdict
+pub mod Search
+pub mod VerdictLaws

@@ -1,0 +1,84 @@
+-- Standard form of a machine, after Bennett 1973; the exact test is this project's own profile. All of it speaks of the list of quintuples, counted from 1, with symbol 0 as the blank.
+use Rattle.std.specs.Prelude.{◌≡◌, ◌≢◌, ℕ, ◌<◌, List, length, Some, ◌⊎◌}
+use Rattle.bn_machine.specs.Machine.{nth, start_of, final_of}
+use Rattle.bn_machine.specs.declared.quint.Quint.{Quint}
+use Rattle.bn_machine.specs.declared.quint.Shift.TheVariants.{Stay, Right}
+
+-- two quintuples with these numbers, the first before the second, share state and scanned symbol
+pub record Clashes (i : ℕ) (first : Quint) (j : ℕ) (second : Quint) : Type 0 where
+  pub before : i < j
+  pub state : first.state ≡ second.state
+  pub read : first.read ≡ second.read
+
+-- quintuples i and j, i before j, share state and scanned symbol
+pub record Repeats (qs : List Quint) (i j : ℕ) : Type 0 where
+  pub first : Quint
+  pub second : Quint
+  pub first_stands : nth qs i ≡ Some first
+  pub second_stands : nth qs j ≡ Some second
+  pub clashes : Clashes i first j second
+
+-- a quintuple that reads a blank, writes a blank and shifts right
+pub record IsBeginning (q : Quint) : Type 0 where
+  pub reads : q.read ≡ 0
+  pub writes : q.write ≡ 0
+  pub shifts : q.shift ≡ Right
+
+-- the first quintuple is such a one
+pub record BeginsWell (qs : List Quint) : Type 0 where
+  pub quint : Quint
+  pub stands : nth qs 1 ≡ Some quint
+  pub begins : IsBeginning quint
+
+-- a quintuple with this number has the state in it, but not as the first one's state
+abbrev pub NamesStart : ℕ → ℕ → Quint → Type 0
+NamesStart start i q = (q.next ≡ start) ⊎ ((1 < i) × (q.state ≡ start))
+
+-- quintuple i has the start state in it otherwise than as the first one's state
+pub record UsesStart (qs : List Quint) (i : ℕ) : Type 0 where
+  pub quint : Quint
+  pub stands : nth qs i ≡ Some quint
+  pub names : NamesStart (start_of qs) i quint
+
+-- a quintuple that reads a blank, writes a blank, doesn't shift, and isn't one of the start state
+pub record IsEnding (start : ℕ) (q : Quint) : Type 0 where
+  pub reads : q.read ≡ 0
+  pub writes : q.write ≡ 0
+  pub shifts : q.shift ≡ Stay
+  pub apart : q.state ≢ start
+
+-- the last quintuple is such a one
+pub record EndsWell (qs : List Quint) : Type 0 where
+  pub quint : Quint
+  pub stands : nth qs (length qs) ≡ Some quint
+  pub ends : IsEnding (start_of qs) quint
+
+-- a quintuple with this number, of n, has the state in it, but not as the last one's next
+abbrev pub NamesFinal : ℕ → ℕ → ℕ → Quint → Type 0
+NamesFinal final n i q = (q.state ≡ final) ⊎ ((i < n) × (q.next ≡ final))
+
+-- quintuple i has the final state in it otherwise than as the last one's next
+pub record UsesFinal (qs : List Quint) (i : ℕ) : Type 0 where
+  pub quint : Quint
+  pub stands : nth qs i ≡ Some quint
+  pub names : NamesFinal (final_of qs) (length qs) i quint
+
+-- no two quintuples share state and scanned symbol
+pub record IsUnambiguous (qs : List Quint) : Type 0 where
+  pub none : (i j : ℕ) → Repeats qs i j → ⊥
+
+-- the start state occurs nowhere but as the first quintuple's state
+pub record HasLoneStart (qs : List Quint) : Type 0 where
+  pub none : (i : ℕ) → UsesStart qs i → ⊥
+
+-- the final state occurs nowhere but as the last quintuple's next
+pub record HasLoneFinal (qs : List Quint) : Type 0 where
+  pub none : (i : ℕ) → UsesFinal qs i → ⊥
+
+-- the quintuples are in standard form
+pub record IsStandard (qs : List Quint) : Type 0 where
+  pub unambiguous : IsUnambiguous qs
+  pub begins : BeginsWell qs
+  pub lone_start : HasLoneStart qs
+  pub ends : EndsWell qs
+  pub lone_final : HasLoneFinal qs

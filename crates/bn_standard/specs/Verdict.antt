@@ -1,0 +1,30 @@
+-- Why quintuples aren't in standard form: the first of the five demands that fails, in their order, with the numbers that show it.
+use Rattle.std.specs.Prelude.{ℕ, ◌<◌, List, ⊤}
+use Rattle.bn_machine.specs.declared.quint.Quint.{Quint}
+use Rattle.bn_standard.specs.Standard.{Repeats, BeginsWell, UsesStart, EndsWell, UsesFinal, IsUnambiguous, HasLoneStart}
+use Rattle.bn_standard.specs.declared.why.Why.{Why}
+use Rattle.bn_standard.specs.declared.why.Why.TheVariants.{Repeat, First, StartUsed, Last, FinalUsed, NoMemory}
+
+-- i is the least quintuple that shares with a later one, and j the least later one with which it shares
+pub record IsLeastRepeat (qs : List Quint) (i j : ℕ) : Type 0 where
+  pub repeats : Repeats qs i j
+  pub least_first : (m n : ℕ) → m < i → Repeats qs m n → ⊥
+  pub least_second : (n : ℕ) → n < j → Repeats qs i n → ⊥
+
+-- i is the least quintuple that uses the start state, or the final state, where it may not stand
+pub record IsLeastStart (qs : List Quint) (i : ℕ) : Type 0 where
+  pub uses : UsesStart qs i
+  pub least : (m : ℕ) → m < i → UsesStart qs m → ⊥
+
+pub record IsLeastFinal (qs : List Quint) (i : ℕ) : Type 0 where
+  pub uses : UsesFinal qs i
+  pub least : (m : ℕ) → m < i → UsesFinal qs m → ⊥
+
+-- when each refusal comes: all demands before its own are met. Want of memory is free.
+abbrev pub IsRefusal : List Quint → Why → Type 0
+IsRefusal qs (Repeat i j) = IsLeastRepeat qs i j
+IsRefusal qs First = IsUnambiguous qs × (BeginsWell qs → ⊥)
+IsRefusal qs (StartUsed i) = IsUnambiguous qs × BeginsWell qs × IsLeastStart qs i
+IsRefusal qs Last = IsUnambiguous qs × BeginsWell qs × HasLoneStart qs × (EndsWell qs → ⊥)
+IsRefusal qs (FinalUsed i) = IsUnambiguous qs × BeginsWell qs × HasLoneStart qs × EndsWell qs × IsLeastFinal qs i
+IsRefusal qs NoMemory = ⊤

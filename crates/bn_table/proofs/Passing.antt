@@ -1,0 +1,143 @@
+-- Entries without a fault, and what they say.
+use Rattle.std.proofs.Common.{◌≡◌, ◌≤◌, ◌∷◌, ◌∙◌, ℕ, Bool, true, false, not, List, [], length, Option, Some, None, refl, inl, inr, arith, slice_get, nat_lt, if◌then◌else◌}
+use Rattle.std.specs.Prelude.{bytes_eq, ◌==◌}
+use Rattle.std.proofs.lemmas.Bool.{cases_Bool, false≢true, ltb-false, le-ltb}
+use Rattle.std.proofs.lemmas.Bool.Decides.{Decides-eqb}
+use Rattle.std.proofs.lemmas.Slice.Eq.{bytes_eq-Decides}
+use Rattle.bn_entries.specs.Forms.{is_letter, is_state_name, is_symbol_byte}
+use Rattle.bn_entries.specs.NumberingLaws.{both_true}
+use Rattle.bn_machine.specs.declared.quint.Shift.{Shift}
+use Rattle.bn_machine.specs.declared.quint.Shift.TheVariants.{Left, Stay, Right}
+use Rattle.bn_table.specs.Entry.{Said, entry_of, is_shift, shift_text}
+use Rattle.bn_table.specs.Faults.{entry_fault, field_fault, form_fault}
+use Rattle.bn_table.specs.declared.refusal.TableRefusal.TheVariants as refusal
+
+-- the forms of what an entry says
+pub record HasForms (s : Said) : Type 0 where
+  pub state : is_state_name s.state ≡ true
+  pub read : is_symbol_byte s.read ≡ true
+  pub write : is_symbol_byte s.write ≡ true
+  pub next : is_state_name s.next ≡ true
+
+-- five fields
+pub five_is : (fields : List (List ℕ)) (a b c d e : List ℕ) → length fields ≡ 5 → slice_get fields 0 ≡ Some a → slice_get fields 1 ≡ Some b
+    → slice_get fields 2 ≡ Some c → slice_get fields 3 ≡ Some d → slice_get fields 4 ≡ Some e → fields ≡ a ∷ b ∷ c ∷ d ∷ e ∷ []
+five_is (v ∷ w ∷ x ∷ y ∷ z ∷ []) a b c d e n f0 f1 f2 f3 f4 = cc
+five_is [] a b c d e n f0 f1 f2 f3 f4 = cc f0
+five_is (v ∷ []) a b c d e n f0 f1 f2 f3 f4 = cc f1
+five_is (v ∷ w ∷ []) a b c d e n f0 f1 f2 f3 f4 = cc f2
+five_is (v ∷ w ∷ x ∷ []) a b c d e n f0 f1 f2 f3 f4 = cc f3
+five_is (v ∷ w ∷ x ∷ y ∷ []) a b c d e n f0 f1 f2 f3 f4 = cc f4
+five_is (v ∷ w ∷ x ∷ y ∷ z ∷ u ∷ us) a b c d e n f0 f1 f2 f3 f4 = absurd (omega arith)
+
+-- not five fields
+pub not_five : (entry : ℕ) (fields : List (List ℕ)) → (length fields ≡ 5 → ⊥) → form_fault entry fields ≡ Some (refusal.FieldCount entry)
+not_five entry [] h = refl
+not_five entry (v ∷ []) h = refl
+not_five entry (v ∷ w ∷ []) h = refl
+not_five entry (v ∷ w ∷ x ∷ []) h = refl
+not_five entry (v ∷ w ∷ x ∷ y ∷ []) h = refl
+not_five entry (v ∷ w ∷ x ∷ y ∷ z ∷ []) h = absurd (h refl)
+not_five entry (v ∷ w ∷ x ∷ y ∷ z ∷ u ∷ us) h = refl
+
+passed : {X : Type 0} (b : Bool) (x : X) (rest : Option X) → (if not b then Some x else rest) ≡ None → (b ≡ true) × (rest ≡ None)
+passed true x rest e = (refl, e)
+passed false x rest e = cc e
+
+letter_is : (field : List ℕ) → is_letter field ≡ true → (b : ℕ) × (field ≡ b ∷ []) × (is_symbol_byte b ≡ true)
+letter_is [] e = absurd (false≢true e)
+letter_is (b ∷ []) e = (b, refl, (both_true (is_symbol_byte b) true e).0)
+letter_is (b ∷ c ∷ rest) e =
+    let one : length (b ∷ c ∷ rest) ≡ 1 = (Decides-eqb (length (b ∷ c ∷ rest)) 1).0 (both_true (length (b ∷ c ∷ rest) == 1) _ e).0 in
+    absurd (omega arith)
+
+pub letter_back : (b : ℕ) → is_symbol_byte b ≡ true → is_letter (b ∷ []) ≡ true
+letter_back b e = rw e refl
+
+shift_is : (field : List ℕ) → is_shift field ≡ true → (s : Shift) × (field ≡ shift_text s)
+shift_is field e = elim (cases_Bool (bytes_eq field (shift_text Left))) [
+  | inl left ↦ (Left, (bytes_eq-Decides field (shift_text Left)).0 left)
+  | inr miss ↦ elim (cases_Bool (bytes_eq field (shift_text Stay))) [
+    | inl stay ↦ (Stay, (bytes_eq-Decides field (shift_text Stay)).0 stay)
+    | inr other ↦ (Right, (bytes_eq-Decides field (shift_text Right)).0 (rw (miss, other) at e))
+  ]
+]
+
+pub shift_back : (s : Shift) → is_shift (shift_text s) ≡ true
+shift_back Left = refl
+shift_back Stay = refl
+shift_back Right = refl
+
+-- the tests that five fields pass
+record Passes (a b c d e : List ℕ) : Type 0 where
+  state : is_state_name a ≡ true
+  read : is_letter b ≡ true
+  write : is_letter c ≡ true
+  shift : is_shift d ≡ true
+  next : is_state_name e ≡ true
+
+fields-pass : (n : ℕ) (a b c d e : List ℕ) → field_fault n a b c d e ≡ None → Passes a b c d e
+fields-pass n a b c d e h =
+    let one = passed (is_state_name a) _ _ h in
+    let two = passed (is_letter b) _ _ one.1 in
+    let three = passed (is_letter c) _ _ two.1 in
+    let four = passed (is_shift d) _ _ three.1 in
+    let five = passed (is_state_name e) _ _ four.1 in
+    record { state = one.0; read = two.0; write = three.0; shift = four.0; next = five.0 }
+
+pub fields-back : (n : ℕ) (s : Said) → HasForms s → form_fault n (entry_of s) ≡ None
+fields-back n s h = rw (h.state, letter_back s.read h.read, letter_back s.write h.write, shift_back s.shift, h.next) refl
+
+five-or-fault : (n : ℕ) (fields : List (List ℕ)) → form_fault n fields ≡ None
+    → (a b c d e : List ℕ) × (fields ≡ a ∷ b ∷ c ∷ d ∷ e ∷ []) × Passes a b c d e
+five-or-fault n (a ∷ b ∷ c ∷ d ∷ e ∷ []) h = (a, b, c, d, e, refl, fields-pass n a b c d e h)
+five-or-fault n [] h = cc h
+five-or-fault n (a ∷ []) h = cc h
+five-or-fault n (a ∷ b ∷ []) h = cc h
+five-or-fault n (a ∷ b ∷ c ∷ []) h = cc h
+five-or-fault n (a ∷ b ∷ c ∷ d ∷ []) h = cc h
+five-or-fault n (a ∷ b ∷ c ∷ d ∷ e ∷ f ∷ fs) h = cc h
+
+in-number : (n : ℕ) (fields : List (List ℕ)) → entry_fault n fields ≡ None → (n ≤ 4000) × (form_fault n fields ≡ None)
+in-number n fields h = elim (cases_Bool (nat_lt 4000 n)) [
+  | inl past ↦ let none : Some (refusal.TooMany n) ≡ None = rw past at h in cc
+  | inr within ↦ (ltb-false 4000 n within, rw within at h)
+]
+
+five-said : (a b c d e : List ℕ) (r w : ℕ) (s : Shift) → b ≡ r ∷ [] → c ≡ w ∷ [] → d ≡ shift_text s
+    → a ∷ b ∷ c ∷ d ∷ e ∷ [] ≡ a ∷ (r ∷ []) ∷ (w ∷ []) ∷ shift_text s ∷ e ∷ []
+five-said a b c d e r w s read write shift = rw (read, write, shift) refl
+
+-- an entry without a fault says something, in the right forms
+pub says : (n : ℕ) (fields : List (List ℕ)) → entry_fault n fields ≡ None → (n ≤ 4000) × ((s : Said) × (fields ≡ entry_of s) × HasForms s)
+says n fields h =
+    let (few, form) = in-number n fields h in
+    let (a, b, c, d, e, is, p) = five-or-fault n fields form in
+    let (r, read, read-form) = letter_is b p.read in
+    let (w, write, write-form) = letter_is c p.write in
+    let (s, shift) = shift_is d p.shift in (
+      few,
+      (
+        record { state = a; read = r; write = w; shift = s; next = e },
+        is ∙ five-said a b c d e r w s read write shift,
+        record { state = p.state; read = read-form; write = write-form; next = p.next },
+      ),
+    )
+
+-- what an entry without a fault says has the right forms
+pub forms : (n : ℕ) (s : Said) → entry_fault n (entry_of s) ≡ None → (n ≤ 4000) × HasForms s
+forms n s h =
+    let (few, form) = in-number n (entry_of s) h in
+    let p = fields-pass n s.state (s.read ∷ []) (s.write ∷ []) (shift_text s.shift) s.next form in (
+      few,
+      record {
+        state = p.state;
+        read = (both_true (is_symbol_byte s.read) true p.read).0;
+        write = (both_true (is_symbol_byte s.write) true p.write).0;
+        next = p.next;
+      },
+    )
+
+-- the first 4,000 entries in the right forms have no fault
+pub no_fault : (n : ℕ) (s : Said) → n ≤ 4000 → HasForms s → entry_fault n (entry_of s) ≡ None
+no_fault n s few h = rw (le-ltb 4000 n few) (fields-back n s h)

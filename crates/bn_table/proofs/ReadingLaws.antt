@@ -1,0 +1,230 @@
+-- Bytes have one reading, and have one exactly where their entries have no fault.
+use Rattle.std.proofs.Common.{◌≡◌, ◌<◌, ◌≤◌, ◌+◌, ◌∷◌, ◌++◌, ◌∙◌, ℕ, true, List, [], length, Option, Some, None, refl, sym, ap, inl, inr, arith, slice_get, nat_eq, append_assoc, length-append, All}
+use Rattle.std.specs.Prelude.{bytes_eq, slice_index, slice_index_or}
+use Rattle.std.specs.List.{list_all, list_any}
+use Rattle.std.proofs.lemmas.Bool.{cases_Bool}
+use Rattle.std.proofs.lemmas.Bool.Decides.{Decides-eqb}
+use Rattle.std.proofs.lemmas.List.{append-nil, length-map}
+use Rattle.std.proofs.lemmas.List.Elements.{All-head, All-tail}
+use Rattle.std.proofs.lemmas.List.Folds.{list_any-append}
+use Rattle.std.proofs.lemmas.Option.{slice_get-get_or}
+use Rattle.std.proofs.lemmas.Slice.Eq.{bytes_eq-Decides}
+use Rattle.bn_entries.specs.Forms.{is_state_name, is_symbol_byte}
+use Rattle.bn_entries.specs.FormsLaws.{all-at}
+use Rattle.bn_entries.specs.Numbering.{with_name}
+use Rattle.bn_entries.specs.NumberingLaws.{AreApart, apart-firsts, number_stays, one_number, some_number, with_name-grows}
+use Rattle.bn_machine.specs.Machine.{IsInRange, program_of}
+use Rattle.bn_machine.specs.declared.quint.Quint.{Quint}
+use Rattle.bn_machine.specs.declared.quint.Shift.{Shift}
+use Rattle.bn_machine.specs.declared.quint.Shift.TheVariants.{Left, Stay, Right}
+use Rattle.bn_table.specs.Entry.{Said, entry_of, shift_text}
+use Rattle.bn_table.specs.Faults.{else_fault, entry_fault, fault_from, fault_of}
+use Rattle.bn_table.specs.Rows.{IsTableOf, Named, Spells, blank, letters_in, named, names_in, rows_by, said_of, with_letter}
+use Rattle.bn_table.specs.declared.refusal.TableRefusal.{TableRefusal}
+use Rattle.bn_table.proofs.Growing.{Adds, spells-more, spells-none, with_letter-grows}
+use Rattle.bn_table.proofs.Passing.{HasForms, no_fault, says}
+
+-- ---- one reading
+
+one_shift : (s t : Shift) → shift_text s ≡ shift_text t → s ≡ t
+one_shift Left Left e = refl
+one_shift Left Stay e = cc e
+one_shift Left Right e = cc e
+one_shift Stay Left e = cc e
+one_shift Stay Stay e = refl
+one_shift Stay Right e = cc e
+one_shift Right Left e = cc e
+one_shift Right Stay e = cc e
+one_shift Right Right e = refl
+
+same-name : (names : List (List ℕ)) (m n : ℕ) → AreApart bytes_eq bytes_eq-Decides names → m < length names → n < length names
+    → slice_index_or names m [] ≡ slice_index_or names n [] → m ≡ n
+same-name names m n apart a b e =
+    one_number bytes_eq bytes_eq-Decides names m n (slice_index_or names n []) apart
+    (slice_get-get_or names m [] a ∙ ap (λ (t : List ℕ). Some t) e) (slice_get-get_or names n [] b)
+
+same-letter : (letters : List ℕ) (m n : ℕ) → AreApart nat_eq Decides-eqb letters → m < length letters → n < length letters
+    → slice_index letters m ≡ slice_index letters n → m ≡ n
+same-letter letters m n apart a b e =
+    one_number nat_eq Decides-eqb letters m n (slice_index letters n) apart
+    (slice_get-get_or letters m 0 a ∙ ap (λ (t : ℕ). Some t) e) (slice_get-get_or letters n 0 b)
+
+same-quint : (q r : Quint) → q.state ≡ r.state → q.read ≡ r.read → q.write ≡ r.write → q.shift ≡ r.shift → q.next ≡ r.next → q ≡ r
+same-quint q r a b c d e = λ i. record { state = a i; read = b i; write = c i; shift = d i; next = e i }
+
+-- what two equal entries say is equal
+record SameSaid (s t : Said) : Type 0 where
+  state : s.state ≡ t.state
+  read : s.read ≡ t.read
+  write : s.write ≡ t.write
+  shift : shift_text s.shift ≡ shift_text t.shift
+  next : s.next ≡ t.next
+
+same-said : (s t : Said) → entry_of s ≡ entry_of t → SameSaid s t
+same-said s t e = record { state = cc; read = cc; write = cc; shift = cc; next = cc }
+
+same-rows : (names : List (List ℕ)) (letters : List ℕ) → AreApart bytes_eq bytes_eq-Decides names → AreApart nat_eq Decides-eqb letters
+    → (qs rs : List Quint) → All (IsInRange (length names) (length letters)) qs → All (IsInRange (length names) (length letters)) rs
+    → rows_by names letters qs ≡ rows_by names letters rs → qs ≡ rs
+same-rows names letters a b [] [] h k e = refl
+same-rows names letters a b [] (r ∷ rs) h k e = cc e
+same-rows names letters a b (q ∷ qs) [] h k e = cc e
+same-rows names letters a b (q ∷ qs) (r ∷ rs) h k e =
+    let In : Quint → Type 0 = IsInRange (length names) (length letters) in
+    let here : IsInRange (length names) (length letters) q = All-head In q qs h in
+    let there : IsInRange (length names) (length letters) r = All-head In r rs k in
+    let head : entry_of (said_of names letters q) ≡ entry_of (said_of names letters r) = cc in
+    let tail : rows_by names letters qs ≡ rows_by names letters rs = cc in
+    let same = same-said (said_of names letters q) (said_of names letters r) head in
+    let one : q ≡ r = same-quint q r
+    (same-name names q.state r.state a here.state there.state same.state)
+    (same-letter letters q.read r.read b here.read there.read same.read)
+    (same-letter letters q.write r.write b here.write there.write same.write)
+    (one_shift q.shift r.shift same.shift)
+    (same-name names q.next r.next a here.next there.next same.next) in
+    let rest : qs ≡ rs = same-rows names letters a b qs rs (All-tail In q qs h) (All-tail In r rs k) tail in
+    λ i. one i ∷ rest i
+
+one-spelling : (entries : List (List (List ℕ))) (names names2 : List (List ℕ)) (letters letters2 : List ℕ) (qs rs : List Quint)
+    → names2 ≡ names → letters2 ≡ letters → Spells names letters qs entries → Spells names2 letters2 rs entries → qs ≡ rs
+one-spelling entries names names2 letters letters2 qs rs e f h k =
+    let apart = rw (← h.names_by_first) at (apart-firsts bytes_eq bytes_eq-Decides (names_in entries)) in
+    let free = rw (← h.letters_by_first) at (apart-firsts nat_eq Decides-eqb (blank ∷ letters_in entries)) in
+    let other : Spells names letters rs entries = rw (e, f) at k in
+    same-rows names letters apart free qs rs h.in_range other.in_range (h.rows ∙ sym other.rows)
+
+pub one_reading : (entries : List (List (List ℕ))) (t u : Named) → IsTableOf entries t → IsTableOf entries u → t ≡ u
+one_reading entries t u h k =
+    let names : u.names ≡ t.names = k.spelled.names_by_first ∙ sym h.spelled.names_by_first in
+    let letters : u.letters ≡ t.letters = k.spelled.letters_by_first ∙ sym h.spelled.letters_by_first in
+    let quints = one-spelling entries t.names u.names t.letters u.letters t.machine.quints u.machine.quints names letters h.spelled k.spelled in
+    let states : t.machine.states ≡ u.machine.states = h.states ∙ ap (λ (xs : List (List ℕ)). length xs) (sym names) ∙ sym k.states in
+    let symbols : t.machine.symbols ≡ u.machine.symbols = h.symbols ∙ ap (λ (xs : List ℕ). length xs) (sym letters) ∙ sym k.symbols in
+    λ i. record { machine = record { quints = quints i; states = states i; symbols = symbols i }; names = sym names i; letters = sym letters i }
+
+-- ---- a reading or a fault
+
+neither : (a b : Option TableRefusal) → else_fault a b ≡ None → (a ≡ None) × (b ≡ None)
+neither None b e = (refl, e)
+neither (Some x) b e = cc e
+
+faultless : (n : ℕ) (fields : List (List ℕ)) (rest : List (List (List ℕ))) → fault_from n (fields ∷ rest) ≡ None → (entry_fault n fields ≡ None) × (fault_from (n + 1) rest ≡ None)
+unfolding fault_from
+faultless n fields rest e = neither (entry_fault n fields) (fault_from (n + 1) rest) e
+
+in-with_name : (names : List (List ℕ)) (name : List ℕ) → list_any (bytes_eq name) (with_name names name) ≡ true
+in-with_name names name = elim (cases_Bool (list_any (bytes_eq name) names)) [
+  | inl hit ↦ rw (hit, hit) refl
+  | inr miss ↦ rw (miss, list_any-append (bytes_eq name) names (name ∷ []), miss, (bytes_eq-Decides name name).1 refl) refl
+]
+
+in-with_letter : (letters : List ℕ) (letter : ℕ) → list_any (nat_eq letter) (with_letter letters letter) ≡ true
+in-with_letter letters letter = elim (cases_Bool (list_any (nat_eq letter) letters)) [
+  | inl hit ↦ rw (hit, hit) refl
+  | inr miss ↦ rw (miss, list_any-append (nat_eq letter) letters (letter ∷ []), miss, (Decides-eqb letter letter).1 refl) refl
+]
+
+-- the name added first keeps its number
+first-number : (names : List (List ℕ)) (name later : List ℕ) → (n : ℕ) × (slice_get (with_name (with_name names name) later) n ≡ Some name)
+first-number names name later =
+    let (n, at) = some_number bytes_eq bytes_eq-Decides name (with_name names name) (in-with_name names name) in
+    let (more, grown) = with_name-grows (with_name names name) later in
+    (n, rw grown (number_stays (with_name names name) more n name at))
+
+first-letter : (letters : List ℕ) (letter later : ℕ) → (n : ℕ) × (slice_get (with_letter (with_letter letters letter) later) n ≡ Some letter)
+first-letter letters letter later =
+    let (n, at) = some_number nat_eq Decides-eqb letter (with_letter letters letter) (in-with_letter letters letter) in
+    let (more, grown) = with_letter-grows (with_letter letters letter) later in
+    (n, rw grown (number_stays (with_letter letters letter) more n letter at))
+
+-- the names, letters and quintuples of entries
+record Spelling (entries : List (List (List ℕ))) : Type 0 where
+  names : List (List ℕ)
+  letters : List ℕ
+  quints : List Quint
+  spells : Spells names letters quints entries
+  few : length entries ≤ 4000
+
+one-more : (names : List (List ℕ)) (letters : List ℕ) (quints : List Quint) (done : List (List (List ℕ))) (s : Said) → HasForms s → Spells names letters quints done → length done + 1 ≤ 4000
+    → Spelling (done ++ entry_of s ∷ [])
+one-more names letters quints done s f h few =
+    let (n1, state) = first-number names s.state s.next in
+    let (n2, next) = some_number bytes_eq bytes_eq-Decides s.next (with_name (with_name names s.state) s.next) (in-with_name (with_name names s.state) s.next) in
+    let (k1, read) = first-letter letters s.read s.write in
+    let (k2, write) = some_number nat_eq Decides-eqb s.write (with_letter (with_letter letters s.read) s.write) (in-with_letter (with_letter letters s.read) s.write) in
+    let q : Quint = record { state = n1; read = k1; write = k2; shift = s.shift; next = n2 } in
+    let adds : Adds names letters s q (with_name (with_name names s.state) s.next) (with_letter (with_letter letters s.read) s.write) = record {
+      names_after = refl;
+      letters_after = refl;
+      state = state;
+      read = read;
+      write = write;
+      next = next;
+      shift = refl;
+      state_form = f.state;
+      read_form = f.read;
+      write_form = f.write;
+      next_form = f.next;
+    } in
+    record {
+      names = with_name (with_name names s.state) s.next;
+      letters = with_letter (with_letter letters s.read) s.write;
+      quints = quints ++ q ∷ [];
+      spells = spells-more names letters quints done s q _ _ h adds;
+      few = omega (arith, length-append done (entry_of s ∷ []));
+    }
+
+build : (n : ℕ) (done rest : List (List (List ℕ))) → Spelling done → n ≡ length done + 1 → fault_from n rest ≡ None → Spelling (done ++ rest)
+build n done [] so count e = rw (append-nil done) so
+build n done (fields ∷ rest) so count e =
+    let (here, later) = faultless n fields rest e in
+    let (few, said) = says n fields here in
+    let (s, is, f) = said in
+    let next : Spelling (done ++ fields ∷ []) = rw is (one-more so.names so.letters so.quints done s f so.spells (omega arith)) in
+    let counted : n + 1 ≡ length (done ++ fields ∷ []) + 1 = omega (arith, length-append done (fields ∷ [])) in
+    rw (← append_assoc done (fields ∷ []) rest) (build (n + 1) (done ++ fields ∷ []) rest next counted later)
+
+nothing : Spelling []
+nothing = record { names = []; letters = blank ∷ []; quints = []; spells = spells-none; few = omega arith }
+
+not_empty : (entries : List (List (List ℕ))) → fault_of entries ≡ None → (0 < length entries) × (fault_from 1 entries ≡ None)
+unfolding fault_of
+not_empty [] e = cc e
+not_empty (fields ∷ rest) e = (omega arith, e)
+
+pub reading_of : (entries : List (List (List ℕ))) → fault_of entries ≡ None → (t : Named) × IsTableOf entries t
+reading_of entries e =
+    let (some, none) = not_empty entries e in
+    let so = build 1 [] entries nothing refl none in (
+      named (program_of so.quints (length so.names) (length so.letters)) so.names so.letters,
+      record { spelled = so.spells; some = some; few = so.few; states = refl; symbols = refl },
+    )
+
+pub row-forms : (names : List (List ℕ)) (letters : List ℕ) (q : Quint) → list_all is_state_name names ≡ true → list_all is_symbol_byte letters ≡ true
+    → IsInRange (length names) (length letters) q → HasForms (said_of names letters q)
+row-forms names letters q f g h = record {
+  state = all-at is_state_name names q.state _ f (slice_get-get_or names q.state [] h.state);
+  read = all-at is_symbol_byte letters q.read _ g (slice_get-get_or letters q.read 0 h.read);
+  write = all-at is_symbol_byte letters q.write _ g (slice_get-get_or letters q.write 0 h.write);
+  next = all-at is_state_name names q.next _ f (slice_get-get_or names q.next [] h.next);
+}
+
+no-faults : (n : ℕ) (names : List (List ℕ)) (letters : List ℕ) (quints : List Quint) → n + length quints ≤ 4001 → list_all is_state_name names ≡ true → list_all is_symbol_byte letters ≡ true
+    → All (IsInRange (length names) (length letters)) quints → fault_from n (rows_by names letters quints) ≡ None
+unfolding fault_from
+no-faults n names letters [] few f g h = refl
+no-faults n names letters (q ∷ qs) few f g h =
+    let In : Quint → Type 0 = IsInRange (length names) (length letters) in
+    rw (no_fault n (said_of names letters q) (omega arith) (row-forms names letters q f g (All-head In q qs h)))
+    (no-faults (n + 1) names letters qs (omega arith) f g (All-tail In q qs h))
+
+some-fault : (entries : List (List (List ℕ))) → 0 < length entries → fault_of entries ≡ fault_from 1 entries
+unfolding fault_of
+some-fault [] h = absurd (omega arith)
+some-fault (fields ∷ rest) h = refl
+
+pub no_fault_of : (entries : List (List (List ℕ))) (t : Named) → IsTableOf entries t → fault_of entries ≡ None
+no_fault_of entries t h =
+    let s = h.spelled in
+    let count : length entries ≡ length t.machine.quints = ap (λ (xs : List (List (List ℕ))). length xs) (sym s.rows) ∙ length-map t.machine.quints _ in
+    some-fault entries h.some ∙ rw (← s.rows) (no-faults 1 t.names t.letters t.machine.quints (omega (arith, h.few)) s.names_form s.letters_form s.in_range)

@@ -1,0 +1,8 @@
+-- The lines of the quintuples so far.
+use Rattle.std.proofs.Common.{◌≡◌, take}
+use Rattle.bn_entries.specs.Lines.{lines_of}
+use Rattle.bn_table.specs.Rows.{rows_by}
+use Rattle.bn_table.proofs.text.write_quints.Given as goal
+
+abbrev pub invariant-loop-quint : goal.invariant-loop-quint
+invariant-loop-quint l = l.writer ≡ lines_of (rows_by l.table.names l.table.letters (take l.quint-index l.quint-items))

@@ -1,0 +1,26 @@
+-- The five fields of a quintuple's entry (this project's own profile).
+use Rattle.std.specs.Prelude.{ℕ, Bool, ◌||◌, List, [], ◌∷◌, bytes_eq}
+use Rattle.bn_machine.specs.declared.quint.Shift.{Shift}
+use Rattle.bn_machine.specs.declared.quint.Shift.TheVariants.{Left, Stay, Right}
+
+-- the text of a shift: `-` to the left, `0` for none, `+` to the right
+abbrev pub shift_text : Shift → List ℕ
+shift_text Left = 45 ∷ []
+shift_text Stay = 48 ∷ []
+shift_text Right = 43 ∷ []
+
+-- whether some bytes are the text of a shift
+abbrev pub is_shift : List ℕ → Bool
+is_shift field = bytes_eq field (shift_text Left) || bytes_eq field (shift_text Stay) || bytes_eq field (shift_text Right)
+
+-- what an entry says: a state's name, the letter read, the letter written, a shift, and the next state's name
+pub record Said : Type 0 where
+  pub state : List ℕ
+  pub read : ℕ
+  pub write : ℕ
+  pub shift : Shift
+  pub next : List ℕ
+
+-- the entry that says so
+abbrev pub entry_of : Said → List (List ℕ)
+entry_of s = s.state ∷ (s.read ∷ []) ∷ (s.write ∷ []) ∷ shift_text s.shift ∷ s.next ∷ []

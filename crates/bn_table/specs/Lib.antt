@@ -1,0 +1,7 @@
+pub mod Draft
+pub mod Entry
+pub mod Faults
+pub mod Fields
+pub mod Rows
+pub mod RowsLaws
+pub mod Reading

@@ -1,0 +1,17 @@
+-- The reading of bytes as a table of quintuples (this project's own profile).
+use Rattle.std.specs.Prelude.{◌≡◌, ℕ, List, None, ◌↔◌}
+use Rattle.bn_entries.specs.Entries.{entries_of}
+use Rattle.bn_table.specs.Faults.{fault_of}
+use Rattle.bn_table.specs.Rows.{IsTableOf, Named}
+
+-- the bytes read as this table: it has the bytes' entries
+abbrev pub Reads : List ℕ → Named → Type 0
+Reads bytes t = IsTableOf (entries_of bytes) t
+
+-- bytes read as one table at most
+abbrev pub OneReading : Type 0
+OneReading = (bytes : List ℕ) (t u : Named) → Reads bytes t → Reads bytes u → t ≡ u
+
+-- bytes have a reading exactly where their entries have no fault
+abbrev pub ReadingOrFault : Type 0
+ReadingOrFault = (bytes : List ℕ) → (fault_of (entries_of bytes) ≡ None) ↔ ((t : Named) × Reads bytes t)

@@ -1,0 +1,89 @@
+-- Tables of quintuples and their entries (this project's own profile).
+use Rattle.std.specs.Prelude.{◌≡◌, ℕ, ◌<◌, ◌≤◌, ◌∷◌, ◌++◌, [], List, true, length, map, nat_eq, slice_index, slice_index_or, All, if◌then◌else◌}
+use Rattle.std.specs.List.{flat_map, list_all, list_any}
+use Rattle.bn_entries.specs.Forms.{is_state_name, is_symbol_byte}
+use Rattle.bn_entries.specs.Numbering.{AreNumberedByFirst, firsts, firsts_by}
+use Rattle.bn_machine.specs.Machine.{IsInRange, Program}
+use Rattle.bn_machine.specs.declared.quint.Quint.{Quint}
+use Rattle.bn_table.specs.Entry.{Said, entry_of}
+
+-- a machine whose states have names and whose symbols have letters, each by its number
+pub record Named : Type 0 where
+  pub machine : Program
+  pub names : List (List ℕ)
+  pub letters : List ℕ
+
+abbrev pub named : Program → List (List ℕ) → List ℕ → Named
+named p names letters = record { machine = p; names = names; letters = letters }
+
+-- what a quintuple's entry says, by the names of its states and the letters of its symbols
+abbrev pub said_of : List (List ℕ) → List ℕ → Quint → Said
+said_of names letters q = record {
+  state = slice_index_or names q.state [];
+  read = slice_index letters q.read;
+  write = slice_index letters q.write;
+  shift = q.shift;
+  next = slice_index_or names q.next [];
+}
+
+-- the entries of quintuples
+abbrev pub rows_by : List (List ℕ) → List ℕ → List Quint → List (List (List ℕ))
+rows_by names letters quints = map (λ q. entry_of (said_of names letters q)) quints
+
+-- the entries of a table
+abbrev pub rows_of : Named → List (List (List ℕ))
+rows_of t = rows_by t.names t.letters t.machine.quints
+
+-- a field of an entry, by its place counted from 0
+abbrev pub field_at : List (List ℕ) → ℕ → List ℕ
+field_at fields place = slice_index_or fields place []
+
+-- the names of states in entries, in the order in which they appear: in each entry its first field, then its last
+abbrev pub names_in : List (List (List ℕ)) → List (List ℕ)
+names_in entries = flat_map (λ fields. field_at fields 0 ∷ field_at fields 4 ∷ []) entries
+
+-- the letters in entries, in the order in which they appear: in each entry its second field, then its third
+abbrev pub letters_in : List (List (List ℕ)) → List ℕ
+letters_in entries = flat_map (λ fields. field_at fields 1 ++ field_at fields 2) entries
+
+-- the blank's letter, `_`
+abbrev pub blank : ℕ
+blank = 95
+
+-- these quintuples have these entries, where the states' names and the letters are numbered by their first
+-- appearance in the entries, the blank's letter before all others
+pub record Spells (names : List (List ℕ)) (letters : List ℕ) (quints : List Quint) (entries : List (List (List ℕ))) : Type 0 where
+  pub rows : rows_by names letters quints ≡ entries
+  pub in_range : All (IsInRange (length names) (length letters)) quints
+  pub names_by_first : names ≡ firsts (names_in entries)
+  pub letters_by_first : letters ≡ firsts_by nat_eq (blank ∷ letters_in entries)
+  pub names_form : list_all is_state_name names ≡ true
+  pub letters_form : list_all is_symbol_byte letters ≡ true
+
+-- a table has these entries, of which there are 1 to 4,000
+pub record IsTableOf (entries : List (List (List ℕ))) (t : Named) : Type 0 where
+  pub spelled : Spells t.names t.letters t.machine.quints entries
+  pub some : 0 < length entries
+  pub few : length entries ≤ 4000
+  pub states : t.machine.states ≡ length t.names
+  pub symbols : t.machine.symbols ≡ length t.letters
+
+-- a table: it has the entries of its quintuples
+abbrev pub IsTable : Named → Type 0
+IsTable t = IsTableOf (rows_of t) t
+
+-- the states' numbers in quintuples, in the order in which they appear
+abbrev pub states_in : List Quint → List ℕ
+states_in quints = flat_map (λ q. q.state ∷ q.next ∷ []) quints
+
+-- these letters and, where it is new, one more at the end
+abbrev pub with_letter : List ℕ → ℕ → List ℕ
+with_letter letters letter = if list_any (nat_eq letter) letters then letters else letters ++ letter ∷ []
+
+-- A machine as a table has it: its states are numbered by first appearance and each of them appears, and it has
+-- at most 4,000 quintuples, 8,000 states and 91 symbols.
+pub record FitsTable (p : Program) : Type 0 where
+  pub numbered : AreNumberedByFirst (states_in p.quints) p.states
+  pub quints : length p.quints ≤ 4000
+  pub states : p.states ≤ 8000
+  pub symbols : p.symbols ≤ 91

@@ -1,0 +1,117 @@
+//! A table that is being read.
+
+ghost use Rattle.std.specs.Prelude.{◌≡◌, ◌≢◌, ◌<◌, ◌≤◌, ◌+◌, ◌-◌, ◌^◌, ◌++◌, ◌∷◌, [], length, Some, None, slice_get, OnOk, IfOk, IfErr};
+ghost use Rattle.bn_table.specs.Entry.{entry_of};
+ghost use Rattle.bn_table.specs.Fields.{said};
+ghost use Rattle.bn_table.specs.Faults.{entry_fault};
+ghost use Rattle.bn_table.specs.Rows.{IsTableOf, with_letter};
+ghost use Rattle.bn_table.specs.declared.refusal.TableRefusal.TheVariants as refusal;
+ghost use Rattle.bn_table.specs.Draft.{IsDraft, drafted};
+
+use crate::entry::{Fields, read_fields};
+use crate::refusal::TableRefusal;
+use crate::table::{Table, place_of};
+use bn_entries::{Entry, Names, NoMemory};
+use bn_machine::{Machine, MachineRefusal, Quint};
+use std::alloc::Global;
+
+/// The names, the letters and the quintuples of the entries read so far.
+#[derive(Drop)]
+pub struct Draft {
+    names: Names,
+    letters: Vec<u8>,
+    quints: Vec<Quint>,
+}
+
+// The symbol of a letter, which is added at the end where it is new.
+fn number_letter(letters: &mut Vec<u8>, letter: u8) -> Result<u32, NoMemory>
+    requires { length letters.old.items < 2 ^ 32 - 1 }
+    ensures letters { OnOk result (letters.new.items ≡ with_letter letters.old.items letter) }
+    ensures number { IfOk result (λ symbol. slice_get letters.new.items symbol ≡ Some letter) }
+{
+    if let Some(symbol) = place_of(letters.as_slice(), letter) {
+        return Ok(symbol as u32);
+    }
+    let symbol = letters.len() as u32;
+    if letters.push(letter).is_err() {
+        return Err(NoMemory);
+    }
+    Ok(symbol)
+}
+
+/// A draft of no entries: it has the blank's letter alone.
+pub fn new_draft(alloc: Global) -> Result<Draft, NoMemory>
+    ensures { IfOk result (λ d. IsDraft d × (drafted d ≡ [])) }
+{
+    let mut letters = Vec::new(alloc);
+    if letters.push(b'_').is_err() {
+        return Err(NoMemory);
+    }
+    Ok(Draft {
+        names: Names::new(alloc),
+        letters,
+        quints: Vec::new(alloc),
+    })
+}
+
+// Adds the quintuple of an entry.
+fn add_fields(draft: &mut Draft, fields: &Fields) -> Result<(), NoMemory>
+    requires draft { IsDraft draft.old }
+    requires passes { entry_fault (length draft.old.quints.items + 1) (entry_of (said fields.now)) ≡ None }
+    ensures { OnOk result (IsDraft draft.new × (drafted draft.new ≡ drafted draft.old ++ entry_of (said fields.now) ∷ [])) }
+{
+    let state = draft.names.number_of(fields.state)?;
+    let read = number_letter(&mut draft.letters, fields.read)?;
+    let write = number_letter(&mut draft.letters, fields.write)?;
+    let next = draft.names.number_of(fields.next)?;
+    let quint = Quint {
+        state,
+        read,
+        write,
+        shift: fields.shift,
+        next,
+    };
+    if draft.quints.push(quint).is_err() {
+        return Err(NoMemory);
+    }
+    Ok(())
+}
+
+/// Reads one more entry into the draft, or answers its first fault.
+pub fn add_entry(draft: &mut Draft, entry: &Entry) -> Result<(), TableRefusal>
+    requires draft { IsDraft draft.old }
+    requires few { length draft.old.quints.items ≤ 4000 }
+    ensures ok { OnOk result (IsDraft draft.new × (drafted draft.new ≡ drafted draft.old ++ entry.now ∷ [])) }
+    ensures passes { OnOk result (entry_fault (length draft.old.quints.items + 1) entry.now ≡ None) }
+    ensures fault { IfErr result (λ e. e ≢ refusal.NoMemory → entry_fault (length draft.old.quints.items + 1) entry.now ≡ Some e) }
+{
+    let number = draft.quints.len() as u32 + 1;
+    let fields = read_fields(entry, number)?;
+    add_fields(draft, &fields)?;
+    Ok(())
+}
+
+/// The table of a draft, which has an entry; else `Empty`.
+pub fn into_table(draft: Draft) -> Result<Table, TableRefusal>
+    requires draft { IsDraft draft }
+    requires few { length draft.quints.items ≤ 4000 }
+    ensures ok { IfOk result (IsTableOf (drafted draft)) }
+    ensures empty { IfErr result (λ e. (e ≡ refusal.Empty) × (drafted draft ≡ [])) }
+{
+    let Draft {
+        names,
+        letters,
+        quints,
+    } = draft;
+    let states = names.len();
+    let symbols = letters.len() as u32;
+    match Machine::try_new(quints, states, symbols) {
+        Ok(machine) => Ok(Table {
+            machine,
+            names,
+            letters,
+        }),
+        Err(MachineRefusal::Empty) => Err(TableRefusal::Empty),
+        Err(MachineRefusal::Range { .. }) => unreachable!(),
+    }
+}

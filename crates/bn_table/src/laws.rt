@@ -1,0 +1,13 @@
+//! Laws of the definitions. Each function has an empty body, and its contract is the law.
+
+ghost use Rattle.bn_table.specs.Reading.{OneReading, ReadingOrFault};
+
+/// Bytes are read as one table at most.
+pub fn bytes_have_one_reading()
+    ensures { OneReading }
+{}
+
+/// Bytes have a reading exactly where their entries have no fault.
+pub fn bytes_have_a_reading_or_a_fault()
+    ensures { ReadingOrFault }
+{}

@@ -1,0 +1,34 @@
+//! Why bytes are refused as a table.
+
+use bn_entries::NoMemory;
+
+/// Why some bytes are no table of quintuples. Entries and fields are counted from 1; the first faulty entry is
+/// named, with its first fault in this order: too many entries, the count of fields, the fields from 1 to 5.
+#[derive(Clone, Copy, PartialEq, Eq, Debug)]
+pub enum TableRefusal {
+    /// The entry has not five fields.
+    FieldCount { entry: u32 },
+    /// The field, 1 or 5, is no state's name.
+    Name { entry: u32, field: u32 },
+    /// The field, 2 or 3, is no letter.
+    Symbol { entry: u32, field: u32 },
+    /// Field 4 is none of `-`, `0` and `+`.
+    Shift { entry: u32 },
+    /// The entry comes after 4,000 others, so it is entry 4,001.
+    TooMany { entry: u32 },
+    /// There is no entry.
+    Empty,
+    /// Memory ran out.
+    NoMemory,
+}
+
+impl From<NoMemory> for TableRefusal {
+    ghost use Rattle.bn_table.specs.declared.refusal.TableRefusal.TheVariants as refusal;
+    ghost use Rattle.std.specs.Prelude.{◌≡◌};
+
+    ghost from_gives = { λ _ result. result ≡ refusal.NoMemory };
+
+    fn from(_: NoMemory) -> TableRefusal {
+        TableRefusal::NoMemory
+    }
+}

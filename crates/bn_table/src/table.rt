@@ -1,0 +1,74 @@
+//! A machine with names for its states and letters for its symbols.
+
+ghost use Rattle.std.specs.Prelude.{◌≡◌, ◌<◌, Some, slice_get, IfSome, IfNone, Contains, position, ◌==◌};
+
+use bn_entries::Names;
+use bn_machine::Machine;
+use std::marker::Model;
+
+/// The place of a letter among others, counted from 0.
+pub(crate) fn place_of(letters: &[u8], letter: u8) -> Option<usize>
+    ensures { result ≡ position (λ known. known == letter) letters.now }
+{
+    letters.iter().position(|known| *known == letter)
+}
+
+/// A table of quintuples: a machine, a name for each state, and a letter, one byte, for each symbol. Its states
+/// are numbered by first appearance, in each quintuple first its state and then its next one; so are its symbols,
+/// first the one read and then the one written, with `_` as symbol 0 before all. It has 1 to 4,000 quintuples.
+#[derive(Drop)]
+pub struct Table {
+    pub(crate) machine: Machine,
+    pub(crate) names: Names,
+    pub(crate) letters: Vec<u8>,
+}
+
+impl Model for Table {
+    ghost use Rattle.bn_table.specs.Rows.{Named, named, IsTable};
+
+    ghost Value = { Named };
+
+    ghost view = { λ t. named t.machine t.names t.letters.items };
+
+    ghost invariant = { λ t. IsTable (named t.machine t.names t.letters.items) };
+}
+
+impl Table {
+    ghost use Rattle.bn_table.specs.Rows.{IsTable, FitsTable};
+
+    /// The machine.
+    pub fn machine(&self) -> &Machine
+        ensures value { result.now ≡ self.now.machine }
+        ensures valid { IsTable self.now }
+        ensures fits { FitsTable self.now.machine }
+    {
+        &self.machine
+    }
+
+    /// The name of a state, counted from 0.
+    pub fn state_name(&self, state: u32) -> &[u8]
+        requires { state < self.now.machine.states }
+        ensures { slice_get self.now.names state ≡ Some result.now }
+    {
+        self.names.get(state)
+    }
+
+    /// The letter of a symbol, counted from 0.
+    pub fn letter(&self, symbol: u32) -> u8
+        requires { symbol < self.now.machine.symbols }
+        ensures { slice_get self.now.letters symbol ≡ Some result }
+    {
+        self.letters[symbol as usize]
+    }
+
+    /// The symbol of a letter, counted from 0. `None` comes exactly where the table has no such letter.
+    pub fn symbol_of(&self, letter: u8) -> Option<u32>
+        ensures found { IfSome result (λ symbol. slice_get self.now.letters symbol ≡ Some letter) }
+        ensures none { IfNone result (¬ Contains self.now.letters letter) }
+    {
+        match place_of(self.letters.as_slice(), letter) {
+            Some(symbol) => Some(symbol as u32),
+            None => None,
+        }
+    }
+}

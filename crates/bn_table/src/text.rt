@@ -1,0 +1,90 @@
+//! Reading and writing the text of a table.
+
+ghost use Rattle.std.specs.Prelude.{◌≡◌, ◌<◌, ◌++◌, ◌∷◌, [], true, ◌≢◌, Some, IfOk, IfErr, OnOk};
+ghost use Rattle.bn_entries.specs.Entries.{entries_of};
+ghost use Rattle.bn_entries.specs.Lines.{is_plain_entry, line_of, lines_of};
+ghost use Rattle.bn_machine.specs.Machine.{IsInRange};
+ghost use Rattle.bn_table.specs.Entry.{entry_of, shift_text};
+ghost use Rattle.bn_table.specs.Faults.{fault_of};
+ghost use Rattle.bn_table.specs.Reading.{Reads};
+ghost use Rattle.bn_table.specs.Rows.{IsTable, rows_of, said_of};
+ghost use Rattle.bn_table.specs.declared.refusal.TableRefusal.TheVariants as refusal;
+
+use crate::draft::{add_entry, into_table, new_draft};
+use crate::refusal::TableRefusal;
+use crate::table::Table;
+use bn_entries::{Entries, Entry, EntryWriter, NoMemory};
+use bn_machine::{Quint, Shift};
+use std::alloc::Global;
+
+/// Reads the bytes of a table: csv records without a header, each with a state's name, the letter read, the
+/// letter written, `-`, `0` or `+`, and the next state's name. It answers the bytes' one reading, where they have
+/// one; each refusal but `NoMemory` comes exactly where it is the entries' first fault.
+pub fn read_quints(alloc: Global, bytes: &[u8]) -> Result<Table, TableRefusal>
+    ensures ok { IfOk result (Reads bytes.now) }
+    ensures refused { IfErr result (λ e. e ≢ refusal.NoMemory → fault_of (entries_of bytes.now) ≡ Some e) }
+{
+    let mut entries = Entries::new(alloc, bytes);
+    let mut entry = Entry::new(alloc);
+    let mut draft = new_draft(alloc)?;
+    'entries: while entries.read_entry(&mut entry)? {
+        add_entry(&mut draft, &entry)?;
+    }
+    into_table(draft)
+}
+
+// The text of a shift.
+fn text_of_shift(shift: Shift) -> &'static [u8]
+    ensures { result.now ≡ shift_text shift }
+{
+    match shift {
+        Shift::Left => b"-",
+        Shift::Stay => b"0",
+        Shift::Right => b"+",
+    }
+}
+
+// Writes an entry of five fields that need no quotes.
+fn write_fields<'a>(
+    writer: &mut EntryWriter,
+    state: &'a [u8],
+    read: &'a [u8],
+    write: &'a [u8],
+    shift: &'a [u8],
+    next: &'a [u8],
+) -> Result<(), NoMemory>
+    requires { is_plain_entry (state.now ∷ read.now ∷ write.now ∷ shift.now ∷ next.now ∷ []) ≡ true }
+    ensures { OnOk result (writer.new ≡ writer.old ++ line_of (state.now ∷ read.now ∷ write.now ∷ shift.now ∷ next.now ∷ [])) }
+{
+    writer.write_entry(&[state, read, write, shift, next])
+}
+
+// Writes the entry of a quintuple.
+fn write_quint(writer: &mut EntryWriter, table: &Table, quint: &Quint) -> Result<(), NoMemory>
+    requires table { IsTable table.now }
+    requires range { IsInRange table.now.machine.states table.now.machine.symbols quint.now }
+    ensures { OnOk result (writer.new ≡ writer.old ++ line_of (entry_of (said_of table.now.names table.now.letters quint.now))) }
+{
+    let read = [table.letter(quint.read)];
+    let write = [table.letter(quint.write)];
+    write_fields(
+        writer,
+        table.state_name(quint.state),
+        &read,
+        &write,
+        text_of_shift(quint.shift),
+        table.state_name(quint.next),
+    )
+}
+
+/// The text of a table: for each quintuple a line with its five fields, in order. Reading it gives the table.
+pub fn write_quints(alloc: Global, table: &Table) -> Result<Vec<u8>, NoMemory>
+    ensures text { IfOk result (λ text. text.items ≡ lines_of (rows_of table.now)) }
+    ensures read_back { IfOk result (λ text. Reads text.items table.now) }
+{
+    let mut writer = EntryWriter::new(alloc);
+    for quint in table.machine().quints() {
+        write_quint(&mut writer, table, quint)?;
+    }
+    writer.into_text()
+}

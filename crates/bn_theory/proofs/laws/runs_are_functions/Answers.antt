@@ -1,0 +1,5 @@
+use Rattle.bn_theory.specs.RunLaws.{Reaches-run}
+use Rattle.bn_theory.proofs.laws.runs_are_functions.Goals as goal
+
+pub returns : goal.returns
+returns _ = Reaches-run
