@@ -1,0 +1,5 @@
+use Rattle.bn_netlist.specs.TextLaws.{texts-agree}
+use Rattle.bn_netlist.proofs.laws.one_text_a_configuration.Goals as goal
+
+pub returns : goal.returns
+returns c = texts-agree

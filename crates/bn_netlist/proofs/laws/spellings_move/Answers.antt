@@ -1,0 +1,5 @@
+use Rattle.bn_netlist.specs.NetLaws.{spellings-move}
+use Rattle.bn_netlist.proofs.laws.spellings_move.Goals as goal
+
+pub returns : goal.returns
+returns c = spellings-move

@@ -1,0 +1,5 @@
+use Rattle.bn_netlist.specs.TextLaws.{texts-end}
+use Rattle.bn_netlist.proofs.laws.texts_end.Goals as goal
+
+pub returns : goal.returns
+returns c = texts-end

@@ -1,0 +1,12 @@
+//! Worked rows of whole commands: what the workbench answers to words and bytes, held against
+//! answers that were found by hand. The crate has nothing but these tests.
+#![tactic(auto)]
+
+#[cfg(test)]
+mod circuits;
+#[cfg(test)]
+mod desk;
+#[cfg(test)]
+mod faults;
+#[cfg(test)]
+mod machines;

@@ -1,0 +1,16 @@
+pub mod Codes
+pub mod Words
+pub mod Ends
+pub mod CircuitReply
+pub mod TableReply
+pub mod Opened
+pub mod CheckReply
+pub mod MachineReply
+pub mod Letters
+pub mod MachineRun
+pub mod Endings
+pub mod ReplyLaws
+pub mod Answers
+pub mod Replying
+pub mod Told
+pub mod OneAnswer

@@ -1,0 +1,67 @@
+-- The words of a command line, and what they ask for (this project's own profile).
+use Rattle.std.specs.Prelude.{◌≡◌, ℕ, ◌≤◌, List, [], ◌∷◌, decimal, codes, Option, Some, None}
+use Rattle.bn_base.specs.Number.{greatest}
+use Rattle.bn_top.specs.declared.command.Command.{Command}
+use Rattle.bn_top.specs.declared.command.Command.TheVariants.{Step, Back, Check, Machine}
+
+-- What a command line asks for: at most so many steps forward, or back; the verdict on standard form; a machine's own run from a word, of at most so many steps.
+pub data Request : Type 0 where
+  Steps : ℕ → Request
+  Backs : ℕ → Request
+  Checks : Request
+  Runs : List ℕ → ℕ → Request
+
+-- what a command of the program asks for
+abbrev pub request_of : Command → Request
+request_of (Step e) = Steps e
+request_of (Back e) = Backs e
+request_of Check = Checks
+request_of (Machine word steps) = Runs word.now steps
+
+-- the word is the decimal text of this number, which is at most 2^62
+pub record IsNumber (word : List ℕ) (number : ℕ) : Type 0 where
+  pub spelled : word ≡ decimal number
+  pub bound : number ≤ greatest
+
+abbrev pub IsNoNumber : List ℕ → Type 0
+IsNoNumber word = (number : ℕ) → IsNumber word number → ⊥
+
+-- the words are a name and a number
+pub record IsCounted (words : List (List ℕ)) (name : List ℕ) (number : ℕ) : Type 0 where
+  pub word : List ℕ
+  pub words_are : words ≡ name ∷ word ∷ []
+  pub counts : IsNumber word number
+
+-- the greatest number of steps that a machine is run for by itself
+abbrev pub most_steps : ℕ
+most_steps = 1048576
+
+-- the words are a name, a word of a machine behind the byte `=`, and a number of steps
+pub record IsRun (words : List (List ℕ)) (name letters : List ℕ) (number : ℕ) : Type 0 where
+  pub word : List ℕ
+  pub words_are : words ≡ name ∷ (61 ∷ letters) ∷ word ∷ []
+  pub counts : IsNumber word number
+  pub few : number ≤ most_steps
+
+-- the words ask for this
+abbrev pub HasForm : List (List ℕ) → Request → Type 0
+HasForm words (Steps e) = IsCounted words (codes "step") e
+HasForm words (Backs e) = IsCounted words (codes "back") e
+HasForm words Checks = words ≡ codes "check" ∷ []
+HasForm words (Runs letters n) = IsRun words (codes "machine") letters n
+
+-- the words ask for nothing
+abbrev pub HasNoForm : List (List ℕ) → Type 0
+HasNoForm words = (request : Request) → HasForm words request → ⊥
+
+-- what is made of some words: nothing exactly where they ask for nothing, else what they ask for
+abbrev pub IsAsked : List (List ℕ) → Option Command → Type 0
+IsAsked words None = HasNoForm words
+IsAsked words (Some command) = HasForm words (request_of command)
+
+-- a machine is run for at most so many steps
+abbrev pub IsShort : Request → Type 0
+IsShort (Steps e) = Unit {0}
+IsShort (Backs e) = Unit {0}
+IsShort Checks = Unit {0}
+IsShort (Runs letters n) = n ≤ most_steps

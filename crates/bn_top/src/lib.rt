@@ -1,0 +1,24 @@
+//! The workbench as one call: words and bytes in, bytes and a status out.
+#![tactic(auto)]
+
+mod asking;
+mod check;
+mod command;
+mod config;
+mod finish;
+mod laws;
+mod letters;
+mod machine;
+mod machine_run;
+mod reply;
+mod reply_laws;
+mod status;
+mod table_reply;
+mod top;
+mod walk;
+
+pub use laws::one_answer;
+pub use reply::NoMemory;
+pub use reply_laws::{check_has_one_reply, machine_has_one_reply};
+pub use status::Status;
+pub use top::workbench;
