@@ -1,7 +1,8 @@
 //! Byte sources and byte sinks, and counts of their faults.
 //!
 //! Every byte that comes in or goes out passes through `Source` or `Sink`. Each counts its
-//! failures, and `read_all` and `write_all` blame the outside only where that count rose.
+//! failures, and `read_all` and `write_all` blame the outside only where that count rose or stands
+//! at its last value.
 #![tactic(auto)]
 
 mod mem_sink;

@@ -10,8 +10,10 @@ pub struct SinkFailed;
 /// A sink of bytes. It may tell which bytes it has taken, and it counts its failures, up to the
 /// last value of a counter.
 pub trait Sink {
+    /// The bytes that it has taken, where it tells them.
     ghost taken: { Self → Option (List ℕ) };
 
+    /// How often it has failed, up to the last value of its counter.
     ghost faults: { Self → ℕ };
 
     /// Takes at least one of the first of `bytes`, which is not empty, and answers how many. After

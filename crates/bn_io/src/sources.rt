@@ -10,8 +10,10 @@ pub struct SourceFailed;
 /// A source of bytes. It may tell which bytes it has left, and it counts its failures, up to the
 /// last value of a counter.
 pub trait Source {
+    /// The bytes that are left, where it tells them.
     ghost left: { Self → Option (List ℕ) };
 
+    /// How often it has failed, up to the last value of its counter.
     ghost faults: { Self → ℕ };
 
     /// Gives the next bytes into the front of `into`, which is not empty, and answers how many: 0

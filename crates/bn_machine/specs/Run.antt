@@ -1,4 +1,4 @@
--- Runs of a machine from a word, and what they leave (Bennett 1973).
+-- Runs of a machine from a word (Bennett 1973), and what they leave, by this project's own profile.
 use Rattle.std.specs.Prelude.{◌≡◌, ◌≢◌, ℕ, suc, ◌<◌, ◌≤◌, pos, ◌+ℤ◌, List, [], ◌∷◌, length, slice_index}
 use Rattle.bn_theory.specs.Runs.{Reaches}
 use Rattle.bn_machine.specs.Tape.{Tape, cell, scanned}

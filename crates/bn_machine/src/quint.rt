@@ -3,15 +3,20 @@
 /// Where a quintuple moves the head: one cell to the left, nowhere, or one cell to the right.
 #[derive(Clone, Copy, PartialEq, Eq, Debug)]
 pub enum Shift {
+    /// One cell to the left.
     Left,
+    /// Nowhere.
     Stay,
+    /// One cell to the right.
     Right,
 }
 
 /// An end of a tape's window.
 #[derive(Clone, Copy, PartialEq, Eq, Debug)]
 pub enum Side {
+    /// The end with the least position.
     Left,
+    /// The end with the greatest position.
     Right,
 }
 
@@ -20,9 +25,14 @@ pub enum Side {
 /// symbol 0 is the blank.
 #[derive(Clone, Copy, PartialEq, Eq, Debug)]
 pub struct Quint {
+    /// The state in which it applies.
     pub state: u32,
+    /// The symbol that is scanned.
     pub read: u32,
+    /// The symbol that is written in its place.
     pub write: u32,
+    /// Where the head moves.
     pub shift: Shift,
+    /// The state that comes next.
     pub next: u32,
 }

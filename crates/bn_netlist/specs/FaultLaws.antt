@@ -1,4 +1,4 @@
--- A text has one first fault: one line, and one fault there.
+-- A text has at most one first fault: one line, and one fault there.
 use Rattle.std.specs.Prelude.{◌≡◌, ℕ, ◌≤◌, List, [], ◌∷◌, ◌++◌, length, Option, Some, None, refl}
 use Rattle.std.proofs.Common.{arith, sym, ap, subst, ◌∙◌, inl, inr}
 use Rattle.std.proofs.lemmas.List.{append_assoc, append-nil}
@@ -7,7 +7,7 @@ use Rattle.bn_netlist.specs.Faults.{Fault, malformed, too_many, no_element, out_
 use Rattle.bn_netlist.specs.SentenceLaws.{lines-same}
 use Rattle.bn_netlist.specs.TextLaws.{shorter-continues, first_after, either_longer}
 
--- A text has one first fault.
+-- A text has at most one first fault.
 abbrev pub FaultsAgree : Type 0
 FaultsAgree = (text : List ℕ) (line other : ℕ) (fault second : Fault) → IsFirstFault text line fault → IsFirstFault text other second → (line ≡ other) × (fault ≡ second)
 

@@ -1,4 +1,4 @@
--- Configuration texts of circuits of rotary elements. The form of the text is this project's own profile; the circuits are Morita's (2017).
+-- Configuration texts of circuits of rotary elements. The form of the text is this project's own profile; the idea and the name of the rotary element are Morita's (2017).
 use Rattle.std.specs.Prelude.{◌≡◌, ℕ, ◌<◌, ◌≤◌, List, [], ◌∷◌, ◌++◌, map, replicate, Option, None}
 use Rattle.std.proofs.Common.{suc}
 use Rattle.bn_theory.specs.Circuits.{Circuit, target, source, IsCircuit, IsConfig, IsInput, IsOutput}

@@ -6,7 +6,7 @@ use bn_theory::{Line, Place};
 pub(crate) const FIRST_ELEMENT_LINE: u64 = 7;
 
 /// The header of a configuration text, read and tested.
-#[derive(Clone, Copy, Debug)]
+#[derive(Drop)]
 pub(crate) struct Header {
     /// The number of elements.
     pub(crate) count: u32,

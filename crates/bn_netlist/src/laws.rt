@@ -37,7 +37,7 @@ pub fn circuits_agree()
     ensures { CircuitsAgree }
 {}
 
-/// A text has one first fault: one line, and one fault there.
+/// A text has at most one first fault: one line, and one fault there.
 pub fn one_first_fault()
     ensures { FaultsAgree }
 {}

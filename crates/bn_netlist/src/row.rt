@@ -1,7 +1,7 @@
 //! What the line of an element says.
 
 /// The line of an element, read and not yet tested.
-#[derive(Clone, Copy, Debug)]
+#[derive(Drop)]
 pub(crate) struct Row {
     /// The element's number, from 0.
     pub(crate) number: u64,

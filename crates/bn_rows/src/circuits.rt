@@ -21,10 +21,6 @@ const TURNED: &str = "rotary 1\nelements 1\nstart 0.n\nend 0.w\nsteps 1\nleft 0.
 const ENDLESS: &str =
     "rotary 1\nelements 1\nstart 0.e\nend 0.w\nsteps 0\nat 0.n\ne 0 V - - 0.n -\n";
 
-/// Two elements, wired both ways; the signal has left.
-const PAIR: &str = "rotary 1\nelements 2\nstart 0.n\nend 1.s\nsteps 12\nleft 1.e\n\
-                    e 0 V - 1.w 0.e -\ne 1 H 0.w - - 1.n\n";
-
 #[test]
 fn steps_forward_and_back(rt: HostRuntime) -> Result<(), Fail> {
     let rows = [
@@ -35,7 +31,6 @@ fn steps_forward_and_back(rt: HostRuntime) -> Result<(), Fail> {
         ("step", "1", ACROSS, TURNED),
         ("back", "1", TURNED, ACROSS),
         ("back", "1", ACROSS, ACROSS),
-        ("step", "5", PAIR, PAIR),
     ];
     for (command, count, input, output) in rows {
         let answer = answer(rt.alloc(), &[command, count], input.as_bytes())?;

@@ -33,7 +33,7 @@ fn first_second(quints: &[Quint], i: u32) -> Option<u32>
 }
 
 // The least quintuple that shares state and scanned symbol with a later one, and the least such.
-pub fn first_repeat(quints: &[Quint]) -> Option<(u32, u32)>
+pub(crate) fn first_repeat(quints: &[Quint]) -> Option<(u32, u32)>
     requires { length quints.now < 2 ^ 32 }
     ensures { MatchOption result (IsUnambiguous quints.now) (λ r. IsLeastRepeat quints.now r.0 r.1) }
 {
@@ -47,7 +47,7 @@ pub fn first_repeat(quints: &[Quint]) -> Option<(u32, u32)>
 }
 
 // Whether the first quintuple reads a blank, writes a blank and shifts right.
-pub fn begins_well(quints: &[Quint]) -> bool
+pub(crate) fn begins_well(quints: &[Quint]) -> bool
     requires { 0 < length quints.now }
     ensures { IsTrue result ↔ BeginsWell quints.now }
 {
@@ -69,7 +69,7 @@ fn names_start(quint: &Quint, i: u32, start: u32) -> bool
 }
 
 // The least quintuple that has the start state in it where it may not stand.
-pub fn first_start_use(quints: &[Quint], start: u32) -> Option<u32>
+pub(crate) fn first_start_use(quints: &[Quint], start: u32) -> Option<u32>
     requires few { length quints.now < 2 ^ 32 }
     requires state { start ≡ start_of quints.now }
     ensures { MatchOption result (HasLoneStart quints.now) (IsLeastStart quints.now) }
@@ -84,7 +84,7 @@ pub fn first_start_use(quints: &[Quint], start: u32) -> Option<u32>
 }
 
 // Whether the last quintuple reads a blank, writes a blank, stays, and isn't one of the start state.
-pub fn ends_well(quints: &[Quint], start: u32) -> bool
+pub(crate) fn ends_well(quints: &[Quint], start: u32) -> bool
     requires some { 0 < length quints.now }
     requires state { start ≡ start_of quints.now }
     ensures { IsTrue result ↔ EndsWell quints.now }
@@ -107,7 +107,7 @@ fn names_final(quint: &Quint, i: u32, count: u32, last: u32) -> bool
 }
 
 // The least quintuple that has the final state in it where it may not stand.
-pub fn first_final_use(quints: &[Quint], last: u32) -> Option<u32>
+pub(crate) fn first_final_use(quints: &[Quint], last: u32) -> Option<u32>
     requires few { length quints.now < 2 ^ 32 }
     requires state { last ≡ final_of quints.now }
     ensures { MatchOption result (HasLoneFinal quints.now) (IsLeastFinal quints.now) }

@@ -1,7 +1,7 @@
 //! Lines of elements, and the wires between them.
 
 /// A line of an element: an input line or an output line, as the place where it stands says.
-/// Elements and lines are counted from 0. (Morita 2017 draws elements with such lines.)
+/// Elements and lines are counted from 0.
 #[derive(Clone, Copy, PartialEq, Eq, Debug)]
 pub struct Line {
     /// The element's number, from 0.

@@ -1,4 +1,4 @@
--- What the command `machine` answers: the run of a table's machine from a word, on a tape without ends (Bennett 1973; the texts are this project's own profile).
+-- What the command `machine` answers: the run of a table's machine from a word, on a tape without ends (Bennett 1973; the reading of the output and the texts are this project's own profile).
 use Rattle.std.specs.Prelude.{◌≡◌, ◌≢◌, ℕ, ◌<◌, List, [], ◌∷◌, ◌++◌, length, All, Contains, map, slice_index, slice_index_or, Some, codes, decimal}
 use Rattle.bn_machine.specs.Machine.{nth, AllBefore}
 use Rattle.bn_machine.specs.Run.{Ending, HasEnding, Halted, Stuck, Running}

@@ -1,4 +1,4 @@
--- Words and bytes have one answer.
+-- Words and bytes have at most one answer.
 use Rattle.std.specs.Prelude.{◌≡◌, ℕ, List}
 use Rattle.bn_theory.specs.declared.place.Place.{Place}
 use Rattle.bn_top.specs.Answers.{Answers}

@@ -5,7 +5,7 @@ ghost use Rattle.bn_top.specs.OneAnswer.{IsOneAnswer};
 
 use bn_table::bytes_have_one_reading;
 
-/// Words and bytes have one answer: one status, one text, and one list of places to tell.
+/// Words and bytes have at most one answer: one status, one text, and one list of places to tell.
 pub fn one_answer()
     ensures { IsOneAnswer }
 {

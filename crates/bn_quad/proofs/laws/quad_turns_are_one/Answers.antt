@@ -1,0 +1,5 @@
+use Rattle.bn_quad.specs.Answers.{quad_turn_once}
+use Rattle.bn_quad.proofs.laws.quad_turns_are_one.Goals as goal
+
+pub returns : goal.returns
+returns c = quad_turn_once

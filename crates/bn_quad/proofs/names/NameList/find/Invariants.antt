@@ -1,0 +1,5 @@
+use Rattle.bn_quad.specs.NamesLaws.{HasNoNumberBelow}
+use Rattle.bn_quad.proofs.names.NameList.find.Given as goal
+
+abbrev pub invariant-loop-index : goal.invariant-loop-index
+invariant-loop-index l = HasNoNumberBelow l.self l.name l.index

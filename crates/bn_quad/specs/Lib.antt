@@ -1,0 +1,14 @@
+pub mod Quadruples
+pub mod Overlap
+pub mod Kept
+pub mod Names
+pub mod Calls
+pub mod KeptLaws
+pub mod OverlapKept
+pub mod Search
+pub mod Reversible
+pub mod NamesLaws
+pub mod Backward
+pub mod Steps
+pub mod Laws
+pub mod Answers

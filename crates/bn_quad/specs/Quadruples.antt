@@ -1,0 +1,183 @@
+-- Quadruple machines of three tapes and their step (Bennett 1973).
+-- A quadruple does one of two things on each tape: it reads a symbol and writes one in its place, or it shifts the head without reading.
+use Rattle.std.specs.Prelude.{◌≡◌, ◌≢◌, ℕ, ◌<◌, ◌^◌, List, [], ◌∷◌, length, map, reverse, Some, ⊤, All}
+use Rattle.bn_machine.specs.Tape.{Tape, scanned, write, shift, opposite}
+use Rattle.bn_machine.specs.Window.{Room, anywhere, Allows}
+use Rattle.bn_machine.specs.Machine.{nth}
+use Rattle.bn_machine.specs.declared.quint.Shift.{Shift}
+
+-- what a quadruple does on one tape: read this symbol and write that one, or shift the head by this much
+pub data Deed : Type 0 where
+  Rewrite : ℕ → ℕ → Deed
+  Move : Shift → Deed
+
+-- a quadruple over states of any kind: the state that it leaves, its deeds on the tapes 1, 2 and 3, and the state that it leads to
+pub record Rule (Q : Type 0) : Type 0 where
+  pub from : Q
+  pub one : Deed
+  pub two : Deed
+  pub three : Deed
+  pub to : Q
+
+-- its deeds, tape 1 first
+abbrev pub deeds_of : {Q : Type 0} → Rule Q → List Deed
+deeds_of r = r.one ∷ r.two ∷ r.three ∷ []
+
+-- what a machine is at between two steps: a state and three tapes without ends
+pub record Configuration (Q : Type 0) : Type 0 where
+  pub state : Q
+  pub one : Tape
+  pub two : Tape
+  pub three : Tape
+
+-- the tape is as the deed wants it: the head scans the symbol that is read, if one is read
+abbrev pub Admits : Deed → Tape → Type 0
+Admits (Rewrite read written) t = scanned t ≡ read
+Admits (Move s) t = ⊤
+
+-- the tape after the deed
+abbrev pub done : Deed → Tape → Tape
+done (Rewrite read written) t = write t written
+done (Move s) t = shift t s
+
+-- The rule applies to the configuration: it leaves the state, and each tape is as its deed wants it.
+pub record AppliesTo {Q : Type 0} (r : Rule Q) (c : Configuration Q) : Type 0 where
+  pub from : c.state ≡ r.from
+  pub one : Admits r.one c.one
+  pub two : Admits r.two c.two
+  pub three : Admits r.three c.three
+
+-- what the rule makes of the configuration
+abbrev pub after : {Q : Type 0} → Rule Q → Configuration Q → Configuration Q
+after r c = record { state = r.to; one = done r.one c.one; two = done r.two c.two; three = done r.three c.three }
+
+-- The rule applies to c and gives d. This speaks of every state, a final one too.
+pub record Leads {Q : Type 0} (r : Rule Q) (c d : Configuration Q) : Type 0 where
+  pub applies : AppliesTo r c
+  pub gives : d ≡ after r c
+
+-- the quadruple numbered n, counted from 1, leads from c to d
+pub record LeadsBy {Q : Type 0} (rs : List (Rule Q)) (n : ℕ) (c d : Configuration Q) : Type 0 where
+  pub rule : Rule Q
+  pub stands : nth rs n ≡ Some rule
+  pub leads : Leads rule c d
+
+-- some quadruple of the list leads from c to d
+pub record Follows {Q : Type 0} (rs : List (Rule Q)) (c d : Configuration Q) : Type 0 where
+  pub number : ℕ
+  pub leads : LeadsBy rs number c d
+
+-- no configuration has two that follow it
+abbrev pub HasOneSuccessor : {Q : Type 0} → List (Rule Q) → Type 0
+HasOneSuccessor {Q} rs = (c d e : Configuration Q) → Follows rs c d → Follows rs c e → d ≡ e
+
+-- no two configurations have one that follows both
+abbrev pub HasOnePredecessor : {Q : Type 0} → List (Rule Q) → Type 0
+HasOnePredecessor {Q} rs = (c d e : Configuration Q) → Follows rs c e → Follows rs d e → c ≡ d
+
+-- ---- turned round
+
+-- the deed that takes another one back: read and written symbol exchanged, the shift the other way
+abbrev pub turned_deed : Deed → Deed
+turned_deed (Rewrite read written) = Rewrite written read
+turned_deed (Move s) = Move (opposite s)
+
+abbrev pub turned : {Q : Type 0} → Rule Q → Rule Q
+turned r = record { from = r.to; one = turned_deed r.one; two = turned_deed r.two; three = turned_deed r.three; to = r.from }
+
+-- the list in the opposite order, each quadruple turned round
+abbrev pub turned_list : {Q : Type 0} → List (Rule Q) → List (Rule Q)
+turned_list rs = map turned (reverse rs)
+
+-- ---- a machine
+
+-- a machine: its quadruples in order, how many states it has, and how many symbols each tape has, tape 1 first
+pub record Quadruples : Type 0 where
+  pub rules : List (Rule ℕ)
+  pub states : ℕ
+  pub symbols : List ℕ
+
+abbrev pub quadruples_of : List (Rule ℕ) → ℕ → List ℕ → Quadruples
+quadruples_of rs states symbols = record { rules = rs; states = states; symbols = symbols }
+
+-- the initial state is that of the first quadruple, the final state is the last one's next
+abbrev pub initial_of : List (Rule ℕ) → ℕ
+initial_of [] = 0
+initial_of (r ∷ rs) = r.from
+
+abbrev pub final_of : List (Rule ℕ) → ℕ
+final_of [] = 0
+final_of (r ∷ []) = r.to
+final_of (r ∷ s ∷ rs) = final_of (s ∷ rs)
+
+-- the deed's symbols are among so many
+abbrev pub IsDeedInRange : ℕ → Deed → Type 0
+IsDeedInRange symbols (Rewrite read written) = (read < symbols) × (written < symbols)
+IsDeedInRange symbols (Move s) = ⊤
+
+-- each deed's symbols are among those of its tape
+abbrev pub AreDeedsInRange : List ℕ → List Deed → Type 0
+AreDeedsInRange [] [] = ⊤
+AreDeedsInRange [] (d ∷ ds) = ⊥
+AreDeedsInRange (z ∷ zs) [] = ⊥
+AreDeedsInRange (z ∷ zs) (d ∷ ds) = IsDeedInRange z d × AreDeedsInRange zs ds
+
+-- every number of the quadruple is one of the machine's states or symbols
+pub record IsRuleInRange (states : ℕ) (symbols : List ℕ) (r : Rule ℕ) : Type 0 where
+  pub from : r.from < states
+  pub deeds : AreDeedsInRange symbols (deeds_of r)
+  pub to : r.to < states
+
+-- There is a quadruple, there are fewer than 2^32 of them, there are three numbers of symbols, and all is in range.
+pub record IsQuadMachine (p : Quadruples) : Type 0 where
+  pub some : 0 < length p.rules
+  pub few : length p.rules < 2 ^ 32
+  pub tapes : length p.symbols ≡ 3
+  pub in_range : All (IsRuleInRange p.states p.symbols) p.rules
+
+-- the same machine backward: its list turned round
+abbrev pub inverse_of : Quadruples → Quadruples
+inverse_of p = record { rules = turned_list p.rules; states = p.states; symbols = p.symbols }
+
+-- ---- the step of a machine
+
+-- quadruple n is the first of the list that applies
+pub record IsFirstRule (rs : List (Rule ℕ)) (c : Configuration ℕ) (n : ℕ) (r : Rule ℕ) : Type 0 where
+  pub stands : nth rs n ≡ Some r
+  pub applies : AppliesTo r c
+  pub first : (m : ℕ) (s : Rule ℕ) → m < n → nth rs m ≡ Some s → AppliesTo s c → ⊥
+
+-- no quadruple applies
+pub record HasNoRule (rs : List (Rule ℕ)) (c : Configuration ℕ) : Type 0 where
+  pub none : (n : ℕ) (r : Rule ℕ) → nth rs n ≡ Some r → AppliesTo r c → ⊥
+
+-- the machine can't go on: no quadruple applies, and the state isn't the final one
+pub record IsStuck (p : Quadruples) (c : Configuration ℕ) : Type 0 where
+  pub going : c.state ≢ final_of p.rules
+  pub none : HasNoRule p.rules c
+
+-- where the heads of the three tapes may be
+pub record Rooms : Type 0 where
+  pub one : Room
+  pub two : Room
+  pub three : Room
+
+abbrev pub everywhere : Rooms
+everywhere = record { one = anywhere; two = anywhere; three = anywhere }
+
+-- each head is where it may be
+pub record AreAllowed {Q : Type 0} (rooms : Rooms) (c : Configuration Q) : Type 0 where
+  pub one : Allows rooms.one c.one.head
+  pub two : Allows rooms.two c.two.head
+  pub three : Allows rooms.three c.three.head
+
+-- One step of the machine, by quadruple n: the state isn't the final one, the first quadruple that applies leads from c to d, and the heads come to positions that the rooms allow.
+pub record GoesBy (rooms : Rooms) (p : Quadruples) (n : ℕ) (c d : Configuration ℕ) : Type 0 where
+  pub going : c.state ≢ final_of p.rules
+  pub rule : Rule ℕ
+  pub first : IsFirstRule p.rules c n rule
+  pub gives : d ≡ after rule c
+  pub stays : AreAllowed rooms d
+
+abbrev pub Goes : Rooms → Quadruples → Configuration ℕ → Configuration ℕ → Type 0
+Goes rooms p c d = (n : ℕ) × GoesBy rooms p n c d

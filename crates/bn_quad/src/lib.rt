@@ -1,0 +1,28 @@
+//! Machines of three tapes given by quadruples, the exact local tests of determinism and reversibility, and the
+//! inverse machine.
+#![tactic(auto)]
+
+mod clash;
+mod laws;
+mod machine;
+mod names;
+mod quad;
+mod refusal;
+mod search;
+mod soundness;
+mod tapes;
+mod uniform;
+
+pub use laws::{
+    one_rule_applies, quad_steps_are_functions, quad_turns_are_one, refusals_are_one,
+    rules_are_their_quads, steps_are_leads, turned_rules_lead_back,
+};
+pub use machine::QuadMachine;
+pub use names::QuadNames;
+pub use quad::{Act, Quad};
+pub use refusal::{NoMemory, NotUniform, QuadRefusal, UniformRefusal};
+pub use tapes::{QuadTurn, Tapes};
+pub use uniform::Uniform;
+
+#[cfg(test)]
+mod tests;

@@ -1,0 +1,73 @@
+//! Quadruples as the program keeps them.
+
+ghost use Rattle.std.specs.Prelude.{◌≡◌};
+ghost use Rattle.bn_machine.specs.Tape.{opposite};
+ghost use Rattle.bn_quad.specs.Kept.{deed_of, read_of, act_of, turned_quad};
+ghost use Rattle.bn_quad.specs.Quadruples.{turned_deed};
+
+use bn_machine::Shift;
+
+/// What a quadruple does on a tape: it writes this symbol, counted from 0, or shifts the head.
+#[derive(Clone, Copy, PartialEq, Eq, Debug)]
+pub enum Act {
+    /// It writes this symbol.
+    Write(u32),
+    /// It shifts the head.
+    Shift(Shift),
+}
+
+/// A quadruple of three tapes (Bennett 1973): in `state`, where on each tape with a symbol in `read` the head scans
+/// that symbol, it does the acts, the first on tape 1, and goes on in `next`. A tape without a symbol in `read`
+/// isn't read. States and symbols are counted from 0.
+#[derive(Clone, Copy, PartialEq, Eq, Debug)]
+pub struct Quad {
+    /// The state in which it applies.
+    pub state: u32,
+    /// What each tape's head scans, where that tape is read, tape 1 first.
+    pub read: [Option<u32>; 3],
+    /// What it does on each tape, tape 1 first.
+    pub act: [Act; 3],
+    /// The state that comes next.
+    pub next: u32,
+}
+
+// The shift that takes another one back.
+fn opposite(shift: Shift) -> Shift
+    ensures { result ≡ opposite shift }
+{
+    match shift {
+        Shift::Left => Shift::Right,
+        Shift::Stay => Shift::Stay,
+        Shift::Right => Shift::Left,
+    }
+}
+
+// What is read, and what is done, on a tape by a quadruple that is turned round. A tape that is read is written.
+fn turned_tape(read: Option<u32>, act: Act) -> (Option<u32>, Act)
+    ensures reads { result.0 ≡ read_of (turned_deed (deed_of read act)) }
+    ensures acts { result.1 ≡ act_of (turned_deed (deed_of read act)) }
+{
+    match act {
+        Act::Write(written) => match read {
+            Some(read) => (Some(written), Act::Write(read)),
+            None => (None, Act::Shift(Shift::Stay)),
+        },
+        Act::Shift(shift) => (None, Act::Shift(opposite(shift))),
+    }
+}
+
+/// The quadruple turned round: its states exchanged, the symbols that it reads and writes exchanged, and its shifts
+/// the other way.
+pub fn turned(quad: &Quad) -> Quad
+    ensures { result ≡ turned_quad quad.now }
+{
+    let (read_one, act_one) = turned_tape(quad.read[0], quad.act[0]);
+    let (read_two, act_two) = turned_tape(quad.read[1], quad.act[1]);
+    let (read_three, act_three) = turned_tape(quad.read[2], quad.act[2]);
+    Quad {
+        state: quad.next,
+        read: [read_one, read_two, read_three],
+        act: [act_one, act_two, act_three],
+        next: quad.state,
+    }
+}
