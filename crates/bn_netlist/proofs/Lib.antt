@@ -6,3 +6,5 @@ pub mod ProgressLemmas
 pub mod DraftLemmas
 pub mod RowReadLemmas
 pub mod TextLemmas
+pub mod CircuitLemmas
+pub mod DecideLemmas

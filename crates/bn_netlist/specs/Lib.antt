@@ -12,3 +12,4 @@ pub mod RowLaws
 pub mod TextLaws
 pub mod Progress
 pub mod FaultLaws
+pub mod FaultsOrSpelling

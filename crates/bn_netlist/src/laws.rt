@@ -4,6 +4,7 @@
 ghost use Rattle.bn_netlist.specs.Spelling.{TextsAgree, SpellingsAgree, TextsEnd, SpellingsMove};
 ghost use Rattle.bn_netlist.specs.Faults.{FaultyTextsSpellNothing};
 ghost use Rattle.bn_netlist.specs.FaultLaws.{FaultsAgree};
+ghost use Rattle.bn_netlist.specs.FaultsOrSpelling.{TextsSpellOrFault};
 ghost use Rattle.bn_netlist.specs.NetText.{CircuitsAgree};
 
 /// Each configuration has one text.
@@ -40,4 +41,9 @@ pub fn circuits_agree()
 /// A text has at most one first fault: one line, and one fault there.
 pub fn one_first_fault()
     ensures { FaultsAgree }
+{}
+
+/// Each text either spells a configuration or has a first fault.
+pub fn each_text_spells_or_has_a_fault()
+    ensures { TextsSpellOrFault }
 {}

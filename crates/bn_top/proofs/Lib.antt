@@ -13,3 +13,4 @@ mod WholeRunLemmas
 mod FitLemmas
 mod StandardOrNot
 mod RepliesToAll
+mod EachAnswer

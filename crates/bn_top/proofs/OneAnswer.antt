@@ -1,4 +1,4 @@
--- Words and bytes have one answer.
+-- Words and bytes have at most one answer.
 use Rattle.std.specs.Prelude.{slice_index, ◌≡◌, ℕ, List, [], ◌∷◌, length, replicate, decimal, codes, refl}
 use Rattle.std.proofs.Common.{suc, arith, sym, ap, subst, ◌∙◌}
 use Rattle.bn_base.specs.NumberLaws.{decimal-once}
@@ -167,7 +167,7 @@ module _ (one : OneReading) where
       let both = machine_replies_once one word n bytes status other text second a.0 b.0 in
       record { statuses = both.0; texts = both.1; places = a.1 ∙ sym b.1 }
 
-  -- words and bytes have one answer
+  -- words and bytes have at most one answer
   pub one-answer : IsOneAnswer
   one-answer words bytes status other text second told heard (no_form none s t p) (no_form _ s' t' p') = record { statuses = s ∙ sym s'; texts = t ∙ sym t'; places = p ∙ sym p' }
   one-answer words bytes status other text second told heard (no_form none s t p) (too_long d form l s' t' p') = absurd (none d form)

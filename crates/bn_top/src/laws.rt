@@ -1,13 +1,22 @@
-//! Laws over the definitions alone. The function does nothing: what it ensures is a theorem on all
-//! words and bytes.
+//! Laws over the definitions alone. Each function does nothing but name the laws that it rests on: what
+//! it ensures is a theorem on all words and bytes.
 
-ghost use Rattle.bn_top.specs.OneAnswer.{IsOneAnswer};
+ghost use Rattle.bn_top.specs.OneAnswer.{IsOneAnswer, RequestsAreAnswered};
 
-use bn_table::bytes_have_one_reading;
+use bn_netlist::each_text_spells_or_has_a_fault;
+use bn_table::{bytes_have_a_reading_or_a_fault, bytes_have_one_reading};
 
 /// Words and bytes have at most one answer: one status, one text, and one list of places to tell.
 pub fn one_answer()
     ensures { IsOneAnswer }
 {
     bytes_have_one_reading();
+}
+
+/// To words that ask for something, and all bytes, there is an answer.
+pub fn each_request_has_an_answer()
+    ensures { RequestsAreAnswered }
+{
+    each_text_spells_or_has_a_fault();
+    bytes_have_a_reading_or_a_fault();
 }

@@ -17,7 +17,7 @@ mod table_reply;
 mod top;
 mod walk;
 
-pub use laws::one_answer;
+pub use laws::{each_request_has_an_answer, one_answer};
 pub use reply::NoMemory;
 pub use reply_laws::{check_has_one_reply, machine_has_one_reply};
 pub use status::Status;
