@@ -2,3 +2,4 @@ pub mod Number
 pub mod NumberLaws
 pub mod Line
 pub mod LineLaws
+pub mod LentLine

@@ -31,7 +31,8 @@ impl<'a> Model for Lines<'a> {
 }
 
 impl<'a> Lines<'a> {
-    ghost use Rattle.bn_base.specs.Line.{IsNextLine};
+    ghost use Rattle.bn_base.specs.LentLine.{GivesLine};
+    ghost use Rattle.std.specs.Borrow.{sem};
 
     /// The lines of `bytes`, from the first on. It takes no memory.
     pub fn new(bytes: &[u8]) -> Lines<'_>
@@ -41,8 +42,8 @@ impl<'a> Lines<'a> {
     }
 
     /// The next line, or what is left of a line at the end of the text. It takes no memory.
-    pub fn next_line(&mut self) -> NextLine<'a>
-        ensures { IsNextLine self.old result self.new }
+    pub fn next_line(&mut self) -> NextLine
+        ensures* { sem 𝓛 (GivesLine self.entry result) }
     {
         let rest = self.rest;
         match memchr(b'\n', rest) {

@@ -8,3 +8,4 @@ pub mod RowReadLemmas
 pub mod TextLemmas
 pub mod CircuitLemmas
 pub mod DecideLemmas
+pub mod LentLineLemmas

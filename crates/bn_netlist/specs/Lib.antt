@@ -6,6 +6,7 @@ pub mod NetLaws
 pub mod Reading
 pub mod ReadingLaws
 pub mod SentenceLaws
+pub mod LentLine
 pub mod Header
 pub mod WireLaws
 pub mod RowLaws

@@ -1,15 +1,13 @@
 //! The next line of a text.
 
-ghost use Rattle.std.specs.Prelude.{◌≡◌, ◌++◌, ◌∷◌, MatchOption};
-ghost use Rattle.bn_base.specs.Line.{IsInLine};
+ghost use Rattle.std.specs.Borrow.{sem};
+ghost use Rattle.bn_netlist.specs.LentLine.{GivesWholeLine};
 
 use bn_base::{Lines, NextLine};
 
 /// The next line, without its byte 10; `None` where no whole line is left.
-pub(crate) fn whole_line<'a>(lines: &mut Lines<'a>) -> Option<&'a [u8]>
-    ensures { MatchOption result
-        (IsInLine lines.old)
-        (λ line. IsInLine line.now × (lines.old ≡ line.now ++ 10 ∷ lines.new)) }
+pub(crate) fn whole_line<'s>(lines: &'s mut Lines<'_>) -> Option<&'s [u8]>
+    ensures* { sem 𝓛 (GivesWholeLine lines.entry result) }
 {
     match lines.next_line() {
         NextLine::Whole(line) => Some(line),

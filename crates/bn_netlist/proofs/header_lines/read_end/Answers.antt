@@ -1,16 +1,17 @@
 use Rattle.std.proofs.Common.{arith, refl, [], ◌∷◌}
 use Rattle.bn_netlist.specs.Sentences.{Title, Count, Start}
+use Rattle.bn_netlist.proofs.LentLineLemmas.{none_given, some_given}
 use Rattle.bn_netlist.proofs.ReadLemmas.{cut_refuses, no_end_refuses, end_refuses, end_reads}
 use Rattle.bn_netlist.proofs.header_lines.read_end.Goals as goal
 
 pub returns-in_default-clause-refused : goal.returns-in_default-clause-refused
-returns-in_default-clause-refused c = λ s. cut_refuses (Title ∷ Count c.args.count ∷ Start s ∷ []) c.args.lines.now 4 refl (omega arith) c.in_default.ensures
+returns-in_default-clause-refused c = λ s. cut_refuses (Title ∷ Count c.args.count ∷ Start s ∷ []) c.args.lines.now 4 refl (omega arith) (none_given _ _ _ c.in_default.is c.whole_line.follows.holds-at-none)
 
 pub returns-in_default-named_after-clause-refused : goal.returns-in_default-named_after-clause-refused
-returns-in_default-named_after-clause-refused c = λ s. no_end_refuses c.args.lines.now c.in-Some.line.now c.whole_line.new.lines c.args.count s c.in-Some.ensures.0 c.in_default-named_after.ensures c.in-Some.ensures.1
+returns-in_default-named_after-clause-refused c = λ s. no_end_refuses c.args.lines.now c.in-Some.line.now c.whole_line.follows.lender-at-none c.args.count s (some_given _ _ _ _ c.in-Some.is c.whole_line.follows.holds-at-none).0 c.in_default-named_after.ensures (some_given _ _ _ _ c.in-Some.is c.whole_line.follows.holds-at-none).1
 
 pub returns-in_default-existing-clause-refused : goal.returns-in_default-existing-clause-refused
-returns-in_default-existing-clause-refused c = λ s. end_refuses c.args.lines.now c.in-Some.line.now c.whole_line.new.lines c.args.count s c.in-Some-named_after.end c.in-Some-named_after.ensures c.in_default-existing.ensures c.in-Some.ensures.1
+returns-in_default-existing-clause-refused c = λ s. end_refuses c.args.lines.now c.in-Some.line.now c.whole_line.follows.lender-at-none c.args.count s c.in-Some-named_after.end c.in-Some-named_after.ensures c.in_default-existing.ensures (some_given _ _ _ _ c.in-Some.is c.whole_line.follows.holds-at-none).1
 
 pub returns-clause-read : goal.returns-clause-read
-returns-clause-read c = λ s. end_reads c.args.lines.now c.in-Some.line.now c.whole_line.new.lines c.args.count s c.in-Some-named_after.end c.in-Some-existing.end c.in-Some-named_after.ensures c.in-Some-existing.ensures.0 c.in-Some-existing.ensures.1 c.in-Some.ensures.1
+returns-clause-read c = λ s. end_reads c.args.lines.now c.in-Some.line.now c.whole_line.follows.lender-at-none c.args.count s c.in-Some-named_after.end c.in-Some-existing.end c.in-Some-named_after.ensures c.in-Some-existing.ensures.0 c.in-Some-existing.ensures.1 (some_given _ _ _ _ c.in-Some.is c.whole_line.follows.holds-at-none).1
