@@ -3,3 +3,4 @@ pub mod Parts
 pub mod Faults
 pub mod Watching
 pub mod Heard
+pub mod WireLaws

@@ -7,7 +7,7 @@ use Rattle.bn_theory.specs.Circuits.{same_line, target, source, IsCircuit, IsOne
 use Rattle.bn_theory.specs.declared.line.Line.{Line}
 use Rattle.bn_theory.specs.declared.line.Wire.{Wire}
 use Rattle.bn_theory.specs.declared.place.Place.{Place}
-use Rattle.bn_net.proofs.WireLemmas.{target-push, source-push}
+use Rattle.bn_net.specs.WireLaws.{target-push, source-push}
 use Rattle.bn_element.specs.Rotary.{rotary}
 use Rattle.bn_netlist.specs.Sentences.{Sentence, Title, Count, Start, End, Steps, At, Element, lines_text}
 use Rattle.bn_netlist.specs.Spelling.{Spelling, Spelled}
