@@ -1,0 +1,5 @@
+pub mod Machines
+pub mod Faults
+pub mod Costs
+pub mod Pairs
+pub mod Laws

@@ -1,0 +1,90 @@
+//! Moves found by the pairs of state and line that they leave and lead to.
+ghost use Rattle.std.specs.Prelude.{ℕ, ◌≡◌, ◌<◌, ◌^◌, ◌+◌, ◌∷◌, ◌++◌, List, [], Some, None, length, if◌then◌else◌, IfOk, OnOk, IfErr};
+ghost use Rattle.std.specs.HashMap.{get};
+ghost use Rattle.bn_rsm.specs.Machines.{AreSound};
+ghost use Rattle.bn_rsm.specs.Faults.{IsRefusal, fault_of};
+ghost use Rattle.bn_rsm.specs.Pairs.{AreNumbers, checked, same_pair};
+ghost use Rattle.bn_rsm.specs.declared.rsm_move.RsmMove.{RsmMove};
+
+use crate::refusal::{NoMemory, RsmRefusal};
+use crate::rsm_move::RsmMove;
+use std::alloc::Global;
+use std::collections::HashMap;
+
+/// The number, counted from 1, of the move that leaves each pair of state and input line, and of the
+/// move that leads to each pair of state and output line.
+#[derive(Drop)]
+pub(crate) struct Index {
+    pub(crate) from: HashMap<(u32, u32), u32>,
+    pub(crate) to: HashMap<(u32, u32), u32>,
+}
+
+impl Index {
+    /// The index of these moves, or the first fault among them.
+    pub(crate) fn try_new(
+        alloc: Global,
+        states: u32,
+        lines: u32,
+        moves: &[RsmMove],
+    ) -> Result<Index, RsmRefusal>
+        requires { length moves.now < 2 ^ 32 }
+        ensures numbers { IfOk result (λ x. AreNumbers x.from x.to moves.now) }
+        ensures sound { OnOk result (AreSound states lines moves.now) }
+        ensures refused { IfErr result (IsRefusal states lines moves.now) }
+    {
+        let mut index = Index {
+            from: HashMap::new(alloc),
+            to: HashMap::new(alloc),
+        };
+        for n in 0..moves.len() {
+            let number = n as u32 + 1;
+            index.check(&moves[n], states, lines, number)?;
+            index.add(&moves[n], number)?;
+        }
+        Ok(index)
+    }
+
+    // Tests a move against the earlier ones, which are indexed: its first fault, under its number,
+    // counted from 1.
+    fn check(&self, step: &RsmMove, states: u32, lines: u32, number: u32) -> Result<(), RsmRefusal>
+        ensures { (earlier : List RsmMove) → AreNumbers self.now.from self.now.to earlier → result ≡ checked (fault_of states lines earlier step.now) number }
+    {
+        let within = step.state < states
+            && step.line < lines
+            && step.next < states
+            && step.out < lines;
+        if !within {
+            return Err(RsmRefusal::Range { j: number });
+        }
+        if let Some(i) = self.from.get(&(step.state, step.line)) {
+            return Err(RsmRefusal::SameDomain { i: *i, j: number });
+        }
+        if let Some(i) = self.to.get(&(step.next, step.out)) {
+            return Err(RsmRefusal::SameRange { i: *i, j: number });
+        }
+        Ok(())
+    }
+
+    // Adds a move without fault behind the earlier ones.
+    fn add(&mut self, step: &RsmMove, number: u32) -> Result<(), NoMemory>
+        ensures { OnOk result ((states lines : ℕ) (earlier : List RsmMove) → AreNumbers self.old.from self.old.to earlier → number ≡ length earlier + 1 → fault_of states lines earlier step.now ≡ None → AreNumbers self.new.from self.new.to (earlier ++ step.now ∷ [])) }
+    {
+        put(&mut self.from, (step.state, step.line), number)?;
+        put(&mut self.to, (step.next, step.out), number)?;
+        Ok(())
+    }
+}
+
+// Gives the pair this number.
+fn put(
+    numbers: &mut HashMap<(u32, u32), u32>,
+    pair: (u32, u32),
+    number: u32,
+) -> Result<(), NoMemory>
+    ensures { OnOk result ((p : ℕ × ℕ) → get same_pair numbers.new p ≡ (if same_pair pair p then Some number else get same_pair numbers.old p)) }
+{
+    match numbers.insert(pair, number) {
+        Ok(_) => Ok(()),
+        Err(_) => Err(NoMemory),
+    }
+}

@@ -1,0 +1,18 @@
+//! Reversible sequential machines given by their moves, and what a move of one costs as a circuit.
+#![tactic(auto)]
+
+mod index;
+mod laws;
+mod refusal;
+mod rsm;
+mod rsm_move;
+
+pub use laws::{
+    costs_are_bounded, moves_are_sound_or_refused, refusals_are_one, sound_moves_are_taken,
+};
+pub use refusal::{NoMemory, RsmRefusal};
+pub use rsm::Rsm;
+pub use rsm_move::RsmMove;
+
+#[cfg(test)]
+mod tests;

@@ -1,0 +1,5 @@
+mod Decimals
+mod Passing
+mod Drafting
+mod Coming
+mod ReadingLaws

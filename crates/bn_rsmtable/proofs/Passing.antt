@@ -1,0 +1,80 @@
+-- Entries without a fault, and the moves that they are.
+use Rattle.std.specs.Prelude.{◌≡◌, ℕ, ◌≤◌, nat_lt, not, Bool, true, false, List, [], ◌∷◌, length, Option, Some, None, slice_get, if◌then◌else◌, refl}
+use Rattle.std.proofs.Common.{arith, inl, inr}
+use Rattle.std.proofs.lemmas.Bool.{cases_Bool, ltb-false, le-ltb}
+use Rattle.bn_rsm.specs.declared.rsm_move.RsmMove.{RsmMove}
+use Rattle.bn_rsmtable.specs.Entry.{IsMove, entry_of}
+use Rattle.bn_rsmtable.specs.Faults.{entry_fault, field_fault, form_fault, is_number}
+use Rattle.bn_rsmtable.specs.declared.refusal.RsmTableRefusal.TheVariants as refusal
+use Rattle.bn_rsmtable.proofs.Decimals.{number_decimal, numbered, same_number}
+
+-- four fields
+pub four_is : (fields : List (List ℕ)) (a b c d : List ℕ) → length fields ≡ 4 → slice_get fields 0 ≡ Some a → slice_get fields 1 ≡ Some b
+    → slice_get fields 2 ≡ Some c → slice_get fields 3 ≡ Some d → fields ≡ a ∷ b ∷ c ∷ d ∷ []
+four_is (s ∷ t ∷ u ∷ v ∷ []) a b c d n f0 f1 f2 f3 = cc
+four_is [] a b c d n f0 f1 f2 f3 = cc f0
+four_is (s ∷ []) a b c d n f0 f1 f2 f3 = cc f1
+four_is (s ∷ t ∷ []) a b c d n f0 f1 f2 f3 = cc f2
+four_is (s ∷ t ∷ u ∷ []) a b c d n f0 f1 f2 f3 = cc f3
+four_is (s ∷ t ∷ u ∷ v ∷ w ∷ ws) a b c d n f0 f1 f2 f3 = absurd (omega arith)
+
+passed : {X : Type 0} (b : Bool) (x : X) (rest : Option X) → (if not b then Some x else rest) ≡ None → (b ≡ true) × (rest ≡ None)
+passed true x rest e = (refl, e)
+passed false x rest e = cc e
+
+-- the move that an entry is
+pub record IsEntry (fields : List (List ℕ)) : Type 0 where
+  pub step : RsmMove
+  pub is : fields ≡ entry_of step
+  pub within : IsMove step
+
+four_step : (n : ℕ) (a b c d : List ℕ) → field_fault n a b c d ≡ None → IsEntry (a ∷ b ∷ c ∷ d ∷ [])
+four_step n a b c d p =
+    let p1 = passed (is_number a) _ _ p in
+    let p2 = passed (is_number b) _ _ p1.1 in
+    let p3 = passed (is_number c) _ _ p2.1 in
+    let p4 = passed (is_number d) _ _ p3.1 in
+    let x = numbered a p1.0 in
+    let y = numbered b p2.0 in
+    let z = numbered c p3.0 in
+    let w = numbered d p4.0 in
+    record {
+      step = record { state = x.number; line = y.number; next = z.number; out = w.number };
+      is = (λ i. x.spelled i ∷ y.spelled i ∷ z.spelled i ∷ w.spelled i ∷ []);
+      within = record { state = x.few; line = y.few; next = z.few; out = w.few };
+    }
+
+form_step : (n : ℕ) (fields : List (List ℕ)) → form_fault n fields ≡ None → IsEntry fields
+form_step n (a ∷ b ∷ c ∷ d ∷ []) p = four_step n a b c d p
+form_step n [] p = cc p
+form_step n (a ∷ []) p = cc p
+form_step n (a ∷ b ∷ []) p = cc p
+form_step n (a ∷ b ∷ c ∷ []) p = cc p
+form_step n (a ∷ b ∷ c ∷ d ∷ e ∷ es) p = cc p
+
+pub in_number : (n : ℕ) (fields : List (List ℕ)) → entry_fault n fields ≡ None → (n ≤ 65536) × (form_fault n fields ≡ None)
+in_number n fields h = elim (cases_Bool (nat_lt 65536 n)) [
+  | inl past ↦ let none : Some (refusal.TooMany n) ≡ None = rw past at h in cc
+  | inr within ↦ (ltb-false 65536 n within, rw within at h)
+]
+
+-- an entry without a fault is that of a move
+pub step_of : (n : ℕ) (fields : List (List ℕ)) → entry_fault n fields ≡ None → IsEntry fields
+step_of n fields none = form_step n fields (in_number n fields none).1
+
+-- the first 65,536 entries of moves have no fault
+pub no_fault : (n : ℕ) (m : RsmMove) → n ≤ 65536 → IsMove m → entry_fault n (entry_of m) ≡ None
+no_fault n m few h = rw (le-ltb 65536 n few, number_decimal m.state h.state, number_decimal m.line h.line, number_decimal m.next h.next, number_decimal m.out h.out) refl
+
+-- two moves with one entry are one
+same_fields : (a b c d a2 b2 c2 d2 : List ℕ) → a ∷ b ∷ c ∷ d ∷ [] ≡ a2 ∷ b2 ∷ c2 ∷ d2 ∷ [] → (a ≡ a2) × (b ≡ b2) × (c ≡ c2) × (d ≡ d2)
+same_fields a b c d a2 b2 c2 d2 e = (cc, cc, cc, cc)
+
+pub same_step : (m n : RsmMove) → IsMove m → IsMove n → entry_of m ≡ entry_of n → m ≡ n
+same_step m n h k e =
+    let parts = same_fields _ _ _ _ _ _ _ _ e in
+    let state : m.state ≡ n.state = same_number m.state n.state h.state k.state parts.0 in
+    let line : m.line ≡ n.line = same_number m.line n.line h.line k.line parts.1 in
+    let next : m.next ≡ n.next = same_number m.next n.next h.next k.next parts.2 in
+    let out : m.out ≡ n.out = same_number m.out n.out h.out k.out parts.3 in
+    λ i. record { state = state i; line = line i; next = next i; out = out i }

@@ -1,0 +1,288 @@
+-- What bytes are read as: one list of moves, one machine, or one refusal.
+use Rattle.std.specs.Prelude.{◌≡◌, ◌≢◌, ℕ, ◌+◌, ◌<◌, ◌≤◌, nat_lt, not, if◌then◌else◌, Bool, true, false, List, [], ◌∷◌, length, Option, Some, None, All, ◌⊎◌, refl}
+use Rattle.std.proofs.Common.{zero, suc, sym, ap, subst, ◌∙◌, arith, inl, inr}
+use Rattle.std.proofs.lemmas.List.{length-map}
+use Rattle.std.proofs.lemmas.List.Elements.{All-cons, All-head, All-tail}
+use Rattle.std.specs.List.{list_all}
+use Rattle.bn_entries.specs.Entries.{entries_of}
+use Rattle.bn_entries.specs.Lines.{is_plain_entry, lines_of}
+use Rattle.bn_entries.specs.LinesLaws.{entries_of-lines_of}
+use Rattle.bn_rsm.specs.Faults as moves
+use Rattle.bn_rsm.specs.Laws.{MovesAreSoundOrRefused, RefusalsAreOne, SoundMovesAreTaken}
+use Rattle.bn_rsm.specs.Machines.{AreSound, Machine, same_machine}
+use Rattle.bn_rsm.specs.declared.rsm_move.RsmMove.{RsmMove}
+use Rattle.bn_rsm.specs.declared.refusal.RsmRefusal.{RsmRefusal}
+use Rattle.bn_rsm.specs.declared.refusal.RsmRefusal.TheVariants as clash
+use Rattle.bn_rsmtable.specs.Entry.{AreReadAs, IsMove, entries_by, entry_of, lines_named, states_named}
+use Rattle.bn_rsmtable.specs.Faults.{else_fault, entry_fault, fault_from, fault_of, form_fault, is_number}
+use Rattle.bn_rsmtable.specs.Reading.{Clashes, IsRefusal, Reads}
+use Rattle.bn_rsmtable.specs.declared.refusal.RsmTableRefusal.{RsmTableRefusal}
+use Rattle.bn_rsmtable.specs.declared.refusal.RsmTableRefusal.TheVariants as refusal
+use Rattle.bn_rsmtable.specs.Writing.{IsTable}
+use Rattle.bn_rsmtable.proofs.Decimals.{plain_decimal}
+use Rattle.bn_rsmtable.proofs.Drafting.{all_moves, never_outside}
+use Rattle.bn_rsmtable.proofs.Passing.{in_number, no_fault, same_step, step_of}
+
+-- ---- one list of moves
+
+same_steps : (ms ns : List RsmMove) → All IsMove ms → All IsMove ns → entries_by ms ≡ entries_by ns → ms ≡ ns
+same_steps [] [] h k e = refl
+same_steps [] (n ∷ ns) h k e = cc e
+same_steps (m ∷ ms) [] h k e = cc e
+same_steps (m ∷ ms) (n ∷ ns) h k e =
+    let first : entry_of m ≡ entry_of n = cc in
+    let rest : entries_by ms ≡ entries_by ns = cc in
+    let here : m ≡ n = same_step m n (All-head IsMove m ms h) (All-head IsMove n ns k) first in
+    let later : ms ≡ ns = same_steps ms ns (All-tail IsMove m ms h) (All-tail IsMove n ns k) rest in
+    λ i. here i ∷ later i
+
+pub one_reading : (entries : List (List (List ℕ))) (ms ns : List RsmMove) → AreReadAs entries ms → AreReadAs entries ns → ms ≡ ns
+one_reading entries ms ns h k = same_steps ms ns h.within k.within (h.rows ∙ sym k.rows)
+
+-- ---- moves, or a fault
+
+some-fault : (entries : List (List (List ℕ))) → 0 < length entries → fault_of entries ≡ fault_from 1 entries
+unfolding fault_of
+some-fault [] h = absurd (omega arith)
+some-fault (fields ∷ rest) h = refl
+
+no-faults : (n : ℕ) (ms : List RsmMove) → n + length ms ≤ 65537 → All IsMove ms → fault_from n (entries_by ms) ≡ None
+unfolding fault_from
+no-faults n [] few h = refl
+no-faults n (m ∷ ms) few h =
+    rw (no_fault n m (omega arith) (All-head IsMove m ms h)) (no-faults (n + 1) ms (omega arith) (All-tail IsMove m ms h))
+
+pub no_fault_of : (entries : List (List (List ℕ))) (ms : List RsmMove) → AreReadAs entries ms → fault_of entries ≡ None
+no_fault_of entries ms h =
+    let count : length entries ≡ length ms = ap (λ (xs : List (List (List ℕ))). length xs) (sym h.rows) ∙ length-map ms entry_of in
+    some-fault entries h.some ∙ rw (← h.rows) (no-faults 1 ms (omega (arith, h.few)) h.within)
+
+-- the moves of entries without a fault
+record Steps (n : ℕ) (entries : List (List (List ℕ))) : Type 0 where
+  found : List RsmMove
+  rows : entries_by found ≡ entries
+  within : All IsMove found
+  few : 0 < length entries → n + length entries ≤ 65537
+
+else_none : (first later : Option RsmTableRefusal) → else_fault first later ≡ None → (first ≡ None) × (later ≡ None)
+else_none None later e = (refl, e)
+else_none (Some fault) later e = cc e
+
+faultless : (n : ℕ) (fields : List (List ℕ)) (rest : List (List (List ℕ))) → fault_from n (fields ∷ rest) ≡ None → (entry_fault n fields ≡ None) × (fault_from (n + 1) rest ≡ None)
+unfolding fault_from
+faultless n fields rest e = else_none (entry_fault n fields) (fault_from (n + 1) rest) e
+
+steps_of : (n : ℕ) (entries : List (List (List ℕ))) → fault_from n entries ≡ None → Steps n entries
+steps_of n [] e = record { found = []; rows = refl; within = (λ k d l. absurd (omega arith)); few = (λ l. absurd (omega arith)) }
+steps_of n (fields ∷ rest) e =
+    let parts = faultless n fields rest e in
+    let here = step_of n fields parts.0 in
+    let later = steps_of (n + 1) rest parts.1 in
+    let bound = (in_number n fields parts.0).0 in
+    let rest_few = later.few in
+    record {
+      found = here.step ∷ later.found;
+      rows = (λ i. sym here.is i ∷ later.rows i);
+      within = All-cons IsMove here.step later.found here.within later.within;
+      few = (λ l. bound_more n (length rest) bound rest_few);
+    }
+  where
+    bound_more : (n k : ℕ) → n ≤ 65536 → (0 < k → (n + 1) + k ≤ 65537) → n + suc k ≤ 65537
+    bound_more n zero b h = omega arith
+    bound_more n (suc k) b h = let m = h (omega arith) in omega arith
+
+not_empty : (entries : List (List (List ℕ))) → fault_of entries ≡ None → (0 < length entries) × (fault_from 1 entries ≡ None)
+unfolding fault_of
+not_empty [] e = cc e
+not_empty (fields ∷ rest) e = (omega arith, e)
+
+pub reading_of : (entries : List (List (List ℕ))) → fault_of entries ≡ None → (ms : List RsmMove) × AreReadAs entries ms
+reading_of entries e =
+    let parts = not_empty entries e in
+    let steps = steps_of 1 entries parts.1 in
+    let few = steps.few parts.0 in
+    (steps.found, record { rows = steps.rows; within = steps.within; some = parts.0; few = omega arith })
+
+-- ---- a machine, or a refusal
+
+machine_of : (bytes : List ℕ) (ms : List RsmMove) → AreReadAs (entries_of bytes) ms → AreSound (states_named ms) (lines_named ms) ms → (m : Machine) × Reads bytes m
+machine_of bytes ms reads sound = (record { states = states_named ms; lines = lines_named ms; moves = ms; sound = sound }, record { moves = reads; states = refl; lines = refl })
+
+clash_of : (bytes : List ℕ) (ms : List RsmMove) (said : RsmRefusal) → AreReadAs (entries_of bytes) ms → said ≢ clash.NoMemory → moves.IsRefusal (states_named ms) (lines_named ms) ms said → (e : RsmTableRefusal) × (e ≢ refusal.NoMemory) × IsRefusal bytes e
+clash_of bytes ms (clash.SameDomain i j) reads some said = (refusal.SameDomain i j, (λ e. cc), record { found = ms; reads = reads; clash = said })
+clash_of bytes ms (clash.SameRange i j) reads some said = (refusal.SameRange i j, (λ e. cc), record { found = ms; reads = reads; clash = said })
+clash_of bytes ms (clash.Range j) reads some said = absurd (never_outside ms j said)
+clash_of bytes ms clash.NoMemory reads some said = absurd (some refl)
+
+-- a fault of entries: no clash of moves, and no want of memory
+abbrev IsOfEntries : RsmTableRefusal → Type 0
+IsOfEntries (refusal.FieldCount i) = Unit {0}
+IsOfEntries (refusal.Number i j) = Unit {0}
+IsOfEntries (refusal.TooMany i) = Unit {0}
+IsOfEntries refusal.Empty = Unit {0}
+IsOfEntries (refusal.SameDomain i j) = ⊥
+IsOfEntries (refusal.SameRange i j) = ⊥
+IsOfEntries refusal.NoMemory = ⊥
+
+abbrev AreOfEntries : Option RsmTableRefusal → Type 0
+AreOfEntries None = Unit {0}
+AreOfEntries (Some e) = IsOfEntries e
+
+number_fault : (b : Bool) (n k : ℕ) (rest : Option RsmTableRefusal) → AreOfEntries rest → AreOfEntries (if not b then Some (refusal.Number n k) else rest)
+number_fault true n k rest h = h
+number_fault false n k rest h = tt
+
+form_faults : (n : ℕ) (fields : List (List ℕ)) → AreOfEntries (form_fault n fields)
+form_faults n (a ∷ b ∷ c ∷ d ∷ []) =
+    number_fault (is_number a) n 1 _ (number_fault (is_number b) n 2 _ (number_fault (is_number c) n 3 _ (number_fault (is_number d) n 4 None tt)))
+form_faults n [] = tt
+form_faults n (a ∷ []) = tt
+form_faults n (a ∷ b ∷ []) = tt
+form_faults n (a ∷ b ∷ c ∷ []) = tt
+form_faults n (a ∷ b ∷ c ∷ d ∷ e ∷ es) = tt
+
+count_fault : (b : Bool) (n : ℕ) (rest : Option RsmTableRefusal) → AreOfEntries rest → AreOfEntries (if b then Some (refusal.TooMany n) else rest)
+count_fault true n rest h = tt
+count_fault false n rest h = h
+
+first_fault : (first later : Option RsmTableRefusal) → AreOfEntries first → AreOfEntries later → AreOfEntries (else_fault first later)
+first_fault None later h k = k
+first_fault (Some e) later h k = h
+
+faults_from : (n : ℕ) (entries : List (List (List ℕ))) → AreOfEntries (fault_from n entries)
+unfolding fault_from
+faults_from n [] = tt
+faults_from n (fields ∷ rest) = first_fault (entry_fault n fields) (fault_from (n + 1) rest) (count_fault (nat_lt 65536 n) n (form_fault n fields) (form_faults n fields)) (faults_from (n + 1) rest)
+
+faults_of : (entries : List (List (List ℕ))) → AreOfEntries (fault_of entries)
+unfolding fault_of
+faults_of [] = tt
+faults_of (fields ∷ rest) = faults_from 1 (fields ∷ rest)
+
+by_entries : (bytes : List ℕ) (e : RsmTableRefusal) → IsOfEntries e → fault_of (entries_of bytes) ≡ Some e → (e ≢ refusal.NoMemory) × IsRefusal bytes e
+by_entries bytes (refusal.FieldCount i) h is = ((λ e. cc), is)
+by_entries bytes (refusal.Number i j) h is = ((λ e. cc), is)
+by_entries bytes (refusal.TooMany i) h is = ((λ e. cc), is)
+by_entries bytes refusal.Empty h is = ((λ e. cc), is)
+by_entries bytes (refusal.SameDomain i j) h is = absurd h
+by_entries bytes (refusal.SameRange i j) h is = absurd h
+by_entries bytes refusal.NoMemory h is = absurd h
+
+-- the first fault of the entries is a refusal of the bytes
+pub fault_refuses : (bytes : List ℕ) (e : RsmTableRefusal) → fault_of (entries_of bytes) ≡ Some e → (e ≢ refusal.NoMemory) × IsRefusal bytes e
+fault_refuses bytes e is = by_entries bytes e (subst AreOfEntries is (faults_of (entries_of bytes))) is
+
+-- what is the first fault of the entries, unless it is want of memory, is a refusal of the bytes
+pub refused_unless : (bytes : List ℕ) (e : RsmTableRefusal) → (e ≢ refusal.NoMemory → fault_of (entries_of bytes) ≡ Some e) → IsRefusal bytes e
+refused_unless bytes (refusal.FieldCount i) h = h (λ e. cc)
+refused_unless bytes (refusal.Number i j) h = h (λ e. cc)
+refused_unless bytes (refusal.TooMany i) h = h (λ e. cc)
+refused_unless bytes refusal.Empty h = h (λ e. cc)
+refused_unless bytes (refusal.SameDomain i j) h = (fault_refuses bytes (refusal.SameDomain i j) (h (λ e. cc))).1
+refused_unless bytes (refusal.SameRange i j) h = (fault_refuses bytes (refusal.SameRange i j) (h (λ e. cc))).1
+refused_unless bytes refusal.NoMemory h = tt
+
+pub machine_or_refusal : MovesAreSoundOrRefused → (bytes : List ℕ) → ((m : Machine) × Reads bytes m) ⊎ ((e : RsmTableRefusal) × (e ≢ refusal.NoMemory) × IsRefusal bytes e)
+machine_or_refusal sound_or bytes = by_fault (fault_of (entries_of bytes)) refl
+  where
+    by_moves : (ms : List RsmMove) → AreReadAs (entries_of bytes) ms → AreSound (states_named ms) (lines_named ms) ms ⊎ ((a : RsmRefusal) × (a ≢ clash.NoMemory) × moves.IsRefusal (states_named ms) (lines_named ms) ms a) → ((m : Machine) × Reads bytes m) ⊎ ((e : RsmTableRefusal) × (e ≢ refusal.NoMemory) × IsRefusal bytes e)
+    by_moves ms reads (inl sound) = inl (machine_of bytes ms reads sound)
+    by_moves ms reads (inr said) = inr (clash_of bytes ms said.0 reads said.1 said.2)
+
+    by_fault : (o : Option RsmTableRefusal) → fault_of (entries_of bytes) ≡ o → ((m : Machine) × Reads bytes m) ⊎ ((e : RsmTableRefusal) × (e ≢ refusal.NoMemory) × IsRefusal bytes e)
+    by_fault None none = let found = reading_of (entries_of bytes) none in by_moves found.0 found.1 (sound_or (states_named found.0) (lines_named found.0) found.0)
+    by_fault (Some e) is = let refused = fault_refuses bytes e is in inr (e, refused.0, refused.1)
+
+-- what a refusal says of bytes: a fault of their entries, or moves that clash
+abbrev table_refusal : RsmRefusal → RsmTableRefusal
+table_refusal (clash.SameDomain i j) = refusal.SameDomain i j
+table_refusal (clash.SameRange i j) = refusal.SameRange i j
+table_refusal (clash.Range j) = refusal.NoMemory
+table_refusal clash.NoMemory = refusal.NoMemory
+
+data Says (bytes : List ℕ) (e : RsmTableRefusal) : Type 0 where
+  faulty : fault_of (entries_of bytes) ≡ Some e → Says bytes e
+  clashing : (said : RsmRefusal) → said ≢ clash.NoMemory → e ≡ table_refusal said → Clashes bytes said → Says bytes e
+
+says : (bytes : List ℕ) (e : RsmTableRefusal) → e ≢ refusal.NoMemory → IsRefusal bytes e → Says bytes e
+says bytes (refusal.FieldCount i) some is = faulty is
+says bytes (refusal.Number i j) some is = faulty is
+says bytes (refusal.TooMany i) some is = faulty is
+says bytes refusal.Empty some is = faulty is
+says bytes (refusal.SameDomain i j) some is = clashing (clash.SameDomain i j) (λ e. cc) refl is
+says bytes (refusal.SameRange i j) some is = clashing (clash.SameRange i j) (λ e. cc) refl is
+says bytes refusal.NoMemory some is = absurd (some refl)
+
+some_or_none : {X : Type 0} (o : Option X) (x : X) → o ≡ None → o ≡ Some x → ⊥
+some_or_none o x none some = cc
+
+same_some : {X : Type 0} (o : Option X) (x y : X) → o ≡ Some x → o ≡ Some y → x ≡ y
+same_some o x y a b = cc
+
+pub not_refused : SoundMovesAreTaken → (bytes : List ℕ) (m : Machine) (e : RsmTableRefusal) → Reads bytes m → IsRefusal bytes e → e ≡ refusal.NoMemory
+not_refused taken bytes m e reads is = by_kind e is
+  where
+    no_fault_here : (e : RsmTableRefusal) → fault_of (entries_of bytes) ≡ Some e → ⊥
+    no_fault_here e some = some_or_none _ e (no_fault_of (entries_of bytes) m.moves reads.moves) some
+
+    no_clash_here : (said : RsmRefusal) → Clashes bytes said → said ≡ clash.NoMemory
+    no_clash_here said h =
+        let same : h.found ≡ m.moves = one_reading (entries_of bytes) h.found m.moves h.reads reads.moves in
+        let moved = subst (λ ms. moves.IsRefusal (states_named ms) (lines_named ms) ms said) same h.clash in
+        let states = subst (λ n. moves.IsRefusal n (lines_named m.moves) m.moves said) (sym reads.states) moved in
+        let lines = subst (λ n. moves.IsRefusal m.states n m.moves said) (sym reads.lines) states in
+        taken m.states m.lines m.moves said m.sound lines
+
+    by_kind : (e : RsmTableRefusal) → IsRefusal bytes e → e ≡ refusal.NoMemory
+    by_kind (refusal.FieldCount i) is = absurd (no_fault_here (refusal.FieldCount i) is)
+    by_kind (refusal.Number i j) is = absurd (no_fault_here (refusal.Number i j) is)
+    by_kind (refusal.TooMany i) is = absurd (no_fault_here (refusal.TooMany i) is)
+    by_kind refusal.Empty is = absurd (no_fault_here refusal.Empty is)
+    by_kind (refusal.SameDomain i j) is = let none = no_clash_here (clash.SameDomain i j) is in absurd (cc)
+    by_kind (refusal.SameRange i j) is = let none = no_clash_here (clash.SameRange i j) is in absurd (cc)
+    by_kind refusal.NoMemory is = refl
+
+pub one_machine : (bytes : List ℕ) (m n : Machine) → Reads bytes m → Reads bytes n → m ≡ n
+one_machine bytes m n h k =
+    let same : m.moves ≡ n.moves = one_reading (entries_of bytes) m.moves n.moves h.moves k.moves in
+    same_machine m n (h.states ∙ ap states_named same ∙ sym k.states) (h.lines ∙ ap lines_named same ∙ sym k.lines) same
+
+pub one_refusal : RefusalsAreOne → (bytes : List ℕ) (d e : RsmTableRefusal) → IsRefusal bytes d → IsRefusal bytes e → d ≢ refusal.NoMemory → e ≢ refusal.NoMemory → d ≡ e
+one_refusal once bytes d e h k some more = both (says bytes d some h) (says bytes e more k)
+  where
+    both : Says bytes d → Says bytes e → d ≡ e
+    both (faulty a) (faulty b) = same_some _ d e a b
+    both (faulty a) (clashing said real is b) = absurd (some_or_none _ d (no_fault_of (entries_of bytes) b.found b.reads) a)
+    both (clashing said real is a) (faulty b) = absurd (some_or_none _ e (no_fault_of (entries_of bytes) a.found a.reads) b)
+    both (clashing said real is a) (clashing other true_too is_too b) =
+        let same : a.found ≡ b.found = one_reading (entries_of bytes) a.found b.found a.reads b.reads in
+        let moved = subst (λ ms. moves.IsRefusal (states_named ms) (lines_named ms) ms said) same a.clash in
+        let one : said ≡ other = once (states_named b.found) (lines_named b.found) b.found said other moved b.clash real true_too in
+        is ∙ ap table_refusal one ∙ sym is_too
+
+-- ---- the writer
+
+plain_step : (m : RsmMove) → IsMove m → is_plain_entry (entry_of m) ≡ true
+plain_step m h =
+    let state = h.state in
+    let line = h.line in
+    let next = h.next in
+    let out = h.out in
+    rw (plain_decimal (m.state + 1) (omega arith), plain_decimal (m.line + 1) (omega arith), plain_decimal (m.next + 1) (omega arith), plain_decimal (m.out + 1) (omega arith)) refl
+
+plain_steps : (ms : List RsmMove) → All IsMove ms → list_all is_plain_entry (entries_by ms) ≡ true
+plain_steps [] h = refl
+plain_steps (m ∷ ms) h = rw (plain_step m (All-head IsMove m ms h)) (plain_steps ms (All-tail IsMove m ms h))
+
+-- a machine's lines are read as it again
+pub read_back : (m : Machine) (bytes : List ℕ) → IsTable m → bytes ≡ lines_of (entries_by m.moves) → Reads bytes m
+read_back m bytes h is =
+    let states : states_named m.moves ≤ 1048576 = omega (arith, h.states, h.states_few) in
+    let lines : lines_named m.moves ≤ 1048576 = omega (arith, h.lines, h.lines_few) in
+    let back : entries_of bytes ≡ entries_by m.moves = ap entries_of is ∙ entries_of-lines_of (entries_by m.moves) (plain_steps m.moves (all_moves m.moves states lines)) in
+    let count : length (entries_of bytes) ≡ length m.moves = ap (λ (xs : List (List (List ℕ))). length xs) back ∙ length-map m.moves entry_of in
+    record {
+      moves = record { rows = sym back; within = all_moves m.moves states lines; some = omega (arith, h.some); few = omega (arith, h.few) };
+      states = h.states;
+      lines = h.lines;
+    }

@@ -1,0 +1,92 @@
+//! A table that is being read.
+
+ghost use Rattle.std.specs.Prelude.{◌≡◌, ◌≢◌, ◌≤◌, ◌+◌, ◌++◌, ◌∷◌, [], length, None, Some, OnOk, IfOk, IfErr};
+ghost use Rattle.bn_rsmtable.specs.Draft.{IsDraft};
+ghost use Rattle.bn_rsmtable.specs.Entry.{IsMove, entry_of, states_named, lines_named};
+ghost use Rattle.bn_rsmtable.specs.Faults.{entry_fault};
+ghost use Rattle.bn_rsmtable.specs.Drafted.{drafted, IsTold};
+ghost use Rattle.bn_rsmtable.specs.declared.refusal.RsmTableRefusal.TheVariants as refusal;
+
+use crate::entry::read_move;
+use crate::refusal::RsmTableRefusal;
+use bn_entries::{Entry, NoMemory};
+use bn_rsm::{Rsm, RsmMove, RsmRefusal};
+use std::alloc::Global;
+
+/// The moves of the entries read so far, and how many states and lines they name.
+#[derive(Drop)]
+pub struct Draft {
+    states: u32,
+    lines: u32,
+    moves: Vec<RsmMove>,
+}
+
+/// A draft of no entries. It takes no memory.
+pub fn new_draft(alloc: Global) -> Draft
+    ensures draft { IsDraft result }
+    ensures none { drafted result ≡ [] }
+{
+    Draft {
+        states: 0,
+        lines: 0,
+        moves: Vec::new(alloc),
+    }
+}
+
+// Adds a move.
+fn add_move(draft: &mut Draft, step: RsmMove) -> Result<(), NoMemory>
+    requires draft { IsDraft draft.old }
+    requires within { IsMove step }
+    ensures draft { OnOk result (IsDraft draft.new) }
+    ensures moves { OnOk result (draft.new.moves.items ≡ draft.old.moves.items ++ step ∷ []) }
+{
+    draft.states = draft.states.max(step.state + 1).max(step.next + 1);
+    draft.lines = draft.lines.max(step.line + 1).max(step.out + 1);
+    if draft.moves.push(step).is_err() {
+        return Err(NoMemory);
+    }
+    Ok(())
+}
+
+/// Reads one more entry into the draft, or answers its first fault.
+pub fn add_entry(draft: &mut Draft, entry: &Entry) -> Result<(), RsmTableRefusal>
+    requires draft { IsDraft draft.old }
+    requires few { length draft.old.moves.items ≤ 65536 }
+    ensures draft { OnOk result (IsDraft draft.new) }
+    ensures more { OnOk result (drafted draft.new ≡ drafted draft.old ++ entry.now ∷ []) }
+    ensures passes { OnOk result (entry_fault (length draft.old.moves.items + 1) entry.now ≡ None) }
+    ensures fault { IfErr result (λ e. e ≢ refusal.NoMemory → entry_fault (length draft.old.moves.items + 1) entry.now ≡ Some e) }
+{
+    let number = draft.moves.len() as u32 + 1;
+    let step = read_move(entry, number)?;
+    add_move(draft, step)?;
+    Ok(())
+}
+
+/// The machine of a draft's moves; else `Empty` where there is none, or the first move that agrees with an earlier
+/// one on a side.
+pub fn into_machine(alloc: Global, draft: Draft) -> Result<Rsm, RsmTableRefusal>
+    requires draft { IsDraft draft }
+    requires few { length draft.moves.items ≤ 65536 }
+    ensures moves { IfOk result (λ r. r.moves ≡ draft.moves.items) }
+    ensures states { IfOk result (λ r. r.states ≡ states_named draft.moves.items) }
+    ensures lines { IfOk result (λ r. r.lines ≡ lines_named draft.moves.items) }
+    ensures some { OnOk result (draft.moves.items ≢ []) }
+    ensures refused { IfErr result (IsTold draft.moves.items) }
+{
+    let Draft {
+        states,
+        lines,
+        moves,
+    } = draft;
+    if moves.is_empty() {
+        return Err(RsmTableRefusal::Empty);
+    }
+    match Rsm::try_new(alloc, states, lines, moves) {
+        Ok(rsm) => Ok(rsm),
+        Err(RsmRefusal::SameDomain { i, j }) => Err(RsmTableRefusal::SameDomain { i, j }),
+        Err(RsmRefusal::SameRange { i, j }) => Err(RsmTableRefusal::SameRange { i, j }),
+        Err(RsmRefusal::NoMemory) => Err(RsmTableRefusal::NoMemory),
+        Err(RsmRefusal::Range { .. }) => unreachable!(),
+    }
+}

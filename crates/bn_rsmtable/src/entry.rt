@@ -1,0 +1,87 @@
+//! One entry of a table of moves.
+
+ghost use Rattle.std.specs.Prelude.{◌≡◌, ◌<◌, ◌+◌, ◌∷◌, [], true, false, decimal, MatchOption, IfOk};
+ghost use Rattle.bn_rsmtable.specs.Entry.{IsMove, entry_of, most};
+ghost use Rattle.bn_rsmtable.specs.Faults as fault;
+ghost use Rattle.bn_rsmtable.specs.Faults.{entry_fault, field_fault};
+ghost use Rattle.bn_rsmtable.specs.Fields.{err_of};
+
+use crate::refusal::RsmTableRefusal;
+use bn_base::read_u64;
+use bn_entries::Entry;
+use bn_rsm::RsmMove;
+
+/// The most entries of a table.
+pub const MOST_ENTRIES: u32 = 65536;
+
+/// The greatest number of an entry.
+pub const MOST: u64 = 1048576;
+
+// The number that a field is, less one; `None` exactly where it is none from 1 to 1,048,576.
+fn number_of(field: &[u8]) -> Option<u32>
+    ensures { MatchOption result (fault.is_number field.now ≡ false) (λ n. (fault.is_number field.now ≡ true) × (n < most) × (field.now ≡ decimal (n + 1))) }
+{
+    match read_u64(field, 0) {
+        Ok((number, behind)) => {
+            if behind == field.len() && 0 < number && number <= MOST {
+                Some(number as u32 - 1)
+            } else {
+                None
+            }
+        }
+        Err(_) => None,
+    }
+}
+
+// The move of four fields, or their first fault.
+fn four_fields(
+    entry: u32,
+    state: &[u8],
+    line: &[u8],
+    next: &[u8],
+    out: &[u8],
+) -> Result<RsmMove, RsmTableRefusal>
+    ensures says { IfOk result (λ m. entry_of m ≡ state.now ∷ line.now ∷ next.now ∷ out.now ∷ []) }
+    ensures within { IfOk result IsMove }
+    ensures fault { field_fault entry state.now line.now next.now out.now ≡ err_of result }
+{
+    let Some(state) = number_of(state) else {
+        return Err(RsmTableRefusal::Number { entry, field: 1 });
+    };
+    let Some(line) = number_of(line) else {
+        return Err(RsmTableRefusal::Number { entry, field: 2 });
+    };
+    let Some(next) = number_of(next) else {
+        return Err(RsmTableRefusal::Number { entry, field: 3 });
+    };
+    let Some(out) = number_of(out) else {
+        return Err(RsmTableRefusal::Number { entry, field: 4 });
+    };
+    Ok(RsmMove {
+        state,
+        line,
+        next,
+        out,
+    })
+}
+
+/// The move of an entry, where it is the one with this number, counted from 1; else its first fault.
+pub fn read_move(entry: &Entry, number: u32) -> Result<RsmMove, RsmTableRefusal>
+    ensures says { IfOk result (λ m. entry_of m ≡ entry.now) }
+    ensures within { IfOk result IsMove }
+    ensures fault { entry_fault number entry.now ≡ err_of result }
+{
+    if number > MOST_ENTRIES {
+        return Err(RsmTableRefusal::TooMany { entry: number });
+    }
+    if entry.len() != 4 {
+        return Err(RsmTableRefusal::FieldCount { entry: number });
+    }
+    four_fields(
+        number,
+        entry.field(0),
+        entry.field(1),
+        entry.field(2),
+        entry.field(3),
+    )
+}
