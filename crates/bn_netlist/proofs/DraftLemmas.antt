@@ -11,7 +11,8 @@ use Rattle.bn_netlist.specs.Sentences.{AreNameable}
 use Rattle.bn_netlist.specs.Reading.{named, named_target, named_targets}
 use Rattle.bn_netlist.specs.Faults.{Fault, wires_from, wire_fault, outputs_fault}
 use Rattle.bn_netlist.specs.Header.{header_then}
-use Rattle.bn_netlist.specs.WireLaws.{line_tells, other_line}
+use Rattle.bn_net.specs.WireLaws.{line_tells}
+use Rattle.bn_netlist.specs.WireLaws.{other_line}
 use Rattle.bn_netlist.specs.Progress.{tested, RefusesBy, wants_memory_for_wires, finds_by, IsFed, Connects, ConnectsAll}
 use Rattle.bn_netlist.proofs.FitLemmas.{wire_passes}
 use Rattle.bn_netlist.specs.declared.header.Header.{Header}

@@ -6,6 +6,7 @@ use Rattle.std.proofs.lemmas.Option.{same_Some}
 use Rattle.bn_theory.specs.Tables.{Table, IsReversible}
 use Rattle.bn_theory.specs.Circuits.{same_line, target, source, states_of, inputs_of, outputs_of}
 use Rattle.bn_theory.specs.Laws.{same_lines}
+use Rattle.bn_net.specs.WireLaws.{line_tells}
 use Rattle.bn_theory.specs.declared.line.Line.{Line}
 use Rattle.bn_theory.specs.declared.line.Wire.{Wire}
 use Rattle.bn_element.specs.Rotary.{rotary, rotary-IsReversible}
@@ -46,18 +47,7 @@ rotary_reversible zero e t h = absurd (cc)
 rotary_reversible (suc n) zero t h = subst IsReversible (same_Some rotary t h) rotary-IsReversible
 rotary_reversible (suc n) (suc e) t h = rotary_reversible n e t h
 
--- whether two lines are one
-pub line_tells : (a b : Line) → ((same_line a b ≡ true) × (a ≡ b)) ⊎ ((same_line a b ≡ false) × (a ≢ b))
-line_tells a b =
-    elim (eqb_tells a.element b.element) [
-      | inl first ↦
-          (elim (eqb_tells a.line b.line) [
-            | inl second ↦ inl (rw (first.0, second.0) refl, same_lines a b first.1 second.1)
-            | inr second ↦ inr (rw (first.0, second.0) refl, λ e. second.1 (ap (λ (l : Line). l.line) e))
-          ])
-      | inr first ↦ inr (rw first.0 refl, λ e. first.1 (ap (λ (l : Line). l.element) e))
-    ]
-
+-- lines that are not one, by the test
 pub other_line : (a b : Line) → a ≢ b → same_line a b ≡ false
 other_line a b apart =
     elim (line_tells a b) [

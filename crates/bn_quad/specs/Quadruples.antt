@@ -148,8 +148,8 @@ pub record IsFirstRule (rs : List (Rule ℕ)) (c : Configuration ℕ) (n : ℕ) 
   pub first : (m : ℕ) (s : Rule ℕ) → m < n → nth rs m ≡ Some s → AppliesTo s c → ⊥
 
 -- no quadruple applies
-pub record HasNoRule (rs : List (Rule ℕ)) (c : Configuration ℕ) : Type 0 where
-  pub none : (n : ℕ) (r : Rule ℕ) → nth rs n ≡ Some r → AppliesTo r c → ⊥
+pub record HasNoRule {Q : Type 0} (rs : List (Rule Q)) (c : Configuration Q) : Type 0 where
+  pub none : (n : ℕ) (r : Rule Q) → nth rs n ≡ Some r → AppliesTo r c → ⊥
 
 -- the machine can't go on: no quadruple applies, and the state isn't the final one
 pub record IsStuck (p : Quadruples) (c : Configuration ℕ) : Type 0 where

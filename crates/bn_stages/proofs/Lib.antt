@@ -1,0 +1,13 @@
+pub mod Tapes
+pub mod Moves
+pub mod Runs
+pub mod Halted
+pub mod Apart
+pub mod Tests
+pub mod Uniform
+pub mod Counts
+pub mod Numbering
+pub mod Theorem
+pub mod Bounded
+pub mod Moments
+pub mod Short
