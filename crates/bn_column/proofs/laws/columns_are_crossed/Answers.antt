@@ -1,0 +1,5 @@
+use Rattle.bn_column.specs.Crossing.{column_crosses}
+use Rattle.bn_column.proofs.laws.columns_are_crossed.Goals as goal
+
+pub returns : goal.returns
+returns c = column_crosses

@@ -1,0 +1,55 @@
+-- Nets of rotary elements, and the net that is one column.
+use Rattle.std.specs.Prelude.{◌≡◌, ℕ, ◌+◌, ◌-◌, ◌<◌, Bool, List, [], ◌∷◌, ◌++◌, length, replicate, Some, ◌⊎◌}
+use Rattle.bn_theory.specs.Circuits.{Circuit, target}
+use Rattle.bn_theory.specs.declared.line.Line.{Line}
+use Rattle.bn_theory.specs.declared.line.Wire.{Wire}
+use Rattle.bn_theory.specs.declared.place.Place.TheVariants.{Enter}
+use Rattle.bn_theory.specs.declared.config.Config.{Config}
+use Rattle.bn_element.specs.Rotary.{rotary, vertical, north, south}
+use Rattle.bn_element.specs.declared.rotary.Rotary.{Rotary}
+use Rattle.bn_net.specs.Parts.{Parts, circuit}
+use Rattle.bn_column.specs.Columns.{line_at, IsInner, IsColumn, bar}
+
+-- the circuit of a net of rotary elements
+abbrev pub rotary_circuit : Parts Rotary → Circuit
+rotary_circuit net = circuit (λ _. rotary) net
+
+-- the net has so many elements, and an output line leads where these wires lead it
+pub record IsNetOf (net : Parts Rotary) (count : ℕ) (wires : List Wire) : Type 0 where
+  pub elements : length net.elements ≡ count
+  pub targets : (from : Line) → target net.wires from ≡ target wires from
+
+-- The net is a column of so many rows: its elements are those of the column, and its wires are the column's own and no others.
+pub record IsColumnNet (net : Parts Rotary) (rows : ℕ) : Type 0 where
+  pub elements : length net.elements ≡ rows + 1
+  pub column : IsColumn (rotary_circuit net) 0 rows
+  pub no_others : (from to : Line) → target net.wires from ≡ Some to → IsInner 0 rows from to
+
+-- a column by itself, and whether it begins marked
+pub record Standing : Type 0 where
+  pub net : Parts Rotary
+  pub rows : ℕ
+  pub marked : Bool
+
+-- this column has so many rows and this mark, and its net is that column
+pub record IsStanding (c : Standing) (n : ℕ) (m : Bool) : Type 0 where
+  pub rows : c.rows ≡ n
+  pub marked : c.marked ≡ m
+  pub column : IsColumnNet c.net n
+
+-- the column at rest, with the signal at a row, counted from 1, on this side
+abbrev pub start_at : ℕ → Bool → ℕ → ℕ → Config
+start_at rows marked row side = record { states = replicate rows vertical ++ bar marked ∷ []; place = Enter (row - 1) side; steps = 0 }
+
+-- a column has from 1 to 65,535 rows
+abbrev pub IsNoCount : ℕ → Type 0
+IsNoCount rows = (rows ≡ 0) ⊎ (65535 < rows)
+
+-- a wire by its four numbers
+abbrev pub wire_of : ℕ → ℕ → ℕ → ℕ → Wire
+wire_of from from_line to to_line = record { from = line_at from from_line; to = line_at to to_line }
+
+-- the wires between the first r rows and what is below each
+pub data IsRung (b r : ℕ) (from to : Line) : Type 0 where
+  rung_down : (x : ℕ) → x < r → from ≡ line_at (b + x) south → to ≡ line_at (b + (x + 1)) north → IsRung b r from to
+  rung_up : (x : ℕ) → x < r → from ≡ line_at (b + (x + 1)) north → to ≡ line_at (b + x) south → IsRung b r from to

@@ -1,0 +1,19 @@
+//! Columns of rotary elements: their wires in any net, their four crossings, and what these cost.
+#![tactic(auto)]
+
+mod cross;
+mod laws;
+mod make;
+mod refusal;
+mod standing;
+mod wires;
+
+pub use cross::{cost, cross_in};
+pub use laws::{columns_are_crossed, crossed_columns_rest, crossings_stay_within};
+pub use make::column;
+pub use refusal::{ColumnRefusal, NoMemory};
+pub use standing::Column;
+pub use wires::{column_wires, rotary_net};
+
+#[cfg(test)]
+mod tests;

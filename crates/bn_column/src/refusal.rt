@@ -1,0 +1,25 @@
+//! What the calls of this crate refuse.
+
+/// A call found no memory.
+#[derive(Clone, Copy, PartialEq, Eq, Debug)]
+pub struct NoMemory;
+
+/// Why no column was made.
+#[derive(Clone, Copy, PartialEq, Eq, Debug)]
+pub enum ColumnRefusal {
+    /// The number of rows is 0 or above 65,535.
+    Rows,
+    /// There was no memory.
+    NoMemory,
+}
+
+impl From<NoMemory> for ColumnRefusal {
+    ghost use Rattle.std.specs.Prelude.{◌≡◌};
+    ghost use Rattle.bn_column.specs.declared.refusal.ColumnRefusal.TheVariants.{NoMemory};
+
+    ghost from_gives = { λ _ refusal. refusal ≡ NoMemory };
+
+    fn from(_want: NoMemory) -> ColumnRefusal {
+        ColumnRefusal::NoMemory
+    }
+}

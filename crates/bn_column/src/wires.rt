@@ -1,0 +1,87 @@
+//! The wires of a column, and nets of rotary elements with given wires.
+ghost use Rattle.std.specs.Prelude.{◌≡◌, ◌+◌, ◌*◌, ◌^◌, ◌<◌, ◌≤◌, ◌++◌, ◌∷◌, [], length, IfOk, OnOk};
+ghost use Rattle.bn_column.specs.Wirings.{AreWiresOf, AreApart, AreFitting};
+ghost use Rattle.bn_column.specs.Columns.{IsInner};
+ghost use Rattle.bn_column.specs.Nets.{IsNetOf, IsRung, wire_of};
+
+use crate::refusal::NoMemory;
+use bn_element::{EAST, NORTH, Rotary, SOUTH, WEST};
+use bn_net::{Line, Net, NetRefusal, Wire};
+use std::alloc::Global;
+
+/// The inner wires of a column of `rows` rows whose top row is element `first`.
+pub fn column_wires(alloc: Global, first: u32, rows: u32) -> Result<Vec<Wire>, NoMemory>
+    requires some { 1 ≤ rows }
+    requires within { first + rows < 2 ^ 32 }
+    ensures wires { IfOk result (λ v. AreWiresOf (IsInner first rows) v.items) }
+    ensures count { IfOk result (λ v. length v.items ≡ 2 * rows + 3) }
+{
+    let Ok(mut wires) = Vec::with_capacity(alloc, 2 * rows as usize + 3) else {
+        return Err(NoMemory);
+    };
+    for row in 0..rows {
+        push_rung(&mut wires, first + row)?;
+    }
+    let bottom = first + rows;
+    push(&mut wires, wire(bottom, SOUTH, bottom, SOUTH))?;
+    push(&mut wires, wire(bottom, WEST, first, NORTH))?;
+    push(&mut wires, wire(first, NORTH, bottom, EAST))?;
+    Ok(wires)
+}
+
+/// The net of `count` rotary elements with these wires.
+pub fn rotary_net(alloc: Global, count: u32, wires: &[Wire]) -> Result<Net<Rotary>, NoMemory>
+    requires few { length wires.now < 2 ^ 32 }
+    requires apart { AreApart wires.now }
+    requires fitting { AreFitting count wires.now }
+    ensures { IfOk result (λ net. IsNetOf net count wires.now) }
+{
+    let Ok(elements) = vec![in alloc; Rotary; count as usize] else {
+        return Err(NoMemory);
+    };
+    match Net::try_new(alloc, elements, wires) {
+        Ok(net) => Ok(net),
+        Err(refusal) => Err(want_of_memory(refusal)),
+    }
+}
+
+// The wires between this row and the next element, down and up.
+fn push_rung(wires: &mut Vec<Wire>, row: u32) -> Result<(), NoMemory>
+    requires { row + 1 < 2 ^ 32 }
+    ensures { OnOk result (wires.new.items ≡ (wires.old.items ++ wire_of row 2 (row + 1) 0 ∷ []) ++ wire_of (row + 1) 0 row 2 ∷ []) }
+{
+    push(wires, wire(row, SOUTH, row + 1, NORTH))?;
+    push(wires, wire(row + 1, NORTH, row, SOUTH))?;
+    Ok(())
+}
+
+fn wire(from: u32, from_line: u32, to: u32, to_line: u32) -> Wire
+    ensures { result ≡ wire_of from from_line to to_line }
+{
+    Wire {
+        from: Line {
+            element: from,
+            line: from_line,
+        },
+        to: Line {
+            element: to,
+            line: to_line,
+        },
+    }
+}
+
+fn push(wires: &mut Vec<Wire>, wire: Wire) -> Result<(), NoMemory>
+    ensures { OnOk result (wires.new.items ≡ wires.old.items ++ wire ∷ []) }
+{
+    match wires.push(wire) {
+        Ok(()) => Ok(()),
+        Err(_) => Err(NoMemory),
+    }
+}
+
+// The one refusal that wires meet which are apart and fit.
+fn want_of_memory(_refusal: NetRefusal) -> NoMemory
+    requires { _refusal ≡ NetRefusal.NoMemory }
+{
+    NoMemory
+}

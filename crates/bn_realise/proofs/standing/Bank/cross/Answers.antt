@@ -1,0 +1,13 @@
+use Rattle.std.proofs.Common.{◌≡◌, subst}
+use Rattle.bn_theory.specs.Runs.{Reaches}
+use Rattle.bn_theory.specs.Circuits.{clock, Goes}
+use Rattle.bn_theory.specs.Stepping.{run}
+use Rattle.bn_column.specs.Nets.{rotary_circuit}
+use Rattle.bn_realise.proofs.StartLemmas.{bank_moved}
+use Rattle.bn_realise.proofs.standing.Bank.cross.Goals as goal
+
+pub returns-clause-moved : goal.returns-clause-moved
+returns-clause-moved c = λ t q i reversible square is entering.
+    let ran = subst (λ v. c.run.new.config ≡ run (rotary_circuit v.net) c.args.config.now clock) c.self.view_is c.run.ensures.run in
+    let made = subst (λ v. Reaches (Goes (rotary_circuit v.net)) c.run.result c.args.config.now c.run.new.config) c.self.view_is c.run.ensures.made in
+    bank_moved c.args.self.now t q i c.run.result c.args.config.now c.run.new.config c.requires.entering ran made reversible square is entering

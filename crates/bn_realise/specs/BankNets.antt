@@ -1,0 +1,77 @@
+-- Moves of banks in nets, and the net that is one bank.
+use Rattle.std.specs.Prelude.{◌≡◌, ℕ, ◌+◌, ◌*◌, ◌^◌, ◌<◌, ◌≤◌, Bool, true, length, replicate, Some, slice_set}
+use Rattle.bn_theory.specs.Runs.{Reaches, Passes}
+use Rattle.bn_theory.specs.Tables.{Table, IsReversible}
+use Rattle.bn_theory.specs.Circuits.{Circuit, clock, target, Goes}
+use Rattle.bn_theory.specs.declared.line.Line.{Line}
+use Rattle.bn_theory.specs.declared.place.Place.TheVariants.{Enter}
+use Rattle.bn_theory.specs.declared.config.Config.{Config}
+use Rattle.bn_element.specs.Rotary.{horizontal, vertical, west}
+use Rattle.bn_element.specs.declared.rotary.Rotary.{Rotary}
+use Rattle.bn_net.specs.Parts.{Parts}
+use Rattle.bn_column.specs.Nets.{rotary_circuit}
+use Rattle.bn_rsm.specs.Machines.{Machine}
+use Rattle.bn_rsm.specs.Costs.{table_cost}
+use Rattle.bn_realise.specs.Banks.{column_at, bottom_at, IsBank, IsBankWire, IsBankEntering, IsWithinBank, moved}
+use Rattle.bn_realise.specs.declared.refusal.BankRefusal.{BankRefusal}
+use Rattle.bn_realise.specs.declared.refusal.BankRefusal.TheVariants.{Elements, NoMemory}
+
+-- A table that makes a bank from element `first` on: it has a state and a line, as many lines out as in, and the bank's last element is below 2^32.
+pub record HasRoom (first : ℕ) (t : Table) : Type 0 where
+  pub some_states : 0 < t.states
+  pub some_lines : 0 < t.inputs
+  pub square : t.outputs ≡ t.inputs
+  pub fits : column_at first t.inputs t.states ≤ 2 ^ 32
+
+-- the bank can make a move from where the signal is: it is at rest in a state, the signal enters an input line, and the clock has room for the cost
+pub record CanMove (b : ℕ) (t : Table) (c : Config) : Type 0 where
+  pub state : ℕ
+  pub line : ℕ
+  pub entering : IsBankEntering b t state line c
+  pub in_time : c.steps + table_cost t state line ≤ clock
+
+-- So many steps, the last of which ends the move; and each test that holds of what is within the move holds strictly between.
+pub record IsMove (k : Circuit) (b : ℕ) (t : Table) (q i steps : ℕ) (c d : Config) : Type 0 where
+  pub cost : steps ≡ table_cost t q i
+  pub made : Reaches (Goes k) steps c d
+  pub ends : d ≡ moved k b t q i c
+  pub between : (test : Config → Bool) → ((x : Config) → IsWithinBank b t q i c.states x → test x ≡ true) → Passes (Goes k) test steps c d
+
+-- The net is the bank of this table: its elements are those of the bank, and its wires are the bank's own and no others.
+pub record IsBankNet (net : Parts Rotary) (t : Table) : Type 0 where
+  pub elements : length net.elements ≡ t.states * (t.inputs + 1)
+  pub bank : IsBank (rotary_circuit net) 0 t
+  pub no_others : (from to : Line) → target net.wires from ≡ Some to → IsBankWire 0 t from to
+
+-- a bank by itself: its net, and its numbers of states and lines
+pub record Banked : Type 0 where
+  pub net : Parts Rotary
+  pub states : ℕ
+  pub lines : ℕ
+
+-- this is the bank of the table
+pub record IsBankOf (v : Banked) (t : Table) : Type 0 where
+  pub states : v.states ≡ t.states
+  pub lines : v.lines ≡ t.inputs
+  pub net : IsBankNet v.net t
+
+-- it can make a move of some table whose bank it is
+pub record CanMoveBank (v : Banked) (c : Config) : Type 0 where
+  pub table : Table
+  pub reversible : IsReversible table
+  pub square : table.outputs ≡ table.inputs
+  pub is_bank : IsBankOf v table
+  pub can : CanMove 0 table c
+
+-- the elements of a machine's bank
+abbrev pub elements_of : Machine → ℕ
+elements_of m = m.states * (m.lines + 1)
+
+-- a refusal for the number of elements names that number
+abbrev pub IsCounted : ℕ → BankRefusal → Type 0
+IsCounted count (Elements n) = n ≡ count
+IsCounted count NoMemory = Unit {0}
+
+-- the bank with n columns of k rows at rest in state q, with the signal at input line i
+abbrev pub start_at : ℕ → ℕ → ℕ → ℕ → Config
+start_at n k q i = record { states = slice_set (replicate (n * (k + 1)) vertical) (bottom_at 0 k q) horizontal; place = Enter i west; steps = 0 }

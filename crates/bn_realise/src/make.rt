@@ -1,0 +1,32 @@
+//! Banks are made here.
+ghost use Rattle.std.specs.Prelude.{◌≡◌, ◌↔◌, ◌<◌, IfOk, IfErr};
+ghost use Rattle.bn_rsm.specs.Machines.{machine_table};
+ghost use Rattle.bn_realise.specs.BankNets.{IsBankOf, elements_of, IsCounted};
+
+use crate::refusal::BankRefusal;
+use crate::standing::Bank;
+use crate::wires::bank_wires;
+use bn_column::rotary_net;
+use bn_element::Element;
+use bn_rsm::Rsm;
+use std::alloc::Global;
+
+/// The bank of a machine. `Elements` comes exactly where it would have more than 1,048,576 elements.
+pub fn bank(alloc: Global, rsm: &Rsm) -> Result<Bank, BankRefusal>
+    requires some_states { 0 < rsm.now.states }
+    requires some_lines { 0 < rsm.now.lines }
+    ensures made { IfOk result (λ v. IsBankOf v (machine_table rsm.now)) }
+    ensures elements { (result ≡ Err (BankRefusal.Elements (elements_of rsm.now))) ↔ (1048576 < elements_of rsm.now) }
+    ensures count { IfErr result (IsCounted (elements_of rsm.now)) }
+{
+    let (states, lines) = (rsm.states(), rsm.lines_in());
+    let count = u64::from(states) * (u64::from(lines) + 1);
+    if count > 1_048_576 {
+        return Err(BankRefusal::Elements { count });
+    }
+    let wires = bank_wires(alloc, rsm, 0)?;
+    let Ok(net) = rotary_net(alloc, count as u32, wires.as_slice()) else {
+        return Err(BankRefusal::NoMemory);
+    };
+    Ok(Bank::of(net, states, lines))
+}

@@ -1,0 +1,28 @@
+//! What the calls of this crate refuse.
+
+/// A call found no memory.
+#[derive(Clone, Copy, PartialEq, Eq, Debug)]
+pub struct NoMemory;
+
+/// Why no bank was made.
+#[derive(Clone, Copy, PartialEq, Eq, Debug)]
+pub enum BankRefusal {
+    /// The bank would have more than 1,048,576 elements.
+    Elements {
+        /// How many it would have: the machine's states times one more than its lines.
+        count: u64,
+    },
+    /// There was no memory.
+    NoMemory,
+}
+
+impl From<NoMemory> for BankRefusal {
+    ghost use Rattle.std.specs.Prelude.{◌≡◌};
+    ghost use Rattle.bn_realise.specs.declared.refusal.BankRefusal.TheVariants.{NoMemory};
+
+    ghost from_gives = { λ _ refusal. refusal ≡ NoMemory };
+
+    fn from(_want: NoMemory) -> BankRefusal {
+        BankRefusal::NoMemory
+    }
+}

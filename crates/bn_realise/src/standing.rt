@@ -1,0 +1,111 @@
+//! A bank by itself.
+ghost use Rattle.std.specs.Prelude.{◌≡◌, ℕ, ◌+◌, ◌*◌, ◌<◌, ◌≤◌, length, replicate, slice_set, IfOk};
+ghost use Rattle.bn_realise.specs.Banks.{bottom_at};
+ghost use Rattle.bn_theory.specs.Tables.{Table, IsReversible};
+ghost use Rattle.bn_theory.specs.Circuits.{IsConfig};
+ghost use Rattle.bn_column.specs.Nets.{rotary_circuit};
+
+use crate::refusal::NoMemory;
+use bn_element::{HORIZONTAL, Rotary, VERTICAL, WEST};
+use bn_net::{CLOCK, Config, Net, Place, States};
+use std::alloc::Global;
+use std::marker::Model;
+
+/// A net that is the bank of one machine. Clauses see the net and the numbers of states and lines.
+#[derive(Debug, Drop)]
+pub struct Bank {
+    net: Net<Rotary>,
+    states: u32,
+    lines: u32,
+}
+
+impl Model for Bank {
+    ghost use Rattle.std.specs.Prelude.{◌≡◌, ◌+◌, ◌*◌, ◌≤◌, length};
+    ghost use Rattle.bn_realise.specs.BankNets.{Banked};
+
+    ghost Value = { Banked };
+
+    ghost view = { λ v. record { net = v.net; states = v.states; lines = v.lines } };
+
+    ghost invariant = { λ v. (length v.net.elements ≡ v.states * (v.lines + 1)) × (v.states * (v.lines + 1) ≤ 1048576) };
+}
+
+impl Bank {
+    ghost use Rattle.bn_realise.specs.Banks.{IsBankEntering};
+    ghost use Rattle.bn_realise.specs.BankNets.{Banked, IsBankOf, CanMoveBank, IsMove, start_at};
+
+    // The bank with this net and these numbers of states and lines.
+    pub(crate) fn of(net: Net<Rotary>, states: u32, lines: u32) -> Bank
+        requires elements { length net.elements ≡ states * (lines + 1) }
+        requires few { states * (lines + 1) ≤ 1048576 }
+        ensures { result ≡ record { net = net; states = states; lines = lines } }
+    {
+        Bank { net, states, lines }
+    }
+
+    /// The bank's net: the columns one after another from element 0 on, each with its bottom last.
+    pub fn net(&self) -> &Net<Rotary>
+        ensures { result.now ≡ self.now.net }
+    {
+        &self.net
+    }
+
+    /// Hands out the bank's net. It takes no memory.
+    pub fn into_net(self) -> Net<Rotary>
+        ensures { result ≡ self.net }
+    {
+        let Bank {
+            net,
+            states: _,
+            lines: _,
+        } = self;
+        net
+    }
+
+    /// The bank at rest in this state, with the signal about to enter this input line; both are counted
+    /// from 0. No step is made yet.
+    pub fn start(&self, alloc: Global, state: u32, line: u32) -> Result<Config, NoMemory>
+        requires state { state < self.now.states }
+        requires line { line < self.now.lines }
+        ensures start { IfOk result (λ c. c ≡ start_at self.now.states self.now.lines state line) }
+        ensures good { IfOk result (IsConfig (rotary_circuit self.now.net)) }
+        ensures entering { IfOk result (λ c. (t : Table) → IsBankOf self.now t → IsBankEntering 0 t state line c) }
+    {
+        let states = resting(alloc, self.states, self.lines, state)?;
+        let _ = &self.net;
+        Ok(Config {
+            states: States::new(states),
+            place: Place::Enter {
+                element: line,
+                line: WEST,
+            },
+            steps: 0,
+        })
+    }
+
+    /// Makes the bank's move from its state and the input line that the signal enters, and answers the
+    /// number of element steps made: to the output line, or to the loose line where the pair has no
+    /// move. It takes no memory.
+    pub fn cross(&self, config: &mut Config) -> u64
+        requires good { IsConfig (rotary_circuit self.now.net) config.old }
+        requires entering { CanMoveBank self.now config.old }
+        ensures moved { (t : Table) (q i : ℕ) → IsReversible t → t.outputs ≡ t.inputs → IsBankOf self.now t → IsBankEntering 0 t q i config.old → IsMove (rotary_circuit self.now.net) 0 t q i result config.old config.new }
+        ensures good { IsConfig (rotary_circuit self.now.net) config.new }
+    {
+        self.net.run(config, CLOCK)
+    }
+}
+
+// The bars of a bank at rest in this state: all vertical but for the bottom of the state's column.
+fn resting(alloc: Global, states: u32, lines: u32, state: u32) -> Result<Vec<u32>, NoMemory>
+    requires few { states * (lines + 1) ≤ 1048576 }
+    requires state { state < states }
+    ensures { IfOk result (λ v. v.items ≡ slice_set (replicate (states * (lines + 1)) 1) (bottom_at 0 lines state) 0) }
+{
+    let rows = lines as usize + 1;
+    let Ok(mut bars) = vec![in alloc; VERTICAL; states as usize * rows] else {
+        return Err(NoMemory);
+    };
+    bars[state as usize * rows + lines as usize] = HORIZONTAL;
+    Ok(bars)
+}
