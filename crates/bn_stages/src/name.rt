@@ -3,7 +3,7 @@
 /// A state of Bennett's reversible machine (Bennett 1973). His run has three stages: it computes
 /// and keeps a history, copies the output, and retraces its steps. States of the one-tape machine
 /// are counted from 0 here and from 1 in printed names; quintuples are counted from 1 in both.
-#[derive(Clone, Copy, PartialEq, Eq, Debug)]
+#[derive(Clone, Copy, PartialEq, Eq, Hash, Debug)]
 pub enum Name {
     /// The machine's state while it computes. State j is printed `A` and j + 1.
     Compute(u32),

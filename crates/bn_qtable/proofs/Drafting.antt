@@ -1,0 +1,185 @@
+-- A draft and its quadruples.
+use Rattle.std.proofs.Common.{◌≡◌, ◌<◌, ◌≤◌, get_or, ◌∷◌, ◌++◌, ◌∙◌, ℕ, List, [], length, Option, None, Some, refl, sym, ap, arith, subst, All, zero, suc, map}
+use Rattle.std.proofs.lemmas.List.{map-append}
+use Rattle.std.proofs.lemmas.List.Elements.{All-head, All-tail}
+use Rattle.std.proofs.lemmas.Option.{slice_get-get_or}
+use Rattle.bn_machine.specs.Machine.{nth}
+use Rattle.bn_quad.specs.Names.{Naming}
+use Rattle.bn_quad.specs.Quadruples.{Deed, Rewrite, Move, Rule, Quadruples, IsDeedInRange, IsRuleInRange}
+use Rattle.bn_quad.specs.Kept.{Agree, IsUnmixed, IsActInRange, IsFirstFault, IsReadInRange, IsSound, act_at, act_of, deed_of, quad_of, read_at, read_of, rule_of, rules_of}
+use Rattle.bn_quad.specs.KeptLaws.{length-rules_of, rule_of-quad_of, rules_of-quads}
+use Rattle.bn_quad.specs.declared.quad.Quad.{Quad}
+use Rattle.bn_quad.specs.declared.quad.Act.{Act}
+use Rattle.bn_quad.specs.declared.quad.Act.TheVariants.{Write, Shift}
+use Rattle.bn_qtable.specs.Draft.{Adds, IsDraft, blanks_alone, drafted, names_of}
+use Rattle.bn_qtable.specs.Entry.{Said, entry_of}
+use Rattle.bn_qtable.specs.Rows.{IsTableOf, Spells, counts_of, rows_by, table_of}
+use Rattle.bn_qtable.specs.Named.{RuleIsNamed}
+use Rattle.bn_qtable.specs.declared.draft.Draft.{Draft}
+use Rattle.bn_qtable.proofs.Growing.{Few, few-names, rows-count, spells-more, spells-none, spells-own}
+
+pub few-draft : (d : Draft) → IsDraft d → Few (names_of d) (length d.quads.items)
+few-draft d h =
+    let P : ℕ → Type 0 = Few (names_of d) in
+    subst P (length-rules_of d.quads.items) (few-names (names_of d) (rules_of d.quads.items) (drafted d) h.spelled)
+
+read-kept : (r : Option ℕ) (a : Act) → Agree r a → read_of (deed_of r a) ≡ r
+read-kept None (Write w) h = absurd h
+read-kept None (Shift s) h = refl
+read-kept (Some r) (Write w) h = refl
+read-kept (Some r) (Shift s) h = absurd h
+
+act-kept : (r : Option ℕ) (a : Act) → Agree r a → act_of (deed_of r a) ≡ a
+act-kept None (Write w) h = absurd h
+act-kept None (Shift s) h = refl
+act-kept (Some r) (Write w) h = refl
+act-kept (Some r) (Shift s) h = absurd h
+
+-- three tapes that agree
+abbrev pub AllAgree : Quad → Type 0
+AllAgree q = Agree (read_at q 0) (act_at q 0) × Agree (read_at q 1) (act_at q 1) × Agree (read_at q 2) (act_at q 2)
+
+abbrev pub three_reads : Quad → List (Option ℕ)
+three_reads q = read_at q 0 ∷ read_at q 1 ∷ read_at q 2 ∷ []
+
+abbrev pub three_acts : Quad → List Act
+three_acts q = act_at q 0 ∷ act_at q 1 ∷ act_at q 2 ∷ []
+
+pub quad-kept : (q : Quad) → AllAgree q → q.read ≡ three_reads q → q.act ≡ three_acts q → quad_of (rule_of q) ≡ q
+quad-kept q h reads acts =
+    let r1 = read-kept (read_at q 0) (act_at q 0) h.0 in
+    let r2 = read-kept (read_at q 1) (act_at q 1) h.1 in
+    let r3 = read-kept (read_at q 2) (act_at q 2) h.2 in
+    let a1 = act-kept (read_at q 0) (act_at q 0) h.0 in
+    let a2 = act-kept (read_at q 1) (act_at q 1) h.1 in
+    let a3 = act-kept (read_at q 2) (act_at q 2) h.2 in
+    let rs : (quad_of (rule_of q)).read ≡ three_reads q = λ i. r1 i ∷ r2 i ∷ r3 i ∷ [] in
+    let acts1 : (quad_of (rule_of q)).act ≡ three_acts q = λ i. a1 i ∷ a2 i ∷ a3 i ∷ [] in
+    let rs2 : (quad_of (rule_of q)).read ≡ q.read = rs ∙ sym reads in
+    let as2 : (quad_of (rule_of q)).act ≡ q.act = acts1 ∙ sym acts in
+    λ i. record { state = q.state; read = rs2 i; act = as2 i; next = q.next }
+
+-- one more entry of a draft
+pub one-drafted : (d : Draft) (s : Said) (q : Quad) (d2 : Draft) → IsDraft d → Adds (names_of d) s (rule_of q) (names_of d2) → quad_of (rule_of q) ≡ q → d2.quads.items ≡ d.quads.items ++ q ∷ []
+    → IsDraft d2 × (drafted d2 ≡ drafted d ++ entry_of s ∷ [])
+one-drafted d s q d2 h a last e =
+    let n2 = names_of d2 in
+    let rules2 : rules_of d2.quads.items ≡ rules_of d.quads.items ++ rule_of q ∷ [] = ap rules_of e ∙ map-append rule_of d.quads.items (q ∷ []) in
+    let more = spells-more (names_of d) (rules_of d.quads.items) (drafted d) s (rule_of q) n2 h.spelled a in
+    let P : List (Rule ℕ) → Type 0 = λ rs. Spells n2 rs (drafted d ++ entry_of s ∷ []) in
+    let spelled : Spells n2 (rules_of d2.quads.items) (drafted d ++ entry_of s ∷ []) = subst P (sym rules2) more in
+    let kept = h.kept in
+    let all : map quad_of (rules_of d.quads.items ++ rule_of q ∷ []) ≡ d.quads.items ++ q ∷ [] =
+    map-append quad_of (rules_of d.quads.items) (rule_of q ∷ []) ∙ (λ i. kept i ++ last i ∷ []) in (
+      record {
+        spelled = spells-own n2 (rules_of d2.quads.items) (drafted d ++ entry_of s ∷ []) spelled;
+        kept = ap (λ (rs : List (Rule ℕ)). map quad_of rs) rules2 ∙ all ∙ sym e;
+      },
+      spelled.rows,
+    )
+
+-- ---- the quadruples of a draft are sound
+
+read-within : (z : ℕ) (d : Deed) → IsDeedInRange z d → IsReadInRange z (read_of d)
+read-within z (Rewrite r w) h = h.0
+read-within z (Move s) h = tt
+
+act-within : (z : ℕ) (d : Deed) → IsDeedInRange z d → IsActInRange z (act_of d)
+act-within z (Rewrite r w) h = h.1
+act-within z (Move s) h = tt
+
+deed-agrees : (d : Deed) → Agree (read_of d) (act_of d)
+deed-agrees (Rewrite r w) = tt
+deed-agrees (Move s) = tt
+
+pub sound-rule : (states a b c : ℕ) (r : Rule ℕ) → IsRuleInRange states (a ∷ b ∷ c ∷ []) r → IsSound states (a ∷ b ∷ c ∷ []) (quad_of r)
+sound-rule states a b c r h = record {
+  reads = refl;
+  acts = refl;
+  in_range = record {
+    state = h.from;
+    one = record { read = read-within a r.one h.deeds.0; act = act-within a r.one h.deeds.0 };
+    two = record { read = read-within b r.two h.deeds.1.0; act = act-within b r.two h.deeds.1.0 };
+    three = record { read = read-within c r.three h.deeds.1.1.0; act = act-within c r.three h.deeds.1.1.0 };
+    next = h.to;
+  };
+  unmixed = record { one = deed-agrees r.one; two = deed-agrees r.two; three = deed-agrees r.three };
+}
+
+nth-map : (rs : List (Rule ℕ)) (i : ℕ) (q : Quad) → nth (map quad_of rs) i ≡ Some q → (r : Rule ℕ) × (nth rs i ≡ Some r) × (quad_of r ≡ q)
+nth-map rs zero q e = cc e
+nth-map [] (suc i) q e = cc e
+nth-map (r ∷ rs) (suc zero) q e = let same : quad_of r ≡ q = cc in (r, refl, same)
+nth-map (r ∷ rs) (suc (suc i)) q e = nth-map rs (suc i) q e
+
+nth-all : (P : Rule ℕ → Type 0) (rs : List (Rule ℕ)) (i : ℕ) (r : Rule ℕ) → All P rs → nth rs i ≡ Some r → P r
+nth-all P rs zero r h e = cc e
+nth-all P [] (suc i) r h e = cc e
+nth-all P (x ∷ xs) (suc zero) r h e = let same : x ≡ r = cc in subst P same (All-head P x xs h)
+nth-all P (x ∷ xs) (suc (suc i)) r h e = nth-all P xs (suc i) r (All-tail P x xs h) e
+
+pub no-first-fault : (d : Draft) (states : ℕ) (symbols : List ℕ) (i : ℕ) (q : Quad) → IsDraft d → states ≡ length (names_of d).states → symbols ≡ counts_of (names_of d)
+    → IsFirstFault states symbols d.quads.items i q → ⊥
+no-first-fault d states symbols i q h e f fault =
+    let at : nth (map quad_of (rules_of d.quads.items)) i ≡ Some q = ap (λ (qs : List Quad). nth qs i) h.kept ∙ fault.stands in
+    let (r, there, is) = nth-map (rules_of d.quads.items) i q at in
+    let In : Rule ℕ → Type 0 = IsRuleInRange (length (names_of d).states) (counts_of (names_of d)) in
+    let within : In r = nth-all In (rules_of d.quads.items) i r h.spelled.in_range there in
+    let n = names_of d in
+    let sound : IsSound (length n.states) (counts_of n) (quad_of r) = sound-rule (length n.states) (length n.one) (length n.two) (length n.three) r within in
+    let P : ℕ → Type 0 = λ n. IsSound n (counts_of (names_of d)) (quad_of r) in
+    let Q : List ℕ → Type 0 = λ zs. IsSound states zs (quad_of r) in
+    let R : Quad → Type 0 = IsSound states symbols in
+    fault.faulty (subst R is (subst Q (sym f) (subst P (sym e) sound)))
+
+pub table-of-draft : (d : Draft) (p : Quadruples) (n : Naming) → IsDraft d → length d.quads.items ≤ 20000 → map quad_of p.rules ≡ d.quads.items → p.states ≡ length (names_of d).states → p.symbols ≡ counts_of (names_of d)
+    → 0 < length p.rules → n ≡ names_of d → IsTableOf (drafted d) (table_of p n)
+table-of-draft d p n h few listed states symbols some names =
+    let rules : p.rules ≡ rules_of d.quads.items = sym (rules_of-quads p.rules) ∙ ap rules_of listed in
+    let P : List (Rule ℕ) → Type 0 = λ rs. Spells (names_of d) rs (drafted d) in
+    let Q : Naming → Type 0 = λ m. Spells m p.rules (drafted d) in
+    let count : length (drafted d) ≡ length d.quads.items = rows-count (names_of d) (rules_of d.quads.items) ∙ length-rules_of d.quads.items in
+    let long : length p.rules ≡ length (rules_of d.quads.items) = ap (λ (rs : List (Rule ℕ)). length rs) rules in
+    let same = length-rules_of d.quads.items in
+    record {
+      spelled = subst Q (sym names) (subst P (sym rules) h.spelled);
+      some = omega arith;
+      few = omega arith;
+      states = states ∙ ap (λ (m : Naming). length m.states) (sym names);
+      symbols = symbols ∙ ap counts_of (sym names);
+    }
+
+pub none-drafted : (d : Draft) → names_of d ≡ blanks_alone → d.quads.items ≡ [] → IsDraft d × (drafted d ≡ [])
+none-drafted d names f =
+    let rules : rules_of d.quads.items ≡ [] = ap rules_of f in
+    let P : Naming → Type 0 = λ n. Spells n [] [] in
+    let Q : List (Rule ℕ) → Type 0 = λ rs. Spells (names_of d) rs (rows_by (names_of d) rs) in (
+      record {
+        spelled = subst Q (sym rules) (subst P (sym names) spells-none);
+        kept = ap (λ (rs : List (Rule ℕ)). map quad_of rs) rules ∙ sym f;
+      },
+      ap (rows_by (names_of d)) rules,
+    )
+
+-- a kept quadruple is that of a rule
+pub quad-at : (rules : List (Rule ℕ)) (quads : List Quad) (k : ℕ) (x : Quad) → quads ≡ map quad_of rules → k < length quads → (r : Rule ℕ) × (nth rules (suc k) ≡ Some r) × (quad_of r ≡ get_or quads k x)
+quad-at rules quads k x e inside =
+    nth-map rules (suc k) (get_or quads k x) (ap (λ (qs : List Quad). nth qs (suc k)) (sym e) ∙ slice_get-get_or quads k x inside)
+
+pub unmixed-at : (rules : List (Rule ℕ)) (quads : List Quad) (k : ℕ) (x : Quad) → quads ≡ map quad_of rules → k < length quads → IsUnmixed (get_or quads k x)
+unmixed-at rules quads k x e inside =
+    let (r, at, is) = quad-at rules quads k x e inside in
+    let u : IsUnmixed (quad_of r) = record { one = deed-agrees r.one; two = deed-agrees r.two; three = deed-agrees r.three } in
+    subst IsUnmixed is u
+
+pub named-at : (n : Naming) (rules : List (Rule ℕ)) (quads : List Quad) (k : ℕ) (x : Quad) → quads ≡ map quad_of rules → k < length quads → All (RuleIsNamed n) rules → RuleIsNamed n (rule_of (get_or quads k x))
+named-at n rules quads k x e inside h =
+    let (r, at, is) = quad-at rules quads k x e inside in
+    let N : Rule ℕ → Type 0 = RuleIsNamed n in
+    let rule : r ≡ rule_of (get_or quads k x) = sym (rule_of-quad_of r) ∙ ap rule_of is in
+    subst N rule (nth-all N rules (suc k) r h at)
+
+pub acts-at : (rules : List (Rule ℕ)) (quads : List Quad) (k : ℕ) (x : Quad) → quads ≡ map quad_of rules → k < length quads → length (get_or quads k x).act ≡ 3
+acts-at rules quads k x e inside =
+    let (r, at, is) = quad-at rules quads k x e inside in
+    ap (λ (q : Quad). length q.act) (sym is)

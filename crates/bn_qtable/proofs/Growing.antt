@@ -1,0 +1,278 @@
+-- One more entry of a table.
+use Rattle.std.proofs.Common.{◌≡◌, ◌<◌, ◌≤◌, ◌+◌, ◌*◌, ◌∷◌, ◌++◌, ◌∙◌, ℕ, Bool, suc, zero, true, List, [], length, Some, refl, sym, ap, subst, inl, inr, arith, slice_get, append_assoc, length-append, All}
+use Rattle.std.specs.Prelude.{bytes_eq, slice_index_or, if◌then◌else◌}
+use Rattle.std.specs.List.{list_all, list_any}
+use Rattle.std.proofs.lemmas.Bool.{cases_Bool}
+use Rattle.std.proofs.lemmas.List.{append-nil, map-append, length-map}
+use Rattle.std.proofs.lemmas.List.Concat.{flat_map-append}
+use Rattle.std.proofs.lemmas.List.Elements.{All-nil, All-push, All-head, All-tail, All-weaker}
+use Rattle.std.proofs.lemmas.List.Folds.{list_all-append}
+use Rattle.std.proofs.lemmas.Option.{slice_get_within, get_or_from_slice_get}
+use Rattle.std.proofs.lemmas.Slice.Eq.{bytes_eq-Decides}
+use Rattle.bn_entries.specs.Forms.{is_state_name, is_symbol}
+use Rattle.bn_entries.specs.Numbering.{firsts, firsts_by, with_name}
+use Rattle.bn_entries.specs.NumberingLaws.{firsts_push, length-firsts, number_stays, with_name-grows}
+use Rattle.bn_quad.specs.Names.{Naming, naming_of}
+use Rattle.bn_quad.specs.Quadruples.{Deed, Rewrite, Move, Rule, IsDeedInRange, IsRuleInRange}
+use Rattle.bn_qtable.specs.Entry.{Said, Says, Rewrites, Moves, SaysHasForms, entry_of, read_field, act_field, slash}
+use Rattle.bn_qtable.specs.Rows.{Spells, blank, counts_of, field_at, rows_by, said_deed, said_of, states_in, symbols_at, symbols_in}
+use Rattle.bn_qtable.specs.Draft.{Adds, Stands, with_says}
+use Rattle.bn_qtable.proofs.Passing.{no-slash}
+
+-- names with others behind them
+abbrev pub Grown : List (List ℕ) → List (List ℕ) → Type 0
+Grown names names2 = (more : List (List ℕ)) × (names2 ≡ names ++ more)
+
+grown-twice : (a b c : List (List ℕ)) → Grown a b → Grown b c → Grown a c
+grown-twice a b c (m, e) (k, f) = (m ++ k, f ∙ ap (λ t. t ++ k) e ∙ append_assoc a m k)
+
+pub grown-says : (names : List (List ℕ)) (t : Says) → Grown names (with_says names t)
+grown-says names (Rewrites r w) = grown-twice names (with_name names r) (with_name (with_name names r) w) (with_name-grows names r) (with_name-grows (with_name names r) w)
+grown-says names (Moves s) = ([], sym (append-nil names))
+
+longer : (a b : List (List ℕ)) → Grown a b → length a ≤ length b
+longer a b (m, e) = let long : length b ≡ length a + length m = ap (λ (t : List (List ℕ)). length t) e ∙ length-append a m in omega arith
+
+-- a look-up in front of what was added
+front : (names more : List (List ℕ)) (n : ℕ) → n < length names → slice_index_or (names ++ more) n [] ≡ slice_index_or names n []
+front [] more n h = absurd (omega arith)
+front (x ∷ xs) more zero h = refl
+front (x ∷ xs) more (suc n) h = front xs more n (omega arith)
+
+front-grown : (a b : List (List ℕ)) (n : ℕ) → Grown a b → n < length a → slice_index_or b n [] ≡ slice_index_or a n []
+front-grown a b n (m, e) h = ap (λ (t : List (List ℕ)). slice_index_or t n []) e ∙ front a m n h
+
+deed-stays : (a b : List (List ℕ)) (d : Deed) → Grown a b → IsDeedInRange (length a) d → said_deed b d ≡ said_deed a d
+deed-stays a b (Rewrite r w) g h = λ i. Rewrites (front-grown a b r g h.0 i) (front-grown a b w g h.1 i)
+deed-stays a b (Move s) g h = refl
+
+-- each list of names with others behind it
+pub record GrownAll (n n2 : Naming) : Type 0 where
+  pub states : Grown n.states n2.states
+  pub one : Grown n.one n2.one
+  pub two : Grown n.two n2.two
+  pub three : Grown n.three n2.three
+
+said-stays : (n n2 : Naming) (r : Rule ℕ) → GrownAll n n2 → IsRuleInRange (length n.states) (counts_of n) r → said_of n2 r ≡ said_of n r
+said-stays n n2 r g h = λ i. record {
+  state = front-grown n.states n2.states r.from g.states h.from i;
+  one = deed-stays n.one n2.one r.one g.one h.deeds.0 i;
+  two = deed-stays n.two n2.two r.two g.two h.deeds.1.0 i;
+  three = deed-stays n.three n2.three r.three g.three h.deeds.1.1.0 i;
+  next = front-grown n.states n2.states r.to g.states h.to i;
+}
+
+-- the entries of quadruples stay when names are added
+rows-stay : (n n2 : Naming) (rules : List (Rule ℕ)) → GrownAll n n2 → All (IsRuleInRange (length n.states) (counts_of n)) rules → rows_by n2 rules ≡ rows_by n rules
+rows-stay n n2 [] g h = refl
+rows-stay n n2 (r ∷ rs) g h =
+    let In : Rule ℕ → Type 0 = IsRuleInRange (length n.states) (counts_of n) in
+    let here = said-stays n n2 r g (All-head In r rs h) in
+    let rest = rows-stay n n2 rs g (All-tail In r rs h) in
+    λ i. entry_of (here i) ∷ rest i
+
+wider-deed : (a b : ℕ) (d : Deed) → a ≤ b → IsDeedInRange a d → IsDeedInRange b d
+wider-deed a b (Rewrite r w) le h = let x = h.0 in let y = h.1 in (omega arith, omega arith)
+wider-deed a b (Move s) le h = tt
+
+wider : (n n2 : Naming) → GrownAll n n2 → (r : Rule ℕ) → IsRuleInRange (length n.states) (counts_of n) r → IsRuleInRange (length n2.states) (counts_of n2) r
+wider n n2 g r h =
+    let s = longer n.states n2.states g.states in
+    let a = h.from in
+    let b = h.to in
+    record {
+      from = omega arith;
+      deeds = (
+        wider-deed _ _ r.one (longer n.one n2.one g.one) h.deeds.0,
+        (wider-deed _ _ r.two (longer n.two n2.two g.two) h.deeds.1.0, (wider-deed _ _ r.three (longer n.three n2.three g.three) h.deeds.1.1.0, tt)),
+      );
+      to = omega arith;
+    }
+
+grown-all : (n : Naming) (s : Said) (r : Rule ℕ) (n2 : Naming) → Adds n s r n2 → GrownAll n n2
+grown-all n s r n2 a =
+    let S : List (List ℕ) → Type 0 = Grown n.states in
+    let A : List (List ℕ) → Type 0 = Grown n.one in
+    let B : List (List ℕ) → Type 0 = Grown n.two in
+    let C : List (List ℕ) → Type 0 = Grown n.three in
+    record {
+      states = subst S (sym a.states_after) (grown-twice n.states (with_name n.states s.state) (with_name (with_name n.states s.state) s.next) (with_name-grows n.states s.state) (with_name-grows (with_name n.states s.state) s.next));
+      one = subst A (sym a.one_after) (grown-says n.one s.one);
+      two = subst B (sym a.two_after) (grown-says n.two s.two);
+      three = subst C (sym a.three_after) (grown-says n.three s.three);
+    }
+
+deed-said : (names : List (List ℕ)) (d : Deed) (t : Says) → Stands names d t → said_deed names d ≡ t
+deed-said names (Rewrite r w) (Rewrites x y) h = rw (get_or_from_slice_get names r x [] h.0, get_or_from_slice_get names w y [] h.1) refl
+deed-said names (Rewrite r w) (Moves s) h = absurd h
+deed-said names (Move s) (Rewrites x y) h = absurd h
+deed-said names (Move s) (Moves t) h = ap Moves h
+
+deed-within : (names : List (List ℕ)) (d : Deed) (t : Says) → Stands names d t → IsDeedInRange (length names) d
+deed-within names (Rewrite r w) (Rewrites x y) h = (slice_get_within names r x h.0, slice_get_within names w y h.1)
+deed-within names (Rewrite r w) (Moves s) h = absurd h
+deed-within names (Move s) (Rewrites x y) h = absurd h
+deed-within names (Move s) (Moves t) h = tt
+
+said-added : (n : Naming) (s : Said) (r : Rule ℕ) (n2 : Naming) → Adds n s r n2 → said_of n2 r ≡ s
+said-added n s r n2 h =
+    let a = get_or_from_slice_get n2.states r.from s.state [] h.from in
+    let b = deed-said n2.one r.one s.one h.one in
+    let c = deed-said n2.two r.two s.two h.two in
+    let d = deed-said n2.three r.three s.three h.three in
+    let e = get_or_from_slice_get n2.states r.to s.next [] h.to in
+    λ i. record { state = a i; one = b i; two = c i; three = d i; next = e i }
+
+names-after : (entries : List (List (List ℕ))) (s : Said) → firsts (states_in (entries ++ entry_of s ∷ [])) ≡ with_name (with_name (firsts (states_in entries)) s.state) s.next
+names-after entries s =
+    let more : states_in (entries ++ entry_of s ∷ []) ≡ (states_in entries ++ s.state ∷ []) ++ s.next ∷ [] =
+    flat_map-append (λ fields. field_at fields 0 ∷ field_at fields 7 ∷ []) entries (entry_of s ∷ []) ∙ sym (append_assoc (states_in entries) (s.state ∷ []) (s.next ∷ [])) in
+    rw more (firsts_push (states_in entries ++ s.state ∷ []) s.next ∙ rw (firsts_push (states_in entries) s.state) refl)
+
+-- the symbols that are said of a tape
+abbrev said-symbols : Says → List (List ℕ)
+said-symbols (Rewrites r w) = r ∷ w ∷ []
+said-symbols (Moves s) = []
+
+symbols-said : (t : Says) → SaysHasForms t → (if bytes_eq (read_field t) slash then [] else read_field t ∷ act_field t ∷ []) ≡ said-symbols t
+symbols-said (Rewrites r w) h = rw (no-slash r h.0) refl
+symbols-said (Moves s) h = refl
+
+symbols-push : (tape : ℕ) (entries : List (List (List ℕ))) (fields : List (List ℕ)) → symbols_in tape (entries ++ fields ∷ []) ≡ symbols_in tape entries ++ symbols_at tape fields
+symbols-push tape entries fields =
+    flat_map-append (symbols_at tape) entries (fields ∷ []) ∙ ap (λ (u : List (List ℕ)). symbols_in tape entries ++ u) (append-nil (symbols_at tape fields))
+
+symbols-after : (tape : ℕ) (entries : List (List (List ℕ))) (fields : List (List ℕ)) (t : Says) → symbols_at tape fields ≡ said-symbols t
+    → firsts (blank ∷ symbols_in tape (entries ++ fields ∷ [])) ≡ with_says (firsts (blank ∷ symbols_in tape entries)) t
+symbols-after tape entries fields (Rewrites r w) e =
+    let more : blank ∷ symbols_in tape (entries ++ fields ∷ []) ≡ ((blank ∷ symbols_in tape entries) ++ r ∷ []) ++ w ∷ [] =
+    ap (λ (t : List (List ℕ)). blank ∷ t) (symbols-push tape entries fields ∙ ap (λ (u : List (List ℕ)). symbols_in tape entries ++ u) e ∙ sym (append_assoc (symbols_in tape entries) (r ∷ []) (w ∷ []))) in
+    ap firsts more ∙ firsts_push ((blank ∷ symbols_in tape entries) ++ r ∷ []) w ∙ ap (λ (t : List (List ℕ)). with_name t w) (firsts_push (blank ∷ symbols_in tape entries) r)
+symbols-after tape entries fields (Moves s) e =
+    ap (λ (t : List (List ℕ)). firsts (blank ∷ t)) (symbols-push tape entries fields ∙ ap (λ (u : List (List ℕ)). symbols_in tape entries ++ u) e ∙ append-nil (symbols_in tape entries))
+
+form-more : (form : List ℕ → Bool) (names : List (List ℕ)) (name : List ℕ) → list_all form names ≡ true → form name ≡ true → list_all form (with_name names name) ≡ true
+form-more form names name all here = elim (cases_Bool (list_any (bytes_eq name) names)) [
+  | inl hit ↦ rw hit all
+  | inr miss ↦ rw (miss, list_all-append form names (name ∷ []), all, here) refl
+]
+
+form-says : (names : List (List ℕ)) (t : Says) → list_all is_symbol names ≡ true → SaysHasForms t → list_all is_symbol (with_says names t) ≡ true
+form-says names (Rewrites r w) all h = form-more is_symbol (with_name names r) w (form-more is_symbol names r all h.0) h.1
+form-says names (Moves s) all h = all
+
+-- one more entry, and its quadruple
+pub spells-more : (n : Naming) (rules : List (Rule ℕ)) (entries : List (List (List ℕ))) (s : Said) (r : Rule ℕ) (n2 : Naming)
+    → Spells n rules entries → Adds n s r n2 → Spells n2 (rules ++ r ∷ []) (entries ++ entry_of s ∷ [])
+spells-more n rules entries s r n2 h a =
+    let g = grown-all n s r n2 a in
+    let In : Rule ℕ → Type 0 = IsRuleInRange (length n.states) (counts_of n) in
+    let In2 : Rule ℕ → Type 0 = IsRuleInRange (length n2.states) (counts_of n2) in
+    let here : In2 r = record {
+      from = slice_get_within n2.states r.from s.state a.from;
+      deeds = (deed-within n2.one r.one s.one a.one, (deed-within n2.two r.two s.two a.two, (deed-within n2.three r.three s.three a.three, tt)));
+      to = slice_get_within n2.states r.to s.next a.to;
+    } in
+    let rows : rows_by n2 rules ≡ entries = rows-stay n n2 rules g h.in_range ∙ h.rows in
+    let last : entry_of (said_of n2 r) ≡ entry_of s = ap entry_of (said-added n s r n2 a) in
+    let f = a.forms in
+    record {
+      rows = map-append (λ (q : Rule ℕ). entry_of (said_of n2 q)) rules (r ∷ []) ∙ (λ i. rows i ++ last i ∷ []);
+      in_range = All-push In2 rules r (All-weaker In In2 (wider n n2 g) rules h.in_range) here;
+      states_by_first = a.states_after ∙ ap (λ (t : List (List ℕ)). with_name (with_name t s.state) s.next) h.states_by_first ∙ sym (names-after entries s);
+      one_by_first = a.one_after ∙ ap (λ (t : List (List ℕ)). with_says t s.one) h.one_by_first ∙ sym (symbols-after 1 entries (entry_of s) s.one (symbols-said s.one f.one));
+      two_by_first = a.two_after ∙ ap (λ (t : List (List ℕ)). with_says t s.two) h.two_by_first ∙ sym (symbols-after 2 entries (entry_of s) s.two (symbols-said s.two f.two));
+      three_by_first = a.three_after ∙ ap (λ (t : List (List ℕ)). with_says t s.three) h.three_by_first ∙ sym (symbols-after 3 entries (entry_of s) s.three (symbols-said s.three f.three));
+      states_form = rw a.states_after (form-more is_state_name (with_name n.states s.state) s.next (form-more is_state_name n.states s.state h.states_form f.state) f.next);
+      one_form = rw a.one_after (form-says n.one s.one h.one_form f.one);
+      two_form = rw a.two_after (form-says n.two s.two h.two_form f.two);
+      three_form = rw a.three_after (form-says n.three s.three h.three_form f.three);
+    }
+
+-- no entry
+pub first-names : Naming
+first-names = naming_of [] (blank ∷ []) (blank ∷ []) (blank ∷ [])
+
+pub spells-none : Spells (naming_of [] (blank ∷ []) (blank ∷ []) (blank ∷ [])) [] []
+unfolding firsts_by
+spells-none = record {
+  rows = refl;
+  in_range = All-nil (IsRuleInRange 0 (1 ∷ 1 ∷ 1 ∷ []));
+  states_by_first = refl;
+  one_by_first = refl;
+  two_by_first = refl;
+  three_by_first = refl;
+  states_form = refl;
+  one_form = refl;
+  two_form = refl;
+  three_form = refl;
+}
+
+-- quadruples have their own entries
+pub spells-own : (n : Naming) (rules : List (Rule ℕ)) (entries : List (List (List ℕ))) → Spells n rules entries → Spells n rules (rows_by n rules)
+spells-own n rules entries h =
+    let P : List (List (List ℕ)) → Type 0 = Spells n rules in subst P (sym h.rows) h
+
+-- a number stays when names are added
+pub name-stays : (names : List (List ℕ)) (later name : List ℕ) (n : ℕ) → slice_get names n ≡ Some name → slice_get (with_name names later) n ≡ Some name
+name-stays names later name n at = let (more, grown) = with_name-grows names later in rw grown (number_stays names more n name at)
+
+-- ---- how many names there are
+
+states-count : (entries : List (List (List ℕ))) → length (states_in entries) ≡ 2 * length entries
+states-count [] = refl
+states-count (fields ∷ rest) = let later = states-count rest in omega arith
+
+two-at-most : (tape : ℕ) (fields : List (List ℕ)) → length (symbols_at tape fields) ≤ 2
+two-at-most tape fields = elim (cases_Bool (bytes_eq (field_at fields tape) slash)) [
+  | inl hit ↦ rw hit (omega arith)
+  | inr miss ↦ rw miss (omega arith)
+]
+
+symbols-count : (tape : ℕ) (entries : List (List (List ℕ))) → length (symbols_in tape entries) ≤ 2 * length entries
+symbols-count tape [] = omega arith
+symbols-count tape (fields ∷ rest) =
+    let long : length (symbols_in tape (fields ∷ rest)) ≡ length (symbols_at tape fields) + length (symbols_in tape rest) = length-append (symbols_at tape fields) (symbols_in tape rest) in
+    let here = two-at-most tape fields in
+    let later = symbols-count tape rest in
+    omega arith
+
+few-symbols : (tape : ℕ) (names : List (List ℕ)) (entries : List (List (List ℕ))) → names ≡ firsts (blank ∷ symbols_in tape entries) → length names ≤ 2 * length entries + 1
+few-symbols tape names entries e =
+    let most : length (firsts (blank ∷ symbols_in tape entries)) ≤ length (blank ∷ symbols_in tape entries) = length-firsts bytes_eq bytes_eq-Decides (blank ∷ symbols_in tape entries) in
+    let is : length names ≡ length (firsts (blank ∷ symbols_in tape entries)) = ap (λ (t : List (List ℕ)). length t) e in
+    let count = symbols-count tape entries in
+    omega arith
+
+pub record Few (n : Naming) (count : ℕ) : Type 0 where
+  pub states : length n.states ≤ 2 * count
+  pub one : length n.one ≤ 2 * count + 1
+  pub two : length n.two ≤ 2 * count + 1
+  pub three : length n.three ≤ 2 * count + 1
+
+few-of : (n : Naming) (rules : List (Rule ℕ)) (entries : List (List (List ℕ))) → Spells n rules entries → Few n (length entries)
+few-of n rules entries h =
+    let most : length (firsts (states_in entries)) ≤ length (states_in entries) = length-firsts bytes_eq bytes_eq-Decides (states_in entries) in
+    let is : length n.states ≡ length (firsts (states_in entries)) = ap (λ (t : List (List ℕ)). length t) h.states_by_first in
+    let count = states-count entries in
+    record {
+      states = omega arith;
+      one = few-symbols 1 n.one entries h.one_by_first;
+      two = few-symbols 2 n.two entries h.two_by_first;
+      three = few-symbols 3 n.three entries h.three_by_first;
+    }
+
+pub rows-count : (n : Naming) (rules : List (Rule ℕ)) → length (rows_by n rules) ≡ length rules
+rows-count n rules = length-map rules _
+
+pub few-names : (n : Naming) (rules : List (Rule ℕ)) (entries : List (List (List ℕ))) → Spells n rules entries → Few n (length rules)
+few-names n rules entries h =
+    let count : length entries ≡ length rules = ap (λ (t : List (List (List ℕ))). length t) (sym h.rows) ∙ rows-count n rules in
+    let P : ℕ → Type 0 = Few n in
+    subst P count (few-of n rules entries h)
+
+pub length-with_name : (names : List (List ℕ)) (name : List ℕ) → length (with_name names name) ≤ length names + 1
+length-with_name names name = elim (cases_Bool (list_any (bytes_eq name) names)) [
+  | inl hit ↦ rw hit (omega arith)
+  | inr miss ↦ rw (miss, length-append names (name ∷ [])) (omega arith)
+]

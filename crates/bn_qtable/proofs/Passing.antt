@@ -1,0 +1,186 @@
+-- Entries without a fault, and what they say.
+use Rattle.std.proofs.Common.{◌≡◌, ◌≤◌, ◌∷◌, ◌∙◌, ℕ, Bool, true, false, not, List, [], length, Option, Some, None, refl, sym, ap, inl, inr, arith, slice_get, nat_lt, if◌then◌else◌}
+use Rattle.std.specs.Prelude.{bytes_eq}
+use Rattle.std.proofs.lemmas.Bool.{cases_Bool, false≢true, ltb-false, le-ltb}
+use Rattle.std.proofs.lemmas.Slice.Eq.{bytes_eq-Decides}
+use Rattle.bn_entries.specs.Forms.{is_state_name, is_symbol}
+use Rattle.bn_machine.specs.declared.quint.Shift.{Shift}
+use Rattle.bn_machine.specs.declared.quint.Shift.TheVariants.{Left, Stay, Right}
+use Rattle.bn_qtable.specs.Entry.{Said, Says, Rewrites, Moves, HasForms, SaysHasForms, entry_of, read_field, act_field, is_shift, shift_text, slash}
+use Rattle.bn_qtable.specs.Faults.{entry_fault, field_fault, form_fault, is_read, is_act}
+use Rattle.bn_qtable.specs.declared.refusal.QuadTableRefusal.TheVariants as refusal
+
+-- eight fields
+pub eight_is : (fields : List (List ℕ)) (a b c d e f g h : List ℕ) → length fields ≡ 8 → slice_get fields 0 ≡ Some a → slice_get fields 1 ≡ Some b
+    → slice_get fields 2 ≡ Some c → slice_get fields 3 ≡ Some d → slice_get fields 4 ≡ Some e → slice_get fields 5 ≡ Some f → slice_get fields 6 ≡ Some g → slice_get fields 7 ≡ Some h
+    → fields ≡ a ∷ b ∷ c ∷ d ∷ e ∷ f ∷ g ∷ h ∷ []
+eight_is (s ∷ t ∷ u ∷ v ∷ w ∷ x ∷ y ∷ z ∷ []) a b c d e f g h n f0 f1 f2 f3 f4 f5 f6 f7 = cc
+eight_is [] a b c d e f g h n f0 f1 f2 f3 f4 f5 f6 f7 = cc
+eight_is (s ∷ []) a b c d e f g h n f0 f1 f2 f3 f4 f5 f6 f7 = cc f1
+eight_is (s ∷ t ∷ []) a b c d e f g h n f0 f1 f2 f3 f4 f5 f6 f7 = cc f2
+eight_is (s ∷ t ∷ u ∷ []) a b c d e f g h n f0 f1 f2 f3 f4 f5 f6 f7 = cc f3
+eight_is (s ∷ t ∷ u ∷ v ∷ []) a b c d e f g h n f0 f1 f2 f3 f4 f5 f6 f7 = cc f4
+eight_is (s ∷ t ∷ u ∷ v ∷ w ∷ []) a b c d e f g h n f0 f1 f2 f3 f4 f5 f6 f7 = cc f5
+eight_is (s ∷ t ∷ u ∷ v ∷ w ∷ x ∷ []) a b c d e f g h n f0 f1 f2 f3 f4 f5 f6 f7 = cc f6
+eight_is (s ∷ t ∷ u ∷ v ∷ w ∷ x ∷ y ∷ []) a b c d e f g h n f0 f1 f2 f3 f4 f5 f6 f7 = cc f7
+eight_is (s ∷ t ∷ u ∷ v ∷ w ∷ x ∷ y ∷ z ∷ zz ∷ zs) a b c d e f g h n f0 f1 f2 f3 f4 f5 f6 f7 = absurd (omega arith)
+
+-- not eight fields
+pub not_eight : (entry : ℕ) (fields : List (List ℕ)) → (length fields ≡ 8 → ⊥) → form_fault entry fields ≡ Some (refusal.FieldCount entry)
+not_eight entry [] h = refl
+not_eight entry (a ∷ []) h = refl
+not_eight entry (a ∷ b ∷ []) h = refl
+not_eight entry (a ∷ b ∷ c ∷ []) h = refl
+not_eight entry (a ∷ b ∷ c ∷ d ∷ []) h = refl
+not_eight entry (a ∷ b ∷ c ∷ d ∷ e ∷ []) h = refl
+not_eight entry (a ∷ b ∷ c ∷ d ∷ e ∷ f ∷ []) h = refl
+not_eight entry (a ∷ b ∷ c ∷ d ∷ e ∷ f ∷ g ∷ []) h = refl
+not_eight entry (a ∷ b ∷ c ∷ d ∷ e ∷ f ∷ g ∷ x ∷ []) h = absurd (h refl)
+not_eight entry (a ∷ b ∷ c ∷ d ∷ e ∷ f ∷ g ∷ x ∷ y ∷ ys) h = refl
+
+passed : {X : Type 0} (b : Bool) (x : X) (rest : Option X) → (if not b then Some x else rest) ≡ None → (b ≡ true) × (rest ≡ None)
+passed true x rest e = (refl, e)
+passed false x rest e = cc e
+
+shift_is : (field : List ℕ) → is_shift field ≡ true → (s : Shift) × (field ≡ shift_text s)
+shift_is field e = elim (cases_Bool (bytes_eq field (shift_text Left))) [
+  | inl left ↦ (Left, (bytes_eq-Decides field (shift_text Left)).0 left)
+  | inr miss ↦ elim (cases_Bool (bytes_eq field (shift_text Stay))) [
+    | inl stay ↦ (Stay, (bytes_eq-Decides field (shift_text Stay)).0 stay)
+    | inr other ↦ (Right, (bytes_eq-Decides field (shift_text Right)).0 (rw (miss, other) at e))
+  ]
+]
+
+shift_back : (s : Shift) → is_shift (shift_text s) ≡ true
+shift_back Left = refl
+shift_back Stay = refl
+shift_back Right = refl
+
+-- a symbol isn't `/`
+pub slash-is-none : is_symbol slash ≡ true → ⊥
+slash-is-none e = false≢true e
+
+pub no-slash : (field : List ℕ) → is_symbol field ≡ true → bytes_eq field slash ≡ false
+no-slash field e = elim (cases_Bool (bytes_eq field slash)) [
+  | inl hit ↦ absurd (slash-is-none (ap is_symbol (sym ((bytes_eq-Decides field slash).0 hit)) ∙ e))
+  | inr miss ↦ miss
+]
+
+-- what a read and an act say of their tape
+record Told (read act : List ℕ) : Type 0 where
+  told : Says
+  read_is : read ≡ read_field told
+  act_is : act ≡ act_field told
+  forms : SaysHasForms told
+
+tell : (read act : List ℕ) → is_read read ≡ true → is_act read act ≡ true → Told read act
+tell read act r a = elim (cases_Bool (bytes_eq read slash)) [
+  | inl hit ↦
+      let (s, is) = shift_is act (rw hit at a) in
+      record { told = Moves s; read_is = (bytes_eq-Decides read slash).0 hit; act_is = is; forms = tt }
+  | inr miss ↦
+      let here : is_symbol read ≡ true = rw miss at r in
+      let there : is_symbol act ≡ true = rw miss at a in
+      record { told = Rewrites read act; read_is = refl; act_is = refl; forms = (here, there) }
+]
+
+read-back : (t : Says) → SaysHasForms t → is_read (read_field t) ≡ true
+read-back (Rewrites r w) h = rw (no-slash r h.0, h.0) refl
+read-back (Moves s) h = refl
+
+act-back : (t : Says) → SaysHasForms t → is_act (read_field t) (act_field t) ≡ true
+act-back (Rewrites r w) h = rw (no-slash r h.0, h.1) refl
+act-back (Moves s) h = shift_back s
+
+-- the tests that eight fields pass
+record Passes (a b c d e f g h : List ℕ) : Type 0 where
+  state : is_state_name a ≡ true
+  read1 : is_read b ≡ true
+  read2 : is_read c ≡ true
+  read3 : is_read d ≡ true
+  act1 : is_act b e ≡ true
+  act2 : is_act c f ≡ true
+  act3 : is_act d g ≡ true
+  next : is_state_name h ≡ true
+
+fields-pass : (n : ℕ) (a b c d e f g h : List ℕ) → field_fault n a b c d e f g h ≡ None → Passes a b c d e f g h
+fields-pass n a b c d e f g h p =
+    let p1 = passed (is_state_name a) _ _ p in
+    let p2 = passed (is_read b) _ _ p1.1 in
+    let p3 = passed (is_read c) _ _ p2.1 in
+    let p4 = passed (is_read d) _ _ p3.1 in
+    let p5 = passed (is_act b e) _ _ p4.1 in
+    let p6 = passed (is_act c f) _ _ p5.1 in
+    let p7 = passed (is_act d g) _ _ p6.1 in
+    let p8 = passed (is_state_name h) _ _ p7.1 in
+    record { state = p1.0; read1 = p2.0; read2 = p3.0; read3 = p4.0; act1 = p5.0; act2 = p6.0; act3 = p7.0; next = p8.0 }
+
+fields-back : (n : ℕ) (s : Said) → HasForms s → form_fault n (entry_of s) ≡ None
+fields-back n s h = rw (
+  h.state,
+  read-back s.one h.one,
+  read-back s.two h.two,
+  read-back s.three h.three,
+  act-back s.one h.one,
+  act-back s.two h.two,
+  act-back s.three h.three,
+  h.next,
+) refl
+
+record Eight (fields : List (List ℕ)) : Type 0 where
+  a : List ℕ
+  b : List ℕ
+  c : List ℕ
+  d : List ℕ
+  e : List ℕ
+  f : List ℕ
+  g : List ℕ
+  h : List ℕ
+  is : fields ≡ a ∷ b ∷ c ∷ d ∷ e ∷ f ∷ g ∷ h ∷ []
+  pass : Passes a b c d e f g h
+
+eight-or-fault : (n : ℕ) (fields : List (List ℕ)) → form_fault n fields ≡ None → Eight fields
+eight-or-fault n (a ∷ b ∷ c ∷ d ∷ e ∷ f ∷ g ∷ x ∷ []) p =
+    record { a = a; b = b; c = c; d = d; e = e; f = f; g = g; h = x; is = refl; pass = fields-pass n a b c d e f g x p }
+eight-or-fault n [] p = cc p
+eight-or-fault n (a ∷ []) p = cc p
+eight-or-fault n (a ∷ b ∷ []) p = cc p
+eight-or-fault n (a ∷ b ∷ c ∷ []) p = cc p
+eight-or-fault n (a ∷ b ∷ c ∷ d ∷ []) p = cc p
+eight-or-fault n (a ∷ b ∷ c ∷ d ∷ e ∷ []) p = cc p
+eight-or-fault n (a ∷ b ∷ c ∷ d ∷ e ∷ f ∷ []) p = cc p
+eight-or-fault n (a ∷ b ∷ c ∷ d ∷ e ∷ f ∷ g ∷ []) p = cc p
+eight-or-fault n (a ∷ b ∷ c ∷ d ∷ e ∷ f ∷ g ∷ x ∷ y ∷ ys) p = cc p
+
+pub in-number : (n : ℕ) (fields : List (List ℕ)) → entry_fault n fields ≡ None → (n ≤ 20000) × (form_fault n fields ≡ None)
+in-number n fields h = elim (cases_Bool (nat_lt 20000 n)) [
+  | inl past ↦ let none : Some (refusal.TooMany n) ≡ None = rw past at h in cc
+  | inr within ↦ (ltb-false 20000 n within, rw within at h)
+]
+
+eight-said : (a b c d e f g h b2 c2 d2 e2 f2 g2 : List ℕ) → b ≡ b2 → c ≡ c2 → d ≡ d2 → e ≡ e2 → f ≡ f2 → g ≡ g2
+    → a ∷ b ∷ c ∷ d ∷ e ∷ f ∷ g ∷ h ∷ [] ≡ a ∷ b2 ∷ c2 ∷ d2 ∷ e2 ∷ f2 ∷ g2 ∷ h ∷ []
+eight-said a b c d e f g h b2 c2 d2 e2 f2 g2 p1 p2 p3 p4 p5 p6 = λ i. a ∷ p1 i ∷ p2 i ∷ p3 i ∷ p4 i ∷ p5 i ∷ p6 i ∷ h ∷ []
+
+-- what an entry says
+pub record SaysSo (fields : List (List ℕ)) : Type 0 where
+  pub what : Said
+  pub is : fields ≡ entry_of what
+  pub forms : HasForms what
+
+pub says-so : (n : ℕ) (fields : List (List ℕ)) → entry_fault n fields ≡ None → SaysSo fields
+says-so n fields none =
+    let x = eight-or-fault n fields (in-number n fields none).1 in
+    let p = x.pass in
+    let one = tell x.b x.e p.read1 p.act1 in
+    let two = tell x.c x.f p.read2 p.act2 in
+    let three = tell x.d x.g p.read3 p.act3 in
+    record {
+      what = record { state = x.a; one = one.told; two = two.told; three = three.told; next = x.h };
+      is = x.is ∙ eight-said x.a x.b x.c x.d x.e x.f x.g x.h _ _ _ _ _ _ one.read_is two.read_is three.read_is one.act_is two.act_is three.act_is;
+      forms = record { state = p.state; one = one.forms; two = two.forms; three = three.forms; next = p.next };
+    }
+
+-- the first 20,000 entries in the right forms have no fault
+pub no_fault : (n : ℕ) (s : Said) → n ≤ 20000 → HasForms s → entry_fault n (entry_of s) ≡ None
+no_fault n s few h = rw (le-ltb 20000 n few) (fields-back n s h)

@@ -1,0 +1,284 @@
+-- Bytes have one reading, and have one exactly where their entries have no fault.
+use Rattle.std.proofs.Common.{◌≡◌, ◌<◌, ◌≤◌, ◌+◌, ◌∷◌, ◌++◌, ◌∙◌, ℕ, true, List, [], length, Option, Some, None, refl, sym, ap, inl, inr, arith, slice_get, append_assoc, length-append, All, subst}
+use Rattle.std.specs.Prelude.{bytes_eq, slice_index_or}
+use Rattle.std.specs.List.{list_all, list_any}
+use Rattle.std.proofs.lemmas.Bool.{cases_Bool}
+use Rattle.std.proofs.lemmas.List.{append-nil, length-map}
+use Rattle.std.proofs.lemmas.List.Elements.{All-head, All-tail}
+use Rattle.std.proofs.lemmas.List.Folds.{list_any-append}
+use Rattle.std.proofs.lemmas.Option.{slice_get-get_or}
+use Rattle.std.proofs.lemmas.Slice.Eq.{bytes_eq-Decides}
+use Rattle.bn_entries.specs.Forms.{is_state_name, is_symbol}
+use Rattle.bn_entries.specs.FormsLaws.{all-at}
+use Rattle.bn_entries.specs.Numbering.{with_name}
+use Rattle.bn_entries.specs.NumberingLaws.{AreApart, apart-firsts, one_number, some_number}
+use Rattle.bn_machine.specs.declared.quint.Shift.{Shift}
+use Rattle.bn_machine.specs.declared.quint.Shift.TheVariants.{Left, Stay, Right}
+use Rattle.bn_quad.specs.Names.{Naming, naming_of}
+use Rattle.bn_quad.specs.Quadruples.{Deed, Rewrite, Move, Rule, IsDeedInRange, IsRuleInRange, quadruples_of}
+use Rattle.bn_qtable.specs.Entry.{Said, Says, Rewrites, Moves, HasForms, SaysHasForms, entry_of, read_field, act_field, shift_text}
+use Rattle.bn_qtable.specs.Draft.{Adds, Stands, with_says}
+use Rattle.bn_qtable.specs.Faults.{else_fault, entry_fault, fault_from, fault_of}
+use Rattle.bn_qtable.specs.Rows.{IsTableOf, QuadTable, Spells, blank, counts_of, rows_by, said_deed, said_of, states_in, symbols_in, table_of}
+use Rattle.bn_qtable.specs.declared.refusal.QuadTableRefusal.{QuadTableRefusal}
+use Rattle.bn_qtable.proofs.Growing.{name-stays, spells-more, spells-none}
+use Rattle.bn_qtable.proofs.Passing.{in-number, no_fault, says-so, slash-is-none}
+
+-- ---- one reading
+
+one_shift : (s t : Shift) → shift_text s ≡ shift_text t → s ≡ t
+one_shift Left Left e = refl
+one_shift Left Stay e = cc e
+one_shift Left Right e = cc e
+one_shift Stay Left e = cc e
+one_shift Stay Stay e = refl
+one_shift Stay Right e = cc e
+one_shift Right Left e = cc e
+one_shift Right Stay e = cc e
+one_shift Right Right e = refl
+
+abbrev pub Apart : List (List ℕ) → Type 0
+Apart names = AreApart bytes_eq bytes_eq-Decides names
+
+same-name : (names : List (List ℕ)) (m n : ℕ) → Apart names → m < length names → n < length names
+    → slice_index_or names m [] ≡ slice_index_or names n [] → m ≡ n
+same-name names m n apart a b e =
+    one_number bytes_eq bytes_eq-Decides names m n (slice_index_or names n []) apart
+    (slice_get-get_or names m [] a ∙ ap (λ (t : List ℕ). Some t) e) (slice_get-get_or names n [] b)
+
+-- fields say one thing of a tape
+one_says : (t u : Says) → SaysHasForms t → SaysHasForms u → read_field t ≡ read_field u → act_field t ≡ act_field u → t ≡ u
+one_says (Rewrites a b) (Rewrites c d) h k e f = λ i. Rewrites (e i) (f i)
+one_says (Rewrites a b) (Moves t) h k e f = absurd (slash-is-none (ap is_symbol (sym e) ∙ h.0))
+one_says (Moves s) (Rewrites c d) h k e f = absurd (slash-is-none (ap is_symbol e ∙ k.0))
+one_says (Moves s) (Moves t) h k e f = ap Moves (one_shift s t f)
+
+same-deed : (names : List (List ℕ)) (d e : Deed) → Apart names → IsDeedInRange (length names) d → IsDeedInRange (length names) e
+    → said_deed names d ≡ said_deed names e → d ≡ e
+same-deed names (Rewrite a b) (Rewrite c d) apart h k e =
+    let left : slice_index_or names a [] ≡ slice_index_or names c [] = cc in
+    let right : slice_index_or names b [] ≡ slice_index_or names d [] = cc in
+    let one : a ≡ c = same-name names a c apart h.0 k.0 left in
+    let two : b ≡ d = same-name names b d apart h.1 k.1 right in
+    λ i. Rewrite (one i) (two i)
+same-deed names (Rewrite a b) (Move t) apart h k e = cc e
+same-deed names (Move s) (Rewrite c d) apart h k e = cc e
+same-deed names (Move s) (Move t) apart h k e = let one : s ≡ t = cc in ap Move one
+
+-- what two equal entries say is equal
+record SameSaid (s t : Said) : Type 0 where
+  state : s.state ≡ t.state
+  one : s.one ≡ t.one
+  two : s.two ≡ t.two
+  three : s.three ≡ t.three
+  next : s.next ≡ t.next
+
+same-said : (s t : Said) → HasForms s → HasForms t → entry_of s ≡ entry_of t → SameSaid s t
+same-said s t h k e =
+    let r1 : read_field s.one ≡ read_field t.one = cc in
+    let r2 : read_field s.two ≡ read_field t.two = cc in
+    let r3 : read_field s.three ≡ read_field t.three = cc in
+    let a1 : act_field s.one ≡ act_field t.one = cc in
+    let a2 : act_field s.two ≡ act_field t.two = cc in
+    let a3 : act_field s.three ≡ act_field t.three = cc in
+    record {
+      state = cc;
+      one = one_says s.one t.one h.one k.one r1 a1;
+      two = one_says s.two t.two h.two k.two r2 a2;
+      three = one_says s.three t.three h.three k.three r3 a3;
+      next = cc;
+    }
+
+-- the names have their forms, and no two on one list are the same
+pub record Good (n : Naming) : Type 0 where
+  pub states : Apart n.states
+  pub one : Apart n.one
+  pub two : Apart n.two
+  pub three : Apart n.three
+  pub states_form : list_all is_state_name n.states ≡ true
+  pub one_form : list_all is_symbol n.one ≡ true
+  pub two_form : list_all is_symbol n.two ≡ true
+  pub three_form : list_all is_symbol n.three ≡ true
+
+pub good : (n : Naming) (rules : List (Rule ℕ)) (entries : List (List (List ℕ))) → Spells n rules entries → Good n
+good n rules entries h = record {
+  states = rw (← h.states_by_first) at (apart-firsts bytes_eq bytes_eq-Decides (states_in entries));
+  one = rw (← h.one_by_first) at (apart-firsts bytes_eq bytes_eq-Decides (blank ∷ symbols_in 1 entries));
+  two = rw (← h.two_by_first) at (apart-firsts bytes_eq bytes_eq-Decides (blank ∷ symbols_in 2 entries));
+  three = rw (← h.three_by_first) at (apart-firsts bytes_eq bytes_eq-Decides (blank ∷ symbols_in 3 entries));
+  states_form = h.states_form;
+  one_form = h.one_form;
+  two_form = h.two_form;
+  three_form = h.three_form;
+}
+
+deed-forms : (names : List (List ℕ)) (d : Deed) → list_all is_symbol names ≡ true → IsDeedInRange (length names) d → SaysHasForms (said_deed names d)
+deed-forms names (Rewrite r w) f h = (all-at is_symbol names r _ f (slice_get-get_or names r [] h.0), all-at is_symbol names w _ f (slice_get-get_or names w [] h.1))
+deed-forms names (Move s) f h = tt
+
+pub row-forms : (n : Naming) (r : Rule ℕ) → Good n → IsRuleInRange (length n.states) (counts_of n) r → HasForms (said_of n r)
+row-forms n r g h = record {
+  state = all-at is_state_name n.states r.from _ g.states_form (slice_get-get_or n.states r.from [] h.from);
+  one = deed-forms n.one r.one g.one_form h.deeds.0;
+  two = deed-forms n.two r.two g.two_form h.deeds.1.0;
+  three = deed-forms n.three r.three g.three_form h.deeds.1.1.0;
+  next = all-at is_state_name n.states r.to _ g.states_form (slice_get-get_or n.states r.to [] h.to);
+}
+
+same-rule : (n : Naming) (q r : Rule ℕ) → Good n → IsRuleInRange (length n.states) (counts_of n) q → IsRuleInRange (length n.states) (counts_of n) r
+    → entry_of (said_of n q) ≡ entry_of (said_of n r) → q ≡ r
+same-rule n q r g h k e =
+    let same = same-said (said_of n q) (said_of n r) (row-forms n q g h) (row-forms n r g k) e in
+    let a = same-name n.states q.from r.from g.states h.from k.from same.state in
+    let b = same-deed n.one q.one r.one g.one h.deeds.0 k.deeds.0 same.one in
+    let c = same-deed n.two q.two r.two g.two h.deeds.1.0 k.deeds.1.0 same.two in
+    let d = same-deed n.three q.three r.three g.three h.deeds.1.1.0 k.deeds.1.1.0 same.three in
+    let f = same-name n.states q.to r.to g.states h.to k.to same.next in
+    λ i. record { from = a i; one = b i; two = c i; three = d i; to = f i }
+
+same-rows : (n : Naming) → Good n → (qs rs : List (Rule ℕ)) → All (IsRuleInRange (length n.states) (counts_of n)) qs → All (IsRuleInRange (length n.states) (counts_of n)) rs
+    → rows_by n qs ≡ rows_by n rs → qs ≡ rs
+same-rows n g [] [] h k e = refl
+same-rows n g [] (r ∷ rs) h k e = cc e
+same-rows n g (q ∷ qs) [] h k e = cc e
+same-rows n g (q ∷ qs) (r ∷ rs) h k e =
+    let In : Rule ℕ → Type 0 = IsRuleInRange (length n.states) (counts_of n) in
+    let head : entry_of (said_of n q) ≡ entry_of (said_of n r) = cc in
+    let tail : rows_by n qs ≡ rows_by n rs = cc in
+    let one : q ≡ r = same-rule n q r g (All-head In q qs h) (All-head In r rs k) head in
+    let rest : qs ≡ rs = same-rows n g qs rs (All-tail In q qs h) (All-tail In r rs k) tail in
+    λ i. one i ∷ rest i
+
+one-spelling : (entries : List (List (List ℕ))) (n n2 : Naming) (qs rs : List (Rule ℕ)) → n2 ≡ n → Spells n qs entries → Spells n2 rs entries → qs ≡ rs
+one-spelling entries n n2 qs rs e h k =
+    let P : Naming → Type 0 = λ m. Spells m rs entries in
+    let other : Spells n rs entries = subst P e k in
+    same-rows n (good n qs entries h) qs rs h.in_range other.in_range (h.rows ∙ sym other.rows)
+
+pub one_reading : (entries : List (List (List ℕ))) (t u : QuadTable) → IsTableOf entries t → IsTableOf entries u → t ≡ u
+one_reading entries t u h k =
+    let a = h.spelled.states_by_first ∙ sym k.spelled.states_by_first in
+    let b = h.spelled.one_by_first ∙ sym k.spelled.one_by_first in
+    let c = h.spelled.two_by_first ∙ sym k.spelled.two_by_first in
+    let d = h.spelled.three_by_first ∙ sym k.spelled.three_by_first in
+    let names : t.names ≡ u.names = λ i. record { states = a i; one = b i; two = c i; three = d i } in
+    let rules = one-spelling entries t.names u.names t.machine.rules u.machine.rules (sym names) h.spelled k.spelled in
+    let states : t.machine.states ≡ u.machine.states = h.states ∙ ap (λ (n : Naming). length n.states) names ∙ sym k.states in
+    let symbols : t.machine.symbols ≡ u.machine.symbols = h.symbols ∙ ap counts_of names ∙ sym k.symbols in
+    λ i. record { machine = record { rules = rules i; states = states i; symbols = symbols i }; names = names i }
+
+-- ---- a reading or a fault
+
+neither : (a b : Option QuadTableRefusal) → else_fault a b ≡ None → (a ≡ None) × (b ≡ None)
+neither None b e = (refl, e)
+neither (Some x) b e = cc e
+
+faultless : (n : ℕ) (fields : List (List ℕ)) (rest : List (List (List ℕ))) → fault_from n (fields ∷ rest) ≡ None → (entry_fault n fields ≡ None) × (fault_from (n + 1) rest ≡ None)
+unfolding fault_from
+faultless n fields rest e = neither (entry_fault n fields) (fault_from (n + 1) rest) e
+
+in-with_name : (names : List (List ℕ)) (name : List ℕ) → list_any (bytes_eq name) (with_name names name) ≡ true
+in-with_name names name = elim (cases_Bool (list_any (bytes_eq name) names)) [
+  | inl hit ↦ rw (hit, hit) refl
+  | inr miss ↦ rw (miss, list_any-append (bytes_eq name) names (name ∷ []), miss, (bytes_eq-Decides name name).1 refl) refl
+]
+
+-- the name added last has a number, and so has the one added before it
+last-number : (names : List (List ℕ)) (name : List ℕ) → (n : ℕ) × (slice_get (with_name names name) n ≡ Some name)
+last-number names name = some_number bytes_eq bytes_eq-Decides name (with_name names name) (in-with_name names name)
+
+first-number : (names : List (List ℕ)) (name later : List ℕ) → (n : ℕ) × (slice_get (with_name (with_name names name) later) n ≡ Some name)
+first-number names name later =
+    let (n, at) = last-number names name in
+    (n, name-stays (with_name names name) later name n at)
+
+some-deed : (names : List (List ℕ)) (t : Says) → (d : Deed) × Stands (with_says names t) d t
+some-deed names (Rewrites r w) =
+    let (m, first) = first-number names r w in
+    let (n, last) = last-number (with_name names r) w in
+    (Rewrite m n, (first, last))
+some-deed names (Moves s) = (Move s, refl)
+
+-- the names and quadruples of entries
+record Spelling (entries : List (List (List ℕ))) : Type 0 where
+  names : Naming
+  rules : List (Rule ℕ)
+  spells : Spells names rules entries
+  few : length entries ≤ 20000
+
+one-more : (n : Naming) (rules : List (Rule ℕ)) (done : List (List (List ℕ))) (s : Said) → HasForms s → Spells n rules done → length done + 1 ≤ 20000
+    → Spelling (done ++ entry_of s ∷ [])
+one-more n rules done s f h few =
+    let (from, first) = first-number n.states s.state s.next in
+    let (to, last) = last-number (with_name n.states s.state) s.next in
+    let (one, stands1) = some-deed n.one s.one in
+    let (two, stands2) = some-deed n.two s.two in
+    let (three, stands3) = some-deed n.three s.three in
+    let r : Rule ℕ = record { from = from; one = one; two = two; three = three; to = to } in
+    let n2 : Naming = naming_of (with_name (with_name n.states s.state) s.next) (with_says n.one s.one) (with_says n.two s.two) (with_says n.three s.three) in
+    let adds : Adds n s r n2 = record {
+      states_after = refl;
+      one_after = refl;
+      two_after = refl;
+      three_after = refl;
+      from = first;
+      one = stands1;
+      two = stands2;
+      three = stands3;
+      to = last;
+      forms = f;
+    } in
+    record {
+      names = n2;
+      rules = rules ++ r ∷ [];
+      spells = spells-more n rules done s r n2 h adds;
+      few = omega (arith, length-append done (entry_of s ∷ []));
+    }
+
+build : (n : ℕ) (done rest : List (List (List ℕ))) → Spelling done → n ≡ length done + 1 → fault_from n rest ≡ None → Spelling (done ++ rest)
+build n done [] so count e = rw (append-nil done) so
+build n done (fields ∷ rest) so count e =
+    let (here, later) = faultless n fields rest e in
+    let x = says-so n fields here in
+    let few = in-number n fields here in
+    let more : Spelling (done ++ entry_of x.what ∷ []) = one-more so.names so.rules done x.what x.forms so.spells (let le = few.0 in omega arith) in
+    let P : List (List ℕ) → Type 0 = λ f. Spelling (done ++ f ∷ []) in
+    let next : Spelling (done ++ fields ∷ []) = subst P (sym x.is) more in
+    let counted : n + 1 ≡ length (done ++ fields ∷ []) + 1 = omega (arith, length-append done (fields ∷ [])) in
+    rw (← append_assoc done (fields ∷ []) rest) (build (n + 1) (done ++ fields ∷ []) rest next counted later)
+
+nothing : Spelling []
+nothing = record { names = naming_of [] (blank ∷ []) (blank ∷ []) (blank ∷ []); rules = []; spells = spells-none; few = omega arith }
+
+not_empty : (entries : List (List (List ℕ))) → fault_of entries ≡ None → (0 < length entries) × (fault_from 1 entries ≡ None)
+unfolding fault_of
+not_empty [] e = cc e
+not_empty (fields ∷ rest) e = (omega arith, e)
+
+pub reading_of : (entries : List (List (List ℕ))) → fault_of entries ≡ None → (t : QuadTable) × IsTableOf entries t
+reading_of entries e =
+    let (some, none) = not_empty entries e in
+    let so = build 1 [] entries nothing refl none in (
+      table_of (quadruples_of so.rules (length so.names.states) (counts_of so.names)) so.names,
+      record { spelled = so.spells; some = some; few = so.few; states = refl; symbols = refl },
+    )
+
+no-faults : (m : ℕ) (n : Naming) (rules : List (Rule ℕ)) → m + length rules ≤ 20001 → Good n
+    → All (IsRuleInRange (length n.states) (counts_of n)) rules → fault_from m (rows_by n rules) ≡ None
+unfolding fault_from
+no-faults m n [] few g h = refl
+no-faults m n (r ∷ rs) few g h =
+    let In : Rule ℕ → Type 0 = IsRuleInRange (length n.states) (counts_of n) in
+    rw (no_fault m (said_of n r) (omega arith) (row-forms n r g (All-head In r rs h)))
+    (no-faults (m + 1) n rs (omega arith) g (All-tail In r rs h))
+
+some-fault : (entries : List (List (List ℕ))) → 0 < length entries → fault_of entries ≡ fault_from 1 entries
+unfolding fault_of
+some-fault [] h = absurd (omega arith)
+some-fault (fields ∷ rest) h = refl
+
+pub no_fault_of : (entries : List (List (List ℕ))) (t : QuadTable) → IsTableOf entries t → fault_of entries ≡ None
+no_fault_of entries t h =
+    let s = h.spelled in
+    let count : length entries ≡ length t.machine.rules = ap (λ (xs : List (List (List ℕ))). length xs) (sym s.rows) ∙ length-map t.machine.rules _ in
+    some-fault entries h.some ∙ rw (← s.rows) (no-faults 1 t.names t.machine.rules (omega (arith, h.few)) (good t.names t.machine.rules entries s) s.in_range)

@@ -1,0 +1,113 @@
+-- The text of a table.
+use Rattle.std.proofs.Common.{◌≡◌, ◌<◌, ◌≤◌, ◌+◌, ◌∷◌, ◌++◌, ◌∙◌, ℕ, zero, suc, List, [], length, take, get_or, true, refl, ap, All, Some, slice_get, arith}
+use Rattle.std.specs.Prelude.{slice_index_or}
+use Rattle.std.specs.List.{list_all}
+use Rattle.std.proofs.lemmas.List.{map-append, take_all, take_more}
+use Rattle.std.proofs.lemmas.List.Elements.{All-head, All-tail}
+use Rattle.std.proofs.lemmas.Option.{get_or_from_slice_get}
+use Rattle.bn_entries.specs.Entries.{entries_of}
+use Rattle.bn_entries.specs.Forms.{is_state_name, is_symbol}
+use Rattle.bn_entries.specs.FormsLaws.{plain-state-name, plain-symbol}
+use Rattle.bn_entries.specs.Lines.{is_plain, is_plain_entry, line_of, lines_of}
+use Rattle.bn_entries.specs.LinesLaws.{entries_of-lines_of, lines_of-push}
+use Rattle.bn_machine.specs.Machine.{nth}
+use Rattle.bn_machine.specs.declared.quint.Shift.{Shift}
+use Rattle.bn_machine.specs.declared.quint.Shift.TheVariants.{Left, Stay, Right}
+use Rattle.bn_quad.specs.Names.{Naming}
+use Rattle.bn_quad.specs.Quadruples.{Deed, Rewrite, Move, Rule, Quadruples, IsDeedInRange, IsQuadMachine, IsRuleInRange}
+use Rattle.bn_quad.specs.Kept.{rule_of, rules_of}
+use Rattle.bn_quad.specs.declared.quad.Quad.{Quad}
+use Rattle.bn_qtable.specs.Entry.{entry_of, read_field, act_field, shift_text}
+use Rattle.bn_qtable.specs.Named.{AreNamed, DeedIsNamed, HasNames, IsNamed, RuleIsNamed}
+use Rattle.bn_qtable.specs.Rows.{rows_by, said_deed, said_of}
+
+pub plain_shift : (s : Shift) → is_plain (shift_text s) ≡ true
+plain_shift Left = refl
+plain_shift Stay = refl
+plain_shift Right = refl
+
+-- named symbols and states need no quotes
+pub plain-named : (names : List (List ℕ)) (n : ℕ) → IsNamed is_symbol names n → is_plain (slice_index_or names n []) ≡ true
+plain-named names n (name, at, form) = ap is_plain (get_or_from_slice_get names n name [] at) ∙ plain-symbol name form
+
+pub plain-state : (names : List (List ℕ)) (n : ℕ) → IsNamed is_state_name names n → is_plain (slice_index_or names n []) ≡ true
+plain-state names n (name, at, form) = ap is_plain (get_or_from_slice_get names n name [] at) ∙ plain-state-name name form
+
+plain-read : (names : List (List ℕ)) (d : Deed) → DeedIsNamed names d → is_plain (read_field (said_deed names d)) ≡ true
+plain-read names (Rewrite r w) h = plain-named names r h.0
+plain-read names (Move s) h = refl
+
+plain-act : (names : List (List ℕ)) (d : Deed) → DeedIsNamed names d → is_plain (act_field (said_deed names d)) ≡ true
+plain-act names (Rewrite r w) h = plain-named names w h.1
+plain-act names (Move s) h = plain_shift s
+
+pub plain-row : (n : Naming) (r : Rule ℕ) → RuleIsNamed n r → is_plain_entry (entry_of (said_of n r)) ≡ true
+plain-row n r h = rw (
+  plain-state n.states r.from h.from,
+  plain-read n.one r.one h.one,
+  plain-read n.two r.two h.two,
+  plain-read n.three r.three h.three,
+  plain-act n.one r.one h.one,
+  plain-act n.two r.two h.two,
+  plain-act n.three r.three h.three,
+  plain-state n.states r.to h.to,
+) refl
+
+-- the quadruples of a machine have names where its states and symbols have
+deed-named : (names : List (List ℕ)) (z : ℕ) (d : Deed) → AreNamed is_symbol names z → IsDeedInRange z d → DeedIsNamed names d
+deed-named names z (Rewrite r w) a h = (a.each r h.0, a.each w h.1)
+deed-named names z (Move s) a h = tt
+
+rule-named : (p : Quadruples) (n : Naming) (symbols : List ℕ) → p.symbols ≡ symbols → length symbols ≡ 3 → HasNames p n → (r : Rule ℕ) → IsRuleInRange p.states symbols r → RuleIsNamed n r
+rule-named p n [] e l h r k = absurd (omega arith)
+rule-named p n (a ∷ []) e l h r k = absurd (omega arith)
+rule-named p n (a ∷ b ∷ []) e l h r k = absurd (omega arith)
+rule-named p n (a ∷ b ∷ c ∷ d ∷ ds) e l h r k = absurd (omega arith)
+rule-named p n (a ∷ b ∷ c ∷ []) e l h r k =
+    let one : nth p.symbols 1 ≡ Some a = ap (λ (zs : List ℕ). nth zs 1) e in
+    let two : nth p.symbols 2 ≡ Some b = ap (λ (zs : List ℕ). nth zs 2) e in
+    let three : nth p.symbols 3 ≡ Some c = ap (λ (zs : List ℕ). nth zs 3) e in
+    record {
+      from = h.states.each r.from k.from;
+      one = deed-named n.one a r.one (h.one a one) k.deeds.0;
+      two = deed-named n.two b r.two (h.two b two) k.deeds.1.0;
+      three = deed-named n.three c r.three (h.three c three) k.deeds.1.1.0;
+      to = h.states.each r.to k.to;
+    }
+
+pub all-named : (p : Quadruples) (n : Naming) → IsQuadMachine p → HasNames p n → All (RuleIsNamed n) p.rules
+all-named p n m h = λ k d inside. rule-named p n p.symbols refl m.tapes h (get_or p.rules k d) (m.in_range k d inside)
+
+plain-rows : (n : Naming) (rules : List (Rule ℕ)) → All (RuleIsNamed n) rules → list_all is_plain_entry (rows_by n rules) ≡ true
+plain-rows n [] h = refl
+plain-rows n (r ∷ rs) h =
+    let N : Rule ℕ → Type 0 = RuleIsNamed n in
+    rw (plain-row n r (All-head N r rs h)) (plain-rows n rs (All-tail N r rs h))
+
+-- the lines of a machine's entries are read as the entries
+pub entries-back : (p : Quadruples) (n : Naming) (text : List ℕ) → IsQuadMachine p → HasNames p n → text ≡ lines_of (rows_by n p.rules) → entries_of text ≡ rows_by n p.rules
+entries-back p n text m h e = ap entries_of e ∙ entries_of-lines_of (rows_by n p.rules) (plain-rows n p.rules (all-named p n m h))
+
+-- the line of one more quadruple
+pub one-line : (n : Naming) (quads : List Quad) (i : ℕ) (q : Quad) → i < length quads
+    → lines_of (rows_by n (rules_of (take (i + 1) quads))) ≡ lines_of (rows_by n (rules_of (take i quads))) ++ line_of (entry_of (said_of n (rule_of (get_or quads i q))))
+one-line n quads i q h =
+    ap (λ (qs : List Quad). lines_of (rows_by n (rules_of qs))) (take_more quads i q h)
+    ∙ ap (λ (rs : List (Rule ℕ)). lines_of (rows_by n rs)) (map-append rule_of (take i quads) (get_or quads i q ∷ []))
+    ∙ ap lines_of (map-append (λ (r : Rule ℕ). entry_of (said_of n r)) (rules_of (take i quads)) (rule_of (get_or quads i q) ∷ []))
+    ∙ lines_of-push (rows_by n (rules_of (take i quads))) (entry_of (said_of n (rule_of (get_or quads i q))))
+
+pub all-lines : (n : Naming) (quads : List Quad) (i : ℕ) → length quads ≤ i → lines_of (rows_by n (rules_of (take i quads))) ≡ lines_of (rows_by n (rules_of quads))
+all-lines n quads i h = ap (λ (qs : List Quad). lines_of (rows_by n (rules_of qs))) (take_all i quads h)
+
+pub plain-at : (names : List (List ℕ)) (n : ℕ) (name : List ℕ) → slice_get names n ≡ Some name → IsNamed is_symbol names n → is_plain name ≡ true
+plain-at names n name at (other, there, form) = let same : name ≡ other = cc in ap is_plain same ∙ plain-symbol other form
+
+pub plain-state-at : (names : List (List ℕ)) (n : ℕ) (name : List ℕ) → slice_get names n ≡ Some name → IsNamed is_state_name names n → is_plain name ≡ true
+plain-state-at names n name at (other, there, form) = let same : name ≡ other = cc in ap is_plain same ∙ plain-state-name other form
+
+-- a look-up in range, whatever stands for those out of range
+pub same-get : {X : Type 0} (xs : List X) (k : ℕ) (d e : X) → k < length xs → slice_index_or xs k d ≡ slice_index_or xs k e
+same-get [] k d e h = absurd (omega arith)
+same-get (x ∷ xs) zero d e h = refl
+same-get (x ∷ xs) (suc k) d e h = same-get xs k d e (omega arith)

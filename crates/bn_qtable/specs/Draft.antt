@@ -1,0 +1,67 @@
+-- What a table that is being read has come to.
+use Rattle.std.specs.Prelude.{◌≡◌, ℕ, ◌<◌, ◌-◌, ◌^◌, List, [], ◌∷◌, Some, length, map, slice_get, bytes_eq}
+use Rattle.std.proofs.lemmas.Slice.Eq.{bytes_eq-Decides}
+use Rattle.bn_entries.specs.Numbering.{with_name}
+use Rattle.bn_entries.specs.NumberingLaws.{AreApart}
+use Rattle.bn_quad.specs.Names.{Naming, naming_of}
+use Rattle.bn_quad.specs.Kept.{quad_of, rules_of}
+use Rattle.bn_quad.specs.Quadruples.{Deed, Rewrite, Move, Rule}
+use Rattle.bn_qtable.specs.Entry.{HasForms, Said, Says, Rewrites, Moves}
+use Rattle.bn_qtable.specs.Rows.{Spells, blank, rows_by}
+use Rattle.bn_qtable.specs.declared.draft.Draft.{Draft}
+
+-- the names of a draft
+abbrev pub names_of : Draft → Naming
+names_of d = d.lists
+
+-- the entries of a draft's quadruples
+abbrev pub drafted : Draft → List (List (List ℕ))
+drafted d = rows_by (names_of d) (rules_of d.quads.items)
+
+-- the draft's names are those of its entries, and each quadruple is its rule as it is kept
+pub record IsDraft (d : Draft) : Type 0 where
+  pub spelled : Spells (names_of d) (rules_of d.quads.items) (drafted d)
+  pub kept : map quad_of (rules_of d.quads.items) ≡ d.quads.items
+
+-- the deed is what is said, by these names
+abbrev pub Stands : List (List ℕ) → Deed → Says → Type 0
+Stands names (Rewrite read written) (Rewrites r w) = (slice_get names read ≡ Some r) × (slice_get names written ≡ Some w)
+Stands names (Rewrite read written) (Moves t) = ⊥
+Stands names (Move s) (Rewrites r w) = ⊥
+Stands names (Move s) (Moves t) = s ≡ t
+
+-- the names of a tape's symbols with those that are said
+abbrev pub with_says : List (List ℕ) → Says → List (List ℕ)
+with_says names (Rewrites read written) = with_name (with_name names read) written
+with_says names (Moves s) = names
+
+-- the rule r says s, and the names are those of before with the ones that s has
+pub record Adds (n : Naming) (s : Said) (r : Rule ℕ) (n2 : Naming) : Type 0 where
+  pub states_after : n2.states ≡ with_name (with_name n.states s.state) s.next
+  pub one_after : n2.one ≡ with_says n.one s.one
+  pub two_after : n2.two ≡ with_says n.two s.two
+  pub three_after : n2.three ≡ with_says n.three s.three
+  pub from : slice_get n2.states r.from ≡ Some s.state
+  pub one : Stands n2.one r.one s.one
+  pub two : Stands n2.two r.two s.two
+  pub three : Stands n2.three r.three s.three
+  pub to : slice_get n2.states r.to ≡ Some s.next
+  pub forms : HasForms s
+
+-- no names of states, and on each tape the blank alone
+abbrev pub blanks_alone : Naming
+blanks_alone = naming_of [] (blank ∷ []) (blank ∷ []) (blank ∷ [])
+
+-- each kind of names has room for two more
+pub record HasRoom (n : Naming) : Type 0 where
+  pub states : length n.states < 2 ^ 32 - 2
+  pub one : length n.one < 2 ^ 32 - 2
+  pub two : length n.two < 2 ^ 32 - 2
+  pub three : length n.three < 2 ^ 32 - 2
+
+-- no name stands twice among those of its kind
+pub record AreListed (n : Naming) : Type 0 where
+  pub states : AreApart bytes_eq bytes_eq-Decides n.states
+  pub one : AreApart bytes_eq bytes_eq-Decides n.one
+  pub two : AreApart bytes_eq bytes_eq-Decides n.two
+  pub three : AreApart bytes_eq bytes_eq-Decides n.three

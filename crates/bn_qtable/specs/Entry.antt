@@ -1,0 +1,59 @@
+-- The eight fields of a quadruple's entry (this project's own profile).
+use Rattle.std.specs.Prelude.{◌≡◌, ℕ, Bool, true, ◌||◌, List, [], ◌∷◌, ⊤, bytes_eq}
+use Rattle.bn_entries.specs.Forms.{is_state_name, is_symbol}
+use Rattle.bn_machine.specs.declared.quint.Shift.{Shift}
+use Rattle.bn_machine.specs.declared.quint.Shift.TheVariants.{Left, Stay, Right}
+
+-- the text of a shift: `-` to the left, `0` for none, `+` to the right
+abbrev pub shift_text : Shift → List ℕ
+shift_text Left = 45 ∷ []
+shift_text Stay = 48 ∷ []
+shift_text Right = 43 ∷ []
+
+-- whether some bytes are the text of a shift
+abbrev pub is_shift : List ℕ → Bool
+is_shift field = bytes_eq field (shift_text Left) || bytes_eq field (shift_text Stay) || bytes_eq field (shift_text Right)
+
+-- the text of a tape that isn't read, `/`
+abbrev pub slash : List ℕ
+slash = 47 ∷ []
+
+-- what an entry says of a tape: the symbol that is read and the one that is written, or a shift
+pub data Says : Type 0 where
+  Rewrites : List ℕ → List ℕ → Says
+  Moves : Shift → Says
+
+-- the fields that say so: the read, and the act
+abbrev pub read_field : Says → List ℕ
+read_field (Rewrites read written) = read
+read_field (Moves s) = slash
+
+abbrev pub act_field : Says → List ℕ
+act_field (Rewrites read written) = written
+act_field (Moves s) = shift_text s
+
+-- what an entry says: a state's name, what is done on the three tapes, and the next state's name
+pub record Said : Type 0 where
+  pub state : List ℕ
+  pub one : Says
+  pub two : Says
+  pub three : Says
+  pub next : List ℕ
+
+-- the entry that says so: a state, three reads, three acts, and the next state
+abbrev pub entry_of : Said → List (List ℕ)
+entry_of s =
+    s.state ∷ read_field s.one ∷ read_field s.two ∷ read_field s.three
+    ∷ act_field s.one ∷ act_field s.two ∷ act_field s.three ∷ s.next ∷ []
+
+-- symbols and names are in their forms
+abbrev pub SaysHasForms : Says → Type 0
+SaysHasForms (Rewrites read written) = (is_symbol read ≡ true) × (is_symbol written ≡ true)
+SaysHasForms (Moves s) = ⊤
+
+pub record HasForms (s : Said) : Type 0 where
+  pub state : is_state_name s.state ≡ true
+  pub one : SaysHasForms s.one
+  pub two : SaysHasForms s.two
+  pub three : SaysHasForms s.three
+  pub next : is_state_name s.next ≡ true

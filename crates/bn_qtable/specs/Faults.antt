@@ -1,0 +1,54 @@
+-- The first fault of a table's entries. Entries and fields are counted from 1.
+use Rattle.std.specs.Prelude.{ℕ, Bool, ◌+◌, ◌||◌, not, nat_lt, if◌then◌else◌, List, [], ◌∷◌, Option, Some, None, bytes_eq}
+use Rattle.bn_entries.specs.Forms.{is_state_name, is_symbol}
+use Rattle.bn_qtable.specs.Entry.{is_shift, slash}
+use Rattle.bn_qtable.specs.declared.refusal.QuadTableRefusal.{QuadTableRefusal}
+use Rattle.bn_qtable.specs.declared.refusal.QuadTableRefusal.TheVariants as refusal
+
+-- a read is `/` or a symbol
+abbrev pub is_read : List ℕ → Bool
+is_read read = bytes_eq read slash || is_symbol read
+
+-- an act is a shift where the read of its tape is `/`, else a symbol
+abbrev pub is_act : List ℕ → List ℕ → Bool
+is_act read act = if bytes_eq read slash then is_shift act else is_symbol act
+
+-- the fault of an act that isn't so
+abbrev pub act_fault : ℕ → ℕ → List ℕ → QuadTableRefusal
+act_fault entry field read = if bytes_eq read slash then refusal.Shift entry field else refusal.Symbol entry field
+
+-- the first field, in order, that isn't of its form: a state's name, three reads, three acts, a state's name
+abbrev pub field_fault : ℕ → List ℕ → List ℕ → List ℕ → List ℕ → List ℕ → List ℕ → List ℕ → List ℕ → Option QuadTableRefusal
+field_fault entry state read1 read2 read3 act1 act2 act3 next =
+    if not (is_state_name state) then Some (refusal.Name entry 1)
+    else if not (is_read read1) then Some (refusal.Symbol entry 2)
+    else if not (is_read read2) then Some (refusal.Symbol entry 3)
+    else if not (is_read read3) then Some (refusal.Symbol entry 4)
+    else if not (is_act read1 act1) then Some (act_fault entry 5 read1)
+    else if not (is_act read2 act2) then Some (act_fault entry 6 read2)
+    else if not (is_act read3 act3) then Some (act_fault entry 7 read3)
+    else if not (is_state_name next) then Some (refusal.Name entry 8)
+    else None
+
+-- the fault of an entry's fields: there are not eight, or one isn't of its form
+abbrev pub form_fault : ℕ → List (List ℕ) → Option QuadTableRefusal
+form_fault entry (state ∷ read1 ∷ read2 ∷ read3 ∷ act1 ∷ act2 ∷ act3 ∷ next ∷ []) = field_fault entry state read1 read2 read3 act1 act2 act3 next
+form_fault entry fields = Some (refusal.FieldCount entry)
+
+-- the first fault of the entry with this number: it comes after 20,000 others, or its fields have a fault
+abbrev pub entry_fault : ℕ → List (List ℕ) → Option QuadTableRefusal
+entry_fault entry fields = if nat_lt 20000 entry then Some (refusal.TooMany entry) else form_fault entry fields
+
+-- the first fault, where the first of these entries has this number
+abbrev pub else_fault : Option QuadTableRefusal → Option QuadTableRefusal → Option QuadTableRefusal
+else_fault None later = later
+else_fault (Some fault) later = Some fault
+
+unfoldable pub fault_from : ℕ → List (List (List ℕ)) → Option QuadTableRefusal
+fault_from entry [] = None
+fault_from entry (fields ∷ rest) = else_fault (entry_fault entry fields) (fault_from (entry + 1) rest)
+
+-- the fault of a table's entries: there is none, or the first faulty entry's first fault
+unfoldable pub fault_of : List (List (List ℕ)) → Option QuadTableRefusal
+fault_of [] = Some refusal.Empty
+fault_of (fields ∷ rest) = fault_from 1 (fields ∷ rest)

@@ -1,0 +1,8 @@
+pub mod Entry
+pub mod Fields
+pub mod Faults
+pub mod Rows
+pub mod Reading
+pub mod Draft
+pub mod Named
+pub mod RowsLaws

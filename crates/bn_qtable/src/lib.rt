@@ -1,0 +1,19 @@
+//! Tables of quadruples: csv texts of the quadruples of a machine of three tapes, with names for its states and
+//! its symbols.
+#![tactic(auto)]
+
+mod draft;
+mod entry;
+mod laws;
+mod lists;
+mod refusal;
+#[cfg(test)]
+mod tests;
+mod text;
+
+pub use crate::laws::{
+    bytes_have_a_reading_or_a_fault, bytes_have_one_reading, tables_that_are_read_can_be_written,
+};
+pub use crate::refusal::QuadTableRefusal;
+pub use crate::text::{read_quads, write_quads};
+pub use bn_entries::NoMemory;

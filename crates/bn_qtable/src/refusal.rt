@@ -1,0 +1,34 @@
+//! Why bytes are refused as a table.
+
+use bn_entries::NoMemory;
+
+/// Why some bytes are no table of quadruples. Entries and fields are counted from 1; the first faulty entry is
+/// named, with its first fault in this order: too many entries, the count of fields, the fields from 1 to 8.
+#[derive(Clone, Copy, PartialEq, Eq, Debug)]
+pub enum QuadTableRefusal {
+    /// The entry has not eight fields.
+    FieldCount { entry: u32 },
+    /// The field, 1 or 8, is no state's name.
+    Name { entry: u32, field: u32 },
+    /// The field is no symbol: a read, 2 to 4, that isn't `/` either, or an act, 5 to 7, of a tape that is read.
+    Symbol { entry: u32, field: u32 },
+    /// The field, 5 to 7, is the act of a tape that isn't read, and is none of `-`, `0` and `+`.
+    Shift { entry: u32, field: u32 },
+    /// The entry comes after 20,000 others, so it is entry 20,001.
+    TooMany { entry: u32 },
+    /// There is no entry.
+    Empty,
+    /// Memory ran out.
+    NoMemory,
+}
+
+impl From<NoMemory> for QuadTableRefusal {
+    ghost use Rattle.bn_qtable.specs.declared.refusal.QuadTableRefusal.TheVariants as refusal;
+    ghost use Rattle.std.specs.Prelude.{◌≡◌};
+
+    ghost from_gives = { λ _ result. result ≡ refusal.NoMemory };
+
+    fn from(_: NoMemory) -> QuadTableRefusal {
+        QuadTableRefusal::NoMemory
+    }
+}

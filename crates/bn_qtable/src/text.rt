@@ -1,0 +1,109 @@
+//! Reading and writing the text of a table.
+
+ghost use Rattle.std.specs.Prelude.{◌≡◌, ◌≤◌, ◌++◌, ◌∷◌, [], true, ◌≢◌, Some, IfOk, IfErr, OnOk, length};
+ghost use Rattle.bn_entries.specs.Entries.{entries_of};
+ghost use Rattle.bn_entries.specs.Forms.{is_state_name, is_symbol};
+ghost use Rattle.bn_entries.specs.Lines.{is_plain, is_plain_entry, line_of, lines_of};
+ghost use Rattle.bn_machine.specs.Machine.{nth};
+ghost use Rattle.bn_quad.specs.Names.{symbols_on};
+ghost use Rattle.bn_quad.specs.Kept.{Agree, IsUnmixed, deed_of, rule_of};
+ghost use Rattle.bn_qtable.specs.Entry.{entry_of, shift_text, read_field, act_field};
+ghost use Rattle.bn_qtable.specs.Faults.{fault_of};
+ghost use Rattle.bn_qtable.specs.Named.{HasNames, RuleIsNamed, DeedIsNamed};
+ghost use Rattle.bn_qtable.specs.Reading.{Reads};
+ghost use Rattle.bn_qtable.specs.Rows.{IsTable, rows_by, said_deed, said_of, table_of};
+ghost use Rattle.bn_qtable.specs.declared.refusal.QuadTableRefusal.TheVariants as refusal;
+
+use crate::draft::{add_entry, into_table, new_draft};
+use crate::refusal::QuadTableRefusal;
+use bn_entries::{Entries, Entry, EntryWriter, NoMemory};
+use bn_machine::Shift;
+use bn_quad::{Act, Quad, QuadMachine, QuadNames};
+use std::alloc::Global;
+
+/// Reads the bytes of a table: csv records without a header, each with a state's name, what is read on the three
+/// tapes, `/` where nothing is, what is done there, a shift `-`, `0` or `+` where nothing is read and else the symbol
+/// written, and the next state's name. It answers the bytes' one reading, where they have one, which `write_quads`
+/// can write; each refusal but `NoMemory` comes exactly where it is the entries' first fault.
+pub fn read_quads(alloc: Global, bytes: &[u8]) -> Result<(QuadMachine, QuadNames), QuadTableRefusal>
+    ensures ok { IfOk result (λ t. Reads bytes.now (table_of t.0 t.1)) }
+    ensures named { IfOk result (λ t. HasNames t.0 t.1) }
+    ensures refused { IfErr result (λ e. e ≢ refusal.NoMemory → fault_of (entries_of bytes.now) ≡ Some e) }
+{
+    let mut entries = Entries::new(alloc, bytes);
+    let mut entry = Entry::new(alloc);
+    let mut draft = new_draft(alloc)?;
+    'entries: while entries.read_entry(&mut entry)? {
+        add_entry(&mut draft, &entry)?;
+    }
+    into_table(alloc, draft)
+}
+
+// The text of a shift.
+fn text_of_shift(shift: Shift) -> &'static [u8]
+    ensures { result.now ≡ shift_text shift }
+{
+    match shift {
+        Shift::Left => b"-",
+        Shift::Stay => b"0",
+        Shift::Right => b"+",
+    }
+}
+
+// The fields of what is read and done on a tape.
+fn fields_on<'a>(
+    names: &'a QuadNames,
+    tape: u32,
+    read: Option<u32>,
+    act: Act,
+) -> (&'a [u8], &'a [u8])
+    requires first { 1 ≤ tape }
+    requires last { tape ≤ 3 }
+    requires unmixed { Agree read act }
+    requires named { DeedIsNamed (symbols_on names.now tape) (deed_of read act) }
+    ensures read { result.0.now ≡ read_field (said_deed (symbols_on names.now tape) (deed_of read act)) }
+    ensures act { result.1.now ≡ act_field (said_deed (symbols_on names.now tape) (deed_of read act)) }
+    ensures plain { (is_plain result.0.now ≡ true) × (is_plain result.1.now ≡ true) }
+{
+    match act {
+        Act::Shift(shift) => (b"/", text_of_shift(shift)),
+        Act::Write(written) => match read {
+            Some(read) => (names.symbol(tape, read), names.symbol(tape, written)),
+            None => unreachable!(),
+        },
+    }
+}
+
+// Writes the entry of a quadruple.
+fn write_quad(writer: &mut EntryWriter, names: &QuadNames, quad: &Quad) -> Result<(), NoMemory>
+    requires acts { length quad.now.act ≡ 3 }
+    requires unmixed { IsUnmixed quad.now }
+    requires named { RuleIsNamed names.now (rule_of quad.now) }
+    ensures { OnOk result (writer.new ≡ writer.old ++ line_of (entry_of (said_of names.now (rule_of quad.now)))) }
+{
+    let (read1, act1) = fields_on(names, 1, quad.read[0], quad.act[0]);
+    let (read2, act2) = fields_on(names, 2, quad.read[1], quad.act[1]);
+    let (read3, act3) = fields_on(names, 3, quad.read[2], quad.act[2]);
+    let state = names.state(quad.state);
+    let next = names.state(quad.next);
+    writer.write_entry(&[state, read1, read2, read3, act1, act2, act3, next])
+}
+
+/// The text of a table: for each quadruple a line with its eight fields, in order. Reading it gives the table, where
+/// the names are numbered by first appearance. Every state and every symbol of the machine has a name in its form.
+pub fn write_quads(
+    alloc: Global,
+    machine: &QuadMachine,
+    names: &QuadNames,
+) -> Result<Vec<u8>, NoMemory>
+    requires { HasNames machine.now names.now }
+    ensures text { IfOk result (λ text. text.items ≡ lines_of (rows_by names.now machine.now.rules)) }
+    ensures entries { IfOk result (λ text. entries_of text.items ≡ rows_by names.now machine.now.rules) }
+    ensures read_back { IfOk result (λ text. IsTable (table_of machine.now names.now) → Reads text.items (table_of machine.now names.now)) }
+{
+    let mut writer = EntryWriter::new(alloc);
+    for quad in machine.quads() {
+        write_quad(&mut writer, names, quad)?;
+    }
+    writer.into_text()
+}
