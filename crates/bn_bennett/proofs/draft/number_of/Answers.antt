@@ -1,0 +1,6 @@
+-- A name that is there stays, and a new one goes last.
+use Rattle.bn_bennett.proofs.SameNames.{any_same}
+use Rattle.bn_bennett.proofs.draft.number_of.Goals as goal
+
+pub returns-in-Ok-clause-names : goal.returns-in-Ok-clause-names
+returns-in-Ok-clause-names c = rw (← any_same c.args.name c.args.names.now.keys) c.in-Ok.ensures.keys

@@ -1,0 +1,8 @@
+pub mod Made
+pub mod Translation
+pub mod NameLaws
+pub mod Draft
+pub mod Meaning
+pub mod Printed
+pub mod Runs
+pub mod Laws

@@ -1,0 +1,147 @@
+//! The printed names of the reversible machine's states and symbols.
+ghost use Rattle.std.specs.Prelude.{◌≡◌, ◌+◌, ◌-◌, ◌^◌, ◌<◌, ◌≤◌, [], ◌∷◌, IfOk, OnOk, length, map, decimal};
+ghost use Rattle.std.specs.List.{range_with_len};
+ghost use Rattle.bn_quad.specs.Names.{nameless, symbols_on};
+ghost use Rattle.bn_qtable.specs.Named.{HasNames};
+ghost use Rattle.bn_qtable.specs.Rows.{IsTable, table_of};
+ghost use Rattle.bn_bennett.specs.Translation.{IsTranslation};
+ghost use Rattle.bn_bennett.specs.Printed.{print_of, state_text, one_byte, number_names, ArePrintable, with_states, on_tape, names_of};
+
+use crate::laws::{translations_are_tables, translations_have_names};
+use crate::translated::Translated;
+use bn_base::push_u64;
+use bn_quad::{NoMemory, QuadNames};
+use bn_stages::{Name, list_counts_names, list_has_names};
+use bn_table::Table;
+use std::alloc::Global;
+
+/// How a name is printed: a letter for its stage, a number, and a prime or none.
+#[derive(Clone, Copy)]
+pub struct Print {
+    pub letter: u8,
+    pub number: u64,
+    pub primed: bool,
+}
+
+// How a name is printed.
+fn print_of(name: Name) -> Print
+    ensures { result ≡ print_of name }
+{
+    let (letter, number, primed) = match name {
+        Name::Compute(state) => (b'A', u64::from(state) + 1, false),
+        Name::ComputeWithin(quint) => (b'A', u64::from(quint), true),
+        Name::GoRight => (b'B', 1, true),
+        Name::CopyLetter => (b'B', 1, false),
+        Name::GoLeft => (b'B', 2, true),
+        Name::PassLetter => (b'B', 2, false),
+        Name::Retrace(state) => (b'C', u64::from(state) + 1, false),
+        Name::RetraceWithin(quint) => (b'C', u64::from(quint), true),
+    };
+    Print {
+        letter,
+        number,
+        primed,
+    }
+}
+
+// The text of a name.
+fn text_of(alloc: Global, name: Name) -> Result<Vec<u8>, NoMemory>
+    ensures { IfOk result (λ text. text.items ≡ state_text name) }
+{
+    let print = print_of(name);
+    let mut text = Vec::new(alloc);
+    if text.push(print.letter).is_err() {
+        return Err(NoMemory);
+    }
+    if push_u64(&mut text, print.number).is_err() {
+        return Err(NoMemory);
+    }
+    if print.primed && text.push(b'\'').is_err() {
+        return Err(NoMemory);
+    }
+    Ok(text)
+}
+
+// The decimal text of a number.
+fn number_text(alloc: Global, number: u32) -> Result<Vec<u8>, NoMemory>
+    ensures { IfOk result (λ text. text.items ≡ decimal number) }
+{
+    let mut text = Vec::new(alloc);
+    match push_u64(&mut text, u64::from(number)) {
+        Ok(()) => Ok(text),
+        Err(_) => Err(NoMemory),
+    }
+}
+
+// Names each state.
+fn add_states(alloc: Global, names: &mut QuadNames, states: &[Name]) -> Result<(), NoMemory>
+    requires empty { names.old ≡ nameless }
+    requires printable { ArePrintable states.now }
+    ensures { OnOk result (names.new ≡ with_states (map state_text states.now)) }
+{
+    for name in states {
+        let text = text_of(alloc, *name)?;
+        names.add_state(text.as_slice())?;
+    }
+    Ok(())
+}
+
+// Names each symbol of a tape by its letter.
+fn add_letters(names: &mut QuadNames, tape: u32, table: &Table) -> Result<(), NoMemory>
+    requires first { 1 ≤ tape }
+    requires last { tape ≤ 3 }
+    requires empty { symbols_on names.old tape ≡ [] }
+    ensures { OnOk result (names.new ≡ on_tape names.old tape (map one_byte table.now.letters)) }
+{
+    for symbol in 0..table.machine().symbols() {
+        let letter = table.letter(symbol);
+        names.add_symbol(tape, &[letter])?;
+    }
+    Ok(())
+}
+
+// Names each symbol of the history: the blank, and the numbers from 1 on.
+fn add_numbers(alloc: Global, names: &mut QuadNames, count: u32) -> Result<(), NoMemory>
+    requires few { count < 2 ^ 32 - 2 }
+    requires empty { symbols_on names.old 2 ≡ [] }
+    ensures { OnOk result (names.new ≡ on_tape names.old 2 (number_names count)) }
+{
+    names.add_symbol(2, b"_")?;
+    for index in 0..count {
+        let text = number_text(alloc, index + 1)?;
+        names.add_symbol(2, text.as_slice())?;
+    }
+    Ok(())
+}
+
+// All names.
+fn all_names(alloc: Global, table: &Table, translated: &Translated) -> Result<QuadNames, NoMemory>
+    requires { IsTranslation table.now.machine translated.now }
+    ensures { IfOk result (λ names. names ≡ names_of table.now translated.now) }
+{
+    list_has_names();
+    list_counts_names();
+    let mut names = QuadNames::empty(alloc);
+    let count = table.machine().quints().len() as u32;
+    add_states(alloc, &mut names, translated.names())?;
+    add_letters(&mut names, 1, table)?;
+    add_numbers(alloc, &mut names, count)?;
+    add_letters(&mut names, 3, table)?;
+    Ok(names)
+}
+
+/// The names of a translation's states and symbols: `A` and the state's number counted from 1, `A`, the
+/// quintuple's number and a prime, `B1'`, `B1`, `B2'`, `B2`, and `C` likewise. The symbols of tapes 1
+/// and 3 are the table's letters, those of tape 2 are `_` and the numbers from 1 on. With them the
+/// machine is written as a table of quadruples, and what is written is read as it again.
+pub fn names(alloc: Global, table: &Table, translated: &Translated) -> Result<QuadNames, NoMemory>
+    requires { IsTranslation table.now.machine translated.now }
+    ensures names { IfOk result (λ names. names ≡ names_of table.now translated.now) }
+    ensures forms { IfOk result (HasNames translated.now.machine) }
+    ensures table { IfOk result (λ names. IsTable (table_of translated.now.machine names)) }
+{
+    translations_have_names();
+    translations_are_tables();
+    let _quints = table.machine().quints();
+    all_names(alloc, table, translated)
+}
