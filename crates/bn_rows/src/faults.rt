@@ -11,7 +11,7 @@ const ELEMENT: &str = "rotary 1\nelements 1\nstart 0.n\nend 0.s\nsteps 0\nat 0.n
 
 #[test]
 fn words_without_a_form_are_usage_and_read_nothing(rt: HostRuntime) -> Result<(), Fail> {
-    let rows: [&[&str]; 7] = [
+    let rows: [&[&str]; 8] = [
         &[],
         &["step"],
         &["step", "01"],
@@ -19,6 +19,7 @@ fn words_without_a_form_are_usage_and_read_nothing(rt: HostRuntime) -> Result<()
         &["step", "1", "1"],
         &["Step", "1"],
         &["back", "-1"],
+        &["reversible", "1"],
     ];
     for list in rows {
         let all = words(rt.alloc(), list)?;

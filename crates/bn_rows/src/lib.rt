@@ -3,6 +3,8 @@
 #![tactic(auto)]
 
 #[cfg(test)]
+mod banks;
+#[cfg(test)]
 mod calls;
 #[cfg(test)]
 mod circuits;
@@ -12,3 +14,7 @@ mod desk;
 mod faults;
 #[cfg(test)]
 mod machines;
+#[cfg(test)]
+mod quadruples;
+#[cfg(test)]
+mod reversed;

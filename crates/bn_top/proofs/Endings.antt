@@ -12,15 +12,20 @@ use Rattle.std.specs.Prelude.{◌<◌, ◌≤◌, length, Some, None, IfSome, Re
 use Rattle.std.proofs.Common.{append-nil}
 use Rattle.bn_top.specs.Codes.{IsAnswer}
 use Rattle.bn_theory.specs.Stepping.{run, back, places, places_back}
-use Rattle.bn_top.specs.Words.{Request, Steps, Backs, Checks, Runs, HasForm, HasNoForm}
+use Rattle.bn_top.specs.Words.{Request, Steps, Backs, Checks, Runs, Tests, Translates, Realises, HasForm, HasNoForm}
 use Rattle.bn_theory.specs.Circuits.{Circuit}
 use Rattle.bn_theory.specs.declared.config.Config.{Config}
 use Rattle.bn_top.specs.CircuitReply.{CircuitReplies}
 use Rattle.bn_top.specs.Answers.{no_form, too_long, replied, Replies, input_limit, usage_text, size_text}
 use Rattle.bn_top.specs.Told.{IsAnswered, IsBegun, IsBroken, unbegun, begun}
 use Rattle.bn_top.specs.Replying.{IsUnfinished, untold, told_some}
-use Rattle.bn_top.specs.CheckReply.{CheckReplies}
+use Rattle.bn_table.specs.Rows.{Named}
+use Rattle.bn_top.specs.CheckReply.{standard_line}
+use Rattle.bn_top.specs.TableReply.{StandardReplies}
 use Rattle.bn_top.specs.MachineReply.{MachineReplies}
+use Rattle.bn_top.specs.ReversibleReply.{ReversibleReplies}
+use Rattle.bn_top.specs.BennettReply.{bennett_text}
+use Rattle.bn_top.specs.RealiseReply.{RealiseReplies}
 use Rattle.bn_top.proofs.Walks.{hears-nothing}
 use Rattle.bn_top.specs.declared.reply.Reply.{Reply}
 use Rattle.bn_top.specs.declared.reply.NoMemory.{NoMemory as WantOfMemory}
@@ -49,19 +54,11 @@ circuit_replies goes tells bytes Stuck text told r = absurd r
 circuit_replies goes tells bytes Window text told r = absurd r
 circuit_replies goes tells bytes Inside text told r = absurd r
 
-check_replies : (bytes : List ℕ) (status : Status) (text : List ℕ) → CheckReplies bytes status text → IsAnswer status
-check_replies bytes Done text r = tt
-check_replies bytes Text text r = tt
-check_replies bytes Usage text r = absurd r
-check_replies bytes Machine text r = tt
-check_replies bytes Word text r = absurd r
-check_replies bytes Size text r = absurd r
-check_replies bytes ReadFault text r = absurd r
-check_replies bytes WriteFault text r = absurd r
-check_replies bytes NoMemory text r = absurd r
-check_replies bytes Stuck text r = absurd r
-check_replies bytes Window text r = absurd r
-check_replies bytes Inside text r = absurd r
+standard_replies : (text_of : Named → List ℕ) (bytes : List ℕ) (status : Status) (text : List ℕ) → StandardReplies text_of bytes status text → IsAnswer status
+standard_replies text_of bytes Done text r = tt
+standard_replies text_of bytes Text text r = tt
+standard_replies text_of bytes Machine text r = tt
+standard_replies text_of bytes _ text r = absurd r
 
 machine_replies : (word : List ℕ) (n : ℕ) (bytes : List ℕ) (status : Status) (text : List ℕ) → MachineReplies word n bytes status text → IsAnswer status
 machine_replies word n bytes Done text r = tt
@@ -77,11 +74,27 @@ machine_replies word n bytes Stuck text r = tt
 machine_replies word n bytes Window text r = absurd r
 machine_replies word n bytes Inside text r = tt
 
+reversible_replies : (bytes : List ℕ) (status : Status) (text : List ℕ) → ReversibleReplies bytes status text → IsAnswer status
+reversible_replies bytes Done text r = tt
+reversible_replies bytes Text text r = tt
+reversible_replies bytes _ text r = absurd r
+
+realise_replies : (q i : ℕ) (bytes : List ℕ) (status : Status) (text : List ℕ) → RealiseReplies q i bytes status text → IsAnswer status
+realise_replies q i bytes Done text r = tt
+realise_replies q i bytes Text text r = tt
+realise_replies q i bytes Machine text r = tt
+realise_replies q i bytes Word text r = tt
+realise_replies q i bytes Size text r = tt
+realise_replies q i bytes _ text r = absurd r.2
+
 replies_answer : (request : Request) (bytes : List ℕ) (status : Status) (text : List ℕ) (told : List Place) → Replies request bytes status text told → IsAnswer status
 replies_answer (Steps e) bytes status text told r = circuit_replies (λ k c. run k c e) (λ k c. places k e c) bytes status text told r
 replies_answer (Backs e) bytes status text told r = circuit_replies (λ k c. back k c e) (λ k c. places_back k e c) bytes status text told r
-replies_answer Checks bytes status text told r = check_replies bytes status text r.0
+replies_answer Checks bytes status text told r = standard_replies (λ t. standard_line t.machine) bytes status text r.0
 replies_answer (Runs word n) bytes status text told r = machine_replies word n bytes status text r.0
+replies_answer Tests bytes status text told r = reversible_replies bytes status text r.0
+replies_answer Translates bytes status text told r = standard_replies bennett_text bytes status text r.0
+replies_answer (Realises q i) bytes status text told r = realise_replies q i bytes status text r.0
 
 grows_nothing : (taken took : Option (List ℕ)) → took ≡ taken → Grows taken took []
 grows_nothing None took same = tt

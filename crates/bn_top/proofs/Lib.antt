@@ -13,4 +13,10 @@ mod WholeRunLemmas
 mod FitLemmas
 mod StandardOrNot
 mod RepliesToAll
+mod ClashOrNot
+pub mod ReversibleLemmas
+pub mod SameTexts
+pub mod RealiseLemmas
+pub mod RealiseAnswers
+mod BennettLemmas
 mod EachAnswer

@@ -1,28 +1,32 @@
 -- Words and bytes have at most one answer.
-use Rattle.std.specs.Prelude.{slice_index, ◌≡◌, ℕ, List, [], ◌∷◌, length, replicate, decimal, codes, refl}
-use Rattle.std.proofs.Common.{suc, arith, sym, ap, subst, ◌∙◌}
+use Rattle.std.specs.Prelude.{slice_index, slice_index_or, ◌≡◌, ◌+◌, ◌*◌, ℕ, List, [], ◌∷◌, length, replicate, decimal, codes, refl}
+use Rattle.std.proofs.Common.{T, eqb, arith, sym, ap, subst, ◌∙◌}
+use Rattle.std.proofs.Math.Facts.{yes_eqb}
 use Rattle.bn_base.specs.NumberLaws.{decimal-once}
-use Rattle.bn_theory.specs.Circuits.{Circuit, target}
+use Rattle.bn_theory.specs.Circuits.{Circuit}
 use Rattle.bn_theory.specs.Stepping.{run, back, places, places_back}
-use Rattle.bn_theory.specs.declared.line.Line.{Line}
-use Rattle.bn_theory.specs.declared.line.Wire.{Wire}
 use Rattle.bn_theory.specs.declared.place.Place.{Place}
 use Rattle.bn_theory.specs.declared.config.Config.{Config}
-use Rattle.bn_element.specs.Rotary.{rotary, north, east, south, west}
-use Rattle.bn_netlist.specs.Sentences.{Sentence, Title, Count, Start, End, At, Element, lines_text}
-use Rattle.bn_netlist.specs.Sentences as sentences
-use Rattle.bn_netlist.specs.Spelling.{Spelling, circuit_of, AreSame, text_of, moved_to, targets_of, element_sentences}
+use Rattle.bn_element.specs.Rotary.{rotary}
+use Rattle.bn_netlist.specs.Spelling.{Spelling, circuit_of, AreSame, text_of, moved_to}
 use Rattle.bn_netlist.specs.TextLaws.{spellings-agree, faulty_texts-spell-nothing}
 use Rattle.bn_netlist.specs.FaultLaws.{faults-agree}
 use Rattle.bn_table.specs.Reading.{OneReading}
-use Rattle.bn_top.specs.ReplyLaws.{check_replies_once, machine_replies_once}
+use Rattle.bn_qtable.specs.Reading.{OneReading as OneQuadReading}
+use Rattle.bn_top.specs.ReplyLaws.{check_replies_once, machine_replies_once, standard_replies_once}
 use Rattle.bn_top.proofs.ThreeWords.{first_of}
-use Rattle.bn_top.specs.Words.{Request, Steps, Backs, Checks, Runs, IsCounted, IsRun, HasForm}
+use Rattle.bn_top.proofs.ReversibleLemmas.{reversible_replies_once}
+use Rattle.bn_top.specs.BennettReply.{bennett_text}
+use Rattle.bn_top.proofs.RealiseAnswers.{realise_replies_once}
+use Rattle.bn_rsm.specs.Laws.{RefusalsAreOne, SoundMovesAreTaken}
+use Rattle.bn_rsmtable.specs.Reading.{OneMachine, OneReading as OneMoveReading}
+use Rattle.bn_top.specs.Words.{Request, Steps, Backs, Checks, Runs, Tests, Translates, Realises, IsCounted, IsPlaced, IsRun, HasForm}
 use Rattle.bn_top.specs.CircuitReply.{CircuitReplies, Walked, Misspelled, fault_text}
 use Rattle.bn_top.specs.Answers.{no_form, too_long, replied, Replies}
 use Rattle.bn_top.specs.OneAnswer.{IsOneAnswer, AgreeInAll}
 use Rattle.bn_top.specs.declared.status.Status.{Status}
 use Rattle.bn_top.specs.declared.status.Status.TheVariants.{Done, Usage, Text, Machine, Word, Size, ReadFault, WriteFault, NoMemory, Stuck, Window, Inside}
+use Rattle.bn_top.proofs.SameTexts.{same_text}
 use Rattle.bn_top.proofs.SameRuns.{AreAlike, run-alike, back-alike, places-alike, places_back-alike}
 
 -- ---- the words form one command
@@ -36,22 +40,32 @@ same_count words name other m n a b =
     let one : decimal m ≡ decimal n = sym a.counts.spelled ∙ both.1 ∙ b.counts.spelled in
     (both.0, decimal-once m n a.counts.bound b.counts.bound one)
 
-apart : codes "step" ≡ codes "back" → ⊥
-apart e = let heads : ◌≡◌ {A = ℕ} 115 98 = ap (λ xs. slice_index xs 0) e in omega arith
+-- the name of a request's command
+abbrev name_of : Request → List ℕ
+name_of (Steps e) = codes "step"
+name_of (Backs e) = codes "back"
+name_of Checks = codes "check"
+name_of (Runs word n) = codes "machine"
+name_of Tests = codes "reversible"
+name_of Translates = codes "bennett"
+name_of (Realises q i) = codes "realise"
 
--- how many words a request has
-count_of : Request → ℕ
-count_of (Steps e) = 2
-count_of (Backs e) = 2
-count_of Checks = 1
-count_of (Runs word n) = 3
+-- a number that tells these names apart
+abbrev key : List ℕ → ℕ
+key name = 256 * length name + slice_index name 0
 
-counted_by : (words : List (List ℕ)) (r : Request) → HasForm words r → length words ≡ count_of r
-unfolding count_of
-counted_by words (Steps e) h = ap length h.words_are
-counted_by words (Backs e) h = ap length h.words_are
-counted_by words Checks h = ap length h
-counted_by words (Runs word n) h = ap length h.words_are
+first_word : (words : List (List ℕ)) (r : Request) → HasForm words r → slice_index_or words 0 [] ≡ name_of r
+first_word words (Steps e) h = ap (λ ws. slice_index_or ws 0 []) h.words_are
+first_word words (Backs e) h = ap (λ ws. slice_index_or ws 0 []) h.words_are
+first_word words Checks h = ap (λ ws. slice_index_or ws 0 []) h
+first_word words (Runs word n) h = ap (λ ws. slice_index_or ws 0 []) h.words_are
+first_word words Tests h = ap (λ ws. slice_index_or ws 0 []) h
+first_word words Translates h = ap (λ ws. slice_index_or ws 0 []) h
+first_word words (Realises q i) h = ap (λ ws. slice_index_or ws 0 []) h.words_are
+
+-- the requests of some words have one name
+same_name : (words : List (List ℕ)) (c d : Request) → HasForm words c → HasForm words d → T (eqb (key (name_of c)) (key (name_of d)))
+same_name words c d a b = yes_eqb (ap key (sym (first_word words c a) ∙ first_word words d b))
 
 same_run : (words : List (List ℕ)) (word other : List ℕ) (m n : ℕ) → IsRun words (codes "machine") word m → IsRun words (codes "machine") other n → (word ≡ other) × (m ≡ n)
 same_run words word other m n a b =
@@ -60,53 +74,31 @@ same_run words word other m n a b =
     let one : decimal m ≡ decimal n = sym a.counts.spelled ∙ parts.2 ∙ b.counts.spelled in
     (cc, decimal-once m n a.counts.bound b.counts.bound one)
 
+same_place : (words : List (List ℕ)) (q i r j : ℕ) → IsPlaced words (codes "realise") q i → IsPlaced words (codes "realise") r j → (q ≡ r) × (i ≡ j)
+same_place words q i r j a b =
+    let parts = first_of (codes "realise") a.first a.second (codes "realise") b.first b.second (sym a.words_are ∙ b.words_are) in
+    let state : decimal q ≡ decimal r = sym a.state_is.spelled ∙ parts.1 ∙ b.state_is.spelled in
+    let line : decimal i ≡ decimal j = sym a.line_is.spelled ∙ parts.2 ∙ b.line_is.spelled in
+    (decimal-once q r a.state_is.bound b.state_is.bound state, decimal-once i j a.line_is.bound b.line_is.bound line)
+
 one_form : (words : List (List ℕ)) (c d : Request) → HasForm words c → HasForm words d → c ≡ d
-unfolding count_of
 one_form words (Steps m) (Steps n) a b = ap (λ e. Steps e) (same_count words (codes "step") (codes "step") m n a b).1
-one_form words (Steps m) (Backs n) a b = absurd (apart (same_count words (codes "step") (codes "back") m n a b).0)
-one_form words (Backs m) (Steps n) a b = absurd (apart (sym (same_count words (codes "back") (codes "step") m n a b).0))
 one_form words (Backs m) (Backs n) a b = ap (λ e. Backs e) (same_count words (codes "back") (codes "back") m n a b).1
 one_form words Checks Checks a b = refl
 one_form words (Runs v m) (Runs w n) a b = let both = same_run words v w m n a b in ap (λ x. Runs x m) both.0 ∙ ap (λ x. Runs w x) both.1
-one_form words (Steps m) Checks a b = let c = counted_by words (Steps m) a in let d = counted_by words Checks b in absurd (omega arith)
-one_form words (Steps m) (Runs w n) a b = let c = counted_by words (Steps m) a in let d = counted_by words (Runs w n) b in absurd (omega arith)
-one_form words (Backs m) Checks a b = let c = counted_by words (Backs m) a in let d = counted_by words Checks b in absurd (omega arith)
-one_form words (Backs m) (Runs w n) a b = let c = counted_by words (Backs m) a in let d = counted_by words (Runs w n) b in absurd (omega arith)
-one_form words Checks (Steps m) a b = let c = counted_by words Checks a in let d = counted_by words (Steps m) b in absurd (omega arith)
-one_form words Checks (Backs m) a b = let c = counted_by words Checks a in let d = counted_by words (Backs m) b in absurd (omega arith)
-one_form words Checks (Runs w n) a b = let c = counted_by words Checks a in let d = counted_by words (Runs w n) b in absurd (omega arith)
-one_form words (Runs w n) Checks a b = let c = counted_by words (Runs w n) a in let d = counted_by words Checks b in absurd (omega arith)
-one_form words (Runs w n) (Steps m) a b = let c = counted_by words (Runs w n) a in let d = counted_by words (Steps m) b in absurd (omega arith)
-one_form words (Runs w n) (Backs m) a b = let c = counted_by words (Runs w n) a in let d = counted_by words (Backs m) b in absurd (omega arith)
+one_form words Tests Tests a b = refl
+one_form words Translates Translates a b = refl
+one_form words (Realises q i) (Realises r j) a b = let both = same_place words q i r j a b in ap (λ x. Realises x i) both.0 ∙ ap (λ x. Realises r x) both.1
+one_form words c d a b = absurd (same_name words c d a b)
 
 -- ---- one text, spelled by spellings that are the same
 
 alike : (s t : Spelling) → AreSame s t → AreAlike (circuit_of s) (circuit_of t)
 alike s t same = record { tables = ap (λ n. replicate n rotary) same.elements; targets = same.targets; sources = same.sources }
 
-targets-alike : (ws vs : List Wire) → ((from : Line) → target ws from ≡ target vs from) → (e : ℕ) → targets_of ws e ≡ targets_of vs e
-targets-alike ws vs same e =
-    let n = same (record { element = e; line = north }) in
-    let o = same (record { element = e; line = east }) in
-    let s = same (record { element = e; line = south }) in
-    let w = same (record { element = e; line = west }) in
-    rw (n, o, s, w) refl
-
-rows-alike : (ws vs : List Wire) → ((from : Line) → target ws from ≡ target vs from) → (e : ℕ) (qs : List ℕ) → element_sentences ws e qs ≡ element_sentences vs e qs
-rows-alike ws vs same e [] = refl
-rows-alike ws vs same e (q ∷ qs) =
-    ap (λ ts. Element e q ts ∷ element_sentences ws (suc e) qs) (targets-alike ws vs same e)
-    ∙ ap (λ rs. Element e q (targets_of vs e) ∷ rs) (rows-alike ws vs same (suc e) qs)
-
 -- the same circuit in the same configuration has the same text
 text-alike : (s t : Spelling) (c : Config) → AreSame s t → text_of (moved_to s c) ≡ text_of (moved_to t c)
-text-alike s t c same =
-    let build : ℕ → Line → Line → List Sentence → List ℕ = λ n a b rows. lines_text (Title ∷ Count n ∷ Start a ∷ End b ∷ sentences.Steps c.steps ∷ At c.place ∷ rows) in
-    let rows = element_sentences s.wires 0 c.states in
-    ap (λ n. build n s.start s.end rows) same.elements
-    ∙ ap (λ a. build t.elements a s.end rows) same.start
-    ∙ ap (λ b. build t.elements t.start b rows) same.end
-    ∙ ap (build t.elements t.start t.end) (rows-alike s.wires t.wires same.targets 0 c.states)
+text-alike s t c same = same_text (moved_to s c) (moved_to t c) same.elements same.targets refl same.start same.end
 
 -- ---- one reply
 
@@ -156,7 +148,7 @@ module _ (goes : Circuit → Config → Config) (tells : Circuit → Config → 
   one_circuit_reply : (bytes : List ℕ) (status other : Status) (text second : List ℕ) (told heard : List Place) → CircuitReplies goes tells bytes status text told → CircuitReplies goes tells bytes other second heard → AgreeInAll status other text second told heard
   one_circuit_reply bytes status other text second told heard a b = one_way bytes status other text second told heard (way bytes status text told a) (way bytes other second heard b)
 
-module _ (one : OneReading) where
+module _ (one : OneReading) (quads : OneQuadReading) (moves : OneMoveReading) (machines : OneMachine) (refusals : RefusalsAreOne) (sound : SoundMovesAreTaken) where
   one_reply : (request : Request) (bytes : List ℕ) (status other : Status) (text second : List ℕ) (told heard : List Place) → Replies request bytes status text told → Replies request bytes other second heard → AgreeInAll status other text second told heard
   one_reply (Steps e) bytes status other text second told heard a b = one_circuit_reply (λ k c. run k c e) (λ k c. places k e c) (λ k m same c. run-alike k m same c e) (λ k m same c. places-alike k m same e c) bytes status other text second told heard a b
   one_reply (Backs e) bytes status other text second told heard a b = one_circuit_reply (λ k c. back k c e) (λ k c. places_back k e c) (λ k m same c. back-alike k m same c e) (λ k m same c. places_back-alike k m same e c) bytes status other text second told heard a b
@@ -165,6 +157,15 @@ module _ (one : OneReading) where
       record { statuses = both.0; texts = both.1; places = a.1 ∙ sym b.1 }
   one_reply (Runs word n) bytes status other text second told heard a b =
       let both = machine_replies_once one word n bytes status other text second a.0 b.0 in
+      record { statuses = both.0; texts = both.1; places = a.1 ∙ sym b.1 }
+  one_reply Tests bytes status other text second told heard a b =
+      let both = reversible_replies_once quads bytes status other text second a.0 b.0 in
+      record { statuses = both.0; texts = both.1; places = a.1 ∙ sym b.1 }
+  one_reply Translates bytes status other text second told heard a b =
+      let both = standard_replies_once bennett_text one bytes status other text second a.0 b.0 in
+      record { statuses = both.0; texts = both.1; places = a.1 ∙ sym b.1 }
+  one_reply (Realises q i) bytes status other text second told heard a b =
+      let both = realise_replies_once moves machines refusals sound q i bytes status other text second a.0 b.0 in
       record { statuses = both.0; texts = both.1; places = a.1 ∙ sym b.1 }
 
   -- words and bytes have at most one answer

@@ -1,6 +1,6 @@
 -- `check` and `machine` have an answer to all bytes and words.
 use Rattle.std.proofs.Common.{◌≡◌, ◌≢◌, ℕ, zero, suc, ◌+◌, ◌<◌, ◌∷◌, ◌++◌, List, [], length, take, get_or, ◌⊎◌, inl, inr, refl, subst, ap, ◌∙◌, arith, Option, Some, None}
-use Rattle.std.specs.Prelude.{Contains, slice_get, codes, decimal}
+use Rattle.std.specs.Prelude.{◌↔◌, Contains, slice_get, codes, decimal}
 use Rattle.std.proofs.lemmas.Bool.Decides.{eqb_tells}
 use Rattle.std.proofs.Math.Seq.{take-length}
 use Rattle.bn_entries.specs.Entries.{entries_of}
@@ -10,10 +10,9 @@ use Rattle.bn_machine.specs.OutcomeLaws.{ending_exists}
 use Rattle.bn_table.specs.Faults.{fault_of}
 use Rattle.bn_table.specs.Reading.{Reads, ReadingOrFault}
 use Rattle.bn_table.specs.Rows.{Named, IsTable, blank}
-use Rattle.bn_table.specs.declared.refusal.TableRefusal.{TableRefusal}
 use Rattle.bn_standard.specs.VerdictLaws.{standard_accepted}
-use Rattle.bn_top.specs.TableReply.{ReadsStandard, TellsFault, TellsWhy, fault_line, why_line, line}
-use Rattle.bn_top.specs.CheckReply.{CheckReplies, standard_line}
+use Rattle.bn_top.specs.TableReply.{ReadsStandard, StandardReplies, StandardRepliesToAll, TellsFirst, TellsFault, TellsWhy, fault_line, why_line, line}
+use Rattle.bn_top.specs.CheckReply.{standard_line}
 use Rattle.bn_top.specs.MachineReply.{IsFirstForeign, IsLetterOf, IsSpelledBy, MachineReplies, halted_lines, running_line, stuck_line}
 use Rattle.bn_top.specs.Letters.{IsSymbolOf}
 use Rattle.bn_top.specs.ReplyLaws.{CheckRepliesToAll, MachineRepliesToAll, reads_table}
@@ -24,9 +23,24 @@ use Rattle.bn_top.proofs.StandardOrNot.{standard_or_not}
 
 -- ---- the table
 
-none_or_some : (o : Option TableRefusal) → (o ≡ None) ⊎ ((f : TableRefusal) × (o ≡ Some f))
+none_or_some : {F : Type 0} (o : Option F) → (o ≡ None) ⊎ ((f : F) × (o ≡ Some f))
 none_or_some None = inl refl
 none_or_some (Some f) = inr (f, refl)
+
+-- there is a reading, or the first fault is told
+pub read_or_told : {T F : Type 0} (R : T → Type 0) (found : Option F) (line_of : F → List ℕ) → (found ≡ None) ↔ ((t : T) × R t) → ((t : T) × R t) ⊎ ((text : List ℕ) × TellsFirst R found line_of text)
+read_or_told R found line_of law = elim (none_or_some found) [
+  | inl none ↦ inl (law.0 none)
+  | inr some ↦ inr (
+    line_of some.0,
+    record {
+      unread = λ t reads. let none : found ≡ None = law.1 (t, reads) in let there = some.1 in absurd (cc);
+      fault = some.0;
+      first = some.1;
+      told = refl;
+    },
+  )
+]
 
 -- the bytes have a fault, or a machine that isn't in standard form, or one that is
 data Opens (bytes : List ℕ) : Type 0 where
@@ -49,23 +63,21 @@ read_opens bytes t reads = elim (standard_or_not t.machine.quints) [
 ]
 
 opens : ReadingOrFault → (bytes : List ℕ) → Opens bytes
-opens law bytes = elim (none_or_some (fault_of (entries_of bytes))) [
-  | inl none ↦ let found = (law bytes).0 none in read_opens bytes found.0 found.1
-  | inr some ↦ faulty (fault_line some.0) (record {
-    unread = λ t reads. let none : fault_of (entries_of bytes) ≡ None = (law bytes).1 (t, reads) in let there = some.1 in absurd (cc);
-    fault = some.0;
-    first = some.1;
-    told = refl;
-  })
+opens law bytes = elim (read_or_told (Reads bytes) (fault_of (entries_of bytes)) fault_line (law bytes)) [
+  | inl found ↦ read_opens bytes found.0 found.1
+  | inr fault ↦ faulty fault.0 fault.1
 ]
 
-check_from : (bytes : List ℕ) → Opens bytes → (s : Status) × (text : List ℕ) × CheckReplies bytes s text
-check_from bytes (faulty text h) = (statuses.Text, text, h)
-check_from bytes (unfit text h) = (statuses.Machine, text, h)
-check_from bytes (fit t h) = (statuses.Done, standard_line t.machine, (t, h, refl))
+standard_from : (text_of : Named → List ℕ) (bytes : List ℕ) → Opens bytes → (s : Status) × (text : List ℕ) × StandardReplies text_of bytes s text
+standard_from text_of bytes (faulty text h) = (statuses.Text, text, h)
+standard_from text_of bytes (unfit text h) = (statuses.Machine, text, h)
+standard_from text_of bytes (fit t h) = (statuses.Done, text_of t, (t, h, refl))
+
+pub standard_replies_to_all : (text_of : Named → List ℕ) → ReadingOrFault → StandardRepliesToAll text_of
+standard_replies_to_all text_of law bytes = standard_from text_of bytes (opens law bytes)
 
 pub check_replies_to_all : ReadingOrFault → CheckRepliesToAll
-check_replies_to_all law bytes = check_from bytes (opens law bytes)
+check_replies_to_all law = standard_replies_to_all (λ t. standard_line t.machine) law
 
 -- ---- the word
 

@@ -2,10 +2,13 @@
 use Rattle.std.specs.Prelude.{◌≡◌, ℕ, ◌<◌, ◌≤◌, List, [], ◌∷◌, ◌++◌, length, codes}
 use Rattle.bn_theory.specs.Stepping.{run, back, places, places_back}
 use Rattle.bn_theory.specs.declared.place.Place.{Place}
-use Rattle.bn_top.specs.Words.{Request, Steps, Backs, Checks, Runs, HasForm, HasNoForm}
+use Rattle.bn_top.specs.Words.{Request, Steps, Backs, Checks, Runs, Tests, Translates, Realises, HasForm, HasNoForm}
 use Rattle.bn_top.specs.CircuitReply.{CircuitReplies}
 use Rattle.bn_top.specs.CheckReply.{CheckReplies}
 use Rattle.bn_top.specs.MachineReply.{MachineReplies}
+use Rattle.bn_top.specs.ReversibleReply.{ReversibleReplies}
+use Rattle.bn_top.specs.BennettReply.{BennettReplies}
+use Rattle.bn_top.specs.RealiseReply.{RealiseReplies}
 use Rattle.bn_top.specs.declared.status.Status.{Status}
 use Rattle.bn_top.specs.declared.status.Status.TheVariants.{Usage, Size}
 
@@ -29,6 +32,9 @@ Replies (Steps e) bytes status text told = CircuitReplies (λ k c. run k c e) (�
 Replies (Backs e) bytes status text told = CircuitReplies (λ k c. back k c e) (λ k c. places_back k e c) bytes status text told
 Replies Checks bytes status text told = CheckReplies bytes status text × (told ≡ [])
 Replies (Runs word n) bytes status text told = MachineReplies word n bytes status text × (told ≡ [])
+Replies Tests bytes status text told = ReversibleReplies bytes status text × (told ≡ [])
+Replies Translates bytes status text told = BennettReplies bytes status text × (told ≡ [])
+Replies (Realises q i) bytes status text told = RealiseReplies q i bytes status text × (told ≡ [])
 
 -- The answer, by the first cause that applies: the words ask for nothing; the input is too long; else what is answered to the request.
 pub data Answers (words : List (List ℕ)) (bytes : List ℕ) (status : Status) (text : List ℕ) (told : List Place) : Type 0 where

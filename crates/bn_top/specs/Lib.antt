@@ -6,6 +6,7 @@ pub mod TableReply
 pub mod Opened
 pub mod CheckReply
 pub mod MachineReply
+pub mod ReversibleReply
 pub mod Letters
 pub mod MachineRun
 pub mod Endings
@@ -14,3 +15,6 @@ pub mod Answers
 pub mod Replying
 pub mod Told
 pub mod OneAnswer
+pub mod RealiseReply
+pub mod Refused
+pub mod BennettReply

@@ -1,5 +1,5 @@
 -- Of some bytes, and of a word and a number of steps, `check` and `machine` answer one text with one status: the laws, and what they rest on.
-use Rattle.std.specs.Prelude.{◌≡◌, ◌≢◌, ℕ, ◌<◌, ◌≤◌, zero, suc, List, [], ◌∷◌, length, codes, decimal, slice_index, slice_get, Some, ◌⊎◌}
+use Rattle.std.specs.Prelude.{◌≡◌, ◌≢◌, ℕ, ◌<◌, ◌≤◌, zero, suc, List, [], ◌∷◌, length, codes, decimal, slice_index, slice_get, Option, Some, ◌⊎◌}
 use Rattle.std.proofs.Common.{refl, sym, subst, ap, ◌∙◌, arith, inl, inr, get_or}
 use Rattle.std.proofs.lemmas.Bool.{cases_lt}
 use Rattle.std.proofs.lemmas.Grind.{same_number_lists}
@@ -8,21 +8,23 @@ use Rattle.std.proofs.lemmas.Option.{slice_get-get_or, slice_get_within, get_or_
 use Rattle.bn_machine.specs.Machine.{nth}
 use Rattle.bn_machine.specs.Run.{Ending, HasEnding, Halted, Stuck, Running}
 use Rattle.bn_machine.specs.OutcomeLaws.{ending_once}
+use Rattle.bn_entries.specs.Entries.{entries_of}
+use Rattle.bn_table.specs.Faults.{fault_of}
 use Rattle.bn_table.specs.Reading.{Reads, OneReading}
 use Rattle.bn_table.specs.Rows.{Named, IsTable, IsTableOf, blank}
 use Rattle.bn_table.specs.RowsLaws.{blank_first, one_symbol}
 use Rattle.bn_standard.specs.Standard.{IsStandard}
 use Rattle.bn_standard.specs.Verdict.{IsRefusal}
 use Rattle.bn_standard.specs.VerdictLaws.{verdict_once}
-use Rattle.bn_top.specs.TableReply.{TellsFault, TellsWhy, ReadsStandard, fault_line, why_line, line}
-use Rattle.bn_top.specs.CheckReply.{CheckReplies, standard_line}
+use Rattle.bn_top.specs.TableReply.{StandardRepliesOnce, StandardRepliesToAll, TellsFirst, TellsFault, TellsWhy, ReadsStandard, fault_line, why_line, line}
+use Rattle.bn_top.specs.CheckReply.{standard_line}
 use Rattle.bn_top.specs.MachineReply.{ComesOut, IsFirstForeign, IsLetterOf, IsSpelledBy, MachineReplies, halted_lines, running_line, stuck_line}
 use Rattle.bn_top.specs.declared.status.Status.{Status}
 use Rattle.bn_top.specs.declared.status.Status.TheVariants as statuses
 
 -- `check` answers one text with one status to some bytes
 abbrev pub CheckRepliesOnce : Type 0
-CheckRepliesOnce = (bytes : List ℕ) (s u : Status) (a b : List ℕ) → CheckReplies bytes s a → CheckReplies bytes u b → (s ≡ u) × (a ≡ b)
+CheckRepliesOnce = StandardRepliesOnce (λ t. standard_line t.machine)
 
 -- `machine` answers one text with one status to a word, a number of steps and some bytes
 abbrev pub MachineRepliesOnce : Type 0
@@ -30,17 +32,21 @@ MachineRepliesOnce = (word : List ℕ) (n : ℕ) (bytes : List ℕ) (s u : Statu
 
 -- both have an answer to all bytes, words and numbers of steps
 abbrev pub CheckRepliesToAll : Type 0
-CheckRepliesToAll = (bytes : List ℕ) → (s : Status) × (text : List ℕ) × CheckReplies bytes s text
+CheckRepliesToAll = StandardRepliesToAll (λ t. standard_line t.machine)
 
 abbrev pub MachineRepliesToAll : Type 0
 MachineRepliesToAll = (word : List ℕ) (n : ℕ) (bytes : List ℕ) → (s : Status) × (text : List ℕ) × MachineReplies word n bytes s text
 
 -- ---- the refusals
 
-fault_once : (bytes a b : List ℕ) → TellsFault bytes a → TellsFault bytes b → a ≡ b
-fault_once bytes a b h k =
+-- of one first fault one text tells
+pub first_once : {T F : Type 0} (R : T → Type 0) (found : Option F) (line_of : F → List ℕ) (a b : List ℕ) → TellsFirst R found line_of a → TellsFirst R found line_of b → a ≡ b
+first_once R found line_of a b h k =
     let same : h.fault ≡ k.fault = cc (h.first, k.first) in
-    h.told ∙ ap fault_line same ∙ sym k.told
+    h.told ∙ ap line_of same ∙ sym k.told
+
+fault_once : (bytes a b : List ℕ) → TellsFault bytes a → TellsFault bytes b → a ≡ b
+fault_once bytes a b h k = first_once (Reads bytes) (fault_of (entries_of bytes)) fault_line a b h k
 
 why_once : OneReading → (bytes a b : List ℕ) → TellsWhy bytes a → TellsWhy bytes b → a ≡ b
 why_once one bytes a b h k =
@@ -52,30 +58,33 @@ not_both : OneReading → (bytes a : List ℕ) (t : Named) → TellsWhy bytes a 
 not_both one bytes a t h k =
     h.unfit (subst (λ (u : Named). IsStandard u.machine.quints) (one bytes t h.table k.reads h.reads) k.standard)
 
--- ---- `check`
+-- ---- a table with a machine in standard form
+
+pub standard_replies_once : (text_of : Named → List ℕ) → OneReading → StandardRepliesOnce text_of
+standard_replies_once text_of one bytes statuses.Text statuses.Text a b h k = (refl, fault_once bytes a b h k)
+standard_replies_once text_of one bytes statuses.Text statuses.Machine a b h k = absurd (h.unread k.table k.reads)
+standard_replies_once text_of one bytes statuses.Text statuses.Done a b h k = absurd (h.unread k.0 k.1.reads)
+standard_replies_once text_of one bytes statuses.Machine statuses.Text a b h k = absurd (k.unread h.table h.reads)
+standard_replies_once text_of one bytes statuses.Machine statuses.Machine a b h k = (refl, why_once one bytes a b h k)
+standard_replies_once text_of one bytes statuses.Machine statuses.Done a b h k = absurd (not_both one bytes a k.0 h k.1)
+standard_replies_once text_of one bytes statuses.Done statuses.Text a b h k = absurd (k.unread h.0 h.1.reads)
+standard_replies_once text_of one bytes statuses.Done statuses.Machine a b h k = absurd (not_both one bytes b h.0 k h.1)
+standard_replies_once text_of one bytes statuses.Done statuses.Done a b h k =
+    let tables : h.0 ≡ k.0 = one bytes h.0 k.0 h.1.reads k.1.reads in
+    (refl, h.2 ∙ ap text_of tables ∙ sym k.2)
+standard_replies_once text_of one bytes s statuses.Usage a b h k = absurd k
+standard_replies_once text_of one bytes s statuses.Word a b h k = absurd k
+standard_replies_once text_of one bytes s statuses.Size a b h k = absurd k
+standard_replies_once text_of one bytes s statuses.ReadFault a b h k = absurd k
+standard_replies_once text_of one bytes s statuses.WriteFault a b h k = absurd k
+standard_replies_once text_of one bytes s statuses.NoMemory a b h k = absurd k
+standard_replies_once text_of one bytes s statuses.Stuck a b h k = absurd k
+standard_replies_once text_of one bytes s statuses.Window a b h k = absurd k
+standard_replies_once text_of one bytes s statuses.Inside a b h k = absurd k
+standard_replies_once text_of one bytes s u a b h k = absurd h
 
 pub check_replies_once : OneReading → CheckRepliesOnce
-check_replies_once one bytes statuses.Text statuses.Text a b h k = (refl, fault_once bytes a b h k)
-check_replies_once one bytes statuses.Text statuses.Machine a b h k = absurd (h.unread k.table k.reads)
-check_replies_once one bytes statuses.Text statuses.Done a b h k = absurd (h.unread k.0 k.1.reads)
-check_replies_once one bytes statuses.Machine statuses.Text a b h k = absurd (k.unread h.table h.reads)
-check_replies_once one bytes statuses.Machine statuses.Machine a b h k = (refl, why_once one bytes a b h k)
-check_replies_once one bytes statuses.Machine statuses.Done a b h k = absurd (not_both one bytes a k.0 h k.1)
-check_replies_once one bytes statuses.Done statuses.Text a b h k = absurd (k.unread h.0 h.1.reads)
-check_replies_once one bytes statuses.Done statuses.Machine a b h k = absurd (not_both one bytes b h.0 k h.1)
-check_replies_once one bytes statuses.Done statuses.Done a b h k =
-    let tables : h.0 ≡ k.0 = one bytes h.0 k.0 h.1.reads k.1.reads in
-    (refl, h.2 ∙ ap (λ (t : Named). standard_line t.machine) tables ∙ sym k.2)
-check_replies_once one bytes s statuses.Usage a b h k = absurd k
-check_replies_once one bytes s statuses.Word a b h k = absurd k
-check_replies_once one bytes s statuses.Size a b h k = absurd k
-check_replies_once one bytes s statuses.ReadFault a b h k = absurd k
-check_replies_once one bytes s statuses.WriteFault a b h k = absurd k
-check_replies_once one bytes s statuses.NoMemory a b h k = absurd k
-check_replies_once one bytes s statuses.Stuck a b h k = absurd k
-check_replies_once one bytes s statuses.Window a b h k = absurd k
-check_replies_once one bytes s statuses.Inside a b h k = absurd k
-check_replies_once one bytes s u a b h k = absurd h
+check_replies_once one = standard_replies_once (λ t. standard_line t.machine) one
 
 -- ---- the word
 

@@ -9,6 +9,15 @@ pub(crate) enum Command<'a> {
     Back(u64),
     /// The verdict on standard form.
     Check,
+    /// The table of Bennett's reversible machine.
+    Bennett,
+    /// The text of a bank of rotary elements.
+    Realise {
+        /// The state that it is in, counted from 1.
+        state: u32,
+        /// The input line that the signal enters, counted from 1.
+        line: u32,
+    },
     /// A machine's own run.
     Machine {
         /// The letters of its word.
@@ -16,4 +25,6 @@ pub(crate) enum Command<'a> {
         /// How many steps it makes at most.
         steps: u32,
     },
+    /// The two verdicts on quadruples.
+    Reversible,
 }

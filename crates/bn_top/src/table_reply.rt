@@ -1,7 +1,7 @@
 //! The answers of the commands that take a table in standard form, where there is none.
 
 ghost use Rattle.std.specs.Prelude.{◌≡◌, ◌≢◌, IfOk, MatchOption};
-ghost use Rattle.bn_top.specs.TableReply.{fault_line, why_line};
+ghost use Rattle.bn_top.specs.TableReply.{empty_line, fault_line, field_line, record_line, why_line};
 ghost use Rattle.bn_top.specs.Opened.{IsOpened, IsJudged};
 ghost use Rattle.bn_standard.specs.Standard.{IsStandard};
 ghost use Rattle.bn_standard.specs.Verdict.{IsRefusal};
@@ -15,27 +15,43 @@ use bn_standard::{Why, check};
 use bn_table::{Table, TableRefusal, bytes_have_a_reading_or_a_fault, read_quints};
 use std::alloc::Global;
 
+// The line of a fault of a table's record as a whole.
+pub(crate) fn record_text(alloc: Global, entry: u32, what: &str) -> Result<Vec<u8>, NoMemory>
+    ensures { IfOk result (λ text. text.items ≡ record_line entry what.now) }
+{
+    Ok(format!(in alloc; "text: record {entry} {what}\n")?.into_bytes())
+}
+
+// The line of a fault of a field of a table's record.
+pub(crate) fn field_text(
+    alloc: Global,
+    entry: u32,
+    field: u32,
+    what: &str,
+) -> Result<Vec<u8>, NoMemory>
+    ensures { IfOk result (λ text. text.items ≡ field_line entry field what.now) }
+{
+    Ok(format!(in alloc; "text: record {entry} field {field} {what}\n")?.into_bytes())
+}
+
+// The line of a table with no record.
+pub(crate) fn empty_text(alloc: Global) -> Result<Vec<u8>, NoMemory>
+    ensures { IfOk result (λ text. text.items ≡ empty_line) }
+{
+    Ok(format!(in alloc; "text: empty\n")?.into_bytes())
+}
+
 // The line of a fault of the bytes.
 pub(crate) fn fault_text(alloc: Global, refusal: TableRefusal) -> Result<Vec<u8>, NoMemory>
     ensures { IfOk result (λ text. (refusal ≢ faults.NoMemory) × (text.items ≡ fault_line refusal)) }
 {
     match refusal {
-        TableRefusal::FieldCount { entry } => Ok(format!(in alloc;
-            "text: record {entry} fields\n"
-        )?.into_bytes()),
-        TableRefusal::Name { entry, field } => Ok(format!(in alloc;
-            "text: record {entry} field {field} name\n"
-        )?.into_bytes()),
-        TableRefusal::Symbol { entry, field } => Ok(format!(in alloc;
-            "text: record {entry} field {field} symbol\n"
-        )?.into_bytes()),
-        TableRefusal::Shift { entry } => Ok(format!(in alloc;
-            "text: record {entry} field 4 shift\n"
-        )?.into_bytes()),
-        TableRefusal::TooMany { entry } => Ok(format!(in alloc;
-            "text: record {entry} too many\n"
-        )?.into_bytes()),
-        TableRefusal::Empty => Ok(format!(in alloc; "text: empty\n")?.into_bytes()),
+        TableRefusal::FieldCount { entry } => record_text(alloc, entry, "fields"),
+        TableRefusal::Name { entry, field } => field_text(alloc, entry, field, "name"),
+        TableRefusal::Symbol { entry, field } => field_text(alloc, entry, field, "symbol"),
+        TableRefusal::Shift { entry } => field_text(alloc, entry, 4, "shift"),
+        TableRefusal::TooMany { entry } => record_text(alloc, entry, "too many"),
+        TableRefusal::Empty => empty_text(alloc),
         TableRefusal::NoMemory => Err(NoMemory),
     }
 }

@@ -12,12 +12,15 @@ ghost use Rattle.bn_top.specs.Replying.{IsReplied, IsUnfinished};
 ghost use Rattle.bn_top.specs.Told.{IsAnswered, IsBegun, IsBroken, UsageEnds, IsReadFaultCut, GaveMore, AnswerEnds};
 
 use crate::asking::command_of;
+use crate::bennett::reply_bennett;
 use crate::check::reply_check;
 use crate::command::Command;
 use crate::config::{reply_back, reply_step};
 use crate::finish::finish;
 use crate::machine::reply_machine;
+use crate::realise::reply_realise;
 use crate::reply::{NoMemory, Reply};
+use crate::reversible::reply_reversible;
 use crate::status::Status;
 use bn_io::{ReadRefusal, Sink, Source, read_all};
 use bn_net::Watch;
@@ -107,5 +110,8 @@ fn reply_to<W: Watch>(
         Command::Back(count) => reply_back(alloc, count, bytes, watch),
         Command::Check => reply_check(alloc, bytes),
         Command::Machine { word, steps } => reply_machine(alloc, word, steps, bytes),
+        Command::Reversible => reply_reversible(alloc, bytes),
+        Command::Bennett => reply_bennett(alloc, bytes),
+        Command::Realise { state, line } => reply_realise(alloc, state, line, bytes),
     }
 }

@@ -1,0 +1,71 @@
+//! `reversible` on tables of quadruples.
+
+use crate::desk::answer;
+use bn_top::Status;
+use std::test::Fail;
+
+/// Bennett's list for the machine that goes one cell to the right and stops.
+const BENNETT: &str = "A1,_,/,_,_,+,_,A1'\nA1',/,_,/,+,1,0,A2\nA2,_,/,_,_,+,_,A2'\n\
+                       A2',/,_,/,0,2,0,A3\nA3,_,2,_,_,2,_,B1'\nB1',/,/,/,+,0,+,B1\n\
+                       B1,_,2,_,_,2,_,B2'\nB2',/,/,/,-,0,-,B2\nB2,_,2,_,_,2,_,C3\n\
+                       C3,/,2,/,0,_,0,C2'\nC2',_,/,_,_,-,_,C2\nC2,/,1,/,-,_,0,C1'\n\
+                       C1',_,/,_,_,-,_,C1\n";
+
+#[test]
+fn tells_whether_quadruples_overlap(rt: HostRuntime) -> Result<(), Fail> {
+    let rows = [
+        // They read different tapes.
+        (
+            "A,_,/,/,_,0,0,B\nA,/,_,/,0,_,0,C\n",
+            "deterministic no 1 2\nreversible yes\n",
+        ),
+        // One shifts the tape that the other writes.
+        (
+            "A,/,_,/,+,1,0,B\nC,_,_,/,_,1,+,B\n",
+            "deterministic yes\nreversible no 1 2\n",
+        ),
+        // Both shift tapes 1 and 3, and write the same symbol, and then different ones, on tape 2.
+        (
+            "A,/,_,/,+,1,0,B\nC,/,_,/,0,1,+,B\n",
+            "deterministic yes\nreversible no 1 2\n",
+        ),
+        (
+            "A,/,_,/,+,1,0,B\nC,/,_,/,0,2,+,B\n",
+            "deterministic yes\nreversible yes\n",
+        ),
+        // The second overlaps with the third and the fourth.
+        (
+            "S,_,_,_,_,_,_,A\nA,1,_,_,1,_,_,B\nA,1,_,_,2,_,_,B\nA,1,/,_,1,0,_,B\n",
+            "deterministic no 2 3\nreversible no 2 4\n",
+        ),
+        (BENNETT, "deterministic yes\nreversible yes\n"),
+    ];
+    for (input, output) in rows {
+        let answer = answer(rt.alloc(), &["reversible"], input.as_bytes())?;
+        assert_eq!(rt; answer.text.as_slice(), output.as_bytes(), "{input}");
+        assert_eq!(rt; answer.status, Status::Done, "{input}");
+    }
+    Ok(())
+}
+
+#[test]
+fn refuses_a_table_of_quadruples_at_its_first_fault(rt: HostRuntime) -> Result<(), Fail> {
+    let rows = [
+        ("", "text: empty\n"),
+        ("A,_,/,/,_,0,0\n", "text: record 1 fields\n"),
+        ("A_,_,/,/,_,0,0,B\n", "text: record 1 field 1 name\n"),
+        (
+            "A,_,/,/,_,0,0,B\nB,//,/,/,0,0,0,C\n",
+            "text: record 2 field 2 symbol\n",
+        ),
+        ("A,_,/,/,/,0,0,B\n", "text: record 1 field 5 symbol\n"),
+        ("A,_,/,/,_,1,0,B\n", "text: record 1 field 6 shift\n"),
+        ("A,_,/,/,_,0,0,\n", "text: record 1 field 8 name\n"),
+    ];
+    for (input, output) in rows {
+        let answer = answer(rt.alloc(), &["reversible"], input.as_bytes())?;
+        assert_eq!(rt; answer.text.as_slice(), output.as_bytes(), "{input}");
+        assert_eq!(rt; answer.status.code(), 3, "{input}");
+    }
+    Ok(())
+}
