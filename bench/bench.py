@@ -1,5 +1,5 @@
 #!/usr/bin/env python3
-"""Times the program on circuits that this script writes. It proves nothing and is no part of rt ci.
+"""Times the program on circuits and tables that this script writes. It proves nothing and is no part of rt ci.
 
 Usage: bench/bench.py [PROGRAM]
 PROGRAM is the built program; without it the script takes crates/bn_main/out/bn_main, which
@@ -7,9 +7,9 @@ PROGRAM is the built program; without it the script takes crates/bn_main/out/bn_
 """
 import os
 import random
-import resource
 import subprocess
 import sys
+import tempfile
 import time
 
 TOP = os.path.dirname(os.path.dirname(os.path.abspath(__file__)))
@@ -32,21 +32,64 @@ def ring(order):
     return ("\n".join(lines) + "\n").encode()
 
 
+def quadruples(state, symbols, following):
+    """A table of 20,000 quadruples of which no two overlap, each with these fields by its number."""
+    entries = []
+    for number in range(20000):
+        reads = symbols(number)
+        acts = ["0" if read == "/" else read for read in reads]
+        entries.append(",".join([state(number), *reads, *acts, following(number)]))
+    return ("\n".join(entries) + "\n").encode()
+
+
+def time_quadruples(program):
+    """Both tests of 20,000 quadruples: all pairs are compared, on one tape or on all three."""
+    tables = {
+        "each of its own state": quadruples(lambda n: f"a{n}", lambda n: ["_", "/", "/"], lambda n: f"b{n}"),
+        "of one state, apart on tape 1": quadruples(lambda n: "A", lambda n: [f"{n}", "/", "/"], lambda n: "B"),
+        "of one state, apart on tape 3": quadruples(lambda n: "A", lambda n: ["_", "_", f"{n}"], lambda n: "B"),
+        "of 100 states, apart on tape 3": quadruples(
+            lambda n: f"A{n % 100}", lambda n: ["_", "_", f"{n}"], lambda n: f"B{n % 100}"),
+    }
+    for name, table in tables.items():
+        seconds, _, verdicts = timed(program, ["reversible"], table)
+        assert verdicts == b"deterministic yes\nreversible yes\n"
+        print(f"20,000 quadruples, {name}: {seconds:.2f} s for both tests")
+
+
+def time_bank(program):
+    """A machine of 65,536 moves with 1,024 states and 1,023 lines: its bank has 1,048,576 elements."""
+    moves = [(n % 1024 + 1, n // 1024 + 1, 1024 - n % 1024, 64 - n // 1024) for n in range(65535)]
+    moves.append((1024, 1023, 1024, 1023))
+    table = "".join(f"{q},{i},{to},{out}\n" for q, i, to, out in moves).encode()
+    seconds, memory, text = timed(program, ["realise", "1", "1"], table)
+    assert text.startswith(f"rotary 1\nelements {RING}\n".encode())
+    print(f"bank of {RING} elements, realise: {seconds:.2f} s, peak {memory / RING:.0f} bytes an element")
+
+
 def timed(program, words, text):
     """Seconds, peak memory in bytes, and the output of one run."""
-    begin = time.perf_counter()
-    child = subprocess.Popen([program, *words], stdin=subprocess.PIPE, stdout=subprocess.PIPE)
-    out, _ = child.communicate(text)
-    seconds = time.perf_counter() - begin
+    with tempfile.TemporaryFile() as source, tempfile.TemporaryFile() as sink:
+        source.write(text)
+        source.seek(0)
+        begin = time.perf_counter()
+        child = subprocess.Popen([program, *words], stdin=source, stdout=sink)
+        _, status, usage = os.wait4(child.pid, 0)
+        seconds = time.perf_counter() - begin
+        child.returncode = os.waitstatus_to_exitcode(status)
+        sink.seek(0)
+        out = sink.read()
     if child.returncode != 0:
         sys.exit(f"{' '.join(words)}: status {child.returncode}: {out[:80]!r}")
-    return seconds, resource.getrusage(resource.RUSAGE_CHILDREN).ru_maxrss * 1024, out
+    return seconds, usage.ru_maxrss * 1024, out
 
 
 def main():
     program = sys.argv[1] if len(sys.argv) > 1 else os.path.join(TOP, "crates/bn_main/out/bn_main")
     if not os.path.exists(program):
         sys.exit("build the program first: cd crates/bn_main && rt run")
+    time_quadruples(program)
+    time_bank(program)
     small = one_element()
     base, _, _ = timed(program, ["step", "0"], small)
     count = 400_000_000
