@@ -18,10 +18,10 @@ use Rattle.bn_base.specs.Number.{greatest, digits_at, HasLeadingZero, IsTooLarge
 own : IsNumeralModel AreDigits (digits_value 10)
 own = numerals_by_value AreDigits tells_by_index
 
-digit_is : (byte : ℕ) → is_ascii_digit byte ≡ true → IsAsciiDigit byte
+pub digit_is : (byte : ℕ) → is_ascii_digit byte ≡ true → IsAsciiDigit byte
 digit_is byte h = grind (arith, nat_tests)
 
-digit_test : (byte : ℕ) → IsAsciiDigit byte → is_ascii_digit byte ≡ true
+pub digit_test : (byte : ℕ) → IsAsciiDigit byte → is_ascii_digit byte ≡ true
 digit_test byte h = grind (arith, nat_tests)
 
 -- the run at the front is made of digits

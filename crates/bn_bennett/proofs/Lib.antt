@@ -10,3 +10,4 @@ pub mod Printable
 pub mod SameNames
 pub mod Tables
 pub mod Texts
+pub mod ThereLemmas

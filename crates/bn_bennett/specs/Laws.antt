@@ -19,6 +19,10 @@ use Rattle.bn_bennett.specs.Runs.{CallsEndAs, MachineEndsAs, Runs, ending_of}
 abbrev pub TranslationsAreOne : Type 0
 TranslationsAreOne = (p : Program) (t u : Translation) → IsTranslation p t → IsTranslation p u → t ≡ u
 
+-- and a machine in standard form within the limits of tables has one
+abbrev pub TranslationsAreThere : Type 0
+TranslationsAreThere = (p : Program) → IsStandardMachine p → FitsTable p → (t : Translation) × IsTranslation p t
+
 -- the machine of a translation is deterministic, reversible and uniform; its initial state is the first quintuple's state in compute and its final state the same in retrace; no two of its states have one name
 abbrev pub TranslationsAreUniform : Type 0
 TranslationsAreUniform =

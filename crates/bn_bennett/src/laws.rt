@@ -1,5 +1,5 @@
 //! Laws on the machine of a translation. Each function only names the laws below it; its contract is the law.
-ghost use Rattle.bn_bennett.specs.Laws.{CallsEndAlike, TranslationsAreOne, TranslationsAreTables, TranslationsAreUniform, TranslationsEndAlike, TranslationsHaltAlike, TranslationsHaveNames, TranslationsStand};
+ghost use Rattle.bn_bennett.specs.Laws.{CallsEndAlike, TranslationsAreOne, TranslationsAreTables, TranslationsAreThere, TranslationsAreUniform, TranslationsEndAlike, TranslationsHaltAlike, TranslationsHaveNames, TranslationsStand};
 
 use bn_stages::{
     bennetts_theorem, bounded_runs_agree, bounded_runs_are_short, every_moment_stands,
@@ -10,6 +10,14 @@ use bn_stages::{
 pub fn translations_are_one()
     ensures { TranslationsAreOne }
 {}
+
+/// A machine in standard form within the limits of tables has a translation.
+pub fn translations_are_there()
+    ensures { TranslationsAreThere }
+{
+    list_is_in_range();
+    list_has_length();
+}
 
 /// The machine of a translation is deterministic, reversible and uniform, and it begins and ends in
 /// the states of those names.

@@ -10,8 +10,9 @@ mod translated;
 
 pub use bn_quad::NoMemory;
 pub use laws::{
-    calls_end_alike, translations_are_one, translations_are_tables, translations_are_uniform,
-    translations_end_alike, translations_halt_alike, translations_have_names, translations_stand,
+    calls_end_alike, translations_are_one, translations_are_tables, translations_are_there,
+    translations_are_uniform, translations_end_alike, translations_halt_alike,
+    translations_have_names, translations_stand,
 };
 pub use naming::names;
 pub use translated::{MachineState, Stage, Translated, translate};

@@ -18,7 +18,7 @@ at_place s p n = record { states = s; place = p; steps = n }
 
 -- ---- lists of states
 
-set_same : (s : List ℕ) (e v : ℕ) → slice_get s e ≡ Some v → slice_set s e v ≡ s
+pub set_same : (s : List ℕ) (e v : ℕ) → slice_get s e ≡ Some v → slice_set s e v ≡ s
 set_same [] e v h = refl
 set_same (x ∷ s) zero v h = ap (λ y. y ∷ s) (cc)
 set_same (x ∷ s) (suc e) v h = ap (λ t. x ∷ t) (set_same s e v h)

@@ -29,7 +29,7 @@ pub record AreFitting (count : ℕ) (ws : List Wire) : Type 0 where
   pub fits : (n : ℕ) (w : Wire) → slice_get ws n ≡ Some w → (w.from.element < count) × (w.from.line < 4) × (w.to.element < count) × (w.to.line < 4)
 
 -- two lines are one, or they are not
-line_tells : (a b : Line) → ((same_line a b ≡ true) × (a ≡ b)) ⊎ ((same_line a b ≡ false) × (a ≢ b))
+pub line_tells : (a b : Line) → ((same_line a b ≡ true) × (a ≡ b)) ⊎ ((same_line a b ≡ false) × (a ≢ b))
 line_tells a b =
     elim (eqb_tells a.element b.element) [
       | inl first ↦
@@ -215,13 +215,13 @@ some_source (v ∷ ws) (suc n) w h none =
       | inr there ↦ some_source ws n w h (rw there.0 at none)
     ]
 
-earlier_target : (ws : List Wire) (n : ℕ) (w : Wire) → AreApart ws → slice_get ws n ≡ Some w → target (take n ws) w.from ≡ None
+pub earlier_target : (ws : List Wire) (n : ℕ) (w : Wire) → AreApart ws → slice_get ws n ≡ Some w → target (take n ws) w.from ≡ None
 earlier_target [] n w apart h = absurd (cc)
 earlier_target (v ∷ ws) zero w apart h = refl
 earlier_target (v ∷ ws) (suc n) w apart h =
     target-skip v (take n ws) w.from (λ same. some_target ws n w h (let none : target ws v.from ≡ None = apart.0 in rw same at none)) ∙ earlier_target ws n w apart.2 h
 
-earlier_source : (ws : List Wire) (n : ℕ) (w : Wire) → AreApart ws → slice_get ws n ≡ Some w → source (take n ws) w.to ≡ None
+pub earlier_source : (ws : List Wire) (n : ℕ) (w : Wire) → AreApart ws → slice_get ws n ≡ Some w → source (take n ws) w.to ≡ None
 earlier_source [] n w apart h = absurd (cc)
 earlier_source (v ∷ ws) zero w apart h = refl
 earlier_source (v ∷ ws) (suc n) w apart h =

@@ -2,7 +2,7 @@
 use Rattle.std.specs.Prelude.{◌≡◌, ℕ, ◌≤◌, ℤ, pos, ◌≤ℤ◌, List, length, take}
 use Rattle.bn_theory.specs.Runs.{Reaches, IsFunction}
 use Rattle.bn_machine.specs.Tape.{Tape, cell, letter_at}
-use Rattle.bn_machine.specs.Window.{Room, anywhere, within, IsBetween, Windowed}
+use Rattle.bn_machine.specs.Window.{window_of, Room, anywhere, within, IsBetween, Windowed}
 use Rattle.bn_machine.specs.Machine.{Program, Moment, Goes, IsFinal, IsStuck}
 use Rattle.bn_machine.specs.MachineCalls.{IsTurn}
 use Rattle.bn_machine.specs.Run.{After, AfterWithin, Follows, IsOutput, Ending, HasEnding}
@@ -65,3 +65,9 @@ abbrev pub HasOneOutcome : Type 0
 HasOneOutcome =
     ((p : Program) (word : List ℕ) (l : Limits) → (i : ℕ) × (o : Outcome) × HasOutcome p word l i o)
     × ((p : Program) (word : List ℕ) (l : Limits) (i j : ℕ) (o q : Outcome) → HasOutcome p word l i o → HasOutcome p word l j q → (i ≡ j) × (o ≡ q))
+
+-- a window of cells shows a tape in one way: one list of cells, and one cell for the head
+abbrev pub WindowsHaveOneList : Type 0
+WindowsHaveOneList =
+    (left right : ℕ) (xs ys : List ℕ) (a b : ℕ) → length xs ≡ length ys
+    → (window_of left right xs a).tape ≡ (window_of left right ys b).tape → (xs ≡ ys) × (a ≡ b)

@@ -1,5 +1,5 @@
 //! Laws on tapes, steps and runs. Each function does nothing; its contract is the law.
-ghost use Rattle.bn_machine.specs.Laws.{AlikeMomentsEndAlike, CutWordsRunAlike, HasOneEnding, HasOneOutcome, HasOneOutput, HeadsStayNear, RoomsChangeNothing, RunsHaveHistories, StepsAreFunctions, TapesAreTheirSymbols, TurnsAreOne, WordsStandFar};
+ghost use Rattle.bn_machine.specs.Laws.{AlikeMomentsEndAlike, CutWordsRunAlike, HasOneEnding, HasOneOutcome, HasOneOutput, HeadsStayNear, RoomsChangeNothing, RunsHaveHistories, StepsAreFunctions, TapesAreTheirSymbols, TurnsAreOne, WindowsHaveOneList, WordsStandFar};
 
 /// Tapes with the same symbols and the same head are the same.
 pub fn tapes_are_their_symbols()
@@ -60,4 +60,9 @@ pub fn ending_is_one()
 /// A bounded run within limits comes out in one way, and only in one.
 pub fn outcome_is_one()
     ensures { HasOneOutcome }
+{}
+
+/// A window of cells shows a tape in one way.
+pub fn windows_have_one_list()
+    ensures { WindowsHaveOneList }
 {}

@@ -53,7 +53,7 @@ resting-bars n k q e v has =
           omega arith)
     ]
 
-resting-IsResting : (n k q : ℕ) → q < n → IsResting (resting n k q) 0 n k (Some q)
+pub resting-IsResting : (n k q : ℕ) → q < n → IsResting (resting n k q) 0 n k (Some q)
 resting-IsResting n k q state = record { columns = λ j there. record { rows = rows j there; bottom = bottom j there } }
   where
     place : (j x : ℕ) → j < n → x ≤ k → column_at 0 k j + x < n * (k + 1)
@@ -121,7 +121,7 @@ none_of : (o : Option Line) → ((to : Line) → o ≡ Some to → ⊥) → o �
 none_of None h = refl
 none_of (Some to) h = absurd (h to refl)
 
-stuck_outside : (k : Circuit) (d : Config) (e l : ℕ) → d.place ≡ Left e l → IsStuck k d
+pub stuck_outside : (k : Circuit) (d : Config) (e l : ℕ) → d.place ≡ Left e l → IsStuck k d
 stuck_outside k d e l left x goes = (let enters = goes.enters in cc)
 
 pub bank_ran : (net : Parts Rotary) (t : Table) (q i made : ℕ) (c end : Config) → IsReversible t → t.outputs ≡ t.inputs → IsBankNet net t → IsBankEntering 0 t q i c → c.steps + table_cost t q i ≤ clock → end ≡ run (rotary_circuit net) c clock → Reaches (Goes (rotary_circuit net)) made c end → IsMove (rotary_circuit net) 0 t q i made c end

@@ -21,7 +21,7 @@ use Rattle.bn_realise.specs.Banks.{column_at, bottom_at, IsBankWire, inner, alon
 abbrev at_place : List ℕ → Place → ℕ → Config
 at_place s p n = record { states = s; place = p; steps = n }
 
-set_same : (s : List ℕ) (e v : ℕ) → slice_get s e ≡ Some v → slice_set s e v ≡ s
+pub set_same : (s : List ℕ) (e v : ℕ) → slice_get s e ≡ Some v → slice_set s e v ≡ s
 set_same [] e v h = refl
 set_same (x ∷ s) zero v h = ap (λ y. y ∷ s) (cc)
 set_same (x ∷ s) (suc e) v h = ap (λ r. x ∷ r) (set_same s e v h)

@@ -3,3 +3,4 @@ pub mod Faults
 pub mod Costs
 pub mod Pairs
 pub mod Laws
+pub mod RunCosts

@@ -5,3 +5,4 @@ pub mod Letters
 pub mod Passing
 pub mod ReadingLaws
 pub mod Writing
+pub mod MachineLemmas

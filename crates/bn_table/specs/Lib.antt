@@ -5,3 +5,4 @@ pub mod Fields
 pub mod Rows
 pub mod RowsLaws
 pub mod Reading
+pub mod Laws

@@ -11,7 +11,9 @@ mod table;
 mod tests;
 mod text;
 
-pub use crate::laws::{bytes_have_a_reading_or_a_fault, bytes_have_one_reading};
+pub use crate::laws::{
+    bytes_have_a_reading_or_a_fault, bytes_have_one_reading, tables_are_machines,
+};
 pub use crate::refusal::TableRefusal;
 pub use crate::table::Table;
 pub use crate::text::{read_quints, write_quints};

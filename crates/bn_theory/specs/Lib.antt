@@ -4,3 +4,7 @@ pub mod Circuits
 pub mod Stepping
 pub mod Laws
 pub mod RunLaws
+pub mod RunParts
+pub mod Situations
+pub mod Counting
+pub mod Alike

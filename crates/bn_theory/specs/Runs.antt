@@ -22,11 +22,11 @@ Passes {S} step test (suc n) c d = (m : S) × step c m × Before n (test m ≡ t
 abbrev pub IsFunction : {S : Type 0} → (S → S → Type 0) → Type 0
 IsFunction {S} step = (c d e : S) → step c d → step c e → d ≡ e
 
-before_by : (n : ℕ) (P : Type 0) → (0 < n → P) → Before n P
+pub before_by : (n : ℕ) (P : Type 0) → (0 < n → P) → Before n P
 before_by zero P h = tt
 before_by (suc n) P h = h (omega arith)
 
-before_gives : (n : ℕ) (P : Type 0) → 0 < n → Before n P → P
+pub before_gives : (n : ℕ) (P : Type 0) → 0 < n → Before n P → P
 before_gives zero P h b = absurd (omega arith)
 before_gives (suc n) P h b = b
 

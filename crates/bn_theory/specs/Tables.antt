@@ -50,7 +50,7 @@ AreWithin states inputs outputs (m ∷ ms) = (m.state < states) × (m.input < in
 abbrev pub table_by : ℕ → ℕ → ℕ → List Move → Table
 table_by states inputs outputs ms = record { states = states; inputs = inputs; outputs = outputs; go = go_by ms; back = back_by ms }
 
-pair_tells : (a b c d : ℕ) → (((a == c && b == d) ≡ true) × (a ≡ c) × (b ≡ d)) ⊎ (((a == c && b == d) ≡ false) × ((a ≡ c) → (b ≡ d) → ⊥))
+pub pair_tells : (a b c d : ℕ) → (((a == c && b == d) ≡ true) × (a ≡ c) × (b ≡ d)) ⊎ (((a == c && b == d) ≡ false) × ((a ≡ c) → (b ≡ d) → ⊥))
 pair_tells a b c d =
     elim (eqb_tells a c) [
       | inl first ↦

@@ -7,6 +7,10 @@ ghost use Rattle.bn_theory.specs.Circuits.{Circuit, IsCircuit, IsConfig, Goes, I
 ghost use Rattle.bn_theory.specs.Stepping.{next, previous, run, back};
 ghost use Rattle.bn_theory.specs.RunLaws.{Makes};
 ghost use Rattle.bn_theory.specs.declared.config.Config.{Config};
+ghost use Rattle.bn_theory.specs.RunParts.{RunsUndoInPart, PathsPassBetween, PlacesAreThoseOfRuns};
+ghost use Rattle.bn_theory.specs.Situations.{StepsAreCounted, PathsAreCounted};
+ghost use Rattle.bn_theory.specs.Counting.{TalliesAdd};
+ghost use Rattle.bn_theory.specs.Alike.{AlikeRunAlike, TablesAreOne, ConsistentMovesAreReversible};
 
 /// One configuration at most follows another, and in a circuit one at most comes before: this is
 /// why a step can be undone.
@@ -48,4 +52,49 @@ pub fn runs_are_functions()
 pub fn runs_undo()
     ensures undone { (k : Circuit) → IsCircuit k → (n : ℕ) (c d : Config) → Reaches (Goes k) n c d → back k d n ≡ c }
     ensures stops { (k : Circuit) → IsCircuit k → (n t : ℕ) (c d : Config) → IsConfig k c → Reaches (Goes k) n c d → n ≤ t → (n < t → IsFirst k c) → back k d t ≡ c }
+{}
+
+/// A run taken back in part is a shorter run.
+pub fn runs_undo_in_part()
+    ensures { RunsUndoInPart }
+{}
+
+/// Of a path, what stands strictly between its ends passes the path's test.
+pub fn paths_pass_between()
+    ensures { PathsPassBetween }
+{}
+
+/// The places told of a run are the places of its configurations, as many as steps can be made.
+pub fn places_are_those_of_runs()
+    ensures { PlacesAreThoseOfRuns }
+{}
+
+/// A counted step is a step within the clock.
+pub fn steps_are_counted()
+    ensures { StepsAreCounted }
+{}
+
+/// A path is a counted path, where the clock has room.
+pub fn paths_are_counted()
+    ensures { PathsAreCounted }
+{}
+
+/// Counts along a run add up.
+pub fn tallies_add()
+    ensures { TalliesAdd }
+{}
+
+/// Circuits with the same tables and the same wires, in whatever order, run alike.
+pub fn alike_run_alike()
+    ensures { AlikeRunAlike }
+{}
+
+/// Reversible tables with the same numbers and the same moves are one table.
+pub fn tables_are_one()
+    ensures { TablesAreOne }
+{}
+
+/// A list of moves in which two moves that agree on a side are one makes a reversible table.
+pub fn consistent_moves_are_reversible()
+    ensures { ConsistentMovesAreReversible }
 {}

@@ -1,0 +1,5 @@
+pub mod RunPartLemmas
+pub mod CountingLemmas
+pub mod SituationLemmas
+pub mod AlikeLemmas
+pub mod TableLemmas
