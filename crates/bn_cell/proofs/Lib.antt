@@ -1,0 +1,5 @@
+pub mod MemberLemmas
+pub mod ListingLemmas
+pub mod RowLemmas
+pub mod CountLemmas
+pub mod MadeLemmas
