@@ -1,10 +1,10 @@
 -- How many moves a cell has.
-use Rattle.std.proofs.Common.{◌≡◌, inl, inr, ℕ, zero, suc, ◌+◌, ◌-◌, ◌*◌, ◌<◌, ◌≤◌, length, Some, None, refl, ap, sym, ◌∙◌, arith, length-append}
+use Rattle.std.proofs.Common.{◌≡◌, inl, inr, ℕ, zero, suc, ◌+◌, ◌-◌, ◌*◌, ◌<◌, ◌≤◌, length, refl, ap, sym, ◌∙◌, arith, length-append}
 use Rattle.std.proofs.lemmas.Bool.{lt-ltb, cases_lt}
 use Rattle.std.proofs.lemmas.Bool.Decides.{nat_tests}
 use Rattle.bn_modules.specs.declared.cell_line.CellLine.{CellLine}
 use Rattle.bn_modules.specs.declared.cell_line.CellLine.TheVariants.{Read, Write, ShiftRight, ShiftLeft, TakeRight, Answer, DoneWrite, DoneRight, DoneLeft, TakeLeft}
-use Rattle.bn_modules.specs.Cells.{CellState, Plain, Head, cell_go, cell_table, numbered, within, line_number, line_of, lines_of, state_of, IsLineOf}
+use Rattle.bn_modules.specs.Cells.{Plain, Head, cell_go, cell_table, numbered, line_number, line_of, lines_of, state_of, IsLineOf}
 use Rattle.bn_cell.specs.Reversible.{numbers, valid_line}
 use Rattle.bn_cell.specs.Rows.{row, rows}
 use Rattle.bn_cell.proofs.RowLemmas.{row_length, count, count_all, count_none, one_if_some}

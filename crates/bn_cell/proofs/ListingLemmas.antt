@@ -1,10 +1,10 @@
 -- Lists of the moves of a reversible table: they are sound, and they go where the table goes.
-use Rattle.std.proofs.Common.{◌≡◌, ◌⊎◌, inl, inr, ℕ, ◌<◌, ◌==◌, ◌&&◌, true, false, List, [], ◌∷◌, ◌++◌, map, Option, Some, None, refl, sym, ap, subst, ◌∙◌}
+use Rattle.std.proofs.Common.{◌≡◌, inl, inr, ℕ, List, [], ◌∷◌, ◌++◌, map, Option, Some, None, refl, sym, ap, subst, ◌∙◌}
 use Rattle.std.proofs.lemmas.Option.{some_pair_parts}
-use Rattle.bn_theory.specs.Tables.{Table, IsReversible, Move, go_by, back_by, AreOneToOne, AreWithin, pair_tells}
+use Rattle.bn_theory.specs.Tables.{Table, IsReversible, go_by, back_by, AreOneToOne, AreWithin, pair_tells}
 use Rattle.bn_rsm.specs.Machines.{move_of, AreSound}
 use Rattle.bn_rsm.specs.declared.rsm_move.RsmMove.{RsmMove}
-use Rattle.bn_cell.proofs.MemberLemmas.{IsMember, in_front, behind, of_two}
+use Rattle.bn_cell.proofs.MemberLemmas.{IsMember, of_two}
 
 -- the moves leave different pairs
 abbrev pub LeaveApart : RsmMove → RsmMove → Type 0

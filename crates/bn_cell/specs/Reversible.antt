@@ -1,11 +1,10 @@
 -- That a cell's table is reversible, which each element hands to the trait: its moves by names are one to one, and so are its numbers.
-use Rattle.std.proofs.Common.{◌≡◌, inl, inr, Bool, ℕ, zero, suc, ◌+◌, ◌-◌, ◌*◌, ◌<◌, ◌==◌, nat_lt, Option, Some, None, refl, ap, subst, arith, eq-eqb}
+use Rattle.std.proofs.Common.{◌≡◌, inl, inr, ℕ, zero, suc, ◌*◌, ◌<◌, nat_lt, Option, Some, None, refl, ap, subst, arith}
 use Rattle.std.proofs.lemmas.Bool.{cases_Bool, lt-ltb, ltb-true, ltb-false}
 use Rattle.std.proofs.lemmas.Bool.Decides.{nat_tests}
-use Rattle.bn_theory.specs.Tables.{IsReversible}
 use Rattle.bn_modules.specs.declared.cell_line.CellLine.{CellLine}
 use Rattle.bn_modules.specs.declared.cell_line.CellLine.TheVariants.{Read, Write, ShiftRight, ShiftLeft, TakeRight, Answer, DoneWrite, DoneRight, DoneLeft, TakeLeft}
-use Rattle.bn_modules.specs.Cells.{CellState, Plain, Head, cell_go, cell_back, IsLineOf, cell_table, numbered, within, line_number, line_of, lines_of, state_number, state_of, CellsAreReversible}
+use Rattle.bn_modules.specs.Cells.{CellState, Plain, Head, cell_go, cell_back, IsLineOf, numbered, within, line_number, line_of, lines_of, state_number, state_of, CellsAreReversible}
 use Rattle.bn_cell.specs.Laws.{IsStateOf}
 
 -- ---- moves by names

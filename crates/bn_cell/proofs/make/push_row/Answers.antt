@@ -1,5 +1,4 @@
-use Rattle.std.proofs.Common.{◌≡◌, sym, ap, ◌∙◌, Vec}
-use Rattle.bn_rsm.specs.declared.rsm_move.RsmMove.{RsmMove}
+use Rattle.std.proofs.Common.{sym, ap, ◌∙◌}
 use Rattle.bn_modules.specs.Cells.{cell_table}
 use Rattle.bn_cell.proofs.RowLemmas.{row_some, row_none}
 use Rattle.bn_cell.proofs.make.push_row.Goals as goal
