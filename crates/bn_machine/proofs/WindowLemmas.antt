@@ -1,9 +1,9 @@
 -- A window shows a tape in one way.
-use Rattle.std.specs.Prelude.{◌≡◌, ℕ, ◌+◌, ◌-◌, ◌<◌, ℤ, pos, ◌-ℤ◌, List, [], ◌∷◌, length, refl}
+use Rattle.std.specs.Prelude.{◌≡◌, ℕ, pos, ◌-ℤ◌, List, [], ◌∷◌, length, refl}
 use Rattle.std.proofs.Common.{zero, suc, arith, sym, ap, ◌∙◌, get_or}
 use Rattle.std.proofs.lemmas.Int.{ints}
 use Rattle.bn_machine.specs.Tape.{Tape, cell}
-use Rattle.bn_machine.specs.Window.{window_of, cell-window_of}
+use Rattle.bn_machine.specs.Window.{cell-window_of}
 use Rattle.bn_machine.specs.Laws.{WindowsHaveOneList}
 
 same_by_cells : (xs ys : List ℕ) → length xs ≡ length ys → ((k : ℕ) → get_or xs k 0 ≡ get_or ys k 0) → xs ≡ ys

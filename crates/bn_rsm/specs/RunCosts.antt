@@ -1,5 +1,5 @@
 -- What a run of a circuit of machines costs, where each machine is a bank of columns of rotary elements: a sum over its moves (this project's own profile).
-use Rattle.std.specs.Prelude.{ℕ, ◌+◌, List, Option, slice_get}
+use Rattle.std.specs.Prelude.{ℕ, ◌+◌, List, slice_get}
 use Rattle.std.specs.Option.{option_map_or}
 use Rattle.std.proofs.Common.{zero, suc}
 use Rattle.bn_theory.specs.Circuits.{Circuit}

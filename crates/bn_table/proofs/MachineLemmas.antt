@@ -1,5 +1,5 @@
 -- A table's machine is a machine within the limits of tables.
-use Rattle.std.specs.Prelude.{◌≡◌, ℕ, ◌<◌, length}
+use Rattle.std.specs.Prelude.{◌≡◌, ℕ, length}
 use Rattle.std.proofs.Common.{sym, subst, arith, get_or}
 use Rattle.std.proofs.lemmas.List.{length-map}
 use Rattle.bn_machine.specs.Machine.{IsInRange, IsMachine}

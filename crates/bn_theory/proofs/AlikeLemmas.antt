@@ -2,7 +2,7 @@
 use Rattle.std.specs.Prelude.{◌≡◌, ℕ, ◌+◌, nat_le, List, ◌∷◌, Option, Some, None, slice_get, unwrap_or, option_and_then, if◌then◌else◌, refl}
 use Rattle.std.proofs.Common.{zero, suc, ap, ◌∙◌}
 use Rattle.bn_theory.specs.Tables.{Table}
-use Rattle.bn_theory.specs.Circuits.{Circuit, target, source, clock, go_of, back_of, place_at}
+use Rattle.bn_theory.specs.Circuits.{Circuit, clock, go_of, back_of, place_at}
 use Rattle.bn_theory.specs.Stepping.{next, next_from, moved_on, moved_back, previous, previous_by, line_before, run, back, placed, places, places_back}
 use Rattle.bn_theory.specs.declared.line.Line.{Line}
 use Rattle.bn_theory.specs.declared.place.Place.{Place}

@@ -1,10 +1,9 @@
 -- Counts along a run.
-use Rattle.std.specs.Prelude.{◌≡◌, ℕ, ◌+◌, ◌<◌, Bool, true, false, not, Option, Some, None, refl}
+use Rattle.std.specs.Prelude.{◌≡◌, ℕ, ◌+◌, ◌<◌, Bool, true, false, not, refl}
 use Rattle.std.proofs.Common.{zero, suc, arith, ap, ◌∙◌}
-use Rattle.bn_theory.specs.Runs.{Reaches, Passes, Before}
+use Rattle.bn_theory.specs.Runs.{Reaches, Passes}
 use Rattle.bn_theory.specs.Circuits.{Circuit, Goes}
 use Rattle.bn_theory.specs.Laws.{Goes-next}
-use Rattle.bn_theory.specs.Stepping.{next}
 use Rattle.bn_theory.specs.declared.config.Config.{Config}
 use Rattle.bn_theory.specs.Counting.{tally, one_if, TalliesAdd}
 

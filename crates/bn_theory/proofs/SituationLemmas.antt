@@ -1,13 +1,12 @@
 -- Counted steps and steps without a count.
-use Rattle.std.specs.Prelude.{◌≡◌, ℕ, ◌+◌, ◌<◌, ◌≤◌, Bool, true, List, Option, Some, None, slice_set, refl}
+use Rattle.std.specs.Prelude.{◌≡◌, ℕ, ◌+◌, ◌≤◌, Bool, Some, slice_set, refl}
 use Rattle.std.proofs.Common.{zero, suc, arith, sym, ap, subst, ◌∙◌}
-use Rattle.bn_theory.specs.Runs.{Passes, Before}
+use Rattle.bn_theory.specs.Runs.{Passes}
 use Rattle.bn_theory.specs.Circuits.{Circuit, clock, place_after, Goes}
 use Rattle.bn_theory.specs.Laws.{same_config}
-use Rattle.bn_theory.specs.declared.place.Place.{Place}
-use Rattle.bn_theory.specs.declared.place.Place.TheVariants.{Enter, Left}
+use Rattle.bn_theory.specs.declared.place.Place.TheVariants.{Enter}
 use Rattle.bn_theory.specs.declared.config.Config.{Config}
-use Rattle.bn_theory.specs.Situations.{Situation, situation, situation_of, counted, Turns, turn, turn_from, StepsAreCounted, PathsAreCounted}
+use Rattle.bn_theory.specs.Situations.{Situation, situation, situation_of, counted, Turns, turn, turn_from, StepsAreCounted}
 
 goes_turns : (k : Circuit) (c d : Config) → Goes k c d → Turns k (situation_of c) (situation_of d)
 goes_turns k c d g = record {

@@ -1,10 +1,10 @@
 -- Reversible tables are one, and lists of moves that may stand twice.
-use Rattle.std.specs.Prelude.{◌≡◌, ◌≢◌, ℕ, ◌+◌, ◌<◌, ◌==◌, ◌&&◌, true, false, List, [], ◌∷◌, Option, Some, None, slice_get, if◌then◌else◌, refl, ◌⊎◌}
-use Rattle.std.proofs.Common.{zero, suc, arith, sym, ap, subst, ◌∙◌, inl, inr}
+use Rattle.std.specs.Prelude.{◌≡◌, ℕ, ◌<◌, ◌==◌, ◌&&◌, true, List, [], ◌∷◌, Option, Some, None, slice_get, refl}
+use Rattle.std.proofs.Common.{zero, suc, sym, ap, subst, ◌∙◌, inl, inr}
 use Rattle.std.proofs.lemmas.Bool.Decides.{eqb_tells}
 use Rattle.std.proofs.lemmas.Option.{some_pair_parts}
-use Rattle.bn_theory.specs.Tables.{pair_tells, Table, IsReversible, Move, go_by, back_by, table_by, AreWithin}
-use Rattle.bn_theory.specs.Alike.{TablesAreOne, AreConsistent, ConsistentMovesAreReversible}
+use Rattle.bn_theory.specs.Tables.{pair_tells, Move, go_by, back_by, AreWithin}
+use Rattle.bn_theory.specs.Alike.{TablesAreOne, ConsistentMovesAreReversible}
 
 -- ---- tables
 

@@ -1,5 +1,5 @@
 -- Circuits with the same tables and the same wires, listed in whatever order, and tables with the same moves.
-use Rattle.std.specs.Prelude.{◌≡◌, ℕ, List, Option, Some, slice_get}
+use Rattle.std.specs.Prelude.{◌≡◌, ℕ, List, Some, slice_get}
 use Rattle.bn_theory.specs.Tables.{Table, IsReversible, Move, table_by, AreWithin}
 use Rattle.bn_theory.specs.Circuits.{Circuit, target, source}
 use Rattle.bn_theory.specs.Stepping.{run, back, places, places_back}

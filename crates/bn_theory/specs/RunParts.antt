@@ -1,5 +1,5 @@
 -- Parts of a run: what a run taken back in part comes to, what is known of a path at each of its steps, and the places on the way.
-use Rattle.std.specs.Prelude.{◌≡◌, ℕ, ◌+◌, ◌<◌, ◌≤◌, Bool, true, length, Option, Some, slice_get}
+use Rattle.std.specs.Prelude.{◌≡◌, ℕ, ◌+◌, ◌<◌, ◌≤◌, Bool, true, length, Some, slice_get}
 use Rattle.bn_theory.specs.Runs.{Reaches, Passes}
 use Rattle.bn_theory.specs.Circuits.{Circuit, Goes, IsCircuit, IsStuck}
 use Rattle.bn_theory.specs.Stepping.{run, back, places}

@@ -1,0 +1,7 @@
+pub mod BankedLemmas
+pub mod MovedLemmas
+pub mod LooseLemmas
+pub mod FollowedLemmas
+pub mod VisitedLemmas
+pub mod ModuleLemmas
+pub mod ListedLemmas

@@ -1,0 +1,4 @@
+pub mod Cells
+pub mod Controls
+pub mod Networks
+pub mod Moments
