@@ -3,3 +3,4 @@ pub mod ListingLemmas
 pub mod RowLemmas
 pub mod CountLemmas
 pub mod MadeLemmas
+pub mod CellNumberLemmas

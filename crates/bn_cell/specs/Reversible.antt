@@ -4,8 +4,8 @@ use Rattle.std.proofs.lemmas.Bool.{cases_Bool, lt-ltb, ltb-true, ltb-false}
 use Rattle.std.proofs.lemmas.Bool.Decides.{nat_tests}
 use Rattle.bn_modules.specs.declared.cell_line.CellLine.{CellLine}
 use Rattle.bn_modules.specs.declared.cell_line.CellLine.TheVariants.{Read, Write, ShiftRight, ShiftLeft, TakeRight, Answer, DoneWrite, DoneRight, DoneLeft, TakeLeft}
-use Rattle.bn_modules.specs.Cells.{CellState, Plain, Head, cell_go, cell_back, IsLineOf, numbered, within, line_number, line_of, lines_of, state_number, state_of, CellsAreReversible}
-use Rattle.bn_cell.specs.Laws.{IsStateOf}
+use Rattle.bn_modules.specs.Cells.{CellState, Plain, Head, cell_go, cell_back, IsLineOf, numbered, within, line_number, line_of, lines_of, state_number, state_of}
+use Rattle.bn_cell.specs.Laws.{CellsAreReversible, IsStateOf}
 
 -- ---- moves by names
 
@@ -54,7 +54,7 @@ back (Head t) _ = tt
 
 -- ---- numbers
 
-states : (z : ℕ) (q : CellState) → IsStateOf z q → state_of z (state_number z q) ≡ q
+pub states : (z : ℕ) (q : CellState) → IsStateOf z q → state_of z (state_number z q) ≡ q
 states z (Plain t) lt = grind (arith, nat_tests)
 states z (Head t) lt = grind (arith, nat_tests)
 
@@ -76,17 +76,17 @@ line_within z (Write u) lt = omega arith
 line_within z (Answer u) lt = omega arith
 line_within z _ lt = omega arith
 
-state_within : (z : ℕ) (q : CellState) → IsStateOf z q → state_number z q < 2 * z
+pub state_within : (z : ℕ) (q : CellState) → IsStateOf z q → state_number z q < 2 * z
 state_within z (Plain t) lt = omega arith
 state_within z (Head t) lt = omega arith
 
 pub numbers : (z n : ℕ) → n < lines_of z → line_number z (line_of z n) ≡ n
 numbers z n lt = grind (arith, nat_tests)
 
-state_numbers : (z n : ℕ) → n < 2 * z → state_number z (state_of z n) ≡ n
+pub state_numbers : (z n : ℕ) → n < 2 * z → state_number z (state_of z n) ≡ n
 state_numbers z n lt = grind (arith, nat_tests)
 
-valid_state : (z n : ℕ) → n < 2 * z → IsStateOf z (state_of z n)
+pub valid_state : (z n : ℕ) → n < 2 * z → IsStateOf z (state_of z n)
 valid_state z n lt = elim (cases_Bool (nat_lt n z)) [
   | inl less ↦ rw less (ltb-true n z less)
   | inr more ↦ let ge = ltb-false n z more in rw more (omega arith)

@@ -1,6 +1,5 @@
 //! Laws on cells. Each function does nothing; its contract is the law.
-ghost use Rattle.bn_modules.specs.Cells.{CellsAreReversible};
-ghost use Rattle.bn_cell.specs.Laws.{CellLinesAreNumbered, CellStatesAreNumbered};
+ghost use Rattle.bn_cell.specs.Laws.{CellsAreReversible, CellLinesAreNumbered, CellStatesAreNumbered};
 
 /// A cell's moves are one to one, for every number of symbols.
 pub fn cells_are_reversible()
