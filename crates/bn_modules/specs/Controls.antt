@@ -50,7 +50,7 @@ writes_of r = reverse (rising 1 (deeds_of r))
 
 -- ---- states and lines
 
--- `Begin` before all; `End` in the machine's final state. `Reads a s`: in state a of the machine, awaiting the answer to the next read, after the symbols s. `Shifts n t`: in quadruple n, counted from 0, awaiting the answer to the shift of tape t. `Writes a t u`: on the way into state a, awaiting the answer to the write on tape t, with the symbols u still to be written on lower tapes, in falling order.
+-- `Begin` before all; `End` in the machine's final state. `Reads a s`: in state a of the machine, awaiting the answer to the next read, after the symbols s. `Shifts n t`: in quadruple n, counted from 1, awaiting the answer to the shift of tape t. `Writes a t u`: on the way into state a, awaiting the answer to the write on tape t, with the symbols u still to be written on lower tapes, in falling order.
 pub data ControlState : Type 0 where
   Begin : ControlState
   End : ControlState

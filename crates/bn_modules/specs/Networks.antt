@@ -87,7 +87,7 @@ pub data IsNetWire (m : Quadruples) (l : Limits) (from to : Line) : Type 0 where
 abbrev pub module_tables : Quadruples → Limits → Table → List Table
 module_tables m l control = control ∷ replicate (cells_in l 1) (cell_table (letters m 1)) ++ replicate (cells_in l 2) (cell_table (letters m 2)) ++ replicate (cells_in l 3) (cell_table (letters m 3))
 
--- This circuit of modules is the network of the machine in these limits.
+-- This circuit of modules is the network of the machine in these limits; `names` are the control's states in order, so each law that speaks of costs or numbers also has that they are.
 pub record IsNetwork (m : Quadruples) (l : Limits) (names : List ControlState) (k : Circuit) : Type 0 where
   pub circuit : IsCircuit k
   pub control : Table
@@ -129,7 +129,7 @@ pub record IsControlAt (names : List ControlState) (states : List ℕ) (q : Cont
   pub is : slice_get states 0 ≡ Some number
   pub named : slice_get names number ≡ Some q
 
--- the state of each cell of a tape that shows these symbols from its first cell on, with the head at one of them
+-- the states of the cells from -left to right of a tape that holds this word at 1 and on, with the head at 0
 abbrev pub start_cells : ℕ → ℕ → List ℕ → ℕ → List ℕ
 start_cells z left word right = map (λ j. state_number z (cell_of (word_tape word) (pos j -ℤ pos left))) (range_with_len 0 (left + right + 1))
 

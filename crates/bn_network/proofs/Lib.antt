@@ -1,0 +1,14 @@
+pub mod PathLemmas
+pub mod PlaceLemmas
+pub mod OrderLemmas
+pub mod ShownLemmas
+pub mod ChainLemmas
+pub mod StopLemmas
+pub mod ObeyLemmas
+pub mod RangeLemmas
+pub mod NextLemmas
+pub mod DepartLemmas
+pub mod LastLemmas
+pub mod FirstLemmas
+pub mod CellMoveLemmas
+pub mod HeadLemmas

@@ -1,0 +1,66 @@
+-- What the laws of this crate say, each the contract of a function that only names the laws below it: from moment to moment, for every uniform machine and every window.
+use Rattle.std.specs.Prelude.{◌≡◌, ◌≢◌, ◌↔◌, ℕ, zero, suc, ◌+◌, ◌-◌, ◌*◌, ◌<◌, ◌≤◌, ℤ, pos, ◌+ℤ◌, Bool, true, false, not, List, [], ◌∷◌, length, All, Option, Some, None, is_some, slice_get, ◌⊎◌, if◌then◌else◌, ◌==◌, ◌&&◌}
+use Rattle.std.specs.Int.RustNames.{unsigned_abs}
+use Rattle.bn_theory.specs.Runs.{Reaches, Passes}
+use Rattle.bn_theory.specs.Circuits.{Circuit, target, place_after}
+use Rattle.bn_theory.specs.declared.place.Place.{Place}
+use Rattle.bn_theory.specs.declared.place.Place.TheVariants.{Enter, Left}
+use Rattle.bn_machine.specs.Tape.{Tape, scanned, word_tape, blank_tape}
+use Rattle.bn_machine.specs.Outcome.{Limits}
+use Rattle.bn_machine.specs.declared.quint.Shift.{Shift}
+use Rattle.bn_machine.specs.declared.quint.Shift.TheVariants as way
+use Rattle.bn_machine.specs.declared.quint.Side.{Side}
+use Rattle.bn_machine.specs.declared.quint.Side.TheVariants as side
+use Rattle.bn_machine.specs.Machine.{nth}
+use Rattle.bn_quad.specs.Quadruples.{Deed, Rewrite, Move, Rule, Configuration, Quadruples, Goes, GoesBy, IsQuadMachine, initial_of, final_of, Rooms}
+use Rattle.bn_quad.specs.Calls.{IsUniformMachine}
+use Rattle.bn_stages.specs.Steps.{EndsAt, Exit, Finished, Stopped, Leaving, HasNoFirstRead, IsFirstOutside}
+use Rattle.bn_stages.specs.Stages.{rooms_of}
+use Rattle.bn_modules.specs.declared.cell_line.CellLine.{CellLine}
+use Rattle.bn_modules.specs.declared.cell_line.CellLine.TheVariants.{TakeRight, TakeLeft, Answer, Read}
+use Rattle.bn_theory.specs.Situations.{Situation, situation, Turns, IsAtEnd}
+use Rattle.bn_rsm.specs.RunCosts.{run_cost, step_cost}
+use Rattle.bn_modules.specs.Cells.{line_number}
+use Rattle.bn_modules.specs.Controls.{ControlState, Begin, End, Reads, ControlLine, Outside, Tape as to_tape, ControlMove, IsEntry, IsNumbering, letters, in_number, out_number, ControlGoes}
+use Rattle.bn_modules.specs.Networks.{line_at, IsNetwork, ShowsTapes, IsControlAt, first_cell, cells_in, left_of, network_start, elements_by, IsTape}
+use Rattle.bn_modules.specs.Moments.{HasLetters, HasHeads, IsMomentOf, TellsMoments, Travels, quad_moves}
+use Rattle.bn_network.specs.Ends.{EndsBy, IsEarlyStop}
+
+-- From the start the network comes in one move of the control to the moment of the initial state: the word on tape 1 from cell 1 on, all else blank, the heads at 0.
+abbrev pub FirstMoment : Type 0
+FirstMoment =
+    (m : Quadruples) (l : Limits) (names : List ControlState) (k : Circuit) (test : Situation → Bool) (word : List ℕ)
+    → IsQuadMachine m → IsUniformMachine m → HasLetters m → IsNumbering m names → IsNetwork m l names k
+    → TellsMoments m names k test
+    → All (λ x. x < letters m 1) word → length word ≤ l.right
+    → (t : Situation) × Travels k test 1 (4 * elements_by m l (length names)) (network_start m l word) t
+    × IsMomentOf m l names k t (record { state = initial_of m.rules; one = word_tape word; two = blank_tape; three = blank_tape }) × (test t ≡ true)
+
+-- From the moment of a configuration it comes to the moment of the one that follows, in a counted number of moves, with no moment strictly between, at a bounded cost.
+abbrev pub NextMoment : Type 0
+NextMoment =
+    (m : Quadruples) (l : Limits) (names : List ControlState) (k : Circuit) (test : Situation → Bool)
+    → IsQuadMachine m → IsUniformMachine m → IsNumbering m names → IsNetwork m l names k
+    → TellsMoments m names k test
+    → (s : Situation) (c d : Configuration ℕ) → IsMomentOf m l names k s c
+    → (n : ℕ) (by : GoesBy (rooms_of l) m n c d)
+    → (t : Situation) × (0 < quad_moves l by.rule c)
+    × Travels k test (quad_moves l by.rule c) (48 * elements_by m l (length names)) s t × IsMomentOf m l names k t d
+    × (test t ≡ true)
+
+-- From the moment of a configuration at which the machine goes on no more, for one of those reasons, the network comes to its end, with no moment after the first; the cost is bounded, that of the move which can't be made among it.
+abbrev pub LastMoment : Type 0
+LastMoment =
+    (m : Quadruples) (l : Limits) (names : List ControlState) (k : Circuit) (test : Situation → Bool)
+    → IsQuadMachine m → IsUniformMachine m → IsNumbering m names → IsNetwork m l names k
+    → TellsMoments m names k test
+    → (s : Situation) (c : Configuration ℕ) (e : Exit) → IsMomentOf m l names k s c
+    → EndsAt (rooms_of l) m.rules (final_of m.rules) c e → IsEarlyStop m c e
+    → (n : ℕ) × (t : Situation) × Travels k test n (48 * elements_by m l (length names)) s t
+    × (run_cost k (n + 1) s ≤ 48 * elements_by m l (length names)) × IsAtEnd k t × EndsBy m l names t c e
+    × ((n ≡ 0) ⊎ (test t ≡ false))
+
+-- no move gives a tape a second head
+abbrev pub HeadsStayOne : Type 0
+HeadsStayOne = (m : Quadruples) (l : Limits) (names : List ControlState) (k : Circuit) (s t : Situation)
+    → IsNetwork m l names k → HasHeads m l s → Turns k s t → HasHeads m l t
