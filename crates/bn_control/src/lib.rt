@@ -3,6 +3,8 @@
 
 mod finite;
 mod make;
+mod order;
+mod state;
 
 pub use bn_rsm::NoMemory;
 pub use finite::Control;
