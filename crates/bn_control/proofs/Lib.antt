@@ -2,3 +2,4 @@ pub mod NumberLemmas
 pub mod LineLemmas
 pub mod StuckLemmas
 pub mod OrderedLemmas
+pub mod CommandLemmas

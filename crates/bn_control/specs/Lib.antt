@@ -1,2 +1,3 @@
 pub mod Controlled
 pub mod States
+pub mod Commands

@@ -12,6 +12,12 @@ listed Empty = []
 listed (Leading a None) = a ∷ []
 listed (Leading a (Some b)) = a ∷ b ∷ []
 
+-- those of two symbols that are there
+abbrev pub symbols_of : Option ℕ → Option ℕ → Symbols
+symbols_of (Some a) b = Leading a b
+symbols_of None (Some b) = Leading b None
+symbols_of None None = Empty
+
 -- the state that is kept so
 abbrev pub name_of : State → control.ControlState
 name_of Begin = control.Begin

@@ -1,8 +1,11 @@
 //! The finite control of a uniform machine of quadruples, as a reversible sequential machine.
 #![tactic(auto)]
 
+mod command;
 mod finite;
+mod line;
 mod make;
+mod named;
 mod order;
 mod state;
 

@@ -33,3 +33,19 @@ pub(crate) enum State {
         rest: Symbols,
     },
 }
+
+impl Symbols {
+    ghost use Rattle.std.specs.Prelude.{◌≡◌, length};
+    ghost use Rattle.bn_control.specs.States.{listed};
+
+    /// How many there are.
+    pub(crate) fn len(self) -> u32
+        ensures { result ≡ length (listed self) }
+    {
+        match self {
+            Symbols::Empty => 0,
+            Symbols::Leading(_, None) => 1,
+            Symbols::Leading(_, Some(_)) => 2,
+        }
+    }
+}
