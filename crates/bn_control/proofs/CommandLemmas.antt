@@ -14,44 +14,10 @@ use Rattle.bn_control.specs.declared.command.Command.{Command}
 use Rattle.bn_control.specs.declared.line.Sending.{Sending}
 use Rattle.bn_control.specs.declared.named.NamedMove.{NamedMove}
 use Rattle.bn_control.specs.Commands.{line_of, sending_of, commands_by, read_commands, shift_commands, shift_command, write_commands, next_of, moves_by}
+use Rattle.bn_control.specs.Names.{NamedCommand, Going, command_of, going_of, read_names, shift_names, write_names, later_names, names_by, next_name, goings}
 use Rattle.bn_control.specs.States.{name_of}
 
--- a command by names: what is sent, and the line of the answer
-abbrev pub NamedCommand : Type 0
-NamedCommand = ControlMove × ControlLine
-
--- a move by names
-abbrev pub Going : Type 0
-Going = ControlState × ControlLine × ControlMove
-
-abbrev pub command_of : Command → NamedCommand
-command_of c = (sending_of c.sending, line_of c.answer)
-
-abbrev pub going_of : NamedMove → Going
-going_of x = (name_of x.state, line_of x.line, sending_of x.to)
-
 -- ---- the commands
-
--- the reads of state a after these, the shifts, the writes on the way into state a
-abbrev pub read_names : ℕ → List (ℕ × ℕ) → List (ℕ × ℕ) → List NamedCommand
-read_names a before [] = []
-read_names a before (p ∷ rest) = (to_read a before p, Tape p.0 (Answer p.1)) ∷ read_names a (before ++ (p ∷ [])) rest
-
-abbrev pub shift_names : ℕ → List (ℕ × Side) → List NamedCommand
-shift_names n [] = []
-shift_names n (p ∷ rest) = (to_shift n p, Tape p.0 (done_line p.1)) ∷ shift_names n rest
-
-abbrev pub write_names : ℕ → List (ℕ × ℕ) → List NamedCommand
-write_names a [] = []
-write_names a (p ∷ rest) = (to_write a p rest, Tape p.0 DoneWrite) ∷ write_names a rest
-
--- what comes behind the reads
-abbrev pub later_names : ℕ → Rule ℕ → List NamedCommand
-later_names n r = shift_names n (shifts_of r) ++ write_names r.to (writes_of r)
-
--- all commands of a quadruple
-abbrev pub names_by : ℕ → Rule ℕ → List NamedCommand
-names_by n r = read_names r.from [] (reads_of r) ++ later_names n r
 
 -- the program's commands are these
 read_is : (a : ℕ) (one two three : Deed) (to : ℕ) → map command_of (read_commands (record { from = a; one = one; two = two; three = three; to = to })) ≡ read_names a [] (reads 1 (one ∷ two ∷ three ∷ []))
@@ -95,15 +61,6 @@ commands_are n r =
     (map-append command_of (shift_commands n r) (write_commands r) ∙ ap (λ l. l ++ map command_of (write_commands r)) (shift_is n r) ∙ ap (λ l. shift_names n (shifts_of r) ++ l) (write_is r.from r.one r.two r.three r.to))
 
 -- ---- the moves along them
-
--- what is sent after these commands have been answered
-abbrev pub next_name : ControlMove → List NamedCommand → ControlMove
-next_name e [] = e
-next_name e (c ∷ cs) = c.0
-
-abbrev pub goings : ControlMove → List NamedCommand → List Going
-goings e [] = []
-goings e (c ∷ cs) = (c.0.0, c.1, next_name e cs) ∷ goings e cs
 
 -- the program's moves are these
 pub moves_are : (last : Sending) (cs : List Command) → map going_of (moves_by last cs) ≡ goings (sending_of last) (map command_of cs)
