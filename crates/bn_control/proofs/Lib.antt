@@ -6,3 +6,6 @@ pub mod CommandLemmas
 pub mod RuleLemmas
 pub mod EntryLemmas
 pub mod NamedLemmas
+pub mod KeyLemmas
+pub mod SearchLemmas
+pub mod StatesLemmas

@@ -26,12 +26,12 @@ use Rattle.bn_control.proofs.RuleLemmas.{AreProper, commands_proper, commands_fe
 
 -- ---- members by names
 
-mapped : {A B : Type 0} (f : A → B) (l : List A) (x : A) → IsMember x l → IsMember (f x) (map f l)
+pub mapped : {A B : Type 0} (f : A → B) (l : List A) (x : A) → IsMember x l → IsMember (f x) (map f l)
 mapped f [] x h = h
 mapped f (y ∷ l) x (inl e) = inl (ap f e)
 mapped f (y ∷ l) x (inr h) = inr (mapped f l x h)
 
-from_mapped : {A B : Type 0} (f : A → B) (l : List A) (y : B) → IsMember y (map f l) → (x : A) × IsMember x l × (f x ≡ y)
+pub from_mapped : {A B : Type 0} (f : A → B) (l : List A) (y : B) → IsMember y (map f l) → (x : A) × IsMember x l × (f x ≡ y)
 from_mapped f [] y h = absurd h
 from_mapped f (x ∷ l) y (inl e) = (x, inl refl, sym e)
 from_mapped f (x ∷ l) y (inr h) = let more = from_mapped f l y h in (more.0, inr more.1, more.2)

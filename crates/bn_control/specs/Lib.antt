@@ -4,3 +4,4 @@ pub mod Commands
 pub mod Names
 pub mod Entries
 pub mod Named
+pub mod Ordered

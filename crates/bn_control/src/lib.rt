@@ -9,6 +9,7 @@ mod make;
 mod named;
 mod order;
 mod state;
+mod states;
 
 pub use bn_rsm::NoMemory;
 pub use finite::Control;
