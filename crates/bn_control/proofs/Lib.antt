@@ -9,3 +9,4 @@ pub mod NamedLemmas
 pub mod KeyLemmas
 pub mod SearchLemmas
 pub mod StatesLemmas
+pub mod NumberedLemmas

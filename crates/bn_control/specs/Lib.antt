@@ -5,3 +5,4 @@ pub mod Names
 pub mod Entries
 pub mod Named
 pub mod Ordered
+pub mod Numbered

@@ -7,6 +7,7 @@ mod finite;
 mod line;
 mod make;
 mod named;
+mod numbered;
 mod order;
 mod state;
 mod states;
