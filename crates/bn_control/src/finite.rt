@@ -106,7 +106,7 @@ impl Control {
 
 // How many lines of a control come before those of the tape after this one; tape 0 is the outside.
 pub(crate) fn lines_before(symbols: &[u32; 3], tape: u32) -> u32
-    requires tape { tape < 3 }
+    requires tape { tape ≤ 3 }
     requires few { All (λ z. z ≤ MOST_SYMBOLS) symbols.now }
     ensures { result ≡ lines_before symbols.now tape }
 {
