@@ -10,3 +10,7 @@ pub mod KeyLemmas
 pub mod SearchLemmas
 pub mod StatesLemmas
 pub mod NumberedLemmas
+pub mod WithinLemmas
+pub mod TableLemmas
+pub mod DraftLemmas
+pub mod MadeLemmas

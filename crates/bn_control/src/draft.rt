@@ -66,11 +66,13 @@ impl Draft {
         requires { IsSomeEntry self.now entry.now }
         ensures { (m : Quadruples) (a : ℕ) → IsDraft m self.now → IsFirstSent m a entry.now → IsFirstKept m (map name_of self.now.states.items) a result }
     {
-        if entry.state == State::End {
-            return None;
+        match entry.state {
+            State::End => None,
+            state => {
+                let number = number_of(self.states.as_slice(), state);
+                Some((number, entry.line.out_number(&self.symbols)))
+            }
         }
-        let number = number_of(self.states.as_slice(), entry.state);
-        Some((number, entry.line.out_number(&self.symbols)))
     }
 
     /// For each state of the control the state of the machine of quadruples and the tape whose first read it awaits.

@@ -34,7 +34,25 @@ impl Model for Control {
 
 impl Control {
     ghost use Rattle.std.specs.Prelude.{◌≡◌, ◌↔◌, ℕ, ◌<◌, ◌≤◌, Some, None, length, slice_get, IfSome};
-    ghost use Rattle.bn_control.specs.Controlled.{IsStuckAt, IsAnswer, IsTapeAwaited};
+    ghost use Rattle.bn_control.specs.Controlled.{IsStuckAt, IsAnswer, IsTapeAwaited, IsKept};
+
+    // A control of these parts.
+    pub(crate) fn new(
+        rsm: Rsm,
+        symbols: [u32; 3],
+        firsts: Vec<Option<(u32, u32)>>,
+        awaited: Vec<Option<(u32, u32)>>,
+    ) -> Control
+        requires { IsKept rsm symbols firsts.items awaited.items }
+        ensures { result ≡ record { machine = rsm; symbols = symbols; firsts = firsts.items; awaited = awaited.items } }
+    {
+        Control {
+            rsm,
+            symbols,
+            firsts,
+            awaited,
+        }
+    }
 
     /// The control as a sequential machine.
     pub fn rsm(&self) -> &Rsm
