@@ -57,13 +57,15 @@ module _ (m : Quadruples) (limits : IsWithinLimits m) (d : Draft) (draft : IsDra
       by None f x g h low = absurd (let some = there os n low in let e = sym f ∙ some.1 in cc)
 
   pub parts_make : (v : Controlled) → v ≡ record { machine = rsm; symbols = d.symbols; firsts = fs; awaited = os } → (names : List ControlState) × IsControlOf m names v
-  parts_make v is =
-      (map name_of d.states.items, subst (IsControlOf m (map name_of d.states.items)) (sym is) (record {
-        numbering = draft.ordered.numbering;
-        table = table;
-        symbols = sym draft.symbols;
-        counted = firsts.counted;
-        firsts = firsts.each;
-        awaited_counted = awaited.counted ∙ sym (length-map d.states.items name_of);
-        awaiting = λ n a t. (forth n a t, λ h. back n a t h.0 h.1 h.2);
-      }))
+  parts_make v is = (
+    map name_of d.states.items,
+    subst (IsControlOf m (map name_of d.states.items)) (sym is) (record {
+      numbering = draft.ordered.numbering;
+      table = table;
+      symbols = sym draft.symbols;
+      counted = firsts.counted;
+      firsts = firsts.each;
+      awaited_counted = awaited.counted ∙ sym (length-map d.states.items name_of);
+      awaiting = λ n a t. (forth n a t, λ h. back n a t h.0 h.1 h.2);
+    }),
+  )

@@ -81,8 +81,7 @@ module _ (m : Quadruples) (u : IsUniformMachine m) (is : IsQuadMachine m) (es : 
       let d : Sending = at_least es few in
       let here = slice_get-get_or es a d few in
       let sent = entries.each a (get_or es a d) here in
-      let same = one_entry m u a (sending_of (get_or es a d)) (to_read a [] (1, 0)) sent.entry (waits other low none refl) in
-      (
+      let same = one_entry m u a (sending_of (get_or es a d)) (to_read a [] (1, 0)) sent.entry (waits other low none refl) in (
         (get_or es a d).state,
         in_front ((End ∷ []) ++ map awaiting es) (map moving xs) (get_or es a d).state (behind (End ∷ []) (map awaiting es) (get_or es a d).state (mapped awaiting es (get_or es a d) (member_at es a (get_or es a d) here))),
         ap (λ (k : ControlMove). k.0) same ∙ sym e,

@@ -16,3 +16,6 @@ mod states;
 pub use bn_rsm::NoMemory;
 pub use finite::Control;
 pub use make::{MOST_QUADRUPLES, MOST_STATES, MOST_SYMBOLS, control};
+
+#[cfg(test)]
+mod tests;
