@@ -1,0 +1,6 @@
+pub mod MemberLemmas
+pub mod ListingLemmas
+pub mod RowLemmas
+pub mod CountLemmas
+pub mod MadeLemmas
+pub mod CellNumberLemmas

@@ -1,0 +1,26 @@
+-- Laws on cells.
+use Rattle.std.specs.Prelude.{◌≡◌, ℕ, ◌*◌, ◌<◌}
+use Rattle.bn_theory.specs.Tables.{IsReversible}
+use Rattle.bn_modules.specs.Cells.{CellState, Plain, Head, IsLineOf, cell_table, line_number, line_of, lines_of, state_number, state_of}
+use Rattle.bn_modules.specs.declared.cell_line.CellLine.{CellLine}
+
+-- a cell's moves are one to one and in range, also for no symbols
+abbrev pub CellsAreReversible : Type 0
+CellsAreReversible = (z : ℕ) → IsReversible (cell_table z)
+
+-- the symbol of a state is among z
+abbrev pub IsStateOf : ℕ → CellState → Type 0
+IsStateOf z (Plain t) = t < z
+IsStateOf z (Head t) = t < z
+
+-- the lines of z symbols and the numbers below so many stand for each other, one to one
+abbrev pub CellLinesAreNumbered : Type 0
+CellLinesAreNumbered =
+    ((z : ℕ) (l : CellLine) → IsLineOf z l → (line_number z l < lines_of z) × (line_of z (line_number z l) ≡ l))
+    × ((z n : ℕ) → n < lines_of z → IsLineOf z (line_of z n) × (line_number z (line_of z n) ≡ n))
+
+-- so do the states
+abbrev pub CellStatesAreNumbered : Type 0
+CellStatesAreNumbered =
+    ((z : ℕ) (q : CellState) → IsStateOf z q → (state_number z q < 2 * z) × (state_of z (state_number z q) ≡ q))
+    × ((z n : ℕ) → n < 2 * z → IsStateOf z (state_of z n) × (state_number z (state_of z n) ≡ n))

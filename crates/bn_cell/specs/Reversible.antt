@@ -1,0 +1,198 @@
+-- That a cell's table is reversible, which each element hands to the trait: its moves by names are one to one, and so are its numbers.
+use Rattle.std.proofs.Common.{◌≡◌, inl, inr, ℕ, zero, suc, ◌*◌, ◌<◌, nat_lt, Option, Some, None, refl, ap, subst, arith}
+use Rattle.std.proofs.lemmas.Bool.{cases_Bool, lt-ltb, ltb-true, ltb-false}
+use Rattle.std.proofs.lemmas.Bool.Decides.{nat_tests}
+use Rattle.bn_modules.specs.declared.cell_line.CellLine.{CellLine}
+use Rattle.bn_modules.specs.declared.cell_line.CellLine.TheVariants.{Read, Write, ShiftRight, ShiftLeft, TakeRight, Answer, DoneWrite, DoneRight, DoneLeft, TakeLeft}
+use Rattle.bn_modules.specs.Cells.{CellState, Plain, Head, cell_go, cell_back, IsLineOf, numbered, within, line_number, line_of, lines_of, state_number, state_of}
+use Rattle.bn_cell.specs.Laws.{CellsAreReversible, IsStateOf}
+
+-- ---- moves by names
+
+abbrev pub Whole : {A : Type 0} → Option A → (A → Type 0) → Type 0
+Whole None P = Unit {0}
+Whole (Some x) P = P x
+
+pub whole : {A : Type 0} (o : Option A) (P : A → Type 0) (x : A) → Whole o P → o ≡ Some x → P x
+whole o P x w e = let f : Option _ → Type 0 = λ v. Whole v P in subst f e w
+
+pub forth : (q : CellState) (i : CellLine) → Whole (cell_go q i) (λ m. cell_back m.0 m.1 ≡ Some (q, i))
+forth (Plain t) Read = refl
+forth (Plain t) (Write u) = refl
+forth (Plain t) ShiftRight = refl
+forth (Plain t) ShiftLeft = refl
+forth (Plain t) TakeRight = refl
+forth (Plain t) (Answer u) = refl
+forth (Plain t) DoneWrite = refl
+forth (Plain t) DoneRight = refl
+forth (Plain t) DoneLeft = refl
+forth (Plain t) TakeLeft = refl
+forth (Head t) Read = refl
+forth (Head zero) (Write u) = refl
+forth (Head (suc t)) (Write u) = tt
+forth (Head t) ShiftRight = refl
+forth (Head t) ShiftLeft = refl
+forth (Head t) _ = tt
+
+pub back : (q : CellState) (i : CellLine) → Whole (cell_back q i) (λ m. cell_go m.0 m.1 ≡ Some (q, i))
+back (Plain t) Read = refl
+back (Plain t) (Write u) = refl
+back (Plain t) ShiftRight = refl
+back (Plain t) ShiftLeft = refl
+back (Plain t) TakeRight = refl
+back (Plain t) (Answer u) = refl
+back (Plain t) DoneWrite = refl
+back (Plain t) DoneRight = refl
+back (Plain t) DoneLeft = refl
+back (Plain t) TakeLeft = refl
+back (Head zero) (Answer u) = refl
+back (Head (suc t)) (Answer u) = tt
+back (Head t) DoneWrite = refl
+back (Head t) DoneRight = refl
+back (Head t) DoneLeft = refl
+back (Head t) _ = tt
+
+-- ---- numbers
+
+pub states : (z : ℕ) (q : CellState) → IsStateOf z q → state_of z (state_number z q) ≡ q
+states z (Plain t) lt = grind (arith, nat_tests)
+states z (Head t) lt = grind (arith, nat_tests)
+
+pub lines : (z : ℕ) (l : CellLine) → IsLineOf z l → line_of z (line_number z l) ≡ l
+lines z Read lt = refl
+lines z (Write u) lt = grind (arith, nat_tests)
+lines z ShiftRight lt = grind (arith, nat_tests)
+lines z ShiftLeft lt = grind (arith, nat_tests)
+lines z TakeRight lt = grind (arith, nat_tests)
+lines z (Answer u) lt = grind (arith, nat_tests)
+lines z DoneWrite lt = grind (arith, nat_tests)
+lines z DoneRight lt = grind (arith, nat_tests)
+lines z DoneLeft lt = grind (arith, nat_tests)
+lines z TakeLeft lt = grind (arith, nat_tests)
+
+pub line_within : (z : ℕ) (l : CellLine) → IsLineOf z l → line_number z l < lines_of z
+line_within z Read lt = omega arith
+line_within z (Write u) lt = omega arith
+line_within z (Answer u) lt = omega arith
+line_within z _ lt = omega arith
+
+pub state_within : (z : ℕ) (q : CellState) → IsStateOf z q → state_number z q < 2 * z
+state_within z (Plain t) lt = omega arith
+state_within z (Head t) lt = omega arith
+
+pub numbers : (z n : ℕ) → n < lines_of z → line_number z (line_of z n) ≡ n
+numbers z n lt = grind (arith, nat_tests)
+
+pub state_numbers : (z n : ℕ) → n < 2 * z → state_number z (state_of z n) ≡ n
+state_numbers z n lt = grind (arith, nat_tests)
+
+pub valid_state : (z n : ℕ) → n < 2 * z → IsStateOf z (state_of z n)
+valid_state z n lt = elim (cases_Bool (nat_lt n z)) [
+  | inl less ↦ rw less (ltb-true n z less)
+  | inr more ↦ let ge = ltb-false n z more in rw more (omega arith)
+]
+
+pub valid_line : (z n : ℕ) → n < lines_of z → IsLineOf z (line_of z n)
+valid_line z n lt = go (line_of z n) (numbers z n lt) refl
+  where
+    go : (l : CellLine) → line_number z l ≡ n → line_of z n ≡ l → IsLineOf z l
+    go Read e f = tt
+    go (Write u) e f = grind (arith, nat_tests)
+    go ShiftRight e f = tt
+    go ShiftLeft e f = tt
+    go TakeRight e f = tt
+    go (Answer u) e f = grind (arith, nat_tests)
+    go DoneWrite e f = tt
+    go DoneRight e f = tt
+    go DoneLeft e f = tt
+    go TakeLeft e f = tt
+
+firsts : (v w : ℕ × ℕ) → Some v ≡ Some w → v.0 ≡ w.0
+firsts v w e = let same : v ≡ w = cc in ap (λ (k : ℕ × ℕ). k.0) same
+
+seconds : (v w : ℕ × ℕ) → Some v ≡ Some w → v.1 ≡ w.1
+seconds v w e = let same : v ≡ w = cc in ap (λ (k : ℕ × ℕ). k.1) same
+
+-- moves by names, one to one, on the states and lines of z symbols, make moves by numbers that are so
+module _ (z : ℕ) (go back_go : CellState → CellLine → Option (CellState × CellLine))
+    (turns : (q : CellState) (i : CellLine) → Whole (go q i) (λ m. back_go m.0 m.1 ≡ Some (q, i)))
+    (keeps : (q : CellState) (l : CellLine) → 0 < z → IsStateOf z q → IsLineOf z l → Whole (go q l) (λ m. IsStateOf z m.0 × IsLineOf z m.1)) where
+  record Both (q i r o : ℕ) : Type 0 where
+    state : q < 2 * z
+    line : i < lines_of z
+    next : r < 2 * z
+    out : o < lines_of z
+    turned : within z r o (numbered z (back_go (state_of z r) (line_of z o))) ≡ Some (q, i)
+
+  both : (q i r o : ℕ) → within z q i (numbered z (go (state_of z q) (line_of z i))) ≡ Some (r, o) → Both q i r o
+  both q i r o e = elim (cases_Bool (nat_lt q (2 * z))) [
+    | inl a ↦ elim (cases_Bool (nat_lt i (lines_of z))) [
+      | inl b ↦ found (go (state_of z q) (line_of z i)) refl (rw (a, b) at e) (ltb-true q (2 * z) a) (ltb-true i (lines_of z) b)
+      | inr b ↦ absurd (none None refl (rw (a, b) at e))
+    ]
+    | inr a ↦ absurd (none None refl (rw a at e))
+  ]
+    where
+      none : (m : Option (ℕ × ℕ)) → m ≡ None → m ≡ Some (r, o) → ⊥
+      none m d e = cc
+
+      found : (m : Option (CellState × CellLine)) → go (state_of z q) (line_of z i) ≡ m → numbered z m ≡ Some (r, o) → q < 2 * z → i < lines_of z → Both q i r o
+      found None f g qn inn = absurd (cc)
+      found (Some m) f g qn inn =
+          let valid = whole (go (state_of z q) (line_of z i)) (λ m. IsStateOf z m.0 × IsLineOf z m.1) m (keeps (state_of z q) (line_of z i) (omega arith) (valid_state z q qn) (valid_line z i inn)) f in
+          let first = firsts (state_number z m.0, line_number z m.1) (r, o) g in
+          let second = seconds (state_number z m.0, line_number z m.1) (r, o) g in
+          let there = whole (go (state_of z q) (line_of z i)) (λ m. back_go m.0 m.1 ≡ Some (state_of z q, line_of z i)) m (turns (state_of z q) (line_of z i)) f in
+          let rn = state_within z m.0 valid.0 in
+          let on = line_within z m.1 valid.1 in
+          record {
+            state = qn;
+            line = inn;
+            next = rw (← first) rn;
+            out = rw (← second) on;
+            turned = rw (← first, ← second, lt-ltb (state_number z m.0) (2 * z) rn, lt-ltb (line_number z m.1) (lines_of z) on, states z m.0 valid.0, lines z m.1 valid.1, there, state_numbers z q qn, numbers z i inn) refl;
+          }
+
+keeps_go : (z : ℕ) (q : CellState) (l : CellLine) → 0 < z → IsStateOf z q → IsLineOf z l → Whole (cell_go q l) (λ m. IsStateOf z m.0 × IsLineOf z m.1)
+keeps_go z (Plain t) Read some is line = (is, line)
+keeps_go z (Plain t) (Write u) some is line = (is, line)
+keeps_go z (Plain t) ShiftRight some is line = (is, line)
+keeps_go z (Plain t) ShiftLeft some is line = (is, line)
+keeps_go z (Plain t) TakeRight some is line = (is, tt)
+keeps_go z (Plain t) (Answer u) some is line = (is, line)
+keeps_go z (Plain t) DoneWrite some is line = (is, line)
+keeps_go z (Plain t) DoneRight some is line = (is, line)
+keeps_go z (Plain t) DoneLeft some is line = (is, line)
+keeps_go z (Plain t) TakeLeft some is line = (is, tt)
+keeps_go z (Head t) Read some is line = (some, is)
+keeps_go z (Head zero) (Write u) some is line = (line, tt)
+keeps_go z (Head (suc t)) (Write u) some is line = tt
+keeps_go z (Head t) ShiftRight some is line = (is, tt)
+keeps_go z (Head t) ShiftLeft some is line = (is, tt)
+keeps_go z (Head t) _ some is line = tt
+
+keeps_back : (z : ℕ) (q : CellState) (l : CellLine) → 0 < z → IsStateOf z q → IsLineOf z l → Whole (cell_back q l) (λ m. IsStateOf z m.0 × IsLineOf z m.1)
+keeps_back z (Plain t) Read some is line = (is, line)
+keeps_back z (Plain t) (Write u) some is line = (is, line)
+keeps_back z (Plain t) ShiftRight some is line = (is, line)
+keeps_back z (Plain t) ShiftLeft some is line = (is, line)
+keeps_back z (Plain t) TakeRight some is line = (is, tt)
+keeps_back z (Plain t) (Answer u) some is line = (is, line)
+keeps_back z (Plain t) DoneWrite some is line = (is, line)
+keeps_back z (Plain t) DoneRight some is line = (is, line)
+keeps_back z (Plain t) DoneLeft some is line = (is, line)
+keeps_back z (Plain t) TakeLeft some is line = (is, tt)
+keeps_back z (Head zero) (Answer u) some is line = (line, tt)
+keeps_back z (Head (suc t)) (Answer u) some is line = tt
+keeps_back z (Head t) DoneWrite some is line = (some, is)
+keeps_back z (Head t) DoneRight some is line = (is, tt)
+keeps_back z (Head t) DoneLeft some is line = (is, tt)
+keeps_back z (Head t) _ some is line = tt
+
+pub cells-reversible : CellsAreReversible
+cells-reversible z = record {
+  undone = λ q i r o e. (both z cell_go cell_back forth (keeps_go z) q i r o e).turned;
+  redone = λ q i r o e. (both z cell_back cell_go back (keeps_back z) r o q i e).turned;
+  departs = λ q i r o e. let h = both z cell_go cell_back forth (keeps_go z) q i r o e in (h.state, h.line);
+  arrives = λ q i r o e. let h = both z cell_go cell_back forth (keeps_go z) q i r o e in (h.next, h.out);
+}

@@ -1,0 +1,63 @@
+//! Cells are made here.
+ghost use Rattle.std.specs.Prelude.{◌≡◌, ◌<◌, ◌*◌, ◌++◌, IfOk, OnOk};
+ghost use Rattle.bn_rsm.specs.Machines.{AreSound};
+ghost use Rattle.bn_modules.specs.Cells.{cell_table, lines_of};
+ghost use Rattle.bn_cell.specs.Sizes.{IsCellSize, IsCellOf};
+ghost use Rattle.bn_cell.specs.Rows.{row, rows};
+
+use crate::table::CellTable;
+use bn_element::Element;
+use bn_rsm::{NoMemory, Rsm, RsmMove, RsmRefusal, sound_moves_are_taken};
+use std::alloc::{AllocError, Global};
+
+/// The tape cell for so many symbols as a machine given by its moves, state by state and in each by rising line. `Err`
+/// comes only for want of memory.
+pub fn cell(alloc: Global, symbols: u32) -> Result<Rsm, NoMemory>
+    requires { IsCellSize symbols }
+    ensures { IfOk result (λ m. IsCellOf symbols m) }
+{
+    let Ok(moves) = moves_of(alloc, &CellTable { symbols }) else {
+        return Err(NoMemory);
+    };
+    sound_moves_are_taken();
+    match Rsm::try_new(alloc, 2 * symbols, 2 * symbols + 8, moves) {
+        Ok(cell) => Ok(cell),
+        Err(refusal) => Err(want_of_memory(refusal)),
+    }
+}
+
+// The one refusal that sound moves can meet.
+fn want_of_memory(_refusal: RsmRefusal) -> NoMemory
+    requires { _refusal ≡ RsmRefusal.NoMemory }
+{
+    NoMemory
+}
+
+// The moves of a cell, state by state.
+fn moves_of(alloc: Global, cell: &CellTable) -> Result<Vec<RsmMove>, AllocError>
+    ensures { IfOk result (λ v. v.items ≡ rows (cell_table cell.now.symbols) (2 * cell.now.symbols)) }
+{
+    let mut moves = Vec::new(alloc);
+    for state in 0..cell.states() {
+        push_row(&mut moves, cell, state)?;
+    }
+    Ok(moves)
+}
+
+// The moves from a state, by rising line.
+fn push_row(moves: &mut Vec<RsmMove>, cell: &CellTable, state: u32) -> Result<(), AllocError>
+    requires { state < 2 * cell.now.symbols }
+    ensures { OnOk result (moves.new.items ≡ moves.old.items ++ row (cell_table cell.now.symbols) state (lines_of cell.now.symbols)) }
+{
+    for line in 0..cell.lines_in() {
+        if let Some((next, out)) = cell.go(state, line) {
+            moves.push(RsmMove {
+                state,
+                line,
+                next,
+                out,
+            })?;
+        }
+    }
+    Ok(())
+}
