@@ -182,7 +182,7 @@ module _ (p : Program) (f : Flat) (test : Situation
         subst (λ z. IsResting x.states 0 u.states u.inputs (Some z)) (sym same) (stands.rests 0 u control.number has control.is).1;
     rows = λ m u has.
         let low : m < length s.states = (let h = slice_get_within f.network.tables m u has in let count = stands.count in omega arith) in
-        (_, (stands.rests m u _ has (slice_get-get_or s.states m 0 low)).1);
+        let at = stands.rests m u _ has (slice_get-get_or s.states m 0 low) in (_, at.0, at.1);
   }
 
   ends_with : (i n : ℕ) (o : Outcome) (d : Configuration ℕ) (e : Reason) (b : BoardComes f n d e) (x : Config) → x ≡ b.at_end

@@ -1,0 +1,4 @@
+pub mod Modules
+pub mod Reversible
+pub mod Codes
+pub mod Assembled

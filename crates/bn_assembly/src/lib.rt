@@ -1,0 +1,14 @@
+//! The network of a machine of quadruples: its finite control and the cells of its tapes, joined by wires.
+#![tactic(auto)]
+
+mod assembly;
+mod make;
+mod module;
+mod refusal;
+mod windows;
+
+pub use assembly::Assembly;
+pub use make::{MOST_ELEMENTS, assemble};
+pub use module::Module;
+pub use refusal::AssembleRefusal;
+pub use windows::{MOST_CELLS, Windows};
