@@ -1,5 +1,7 @@
 -- A tape's number of symbols, read off its first cell.
-use Rattle.std.specs.Prelude.{◌≡◌, ℕ, ◌+◌, ◌<◌, ◌≤◌, List, Some, slice_get}
+use Rattle.std.specs.Prelude.{◌≡◌, ℕ, ◌+◌, ◌<◌, ◌≤◌, List, length, Some, slice_get}
+use Rattle.std.proofs.lemmas.Option.{slice_get_within}
+use Rattle.bn_control.specs.Controlled.{Controlled}
 use Rattle.std.proofs.Common.{zero, suc, arith, sym, ap, ◌∙◌}
 use Rattle.bn_quad.specs.Quadruples.{Quadruples}
 use Rattle.bn_machine.specs.Outcome.{Limits}
@@ -26,3 +28,21 @@ first_symbols a t e c tape first there m word names is =
     let both : Some (Cell c) ≡ Some (Cell cell.0) = sym there ∙ ap (slice_get a.net.elements) place ∙ cell.1 in
     let same : c ≡ cell.0 = cc in
     ap (λ (x : CellTable). x.symbols) same ∙ cell.2
+
+module _ (a : Assembled) (t e : ℕ) where
+  -- the first cell's element is there
+  pub first_within : IsTape t → e ≡ first_cell a.limits t → (m : Quadruples) (word : List ℕ) (names : List ControlState) → IsAssembled m a.limits word names a
+      → e < length a.net.elements
+  first_within tape first m word names is =
+      let cell = is.cells t 0 tape (some_cells a.limits t tape) in
+      let place : e ≡ first_cell a.limits t + 0 = omega arith in
+      slice_get_within a.net.elements e (Cell cell.0) (ap (slice_get a.net.elements) place ∙ cell.1)
+
+  -- and it is no control
+  pub no_control : (v : Controlled) → IsTape t → e ≡ first_cell a.limits t → slice_get a.net.elements e ≡ Some (Control v)
+      → (m : Quadruples) (word : List ℕ) (names : List ControlState) → IsAssembled m a.limits word names a → ⊥
+  no_control v tape first there m word names is =
+      let cell = is.cells t 0 tape (some_cells a.limits t tape) in
+      let place : e ≡ first_cell a.limits t + 0 = omega arith in
+      let both : Some (Control v) ≡ Some (Cell cell.0) = sym there ∙ ap (slice_get a.net.elements) place ∙ cell.1 in
+      cc

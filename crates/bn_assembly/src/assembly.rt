@@ -64,12 +64,7 @@ impl Assembly {
         requires last { tape ≤ 3 }
         ensures { (m : Quadruples) (word : List ℕ) (names : List ControlState) → IsAssembled m self.now.limits word names self.now → result ≡ letters m tape }
     {
-        let first = match tape {
-            1 => 1,
-            2 => 2 + self.windows.left1 + self.windows.right1,
-            _ => 3 + self.windows.left1 + self.windows.right1 + self.windows.right2,
-        };
-        match self.net.element(first) {
+        match self.net.element(self.windows.first_cell(tape)) {
             Module::Control(_) => 0,
             Module::Cell(cell) => cell.symbols,
         }
