@@ -1,1 +1,3 @@
 pub mod SymbolLemmas
+pub mod WireLemmas
+pub mod PushLemmas

@@ -1,4 +1,5 @@
 pub mod Modules
 pub mod Reversible
 pub mod Codes
+pub mod WireLists
 pub mod Assembled

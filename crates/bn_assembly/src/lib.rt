@@ -6,6 +6,7 @@ mod make;
 mod module;
 mod refusal;
 mod windows;
+mod wires;
 
 pub use assembly::Assembly;
 pub use make::{MOST_ELEMENTS, assemble};
