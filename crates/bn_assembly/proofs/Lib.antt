@@ -1,3 +1,4 @@
 pub mod SymbolLemmas
 pub mod WireLemmas
 pub mod PushLemmas
+pub mod StartLemmas

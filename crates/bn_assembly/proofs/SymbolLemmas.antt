@@ -1,8 +1,10 @@
 -- A tape's number of symbols, read off its first cell.
-use Rattle.std.specs.Prelude.{◌≡◌, ℕ, ◌+◌, ◌<◌, ◌≤◌, List, length, Some, slice_get}
-use Rattle.std.proofs.lemmas.Option.{slice_get_within}
-use Rattle.bn_control.specs.Controlled.{Controlled}
-use Rattle.std.proofs.Common.{zero, suc, arith, sym, ap, ◌∙◌}
+use Rattle.std.specs.Prelude.{◌≡◌, ℕ, ◌+◌, ◌<◌, ◌≤◌, List, All, length, Some, slice_get}
+use Rattle.std.proofs.lemmas.Option.{slice_get_within, get_or_from_slice_get}
+use Rattle.bn_machine.specs.Machine.{nth}
+use Rattle.bn_cell.specs.Sizes.{IsCellSize}
+use Rattle.bn_control.specs.Controlled.{Controlled, IsWithinLimits}
+use Rattle.std.proofs.Common.{zero, suc, arith, sym, ap, subst, ◌∙◌}
 use Rattle.bn_quad.specs.Quadruples.{Quadruples}
 use Rattle.bn_machine.specs.Outcome.{Limits}
 use Rattle.bn_modules.specs.Controls.{ControlState, letters}
@@ -46,3 +48,19 @@ module _ (a : Assembled) (t e : ℕ) where
       let place : e ≡ first_cell a.limits t + 0 = omega arith in
       let both : Some (Control v) ≡ Some (Cell cell.0) = sym there ∙ ap (slice_get a.net.elements) place ∙ cell.1 in
       cc
+
+-- ---- a machine's numbers of symbols
+
+at_place : (P : ℕ → Type 0) (zs : List ℕ) (i z : ℕ) → All P zs → slice_get zs i ≡ Some z → P z
+at_place P zs i z all at = subst P (get_or_from_slice_get zs i z 0 at) (all i 0 (slice_get_within zs i z at))
+
+pub letters_nth : (m : Quadruples) (t z : ℕ) → 1 ≤ t → nth m.symbols t ≡ Some z → z ≡ letters m t
+letters_nth m zero z low at = absurd (omega arith)
+letters_nth m (suc t) z low at = sym (get_or_from_slice_get m.symbols t z 0 at)
+
+pub letters_size : (m : Quadruples) (t z : ℕ) → IsWithinLimits m → nth m.symbols t ≡ Some z → IsCellSize z
+letters_size m zero z within at = absurd (cc)
+letters_size m (suc t) z within at = record {
+  some = at_place (λ x. 1 ≤ x) m.symbols t z within.some_symbols at;
+  few = at_place (λ x. x ≤ 4001) m.symbols t z within.few_symbols at;
+}

@@ -2,4 +2,6 @@ pub mod Modules
 pub mod Reversible
 pub mod Codes
 pub mod WireLists
+pub mod Starting
+pub mod Rows
 pub mod Assembled

@@ -4,7 +4,9 @@
 mod assembly;
 mod make;
 mod module;
+mod modules;
 mod refusal;
+mod start;
 mod windows;
 mod wires;
 
