@@ -64,3 +64,8 @@ letters_size m (suc t) z within at = record {
   some = at_place (λ x. 1 ≤ x) m.symbols t z within.some_symbols at;
   few = at_place (λ x. x ≤ 4001) m.symbols t z within.few_symbols at;
 }
+
+-- each tape has a symbol
+pub some_letters : (m : Quadruples) → length m.symbols ≡ 3 → IsWithinLimits m → (t : ℕ) → IsTape t → 1 ≤ letters m t
+some_letters m three within zero tape = absurd (let low = tape.low in omega arith)
+some_letters m three within (suc t) tape = let high = tape.high in let low : t < length m.symbols = omega arith in within.some_symbols t 0 low

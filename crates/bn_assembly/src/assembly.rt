@@ -33,6 +33,18 @@ impl Assembly {
     ghost use Rattle.bn_modules.specs.Controls.{ControlState, letters};
     ghost use Rattle.bn_assembly.specs.Assembled.{IsKept, IsAssembled, limits_of};
 
+    // The network with these parts.
+    pub(crate) fn of(net: Net<Module>, config: Config, windows: Windows) -> Assembly
+        requires { IsKept (record { net = net; config = config; limits = limits_of windows }) }
+        ensures { result ≡ (record { net = net; config = config; limits = limits_of windows }) }
+    {
+        Assembly {
+            net,
+            config,
+            windows,
+        }
+    }
+
     /// The net of modules.
     pub fn net(&self) -> &Net<Module>
         ensures net { result.now ≡ self.now.net }
