@@ -164,7 +164,8 @@ pub joined_some : (m : Quadruples) (l : Limits) (word : List ℕ) (v : Controlle
     → ((from : Line) → target net.wires from ≡ target ws from) → IsCircuit (circuit module_table net)
     → config.states ≡ (network_start m l word).states → config.place ≡ Enter 0 0 → config.steps ≡ 0 → (names : List ControlState) × IsAssembled m l word names (record { net = net; config = config; limits = l })
 joined_some m l word v three control few net config modules ws are same list targets valid states place steps =
-    let count : v.machine.states ≡ length control.0 = control.1.table.states in
-    (control.0,
+    let count : v.machine.states ≡ length control.0 = control.1.table.states in (
+      control.0,
       joined m l word control.0 v control.1 net config ws (subst (AreModules m l v) (sym same) are) (subst (AreWiresOf (IsNetWire m l)) (sym list) (network_wires-are m l three)) targets valid
-      (subst (λ n. elements_by m l n ≤ MOST_ELEMENTS) count few) states place steps)
+          (subst (λ n. elements_by m l n ≤ MOST_ELEMENTS) count few) states place steps,
+    )

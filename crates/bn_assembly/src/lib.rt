@@ -15,3 +15,6 @@ pub use make::{MOST_ELEMENTS, assemble};
 pub use module::Module;
 pub use refusal::AssembleRefusal;
 pub use windows::{MOST_CELLS, Windows};
+
+#[cfg(test)]
+mod tests;
