@@ -1,9 +1,8 @@
 -- A board's wires as a list that grows: the banks' own wires first, and then, output line by output line, those between banks.
-use Rattle.std.specs.Prelude.{◌≡◌, ◌≢◌, ℕ, ◌+◌, ◌-◌, ◌<◌, ◌≤◌, List, [], ◌∷◌, ◌++◌, length, map, replicate, Option, Some, None, slice_get, refl, ◌⊎◌}
-use Rattle.std.proofs.Common.{zero, suc, arith, sym, ap, subst, ◌∙◌, inl, inr}
+use Rattle.std.specs.Prelude.{◌≡◌, ℕ, ◌+◌, ◌<◌, ◌≤◌, List, [], ◌∷◌, ◌++◌, length, replicate, Some, None, slice_get, refl, ◌⊎◌}
+use Rattle.std.proofs.Common.{arith, sym, ap, subst, ◌∙◌, inl, inr}
 use Rattle.std.proofs.lemmas.Bool.{cases_lt}
 use Rattle.std.proofs.lemmas.Option.{slice_get_within}
-use Rattle.std.proofs.lemmas.Bool.Decides.{eqb_tells}
 use Rattle.bn_theory.specs.Tables.{Table}
 use Rattle.bn_theory.specs.Circuits.{Circuit, target, source, IsCircuit}
 use Rattle.bn_theory.specs.Laws.{same_lines}
@@ -16,10 +15,10 @@ use Rattle.bn_column.specs.NetLaws.{rotary-tables}
 use Rattle.bn_column.specs.Wirings.{AreWiresOf, AreFitting, IsWire, more_wire, same_wires, apart-wire}
 use Rattle.bn_element.specs.declared.rotary.Rotary.{Rotary}
 use Rattle.bn_net.specs.Parts.{Parts}
-use Rattle.bn_realise.specs.Banks.{IsBankWire, input_line, output_line}
+use Rattle.bn_realise.specs.Banks.{input_line, output_line}
 use Rattle.bn_boards.specs.Boards.{AreModules, IsBoard, IsBoardWire, own, between, base, size}
 use Rattle.bn_boards.proofs.ModuleLemmas.{wired_output, wired_input, output_once, input_once, output_table}
-use Rattle.bn_boards.proofs.ListedLemmas.{IsOwnBelow, IsBetweenOf, IsSource, leads-IsSource, no_from, no_to, within}
+use Rattle.bn_boards.proofs.ListedLemmas.{IsOwnBelow, IsBetweenOf, leads-IsSource, no_from, no_to, within}
 
 module _ (n : Circuit) (modules : AreModules n) where
   -- the wires between banks that come before output line o of module e
@@ -53,9 +52,9 @@ module _ (n : Circuit) (modules : AreModules n) where
 
   pub grown_own : (ws : List Wire) → AreWiresOf (IsOwnBelow n modules (length n.tables)) ws → AreWiresOf (IsGrown 0 0) ws
   grown_own ws are = same_wires (IsOwnBelow n modules (length n.tables)) (IsGrown 0 0) ws are (λ from to h. inl h) (λ from to h. elim h [
-      | inl a ↦ a
-      | inr b ↦ absurd (elim b.earlier [ inl low ↦ (omega arith) | inr low ↦ (let few = low.1 in omega arith) ])
-    ])
+    | inl a ↦ a
+    | inr b ↦ absurd (elim b.earlier [ inl low ↦ (omega arith) | inr low ↦ (let few = low.1 in omega arith) ])
+  ])
 
   -- where no wire leaves the next line
   pub grown_skip : (e o : ℕ) (ws : List Wire) → target n.wires (line_at e o) ≡ None → AreWiresOf (IsGrown e o) ws → AreWiresOf (IsGrown e (o + 1)) ws

@@ -97,11 +97,11 @@ module _ (n : Circuit) (modules : AreModules n) where
       → AreWiresOf (IsBankWire (base n.tables c) t) bs → AreWiresOf (IsOwnBelow (suc c)) (ws ++ bs)
   own_more c t has ws bs before bank =
       joined_wires (IsOwnBelow c) (IsBankWire (base n.tables c) t) (IsOwnBelow (suc c)) ws bs before bank
-          (λ from to line one two. let low = one.low in starts_apart one.at_module c one.table t from to line one.has has (λ e. omega arith) one.wire two)
-          (λ from to line one two. let low = one.low in ends_apart one.at_module c one.table t from line to one.has has (λ e. omega arith) one.wire two)
-          (λ from to h. let low = h.low in record { at_module = h.at_module; table = h.table; low = omega arith; has = h.has; wire = h.wire })
-          (λ from to h. record { at_module = c; table = t; low = omega arith; has = has; wire = h })
-          (own_either c t has)
+      (λ from to line one two. let low = one.low in starts_apart one.at_module c one.table t from to line one.has has (λ e. omega arith) one.wire two)
+      (λ from to line one two. let low = one.low in ends_apart one.at_module c one.table t from line to one.has has (λ e. omega arith) one.wire two)
+      (λ from to h. let low = h.low in record { at_module = h.at_module; table = h.table; low = omega arith; has = h.has; wire = h.wire })
+      (λ from to h. record { at_module = c; table = t; low = omega arith; has = has; wire = h })
+      (own_either c t has)
 
   -- a list of the first modules' own wires, bank by bank
   own_list : (c : ℕ) → c ≤ length n.tables → (ws : List Wire) × AreWiresOf (IsOwnBelow c) ws

@@ -1,5 +1,5 @@
 -- The numbers by which a board is read (this project's own profile): its exits, its moments, and what its cells spell.
-use Rattle.std.specs.Prelude.{◌≡◌, ◌≢◌, ◌↔◌, ℕ, zero, suc, ◌+◌, ◌-◌, ◌*◌, ◌<◌, ◌≤◌, ℤ, pos, ◌-ℤ◌, Bool, false, not, List, [], ◌∷◌, length, map, position, Option, Some, None, slice_get, if◌then◌else◌, ◌==◌, ◌&&◌, nat_lt, is_some}
+use Rattle.std.specs.Prelude.{◌≡◌, ◌≢◌, ◌↔◌, ℕ, zero, suc, ◌+◌, ◌-◌, ◌*◌, ◌<◌, ◌≤◌, ℤ, pos, ◌-ℤ◌, Bool, false, not, List, [], length, map, position, Option, Some, None, slice_get, if◌then◌else◌, ◌==◌, ◌&&◌, nat_lt, is_some}
 use Rattle.std.specs.List.{range_with_len, slice_index_or}
 use Rattle.std.specs.Option.{option_map}
 use Rattle.bn_theory.specs.Circuits.{Circuit}
