@@ -2,6 +2,7 @@
 
 ghost use Rattle.std.specs.Prelude.{◌≤◌};
 ghost use Rattle.std.specs.Bool.{OnTrue};
+ghost use Rattle.bn_assembly.specs.Assembled.{IsWordOf};
 ghost use Rattle.bn_control.specs.Controlled.{IsWithinLimits};
 
 use super::*;
@@ -86,6 +87,14 @@ fn is_within_limits(machine: &QuadMachine) -> bool
         && (1 <= three && three <= MOST_SYMBOLS)
 }
 
+// Whether the word is one of letters of tape 1, the blank not among them.
+fn is_word(machine: &QuadMachine, word: &[u32]) -> bool
+    ensures { OnTrue result (IsWordOf machine.now word.now) }
+{
+    let letters = machine.symbols(1);
+    word.iter().all(|symbol| 0 < *symbol && *symbol < letters)
+}
+
 // The same configuration.
 fn copy_of(alloc: Global, config: &Config) -> Result<Config, Fail> {
     let mut states = Vec::new(alloc);
@@ -160,7 +169,9 @@ fn the_least_network_makes_its_thirteen_moves(rt: HostRuntime) -> Result<(), Fai
 #[test]
 fn a_word_longer_than_its_side_is_refused(rt: HostRuntime) -> Result<(), Fail> {
     let translated = translated(rt.alloc(), INCREMENT)?;
-    if !is_within_limits(translated.machine().machine()) {
+    let machine = translated.machine();
+    let word = [2, 1, 2, 2];
+    if !is_within_limits(machine.machine()) || !is_word(machine.machine(), &word) {
         return Err(Fail::from("too large"));
     }
     let windows = Windows {
@@ -169,7 +180,7 @@ fn a_word_longer_than_its_side_is_refused(rt: HostRuntime) -> Result<(), Fail> {
         right2: 11,
         right3: 4,
     };
-    let refusal = assemble(rt.alloc(), translated.machine(), &windows, &[2, 1, 2, 2]).err();
+    let refusal = assemble(rt.alloc(), machine, &windows, &word).err();
     assert_eq!(rt; refusal, Some(AssembleRefusal::WordOutside { needs: 4 }));
     Ok(())
 }
