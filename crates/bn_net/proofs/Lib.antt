@@ -2,3 +2,5 @@ pub mod RowLemmas
 pub mod WireLemmas
 pub mod NetSteps
 pub mod FaultLemmas
+pub mod OrderLemmas
+pub mod WalkLemmas

@@ -7,6 +7,7 @@ ghost use Rattle.bn_theory.specs.Tables.{Table};
 ghost use Rattle.bn_theory.specs.Circuits.{IsCircuit, IsConfig, IsPlace, IsInput, IsOutput, Goes, IsStuck, IsFirst, target, source, states_of, inputs_of, outputs_of, go_of, back_of, same_line, place_after};
 ghost use Rattle.bn_theory.specs.Stepping.{run, back, line_before};
 ghost use Rattle.bn_net.specs.Parts.{circuit};
+ghost use Rattle.bn_net.specs.Order.{AreInOrder};
 ghost use Rattle.bn_net.specs.Faults.{fault_of, checked, AreStates, AreFaultless, IsRefusal};
 ghost use Rattle.bn_theory.specs.declared.line.Line.{Line};
 
@@ -63,10 +64,11 @@ impl<E: Element> Net<E> {
         Ok(net)
     }
 
-    /// The number of elements.
+    /// The number of elements. Its contract also tells what every net keeps.
     pub fn len(&self) -> u32
         ensures number { result ≡ length self.now.elements }
         ensures circuit { IsCircuit (circuit E.table self.now) }
+        ensures order { AreInOrder self.now.wires }
     {
         self.elements.len() as u32
     }

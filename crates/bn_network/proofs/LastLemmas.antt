@@ -298,3 +298,20 @@ stopped_at_one m c early k entry going = record {
         let pairs : ◌≡◌ {A = ℕ × ℕ} (1, scanned c.one) (1, a) = cc in
         let symbol : scanned c.one ≡ a = ap (λ (v : ℕ × ℕ). v.1) pairs in
         early.none n r stands (sym from) (subst (λ d. Admits d c.one) (sym is) symbol)
+
+-- and it is stuck at no other tape's
+pub one_tape : (m : Quadruples) (c : Configuration ℕ) (t : ℕ) → HasNoFirstRead m.rules c → IsStoppedAt m c t → t ≡ 1
+one_tape m c t early stop = by_entry (Reads c.state [], to_tape t Read) stop.entry refl
+  where
+    by_entry : (k : ControlMove) → IsEntry m c.state k → k ≡ (Reads c.state [], to_tape t Read) → t ≡ 1
+    by_entry k (finishes final is) at = absurd (let states : End ≡ Reads c.state [] = ap (λ (v : ControlMove). v.0) (sym is ∙ at) in cc)
+    by_entry k (waits other low none is) at = let lines : to_tape 1 Read ≡ to_tape t Read = ap (λ (v : ControlMove). v.1) (sym is ∙ at) in cc
+    by_entry k (leaves n r stands from first) at = by_deed r.one refl
+      where
+        by_deed : (d : Deed) → r.one ≡ d → t ≡ 1
+        by_deed (Move v) is = absurd (early.none n r stands (sym from) (subst (λ d. Admits d c.one) (sym is) tt))
+        by_deed (Rewrite a b) is =
+            let list : reads_of r ≡ (1, a) ∷ reads 2 (r.two ∷ r.three ∷ []) = ap (λ d. reads 1 (d ∷ r.two ∷ r.three ∷ [])) is in
+            let sent : k ≡ to_read r.from [] (1, a) = subst (λ rs. IsFirstOf n r rs (shifts_of r) k) list first in
+            let lines : to_tape 1 Read ≡ to_tape t Read = ap (λ (v : ControlMove). v.1) (sym sent ∙ at) in
+            cc

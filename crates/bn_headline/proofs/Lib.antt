@@ -1,0 +1,14 @@
+pub mod CountLemmas
+pub mod JourneyedLemmas
+pub mod TravelledLemmas
+pub mod ExitedLemmas
+pub mod CellLemmas
+pub mod VisitLemmas
+pub mod MarkLemmas
+pub mod HeadLemmas
+pub mod WalkLemmas
+pub mod SumLemmas
+pub mod TellingLemmas
+pub mod MomentLemmas
+pub mod WholeLemmas
+pub mod OutcomeLemmas

@@ -1,0 +1,5 @@
+pub mod Costs
+pub mod Headline
+pub mod Journeys
+pub mod Moments
+pub mod Laws

@@ -1,0 +1,118 @@
+-- The moments of a board: at the sums of the network's costs alone, one more for each step of the machine of quadruples; never two marks in a bank, never two heads on a tape.
+use Rattle.std.specs.Prelude.{◌≡◌, ◌↔◌, ℕ, ◌+◌, ◌*◌, ◌<◌, ◌≤◌, List, Some, slice_get}
+use Rattle.bn_theory.specs.Tables.{Table}
+use Rattle.bn_theory.specs.Runs.{Reaches}
+use Rattle.bn_theory.specs.Circuits.{clock}
+use Rattle.bn_theory.specs.Stepping.{run}
+use Rattle.bn_theory.specs.declared.config.Config.{Config}
+use Rattle.bn_element.specs.Rotary.{horizontal}
+use Rattle.bn_machine.specs.Machine.{Program}
+use Rattle.bn_machine.specs.Outcome.{Limits}
+use Rattle.bn_quad.specs.Quadruples.{Configuration}
+use Rattle.bn_stages.specs.Stages.{rooms_of}
+use Rattle.bn_bennett.specs.Runs.{Runs}
+use Rattle.bn_realise.specs.Banks.{bottom_at}
+use Rattle.bn_theory.specs.Situations.{Situation, Turns}
+use Rattle.bn_rsm.specs.RunCosts.{run_cost}
+use Rattle.bn_modules.specs.Cells.{lines_of}
+use Rattle.bn_modules.specs.Networks.{cells_in}
+use Rattle.bn_modules.specs.Moments.{IsMoment, IsMomentOf}
+use Rattle.bn_boards.specs.Boards.{StandsFor, base}
+use Rattle.bn_layout.specs.Layouts.{moment_at, moments, letters_at, cell_element}
+use Rattle.bn_layout.specs.BoardMoments.{IsBoardMoment, HasOneState}
+use Rattle.bn_layout.specs.Flats.{Flat, machine_of, IsFlatOf, IsAccepted, situation_at_start, flat_start}
+use Rattle.bn_headline.specs.Costs.{HasCost}
+use Rattle.bn_headline.specs.Headline.{Spells}
+
+-- where the board stands for a situation of the network, its moment is the network's
+abbrev pub MomentsAreTold : Type 0
+MomentsAreTold =
+    (p : Program) (word : List ℕ) (l : Limits) (f : Flat) → IsFlatOf p word l f → IsAccepted p word l f
+    → (s : Situation) (d : Config) (a : ℕ) → StandsFor f.network s d
+    → (moment_at f.layout d ≡ Some a) ↔ IsMoment (machine_of f) f.names f.network s a
+
+-- After t steps the board is at the moment of a: t is the cost of the network's moves to its moment of a; the machine is in a after some steps, which are one fewer than the moments so far; the network shows its tapes, and the board's cells spell them.
+pub record MomentOnBoard (f : Flat) (t a : ℕ) : Type 0 where
+  pub moves : ℕ
+  pub at : Situation
+  pub run_at : Reaches (Turns f.network) moves (situation_at_start f) at
+  pub sum : t ≡ run_cost f.network moves (situation_at_start f)
+  pub moment : IsMoment (machine_of f) f.names f.network at a
+  pub steps : ℕ
+  pub count : moments f.layout f.circuit t (flat_start f) ≡ steps + 1
+  pub config : Configuration ℕ
+  pub runs : Runs f.translation f.word (rooms_of f.limits) steps config
+  pub state : config.state ≡ a
+  pub shows : IsMomentOf (machine_of f) f.limits f.names f.network at config
+  pub spells : Spells f (run f.circuit (flat_start f) t).states config
+
+-- the board is at a moment exactly at the sums of costs at which the network is at one
+abbrev pub MomentsStandAtSums : Type 0
+MomentsStandAtSums =
+    (p : Program) (word : List ℕ) (l : Limits) (f : Flat) (cost : ℕ) → IsFlatOf p word l f → IsAccepted p word l f
+    → HasCost f cost → cost ≤ clock
+    → (t a : ℕ) → t ≤ cost → (moment_at f.layout (run f.circuit (flat_start f) t) ≡ Some a) ↔ MomentOnBoard f t a
+
+-- at no step two columns of a bank are marked
+abbrev pub BanksHaveOneMark : Type 0
+BanksHaveOneMark =
+    (p : Program) (word : List ℕ) (l : Limits) (f : Flat) (cost : ℕ) → IsFlatOf p word l f → IsAccepted p word l f
+    → HasCost f cost → cost ≤ clock
+    → (t m j i : ℕ) (u : Table) → t ≤ cost → slice_get f.network.tables m ≡ Some u → j < u.states → i < u.states
+    → slice_get (run f.circuit (flat_start f) t).states (bottom_at (base f.network.tables m) u.inputs j) ≡ Some horizontal
+    → slice_get (run f.circuit (flat_start f) t).states (bottom_at (base f.network.tables m) u.inputs i) ≡ Some horizontal → i ≡ j
+
+-- at no step two cells of a tape show a head
+abbrev pub TapesHaveOneHead : Type 0
+TapesHaveOneHead =
+    (p : Program) (word : List ℕ) (l : Limits) (f : Flat) (cost : ℕ) → IsFlatOf p word l f → IsAccepted p word l f
+    → HasCost f cost → cost ≤ clock
+    → (t tape p q i j : ℕ) → t ≤ cost → 0 < tape → tape ≤ 3 → p < cells_in l tape → q < cells_in l tape
+    → letters_at f.layout tape ≤ i → i < 2 * letters_at f.layout tape → letters_at f.layout tape ≤ j
+    → j < 2 * letters_at f.layout tape
+    → slice_get (run f.circuit (flat_start f) t).states (bottom_at (cell_element f.layout tape p) (lines_of (letters_at f.layout tape)) i) ≡ Some horizontal
+    → slice_get (run f.circuit (flat_start f) t).states (bottom_at (cell_element f.layout tape q) (lines_of (letters_at f.layout tape)) j) ≡ Some horizontal → p ≡ q
+
+-- what is found by the layout is the board's moment
+abbrev pub MomentsAreByMarks : Type 0
+MomentsAreByMarks =
+    (p : Program) (word : List ℕ) (l : Limits) (f : Flat) → IsFlatOf p word l f → IsAccepted p word l f
+    → (d : Config) (a : ℕ) → HasOneState f d
+    → (moment_at f.layout d ≡ Some a) ↔ IsBoardMoment (machine_of f) l f.names f.network d a
+
+-- at each step of the board's run
+abbrev pub RunsTellMoments : Type 0
+RunsTellMoments =
+    (p : Program) (word : List ℕ) (l : Limits) (f : Flat) (cost : ℕ) → IsFlatOf p word l f → IsAccepted p word l f
+    → HasCost f cost → cost ≤ clock
+    → (t a : ℕ) → t ≤ cost
+    → (moment_at f.layout (run f.circuit (flat_start f) t) ≡ Some a) ↔ IsBoardMoment (machine_of f) l f.names f.network (run f.circuit (flat_start f) t) a
+
+-- so the board is at a moment exactly at the sums of costs at which the network is at one, in words that know no layout
+abbrev pub BoardMomentsAreSums : Type 0
+BoardMomentsAreSums =
+    (p : Program) (word : List ℕ) (l : Limits) (f : Flat) (cost : ℕ) → IsFlatOf p word l f → IsAccepted p word l f
+    → HasCost f cost → cost ≤ clock
+    → (t a : ℕ) → t ≤ cost
+    → IsBoardMoment (machine_of f) l f.names f.network (run f.circuit (flat_start f) t) a ↔ MomentOnBoard f t a
+
+-- Up to its cost a board is at a moment exactly at the sums of costs at which its network is at one, in its own words and by the layout; and at every step, past its end too, no bank has two marked columns and no tape shows two heads.
+pub record HasMoments (l : Limits) (f : Flat) : Type 0 where
+  pub sums : (cost t a : ℕ) → HasCost f cost → t ≤ cost
+      → IsBoardMoment (machine_of f) l f.names f.network (run f.circuit (flat_start f) t) a ↔ MomentOnBoard f t a
+  pub found : (cost t a : ℕ) → HasCost f cost → t ≤ cost
+      → (moment_at f.layout (run f.circuit (flat_start f) t) ≡ Some a) ↔ MomentOnBoard f t a
+  pub each : (moves a : ℕ) (at : Situation) → Reaches (Turns f.network) moves (situation_at_start f) at
+      → IsMoment (machine_of f) f.names f.network at a → MomentOnBoard f (run_cost f.network moves (situation_at_start f)) a
+  pub marks : (t m j i : ℕ) (u : Table) → slice_get f.network.tables m ≡ Some u → j < u.states → i < u.states
+      → slice_get (run f.circuit (flat_start f) t).states (bottom_at (base f.network.tables m) u.inputs j) ≡ Some horizontal
+      → slice_get (run f.circuit (flat_start f) t).states (bottom_at (base f.network.tables m) u.inputs i) ≡ Some horizontal → i ≡ j
+  pub heads : (t tape p q i j : ℕ) → 0 < tape → tape ≤ 3 → p < cells_in l tape → q < cells_in l tape
+      → letters_at f.layout tape ≤ i → i < 2 * letters_at f.layout tape → letters_at f.layout tape ≤ j
+      → j < 2 * letters_at f.layout tape
+      → slice_get (run f.circuit (flat_start f) t).states (bottom_at (cell_element f.layout tape p) (lines_of (letters_at f.layout tape)) i) ≡ Some horizontal
+      → slice_get (run f.circuit (flat_start f) t).states (bottom_at (cell_element f.layout tape q) (lines_of (letters_at f.layout tape)) j) ≡ Some horizontal → p ≡ q
+
+abbrev pub BoardsHaveMoments : Type 0
+BoardsHaveMoments = (p : Program) (word : List ℕ) (l : Limits) (f : Flat) → IsFlatOf p word l f
+    → IsAccepted p word l f → HasMoments l f

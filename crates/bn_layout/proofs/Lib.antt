@@ -1,0 +1,13 @@
+pub mod SameLemmas
+pub mod CommandLemmas
+pub mod FirstLemmas
+pub mod LetterLemmas
+pub mod PlaceLemmas
+pub mod ExitLemmas
+pub mod TabledLemmas
+pub mod AgreedLemmas
+pub mod StartedLemmas
+pub mod StartingLemmas
+pub mod SpellingLemmas
+pub mod ReadingLemmas
+pub mod WordLemmas

@@ -1,0 +1,18 @@
+-- The order of wires: by the element that they leave, then by the output line.
+use Rattle.std.specs.Prelude.{◌≡◌, ◌<◌, ◌⊎◌, List, [], ◌∷◌}
+use Rattle.bn_theory.specs.declared.line.Line.{Line}
+use Rattle.bn_theory.specs.declared.line.Wire.{Wire}
+
+-- the first line comes before the second
+abbrev pub ComesBefore : Line → Line → Type 0
+ComesBefore a b = (a.element < b.element) ⊎ ((a.element ≡ b.element) × (a.line < b.line))
+
+-- the line comes before each line that one of these wires leaves
+abbrev pub ComesFirst : Line → List Wire → Type 0
+ComesFirst line [] = Unit {0}
+ComesFirst line (w ∷ ws) = ComesBefore line w.from × ComesFirst line ws
+
+-- each wire leaves a line before those that the wires after it leave
+abbrev pub AreInOrder : List Wire → Type 0
+AreInOrder [] = Unit {0}
+AreInOrder (w ∷ ws) = ComesFirst w.from ws × AreInOrder ws
