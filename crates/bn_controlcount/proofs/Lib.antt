@@ -1,0 +1,5 @@
+pub mod ApartLemmas
+pub mod AlongLemmas
+pub mod PrefixLemmas
+pub mod ToldLemmas
+pub mod StateLemmas
