@@ -392,3 +392,159 @@ module _ (p : Program) (standard : IsStandardMachine p) (order : List Name) (num
       ]
     ]
   ]
+
+  -- ---- no state is listed twice
+
+  class_firsts : (x : ControlState) → IsMember x firsts → class x ≡ 2
+  class_firsts x h = let found = from_mapped first_state readers x h in ap class (sym found.2)
+
+  class_reads : (x : ControlState) → IsMember x more_read → class x ≡ 3
+  class_reads x h = let found = from_along read_states 1 m.rules x h in by found.1.from (reads_of found.1) found.3
+    where
+      by : (a : ℕ) (l : List (ℕ × ℕ)) → IsMember x (more_reads a l) → class x ≡ 3
+      by a [] h = absurd h
+      by a (q ∷ l) h = let one = from_mapped (λ (b : List ℕ). Reads a (q.1 ∷ b)) (inits (symbols_in l)) x h in ap class (sym one.2)
+
+  class_shifts : (x : ControlState) → IsMember x shifted → class x ≡ 4
+  class_shifts x h =
+      let found = from_along shift_states 1 m.rules x h in
+      let one = from_mapped (λ (s : ℕ × Side). Shifts (1 + found.0) s.0) (shifts_of found.1) x found.3 in
+      ap class (sym one.2)
+
+  class_lasts : (x : ControlState) → IsMember x lasts → class x ≡ 5
+  class_lasts x h = let found = from_mapped last_state written x h in ap class (sym found.2)
+
+  class_writes : (x : ControlState) → IsMember x more_written → class x ≡ 6
+  class_writes x h =
+      let found = from_along write_states 1 m.rules x h in
+      let one = from_mapped (write_state found.1.to) (tails (writes_of found.1)) x found.3 in
+      let split = from_tail (writes_of found.1) one.0.0 one.0.1 one.1 in
+      ap class (sym one.2) ∙ ap (λ l. class (Writes found.1.to one.0.0.0 (symbols_in l))) split.4
+
+  firsts_apart : IsApart firsts
+  firsts_apart = apart_mapped first_state (λ a b e. cc) readers (apart_filtered (λ a. is_reader p (named a)) (range_with_len 0 m.states) (range_apart 0 m.states))
+
+  lasts_apart : IsApart lasts
+  lasts_apart = apart_mapped last_state (λ a b e. cc) written (apart_filtered (λ a. is_written p (named a)) (range_with_len 0 m.states) (range_apart 0 m.states))
+
+  -- a state that awaits a second or later read tells its quadruple
+  read_symbols : (i : ℕ) (r : Rule ℕ) → slice_get m.rules i ≡ Some r → (x : ControlState) → IsMember x (read_states (1 + i) r)
+      → (y : ℕ) × (b : List ℕ) × (x ≡ Reads r.from (y ∷ b)) × (symbols_in (reads_of r) ≡ y ∷ later p (named r.from) y)
+  read_symbols i r here x h = by (reads_of r) refl h
+    where
+      by : (l : List (ℕ × ℕ)) → reads_of r ≡ l → IsMember x (more_reads r.from l) → (y : ℕ) × (b : List ℕ) × (x ≡ Reads r.from (y ∷ b)) × (symbols_in (reads_of r) ≡ y ∷ later p (named r.from) y)
+      by [] e h = absurd h
+      by (q ∷ l) e h =
+          let one = from_mapped (λ (b : List ℕ). Reads r.from (q.1 ∷ b)) (inits (symbols_in l)) x h in
+          let told = subst (ReadsTell p (named r.from)) e (before_tells (suc i) r here) in
+          (q.1, one.0, sym one.2, ap symbols_in e ∙ ap (λ k. q.1 ∷ k) told.1)
+
+  reads_apart : IsApart more_read
+  reads_apart = apart_along read_states 1 m.rules (λ i r here. one r.from (reads_of r)) across
+    where
+      one : (a : ℕ) (l : List (ℕ × ℕ)) → IsApart (more_reads a l)
+      one a [] = tt
+      one a (q ∷ l) = apart_mapped (λ (b : List ℕ). Reads a (q.1 ∷ b)) (λ b c e. cc) (inits (symbols_in l)) (inits_apart (symbols_in l))
+
+      across : (i j : ℕ) (r s : Rule ℕ) (x : ControlState) → slice_get m.rules i ≡ Some r → slice_get m.rules j ≡ Some s → IsMember x (read_states (1 + i) r) → IsMember x (read_states (1 + j) s) → i ≡ j
+      across i j r s x here there h g =
+          let a = read_symbols i r here x h in
+          let b = read_symbols j s there x g in
+          let both : Reads r.from (a.0 ∷ a.1) ≡ Reads s.from (b.0 ∷ b.1) = sym a.2 ∙ b.2 in
+          let from : r.from ≡ s.from = cc in
+          let first : a.0 ≡ b.0 = cc in
+          let symbols : symbols_in (reads_of r) ≡ symbols_in (reads_of s) = a.3 ∙ (λ i. first i ∷ later p (named (from i)) (first i)) ∙ sym b.3 in
+          let same = same_domain m u (suc i) (suc j) r s here there from symbols in
+          omega arith
+
+  shifted_apart : IsApart shifted
+  shifted_apart = apart_along shift_states 1 m.rules (λ i r here. shifts_apart (1 + i) 1 (deeds_of r)) across
+    where
+      across : (i j : ℕ) (r s : Rule ℕ) (x : ControlState) → slice_get m.rules i ≡ Some r → slice_get m.rules j ≡ Some s → IsMember x (shift_states (1 + i) r) → IsMember x (shift_states (1 + j) s) → i ≡ j
+      across i j r s x here there h g =
+          let a = from_mapped (λ (v : ℕ × Side). Shifts (1 + i) v.0) (shifts_of r) x h in
+          let b = from_mapped (λ (v : ℕ × Side). Shifts (1 + j) v.0) (shifts_of s) x g in
+          let both : Shifts (1 + i) a.0.0 ≡ Shifts (1 + j) b.0.0 = a.2 ∙ sym b.2 in
+          let same : 1 + i ≡ 1 + j = cc in
+          omega arith
+
+  -- and so does one that awaits a write before the last
+  write_symbols : (i : ℕ) (r : Rule ℕ) → slice_get m.rules i ≡ Some r → (x : ControlState) → IsMember x (write_states (1 + i) r)
+      → (t y : ℕ) × (b : List ℕ) × (x ≡ Writes r.to t (y ∷ b)) × (symbols_in (writes_of r) ≡ earlier p (named r.to) (last_of y b) ++ last_of y b ∷ [])
+  write_symbols i r here x h =
+      let one = from_mapped (write_state r.to) (tails (writes_of r)) x h in
+      let split = from_tail (writes_of r) one.0.0 one.0.1 one.1 in
+      by one.0.0 one.0.1 (sym one.2) split.0 split.1 split.2 split.3 split.4
+    where
+      told : (l : List (ℕ × ℕ)) → rising 1 (deeds_of r) ≡ l → (front : List ℕ) (v y : ℕ) (k : List ℕ) → symbols_in (writes_of r) ≡ front ++ (v ∷ (y ∷ k)) → symbols_in (writes_of r) ≡ earlier p (named r.to) (last_of y k) ++ last_of y k ∷ []
+      told [] e front v y k symbols = none front (let nothing : symbols_in (writes_of r) ≡ [] = ap (λ l. symbols_in (reverse l)) e in sym nothing ∙ symbols)
+        where
+          none : (front : List ℕ) → [] ≡ front ++ (v ∷ (y ∷ k)) → symbols_in (writes_of r) ≡ earlier p (named r.to) (last_of y k) ++ last_of y k ∷ []
+          none [] e = absurd (cc)
+          none (a ∷ b) e = absurd (cc)
+      told (q ∷ l) e front v y k symbols =
+          let tell = subst (WritesTell p (named r.to)) e (after_tells (suc i) r here) in
+          let ends : symbols_in (writes_of r) ≡ earlier p (named r.to) q.1 ++ q.1 ∷ [] = ap (λ l. symbols_in (reverse l)) e ∙ tell.2 in
+          let same : q.1 ≡ last_of y k = sym (ap (last_of 0) ends ∙ last_back 0 (earlier p (named r.to) q.1) q.1 []) ∙ ap (last_of 0) symbols ∙ last_back 0 front v (y ∷ k) in
+          ends ∙ ap (λ w. earlier p (named r.to) w ++ w ∷ []) same
+
+      by : (q : ℕ × ℕ) (rest : List (ℕ × ℕ)) → x ≡ write_state r.to (q, rest) → (before : List (ℕ × ℕ)) (c : ℕ × ℕ) (more : List (ℕ × ℕ)) → writes_of r ≡ before ++ (q ∷ rest) → rest ≡ c ∷ more
+          → (t y : ℕ) × (b : List ℕ) × (x ≡ Writes r.to t (y ∷ b)) × (symbols_in (writes_of r) ≡ earlier p (named r.to) (last_of y b) ++ last_of y b ∷ [])
+      by q rest e before c more split follows =
+          let symbols : symbols_in (writes_of r) ≡ symbols_in before ++ (q.1 ∷ (c.1 ∷ symbols_in more)) = ap symbols_in split ∙ map-append (λ (v : ℕ × ℕ). v.1) before (q ∷ rest) ∙ ap (λ l. symbols_in before ++ (q.1 ∷ symbols_in l)) follows in
+          (q.0, c.1, symbols_in more, e ∙ ap (λ l. Writes r.to q.0 (symbols_in l)) follows, told (rising 1 (deeds_of r)) refl (symbols_in before) q.1 c.1 (symbols_in more) symbols)
+
+  writes_apart : IsApart more_written
+  writes_apart = apart_along write_states 1 m.rules (λ i r here. tails_apart (write_state r.to) (λ v w e. same_symbols v.1 w.1 (cc)) (writes_of r)) across
+    where
+      across : (i j : ℕ) (r s : Rule ℕ) (x : ControlState) → slice_get m.rules i ≡ Some r → slice_get m.rules j ≡ Some s → IsMember x (write_states (1 + i) r) → IsMember x (write_states (1 + j) s) → i ≡ j
+      across i j r s x here there h g =
+          let a = write_symbols i r here x h in
+          let b = write_symbols j s there x g in
+          let both : Writes r.to a.0 (a.1 ∷ a.2) ≡ Writes s.to b.0 (b.1 ∷ b.2) = sym a.3 ∙ b.3 in
+          let to : r.to ≡ s.to = cc in
+          let first : a.1 ≡ b.1 = cc in
+          let rest : a.2 ≡ b.2 = cc in
+          let last : last_of a.1 a.2 ≡ last_of b.1 b.2 = λ i. last_of (first i) (rest i) in
+          let symbols : symbols_in (writes_of r) ≡ symbols_in (writes_of s) = a.4 ∙ (λ i. earlier p (named (to i)) (last i) ++ (last i) ∷ []) ∙ sym b.4 in
+          let same = same_range m u (suc i) (suc j) r s here there to symbols in
+          omega arith
+
+  pub listed_apart : IsApart listed
+  listed_apart =
+      let four = joined lasts more_written lasts_apart writes_apart (λ x h g. differ x 5 6 (class_lasts x h) (class_writes x g) (λ e. omega arith)) in
+      let three = joined shifted (lasts ++ more_written) shifted_apart four (λ x h g. elim (of_two lasts more_written x g) [
+        | inl a ↦ differ x 4 5 (class_shifts x h) (class_lasts x a) (λ e. omega arith)
+        | inr b ↦ differ x 4 6 (class_shifts x h) (class_writes x b) (λ e. omega arith)
+      ]) in
+      let two = joined more_read (shifted ++ (lasts ++ more_written)) reads_apart three (λ x h g. let above = over_shifts x g in let is = class_reads x h in omega arith) in
+      let one = joined firsts (more_read ++ (shifted ++ (lasts ++ more_written))) firsts_apart two (λ x h g. let above = over_reads x g in let is = class_firsts x h in omega arith) in
+      (not_begin, (not_end, one))
+    where
+      differ : (x : ControlState) (a b : ℕ) → class x ≡ a → class x ≡ b → (a ≡ b → ⊥) → ⊥
+      differ x a b e f ne = ne (sym e ∙ f)
+
+      over_shifts : (x : ControlState) → IsMember x (shifted ++ (lasts ++ more_written)) → 4 ≤ class x
+      over_shifts x g = elim (of_two shifted (lasts ++ more_written) x g) [
+        | inl a ↦ (let is = class_shifts x a in omega arith)
+        | inr b ↦ elim (of_two lasts more_written x b) [ inl c ↦ (let is = class_lasts x c in omega arith) | inr d ↦ (let is = class_writes x d in omega arith) ]
+      ]
+
+      over_reads : (x : ControlState) → IsMember x (more_read ++ (shifted ++ (lasts ++ more_written))) → 3 ≤ class x
+      over_reads x g = elim (of_two more_read (shifted ++ (lasts ++ more_written)) x g) [
+        | inl a ↦ (let is = class_reads x a in omega arith)
+        | inr b ↦ (let is = over_shifts x b in omega arith)
+      ]
+
+      over_firsts : (x : ControlState) → IsMember x (firsts ++ (more_read ++ (shifted ++ (lasts ++ more_written)))) → 2 ≤ class x
+      over_firsts x g = elim (of_two firsts (more_read ++ (shifted ++ (lasts ++ more_written))) x g) [
+        | inl a ↦ (let is = class_firsts x a in omega arith)
+        | inr b ↦ (let is = over_reads x b in omega arith)
+      ]
+
+      not_begin : IsMember Begin (End ∷ (firsts ++ (more_read ++ (shifted ++ (lasts ++ more_written))))) → ⊥
+      not_begin (inl e) = absurd (cc)
+      not_begin (inr h) = let above : 2 ≤ 0 = over_firsts Begin h in omega arith
+
+      not_end : IsMember End (firsts ++ (more_read ++ (shifted ++ (lasts ++ more_written)))) → ⊥
+      not_end h = let above : 2 ≤ 1 = over_firsts End h in omega arith
