@@ -3,3 +3,6 @@ pub mod AlongLemmas
 pub mod PrefixLemmas
 pub mod ToldLemmas
 pub mod StateLemmas
+pub mod SumLemmas
+pub mod CountLemmas
+pub mod NameLemmas
