@@ -1,11 +1,11 @@
 -- What each quadruple of a list gives, with its number, and sums over such lists.
-use Rattle.std.proofs.Common.{◌≡◌, ◌⊎◌, inl, inr, slice_get, ℕ, zero, suc, ◌+◌, ◌-◌, ◌*◌, ◌<◌, ◌≤◌, List, [], ◌∷◌, ◌++◌, length, map, reverse, Some, refl, sym, ap, subst, ◌∙◌, arith, length-append, append-nil}
+use Rattle.std.proofs.Common.{◌≡◌, inl, inr, slice_get, ℕ, zero, suc, ◌+◌, ◌*◌, List, [], ◌∷◌, ◌++◌, length, map, reverse, Some, refl, ap, subst, ◌∙◌, arith, length-append, append-nil}
 use Rattle.std.specs.List.{flat_map, enumerate_from}
 use Rattle.std.proofs.lemmas.Grind.{flat_map-append}
 use Rattle.std.proofs.lemmas.List.{reverse-append}
 use Rattle.bn_machine.specs.declared.quint.Quint.{Quint}
 use Rattle.bn_quad.specs.Quadruples.{Deed, Rule, deeds_of}
-use Rattle.bn_stages.specs.Renamed.{rename, renamed}
+use Rattle.bn_stages.specs.Renamed.{rename}
 use Rattle.bn_cell.proofs.MemberLemmas.{IsMember, in_front, behind, of_two}
 use Rattle.bn_controlcount.proofs.ApartLemmas.{IsApart, joined}
 
@@ -39,9 +39,9 @@ apart_along {A = A} f n (s ∷ rs) one far =
     joined (f n s) (along f (suc n) rs) (let place : n + 0 ≡ n = omega arith in subst (λ k. IsApart (f k s)) place (one 0 s refl))
     (apart_along f (suc n) rs (λ i r e. let place : n + suc i ≡ suc n + i = omega arith in subst (λ k. IsApart (f k r)) place (one (suc i) r e))
     (λ i j r t x e d h g. let a : suc n + i ≡ n + suc i = omega arith in let b : suc n + j ≡ n + suc j = omega arith in
-        let same = far (suc i) (suc j) r t x e d (subst (λ k. IsMember x (f k r)) a h) (subst (λ k. IsMember x (f k t)) b g) in omega arith))
+    let same = far (suc i) (suc j) r t x e d (subst (λ k. IsMember x (f k r)) a h) (subst (λ k. IsMember x (f k t)) b g) in omega arith))
     (λ x h g. let found = from_along f (suc n) rs x g in let a : n ≡ n + 0 = omega arith in let b : suc n + found.0 ≡ n + suc found.0 = omega arith in
-        let same = far 0 (suc found.0) s found.1 x refl found.2 (subst (λ k. IsMember x (f k s)) a h) (subst (λ k. IsMember x (f k found.1)) b found.3) in omega arith)
+    let same = far 0 (suc found.0) s found.1 x refl found.2 (subst (λ k. IsMember x (f k s)) a h) (subst (λ k. IsMember x (f k found.1)) b found.3) in omega arith)
 
 -- ---- sums
 

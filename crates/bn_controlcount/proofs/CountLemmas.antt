@@ -1,10 +1,9 @@
 -- How many elements of a list pass a test.
-use Rattle.std.proofs.Common.{◌≡◌, ◌⊎◌, inl, inr, Bool, true, false, cond, ◌==◌, ◌||◌, not, slice_get, ℕ, zero, suc, ◌+◌, ◌<◌, ◌≤◌, List, [], ◌∷◌, ◌++◌, length, map, Some, refl, sym, ap, subst, ◌∙◌, arith, eq-eqb, append_assoc}
+use Rattle.std.proofs.Common.{◌≡◌, inl, inr, Bool, true, false, cond, ◌==◌, ◌||◌, not, slice_get, ℕ, suc, ◌+◌, ◌<◌, List, [], ◌∷◌, ◌++◌, length, map, Some, refl, sym, ap, subst, ◌∙◌, arith, eq-eqb}
 use Rattle.std.specs.List.{filter, range_with_len}
 use Rattle.std.proofs.lemmas.Bool.{eqb-true}
-use Rattle.std.proofs.lemmas.List.FromFn.{length-range_with_len}
 use Rattle.bn_cell.proofs.MemberLemmas.{IsMember}
-use Rattle.bn_controlcount.proofs.ApartLemmas.{IsApart, same_length, filtered, from_filtered, apart_filtered, range_member, from_range, range_apart}
+use Rattle.bn_controlcount.proofs.ApartLemmas.{same_length, filtered, from_filtered, apart_filtered, range_member, range_apart}
 
 -- how many pass
 abbrev pub passing : {A : Type 0} → (A → Bool) → List A → ℕ

@@ -6,3 +6,4 @@ pub mod StateLemmas
 pub mod SumLemmas
 pub mod CountLemmas
 pub mod NameLemmas
+pub mod TotalLemmas

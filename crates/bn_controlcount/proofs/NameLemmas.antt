@@ -2,14 +2,12 @@
 use Rattle.std.proofs.Common.{◌≡◌, ◌⊎◌, inl, inr, Bool, true, false, ◌==◌, ◌||◌, ◌&&◌, not, slice_get, ℕ, zero, suc, ◌+◌, ◌*◌, ◌<◌, ◌≤◌, List, [], ◌∷◌, ◌++◌, length, map, Some, refl, sym, ap, subst, ◌∙◌, arith}
 use Rattle.std.specs.List.{filter, range_with_len}
 use Rattle.std.proofs.lemmas.Bool.{eqb-true}
-use Rattle.std.proofs.lemmas.Bool.Decides.{eqb_tells}
 use Rattle.std.proofs.lemmas.List.FromFn.{length-range_with_len}
 use Rattle.std.proofs.lemmas.List.Sums.{length-filter}
 use Rattle.bn_machine.specs.Machine.{Program, IsInRange, nth, start_of, final_of}
 use Rattle.bn_machine.specs.declared.quint.Quint.{Quint}
-use Rattle.bn_stages.specs.In.{IsIn}
 use Rattle.bn_stages.specs.List.{bennett}
-use Rattle.bn_stages.specs.Names.{NumbersStates, IsNameOf, Mentions, states_in}
+use Rattle.bn_stages.specs.Names.{NumbersStates, IsNameOf, Mentions}
 use Rattle.bn_stages.specs.Stages.{IsStandardMachine}
 use Rattle.bn_stages.specs.declared.name.Name.{Name}
 use Rattle.bn_stages.specs.declared.name.Name.TheVariants.{Compute, ComputeWithin, GoRight, CopyLetter, GoLeft, PassLetter, Retrace, RetraceWithin}
@@ -22,7 +20,7 @@ use Rattle.bn_controlcount.specs.Laws.{is_left, is_entered, never_left, never_en
 use Rattle.bn_controlcount.specs.Told.{is_reader, is_written}
 use Rattle.bn_controlcount.proofs.ApartLemmas.{IsApart, IsWithin, same_length, joined, mapped, from_mapped, apart_mapped, filtered, from_filtered, apart_filtered, apart_places, range_member, from_range, range_apart}
 use Rattle.bn_controlcount.proofs.CountLemmas.{passing, passing_append, passing_mapped, all_pass, halves, either, just_one}
-use Rattle.bn_controlcount.proofs.ToldLemmas.{not_equal, any_found, next_not_start}
+use Rattle.bn_controlcount.proofs.ToldLemmas.{any_found, next_not_start}
 
 abbrev kind : Name → ℕ
 kind (Compute j) = 0
@@ -201,7 +199,7 @@ module _ (p : Program) (standard : IsStandardMachine p) (fits : FitsTable p) (or
   place_count : length places ≡ length p.quints
   place_count = length-range_with_len 1 (length p.quints)
 
-  start_low : start_of p.quints < p.states
+  pub start_low : start_of p.quints < p.states
   start_low = by p.quints refl
     where
       by : (qs : List Quint) → p.quints ≡ qs → start_of p.quints < p.states

@@ -1,6 +1,5 @@
 -- How many reads, shifts and writes Bennett's list has.
-use Rattle.std.proofs.Common.{◌≡◌, Bool, true, false, cond, ℕ, zero, suc, ◌+◌, ◌-◌, ◌*◌, ◌<◌, List, [], ◌∷◌, ◌++◌, length, map, reverse, refl, sym, ap, ◌∙◌, arith}
-use Rattle.std.specs.List.{flat_map, enumerate_from, range_with_len, count_by}
+use Rattle.std.proofs.Common.{◌≡◌, Bool, true, false, cond, ℕ, suc, ◌+◌, ◌-◌, ◌*◌, ◌<◌, List, [], ◌∷◌, ◌++◌, length, map, refl, ap, ◌∙◌, arith}
 use Rattle.std.proofs.lemmas.List.FromFn.{length-range_with_len}
 use Rattle.std.proofs.lemmas.List.Sums.{length-filter}
 use Rattle.std.specs.List.{filter}
@@ -9,9 +8,9 @@ use Rattle.bn_machine.specs.Tape.{opposite}
 use Rattle.bn_machine.specs.declared.quint.Quint.{Quint}
 use Rattle.bn_machine.specs.declared.quint.Shift.{Shift}
 use Rattle.bn_machine.specs.declared.quint.Shift.TheVariants.{Left, Stay, Right}
-use Rattle.bn_quad.specs.Quadruples.{Deed, Rule, deeds_of}
+use Rattle.bn_quad.specs.Quadruples.{Rule, deeds_of}
 use Rattle.bn_modules.specs.Controls.{reads, shifts, shift_at, rising}
-use Rattle.bn_stages.specs.List.{bennett, writes_ahead, shifts_ahead, begins_copy, goes_right, copies_letter, turns_left, goes_left, passes_letter, ends_copy, shifts_back, writes_back, compute_pair, retrace_pair, numbered, letters, compute_rules, copy_rules, retrace_rules}
+use Rattle.bn_stages.specs.List.{bennett, begins_copy, goes_right, copies_letter, turns_left, goes_left, passes_letter, ends_copy, compute_pair, retrace_pair, numbered, letters, compute_rules, copy_rules, retrace_rules}
 use Rattle.bn_stages.specs.declared.name.Name.{Name}
 use Rattle.bn_controlcount.specs.Laws.{stays, without_shift}
 use Rattle.bn_controlcount.proofs.AlongLemmas.{total, total_append, total_pairs, total_turned, total_kind}
@@ -45,7 +44,7 @@ module _ (g : Rule Name → ℕ) (p : Program) (ahead back : Quint → ℕ) (beg
       let s4 = total_append g (a ++ b ++ c ++ d) e in
       let parts : total g (copy_rules f n p.symbols) ≡ total g a + total g b + total g c + total g d + total g e = s4 ∙ ap (λ k. k + total g e) (s3 ∙ ap (λ k. k + total g d) (s2 ∙ ap (λ k. k + total g c) s1)) in
       let known : total g a + total g b + total g c + total g d + total g e ≡ (begin + (right + 0)) + (p.symbols - 1) * copy + (turn + (left + 0)) + (p.symbols - 1) * pass + (end + 0)
-          = λ i. (two i + (three i + 0)) + copies i + (five i + (six i + 0)) + passes i + (eight i + 0) in
+      = λ i. (two i + (three i + 0)) + copies i + (five i + (six i + 0)) + passes i + (eight i + 0) in
       let middle = parts ∙ known ∙ plain begin right ((p.symbols - 1) * copy) turn left ((p.symbols - 1) * pass) end in
       let first = total_append g (compute_rules p.quints) (copy_rules f n p.symbols) in
       let whole = total_append g (compute_rules p.quints ++ copy_rules f n p.symbols) (retrace_rules p.quints) in

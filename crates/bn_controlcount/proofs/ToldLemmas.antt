@@ -1,7 +1,6 @@
 -- The states of each quadruple of Bennett's list tell of it.
-use Rattle.std.proofs.Common.{◌≡◌, ◌≢◌, ◌⊎◌, inl, inr, Bool, true, false, cond, ◌==◌, ◌||◌, not, ℕ, zero, suc, ◌<◌, List, [], ◌∷◌, ◌++◌, length, Some, refl, sym, ap, subst, ◌∙◌, arith, eq-eqb, slice_get}
+use Rattle.std.proofs.Common.{◌≡◌, ◌≢◌, inl, inr, Bool, true, false, ◌==◌, ◌||◌, ℕ, zero, suc, List, [], ◌∷◌, Some, refl, ap, ◌∙◌, eq-eqb, slice_get}
 use Rattle.std.specs.List.{list_any}
-use Rattle.std.proofs.lemmas.Bool.{cases_Bool, eqb-false, eqb-true}
 use Rattle.std.proofs.lemmas.Bool.Decides.{eqb_tells}
 use Rattle.bn_machine.specs.Machine.{Program, nth, start_of, final_of}
 use Rattle.bn_machine.specs.declared.quint.Quint.{Quint}
