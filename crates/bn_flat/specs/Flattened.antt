@@ -13,6 +13,7 @@ use Rattle.bn_net.specs.Parts.{Parts}
 use Rattle.bn_column.specs.Nets.{rotary_circuit}
 use Rattle.bn_modules.specs.Networks.{IsTape}
 use Rattle.bn_control.specs.Controlled.{Controlled}
+use Rattle.bn_control.specs.declared.make.TheConstants.{MOST_SYMBOLS}
 use Rattle.bn_boards.specs.Boards.{IsBoard, board_start}
 use Rattle.bn_layout.specs.Layouts.{Layout, elements_of, end_place, letters_at, lines_at}
 use Rattle.bn_assembly.specs.Assembled.{Assembled, AreSmall, network_of}
@@ -54,11 +55,12 @@ abbrev pub IsAwaitedWithin : Option (ℕ × ℕ) → Type 0
 IsAwaitedWithin None = Unit {0}
 IsAwaitedWithin (Some p) = IsTape p.1
 
--- Its numbers are small: the windows, the symbols, at least one on each tape, and the elements in all; the control has a state, and its lists fit it.
+-- Its numbers are small: the windows, the symbols, of which each tape has one or more, and the elements in all; the control has a state, and its lists fit it.
 pub record IsLayoutKept (b : Layout) : Type 0 where
   pub small : AreSmall b.limits
   pub tapes : length b.symbols ≡ 3
   pub some_symbols : All (λ z. 1 ≤ z) b.symbols
+  pub few_symbols : All (λ z. z ≤ MOST_SYMBOLS) b.symbols
   pub some_states : 0 < b.states
   pub few : elements_of b ≤ MOST_ELEMENTS
   pub firsts : All (IsFirstWithin b) b.firsts

@@ -3,5 +3,6 @@
 
 mod layout;
 mod located;
+mod wiring;
 
 pub use located::Located;
