@@ -234,6 +234,11 @@ pub source_within : (net : Parts Rotary) → IsCircuit (rotary_circuit net) → 
 source_within net circuit to None is = tt
 source_within net circuit to (Some from) is = output_below net.elements from (circuit.wired from to ((circuit.one_to_one from to).1 (sym is))).0
 
+-- what a line leads to is an input line
+pub target_input : (net : Parts Rotary) → IsCircuit (rotary_circuit net) → (from : Line) (o : Option Line) → o ≡ target net.wires from → IfSome o (IsInput (map (λ _. rotary) net.elements))
+target_input net circuit from None is = tt
+target_input net circuit from (Some to) is = (circuit.wired from to (sym is)).1
+
 -- and what feeds a line is an output line
 pub source_output : (net : Parts Rotary) → IsCircuit (rotary_circuit net) → (to : Line) (o : Option Line) → o ≡ source net.wires to → IfSome o (IsOutput (map (λ _. rotary) net.elements))
 source_output net circuit to None is = tt

@@ -19,7 +19,7 @@ use Rattle.bn_element.specs.declared.rotary.Rotary.{Rotary}
 use Rattle.bn_net.specs.Parts.{Parts}
 use Rattle.bn_net.specs.Watching.{Hears}
 use Rattle.bn_net.specs.Walking.{HasWalked, HasWalkedBack}
-use Rattle.bn_net.proofs.WalkLemmas.{walk_starts, walk_goes, walk_ends, walk_back_starts, walk_goes_back, walk_back_ends}
+use Rattle.bn_net.proofs.WalkLemmas.{walk_starts, walk_goes, walk_ends, walk_back_starts, walk_goes_back, walk_back_then, walk_back_ends}
 use Rattle.bn_net.proofs.NetSteps.{enter-within, output-state, back-Goes, first_by_steps, first_by_line}
 use Rattle.bn_column.specs.Nets.{rotary_circuit}
 use Rattle.bn_packed.specs.Bars.{AreBars, crossed, crossed_back}
@@ -97,14 +97,15 @@ module _ (net : Parts Rotary) (circuit : IsCircuit (rotary_circuit net)) where
         }
 
   -- a step more of a walk
-  pub walked_more : (first : Config) (bars after : List ℕ) (place then : Place) (e i o n made : ℕ) (old mid new : Option (List Place))
+  pub walked_more : (first : Config) (bars after : List ℕ) (place then : Place) (e i o n made p q : ℕ) (old mid new : Option (List Place))
       → HasWalked (rotary_circuit net) first (config_at bars place (n + made)) made old mid → place ≡ Enter e i → crossed bars e i ≡ Some (after, o)
-      → then ≡ place_after net.wires (record { element = e; line = o }) → n + made < clock → Hears mid (then ∷ []) new
-      → HasWalked (rotary_circuit net) first (config_at after then (n + (made + 1))) (made + 1) old new
-  walked_more first bars after place then e i o n made old mid new walked at_place cross leads room hears =
-      let goes = crossed-Goes bars after place e i o (n + made) walked.good at_place cross then (n + (made + 1)) leads (omega arith) (omega arith) in
-      walk_goes (rotary_circuit net) first (config_at bars place (n + made)) (config_at after then (n + (made + 1))) made old mid new walked goes
-      (next-IsConfig (rotary_circuit net) circuit (config_at bars place (n + made)) (config_at after then (n + (made + 1))) walked.good goes) hears
+      → then ≡ place_after net.wires (record { element = e; line = o }) → n + made < clock → p ≡ n + made + 1 → q ≡ made + 1 → Hears mid (then ∷ []) new
+      → HasWalked (rotary_circuit net) first (config_at after then p) q old new
+  walked_more first bars after place then e i o n made p q old mid new walked at_place cross leads room counted more hears =
+      let goes = crossed-Goes bars after place e i o (n + made) walked.good at_place cross then p leads (omega arith) (omega arith) in
+      subst (λ x. HasWalked (rotary_circuit net) first (config_at after then p) x old new) (sym more)
+      (walk_goes (rotary_circuit net) first (config_at bars place (n + made)) (config_at after then p) made old mid new walked goes
+      (next-IsConfig (rotary_circuit net) circuit (config_at bars place (n + made)) (config_at after then p) walked.good goes) hears)
 
   -- a crossing taken back is a step taken back
   crossed_back-Goes : (bars before : List ℕ) (place : Place) (from : Line) (i n p : ℕ) → IsConfig (rotary_circuit net) (config_at bars place n)
@@ -126,6 +127,29 @@ module _ (net : Parts Rotary) (circuit : IsCircuit (rotary_circuit net)) where
       let goes = crossed_back-Goes bars before place from i (n - made) (n - (made + 1)) walked.good came there cross (omega arith) in
       walk_goes_back (rotary_circuit net) circuit first (config_at bars place (n - made)) (config_at before (Enter from.element i) (n - (made + 1))) made old mid new walked goes
       (previous-IsConfig (rotary_circuit net) circuit (config_at before (Enter from.element i) (n - (made + 1))) (config_at bars place (n - made)) walked.good goes) hears
+
+  -- a step taken back from outside
+  module _ (bars before : List ℕ) (place : Place) (e l i n : ℕ) (config : IsConfig (rotary_circuit net) (config_at bars place n)) (at_place : place ≡ Left e l) where
+    left-output : IsOutput (rotary_circuit net).tables (record { element = e; line = l })
+    left-output = let there : IsPlace (rotary_circuit net) (Left e l) = subst (IsPlace (rotary_circuit net)) at_place config.place in there.0
+
+    pub left_below : (e < length bars) × (l < 4)
+    left_below = leaving_below net (config_at bars place n) (record { element = e; line = l }) config left-output
+
+    left-Goes : crossed_back bars e l ≡ Some (before, i) → 0 < n → Goes (rotary_circuit net) (config_at before (Enter e i) (n - 1)) (config_at bars place n)
+    left-Goes cross some =
+        crossed_back-Goes bars before place (record { element = e; line = l }) i n (n - 1) config (ap (line_before net.wires) at_place) left-output cross (omega arith)
+
+    pub left-IsConfig : crossed_back bars e l ≡ Some (before, i) → 0 < n → IsConfig (rotary_circuit net) (config_at before (Enter e i) (n - 1))
+    left-IsConfig cross some =
+        previous-IsConfig (rotary_circuit net) circuit (config_at before (Enter e i) (n - 1)) (config_at bars place n) config (left-Goes cross some)
+
+    pub left_walked_back : (end : Config) (then : Place) (m made : ℕ) (old mid new : Option (List Place)) → crossed_back bars e l ≡ Some (before, i) → 0 < n
+        → then ≡ Enter e i → Hears old (then ∷ []) mid → HasWalkedBack (rotary_circuit net) (config_at before (Enter e i) (n - 1)) end made mid new → m ≡ made + 1
+        → HasWalkedBack (rotary_circuit net) (config_at bars place n) end m old new
+    left_walked_back end then m made old mid new cross some is hears walked sum =
+        walk_back_then (rotary_circuit net) circuit (config_at bars place n) (config_at before (Enter e i) (n - 1)) end made m old mid new sum (left-Goes cross some)
+        (subst (λ x. Hears old (x ∷ []) mid) is hears) walked
 
 -- ---- ends of runs
 
@@ -217,15 +241,18 @@ none_made_back k n P c d few path ended =
     at_start (suc n) none path = absurd (omega arith)
 
 -- no step yet
-pub walked_none : (k : Circuit) (bars : List ℕ) (place : Place) (n m : ℕ) (told : Option (List Place)) → IsConfig k (config_at bars place n) → n ≡ m
-    → HasWalked k (config_at bars place n) (config_at bars place m) 0 told told
-walked_none k bars place n m told good same =
-    subst (λ x. HasWalked k (config_at bars place n) (config_at bars place x) 0 told told) same (walk_starts k (config_at bars place n) told good)
+pub walked_none : (k : Circuit) (bars : List ℕ) (from to : Place) (n m made : ℕ) (told : Option (List Place)) → IsConfig k (config_at bars from n) → from ≡ to → n ≡ m
+    → 0 ≡ made → HasWalked k (config_at bars from n) (config_at bars to m) made told told
+walked_none k bars from to n m made told good here same none =
+    subst (λ x. HasWalked k (config_at bars from n) (config_at bars to m) x told told) none
+    (subst (λ x. HasWalked k (config_at bars from n) (config_at bars to x) 0 told told) same
+    (subst (λ x. HasWalked k (config_at bars from n) (config_at bars x n) 0 told told) here (walk_starts k (config_at bars from n) told good)))
 
-pub walked_back_none : (k : Circuit) (bars : List ℕ) (place : Place) (n m : ℕ) (told : Option (List Place)) → IsConfig k (config_at bars place n) → n ≡ m
-    → HasWalkedBack k (config_at bars place n) (config_at bars place m) 0 told told
-walked_back_none k bars place n m told good same =
-    subst (λ x. HasWalkedBack k (config_at bars place n) (config_at bars place x) 0 told told) same (walk_back_starts k (config_at bars place n) told good)
+pub walked_back_none : (k : Circuit) (bars : List ℕ) (from : Place) (n m made : ℕ) (told : Option (List Place)) → IsConfig k (config_at bars from n) → n ≡ m
+    → 0 ≡ made → HasWalkedBack k (config_at bars from n) (config_at bars from m) made told told
+walked_back_none k bars from n m made told good same none =
+    subst (λ x. HasWalkedBack k (config_at bars from n) (config_at bars from m) x told told) none
+    (subst (λ x. HasWalkedBack k (config_at bars from n) (config_at bars from x) 0 told told) same (walk_back_starts k (config_at bars from n) told good))
 
 -- what the walk in a packed netlist comes to
 pub packed-IsRun : (now : PackedNet) (wiring : Parts Rotary) (bars after : List ℕ) (from to : Place) (n m e count : ℕ) (old new : Option (List Place))

@@ -4,8 +4,6 @@ use Rattle.bn_theory.specs.declared.line.Line.{Line}
 use Rattle.bn_element.specs.declared.rotary.Rotary.{Rotary}
 use Rattle.bn_net.specs.Rows.{Rows, entry, wires_of}
 use Rattle.bn_net.specs.Parts.{Parts}
-use Rattle.bn_packed.specs.declared.ends.Cells.{Cells}
-use Rattle.bn_packed.specs.declared.ends.Cells.TheVariants.{Narrow, Wide}
 
 -- the line with this number
 abbrev pub line_of : ℕ → Line
@@ -23,15 +21,6 @@ narrow_end cell = if cell == 4294967295 then None else Some (line_of cell)
 -- what a number of 64 bits tells: one past all lines that there is no wire
 abbrev pub wide_end : ℕ → Option Line
 wide_end cell = if nat_lt 4294967295 (cell / 4) then None else Some (line_of cell)
-
-abbrev pub ends_of : Cells → List (Option Line)
-ends_of (Narrow cells) = map narrow_end cells.items
-ends_of (Wide cells) = map wide_end cells.items
-
--- so many elements have lines with numbers that fit
-abbrev pub AreFitting : Cells → ℕ → Type 0
-AreFitting (Narrow cells) elements = elements < 1073741824
-AreFitting (Wide cells) elements = elements < 4294967296
 
 -- the ends of wires that lead to so many elements
 pub record EndList : Type 0 where

@@ -8,14 +8,87 @@ use bn_net::Line;
 /// The number of lines of an element, in and out.
 pub(crate) const LINES: u32 = 4;
 
-/// A net of fewer elements has its lines' numbers in 32 bits, and one number is left for `LOOSE`.
-pub(crate) const NARROW: u32 = 1_073_741_824;
+/// The greatest number of elements whose lines have numbers of 32 bits, with one number left for
+/// `LOOSE`.
+pub(crate) const NARROW: u32 = 1_073_741_823;
 
 /// What stands for no wire among numbers of 32 bits.
-pub(crate) const LOOSE: u32 = 4_294_967_295;
+const LOOSE: u32 = 4_294_967_295;
 
 /// What stands for no wire among numbers of 64 bits.
-pub(crate) const WIDE_LOOSE: u64 = 18_446_744_073_709_551_615;
+const WIDE_LOOSE: u64 = 18_446_744_073_709_551_615;
+
+/// A number that tells the other end of a line's wire, or that there is no wire.
+pub(crate) trait Cell: Copy {
+    ghost use Rattle.std.specs.Prelude.{ℕ, Option};
+    ghost use Rattle.bn_theory.specs.declared.line.Line.{Line};
+
+    /// What it tells.
+    ghost tells: { Self → Option Line };
+
+    /// The number of elements whose lines it can tell.
+    ghost limit: { ℕ };
+
+    /// The number that tells this end.
+    fn pack(end: Option<Line>) -> Self
+        requires { IfSome end (IsLineBelow limit) }
+        ensures { tells result ≡ end };
+
+    /// The end that it tells.
+    fn end(self) -> Option<Line>
+        ensures { result ≡ tells self };
+}
+
+impl Cell for u32 {
+    ghost use Rattle.bn_packed.specs.Ends.{narrow_end};
+
+    ghost tells = { narrow_end };
+
+    ghost limit = { 1073741823 };
+
+    fn pack(end: Option<Line>) -> u32 {
+        match end {
+            Some(line) => LINES * line.element + line.line,
+            None => LOOSE,
+        }
+    }
+
+    fn end(self) -> Option<Line> {
+        if self == LOOSE {
+            return None;
+        }
+        Some(Line {
+            element: self / LINES,
+            line: self % LINES,
+        })
+    }
+}
+
+impl Cell for u64 {
+    ghost use Rattle.bn_packed.specs.Ends.{wide_end};
+
+    ghost tells = { wide_end };
+
+    ghost limit = { 4294967296 };
+
+    fn pack(end: Option<Line>) -> u64 {
+        match end {
+            Some(line) => u64::from(LINES) * u64::from(line.element) + u64::from(line.line),
+            None => WIDE_LOOSE,
+        }
+    }
+
+    fn end(self) -> Option<Line> {
+        let element = self / u64::from(LINES);
+        if element > u64::from(u32::MAX) {
+            return None;
+        }
+        Some(Line {
+            element: element as u32,
+            line: (self % u64::from(LINES)) as u32,
+        })
+    }
+}
 
 /// The number of a line among those of all elements, element by element.
 pub(crate) fn line_number(line: Line) -> usize
@@ -33,53 +106,4 @@ pub(crate) fn line_of(number: usize) -> Line
         element: (number / LINES as usize) as u32,
         line: (number % LINES as usize) as u32,
     }
-}
-
-// The end of a wire in 32 bits.
-pub(crate) fn narrow_cell(end: Option<Line>) -> u32
-    requires { IfSome end (IsLineBelow 1073741823) }
-    ensures { narrow_end result ≡ end }
-{
-    match end {
-        Some(line) => LINES * line.element + line.line,
-        None => LOOSE,
-    }
-}
-
-// The end of a wire that 32 bits tell.
-pub(crate) fn narrow_line(cell: u32) -> Option<Line>
-    ensures { result ≡ narrow_end cell }
-{
-    if cell == LOOSE {
-        return None;
-    }
-    Some(Line {
-        element: cell / LINES,
-        line: cell % LINES,
-    })
-}
-
-// The end of a wire in 64 bits.
-pub(crate) fn wide_cell(end: Option<Line>) -> u64
-    requires { IfSome end (IsLineBelow 4294967296) }
-    ensures { wide_end result ≡ end }
-{
-    match end {
-        Some(line) => u64::from(LINES) * u64::from(line.element) + u64::from(line.line),
-        None => WIDE_LOOSE,
-    }
-}
-
-// The end of a wire that 64 bits tell.
-pub(crate) fn wide_line(cell: u64) -> Option<Line>
-    ensures { result ≡ wide_end cell }
-{
-    let element = cell / u64::from(LINES);
-    if element > u64::from(u32::MAX) {
-        return None;
-    }
-    Some(Line {
-        element: element as u32,
-        line: (cell % u64::from(LINES)) as u32,
-    })
 }

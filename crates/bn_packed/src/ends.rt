@@ -1,50 +1,43 @@
 //! The other ends of the wires of all lines, in one array.
 
-ghost use Rattle.std.specs.Prelude.{◌≡◌, ℕ, ◌+◌, ◌*◌, ◌<◌, List, [], ◌∷◌, ◌++◌, length, Some, IfOk, IfSome, OnOk, slice_get};
+ghost use Rattle.std.specs.Prelude.{◌≡◌, ℕ, ◌+◌, ◌*◌, ◌<◌, ◌≤◌, List, [], ◌∷◌, ◌++◌, length, Some, IfOk, IfSome, OnOk, slice_get};
 
-use crate::cells::{NARROW, line_number, narrow_cell, narrow_line, wide_cell, wide_line};
+use crate::cells::{Cell, LINES, line_number};
 use bn_net::{Line, NoMemory};
 use std::alloc::Global;
 use std::marker::Model;
 
-/// Numbers of lines in 32 bits, where these are enough, or else in 64.
-#[derive(Debug, Drop)]
-pub(crate) enum Cells {
-    Narrow(Vec<u32>),
-    Wide(Vec<u64>),
-}
-
 /// For each line, in the order of the lines' numbers, the line at the other end of its wire. Clauses
 /// see the number of elements that these ends may name, and the list of ends.
 #[derive(Debug, Drop)]
-pub(crate) struct Ends {
+pub(crate) struct Ends<C: Cell> {
     elements: u32,
-    cells: Cells,
+    cells: Vec<C>,
 }
 
-impl Model for Ends {
-    ghost use Rattle.bn_packed.specs.Ends.{EndList, ends_of, AreFitting};
+impl<C: Cell> Model for Ends<C> {
+    ghost use Rattle.std.specs.Prelude.{map, ◌≤◌};
+    ghost use Rattle.bn_packed.specs.Ends.{EndList};
 
     ghost Value = { EndList };
 
-    ghost view = { λ m. record { elements = m.elements; ends = ends_of m.cells } };
+    ghost view = { λ m. record { elements = m.elements; ends = map C.tells m.cells.items } };
 
-    ghost invariant = { λ m. AreFitting m.cells m.elements };
+    ghost invariant = { λ m. m.elements ≤ C.limit };
 }
 
-impl Ends {
+impl<C: Cell> Ends<C> {
     ghost use Rattle.bn_packed.specs.Ends.{EndList, IsLineBelow};
 
     /// No ends yet, with room for those of so many elements.
-    pub(crate) fn with_room(alloc: Global, elements: u32) -> Result<Ends, NoMemory>
+    pub(crate) fn with_room(alloc: Global, elements: u32) -> Result<Ends<C>, NoMemory>
+        requires { elements ≤ C.limit }
         ensures elements { IfOk result (λ m. m.elements ≡ elements) }
         ensures ends { IfOk result (λ m. m.ends ≡ []) }
     {
-        let lines = 4 * elements as usize;
-        let cells = if elements < NARROW {
-            Cells::Narrow(Vec::with_capacity(alloc, lines).map_err(|_| NoMemory)?)
-        } else {
-            Cells::Wide(Vec::with_capacity(alloc, lines).map_err(|_| NoMemory)?)
+        let lines = LINES as usize * elements as usize;
+        let Ok(cells) = Vec::with_capacity(alloc, lines) else {
+            return Err(NoMemory);
         };
         Ok(Ends { elements, cells })
     }
@@ -61,10 +54,7 @@ impl Ends {
         requires { 4 * line.element + line.line < length self.now.ends }
         ensures { slice_get self.now.ends (4 * line.element + line.line) ≡ Some result }
     {
-        match &self.cells {
-            Cells::Narrow(cells) => narrow_line(cells[line_number(line)]),
-            Cells::Wide(cells) => wide_line(cells[line_number(line)]),
-        }
+        self.cells[line_number(line)].end()
     }
 
     /// Adds the end of the next line's wire.
@@ -73,24 +63,24 @@ impl Ends {
         ensures elements { self.new.elements ≡ self.old.elements }
         ensures ends { OnOk result (self.new.ends ≡ self.old.ends ++ end ∷ []) }
     {
-        match &mut self.cells {
-            Cells::Narrow(cells) => cells.push(narrow_cell(end)).map_err(|_| NoMemory),
-            Cells::Wide(cells) => cells.push(wide_cell(end)).map_err(|_| NoMemory),
+        match self.cells.push(C::pack(end)) {
+            Ok(()) => Ok(()),
+            Err(_) => Err(NoMemory),
         }
     }
 
     /// The same ends once more.
-    pub(crate) fn copy(&self, alloc: Global) -> Result<Ends, NoMemory>
+    pub(crate) fn copy(&self, alloc: Global) -> Result<Ends<C>, NoMemory>
         ensures { IfOk result (λ m. m ≡ self.now) }
     {
-        let cells = match &self.cells {
-            Cells::Narrow(cells) => {
-                Cells::Narrow(cells.as_slice().to_vec(alloc).map_err(|_| NoMemory)?)
-            }
-            Cells::Wide(cells) => Cells::Wide(
-                cells.as_slice().to_vec(alloc).map_err(|_| NoMemory)?,
-            ),
+        let Ok(mut cells) = Vec::with_capacity(alloc, self.cells.len()) else {
+            return Err(NoMemory);
         };
+        for cell in &self.cells {
+            if cells.push(*cell).is_err() {
+                return Err(NoMemory);
+            }
+        }
         Ok(Ends {
             elements: self.elements,
             cells,

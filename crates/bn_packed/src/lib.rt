@@ -8,6 +8,7 @@ mod ends;
 mod packed;
 mod signal;
 mod walk;
+mod wires;
 mod wiring;
 
 pub use bn_net::NoMemory;

@@ -10,8 +10,7 @@ ghost use Rattle.bn_column.specs.Nets.{rotary_circuit};
 
 use crate::bars::Bars;
 use crate::signal::Signal;
-use crate::walk::{walk, walk_back};
-use crate::wiring::Wiring;
+use crate::wires::Wires;
 use bn_element::Rotary;
 use bn_net::{CLOCK, Config, Line, Net, NoMemory, Place, Quiet, States, Watch};
 use std::alloc::Global;
@@ -23,7 +22,7 @@ use std::marker::Model;
 /// configuration.
 #[derive(Debug, Drop)]
 pub struct Packed {
-    wiring: Wiring,
+    wires: Wires,
     bars: Bars,
     signal: Signal,
 }
@@ -31,13 +30,13 @@ pub struct Packed {
 impl Model for Packed {
     ghost use Rattle.bn_theory.specs.Circuits.{IsConfig};
     ghost use Rattle.bn_column.specs.Nets.{rotary_circuit};
-    ghost use Rattle.bn_packed.specs.PackedNets.{PackedNet, config_at};
+    ghost use Rattle.bn_packed.specs.PackedNets.{PackedNet, net_in, config_at};
 
     ghost Value = { PackedNet };
 
-    ghost view = { λ p. record { net = p.wiring; config = config_at p.bars p.signal.place p.signal.steps } };
+    ghost view = { λ p. record { net = net_in p.wires; config = config_at p.bars p.signal.place p.signal.steps } };
 
-    ghost invariant = { λ p. IsConfig (rotary_circuit p.wiring) (config_at p.bars p.signal.place p.signal.steps) };
+    ghost invariant = { λ p. IsConfig (rotary_circuit (net_in p.wires)) (config_at p.bars p.signal.place p.signal.steps) };
 }
 
 impl Packed {
@@ -47,10 +46,10 @@ impl Packed {
         ensures net { IfOk result (λ p. p.net ≡ net.now) }
         ensures config { IfOk result (λ p. p.config ≡ config.now) }
     {
-        let wiring = Wiring::of(alloc, net)?;
+        let wires = Wires::of(alloc, net)?;
         let bars = Bars::of(alloc, config.states.as_slice())?;
         Ok(Packed {
-            wiring,
+            wires,
             bars,
             signal: Signal {
                 place: config.place,
@@ -78,7 +77,7 @@ impl Packed {
         ensures circuit { IsCircuit (rotary_circuit self.now.net) }
         ensures good { IsConfig (rotary_circuit self.now.net) self.now.config }
     {
-        self.wiring.len()
+        self.wires.len()
     }
 
     /// Where the signal is.
@@ -109,17 +108,17 @@ impl Packed {
         requires { IsOutput (rotary_circuit self.now.net).tables from }
         ensures { result ≡ target self.now.net.wires from }
     {
-        self.wiring.target(from)
+        self.wires.target(from)
     }
 
     /// The same packed netlist once more.
     pub fn copy(&self, alloc: Global) -> Result<Packed, NoMemory>
         ensures { IfOk result (λ p. p ≡ self.now) }
     {
-        let wiring = self.wiring.copy(alloc)?;
+        let wires = self.wires.copy(alloc)?;
         let bars = self.bars.copy(alloc)?;
         Ok(Packed {
-            wiring,
+            wires,
             bars,
             signal: self.signal,
         })
@@ -189,10 +188,10 @@ impl Packed {
         ensures good { IsConfig (rotary_circuit self.old.net) self.new.config }
         ensures told { Hears (W.told watch.old) (places (rotary_circuit self.old.net) e self.old.config) (W.told watch.new) }
     {
-        let _elements = self.wiring.len();
+        let _elements = self.wires.len();
         let before = self.signal.steps;
         let count = e.min(CLOCK - before);
-        self.signal = walk(&self.wiring, &mut self.bars, self.signal, count, watch);
+        self.signal = self.wires.walk(&mut self.bars, self.signal, count, watch);
         self.signal.steps - before
     }
 
@@ -208,10 +207,10 @@ impl Packed {
         ensures good { IsConfig (rotary_circuit self.old.net) self.new.config }
         ensures told { Hears (W.told watch.old) (places_back (rotary_circuit self.old.net) e self.old.config) (W.told watch.new) }
     {
-        let _elements = self.wiring.len();
+        let _elements = self.wires.len();
         let before = self.signal.steps;
         let count = e.min(before);
-        self.signal = walk_back(&self.wiring, &mut self.bars, self.signal, count, watch);
+        self.signal = self.wires.walk_back(&mut self.bars, self.signal, count, watch);
         before - self.signal.steps
     }
 }

@@ -1,28 +1,27 @@
 //! The wires of a net of rotary elements, kept both ways.
 
-ghost use Rattle.std.specs.Prelude.{◌≡◌, ◌+◌, ◌*◌, ◌^◌, ◌<◌, List, [], length, map, Some, IfOk, IfSome, slice_get};
-ghost use Rattle.bn_theory.specs.Circuits.{IsCircuit, IsPlace, IsInput, IsOutput, target, source, place_after};
-ghost use Rattle.bn_theory.specs.Stepping.{line_before};
+ghost use Rattle.std.specs.Prelude.{◌≡◌, ◌+◌, ◌*◌, ◌^◌, ◌<◌, ◌≤◌, List, [], length, map, Some, IfOk, IfSome, slice_get};
+ghost use Rattle.bn_theory.specs.Circuits.{IsCircuit, IsInput, IsOutput, target, source};
 ghost use Rattle.bn_theory.specs.declared.line.Line.{Line};
 ghost use Rattle.bn_column.specs.Nets.{rotary_circuit};
 ghost use Rattle.bn_packed.specs.Ends.{AreEndsOf};
 
-use crate::cells::{LINES, line_of};
+use crate::cells::{Cell, LINES, line_of};
 use crate::ends::Ends;
 use bn_element::Rotary;
-use bn_net::{Line, Net, NoMemory, Place};
+use bn_net::{Line, Net, NoMemory};
 use std::alloc::Global;
 use std::marker::Model;
 
 /// The wires of a net of rotary elements: where each output line leads, and where each input line
 /// comes from. Clauses see the net.
 #[derive(Debug, Drop)]
-pub(crate) struct Wiring {
-    targets: Ends,
-    sources: Ends,
+pub(crate) struct Wiring<C: Cell> {
+    targets: Ends<C>,
+    sources: Ends<C>,
 }
 
-impl Model for Wiring {
+impl<C: Cell> Model for Wiring<C> {
     ghost use Rattle.bn_element.specs.declared.rotary.Rotary.{Rotary};
     ghost use Rattle.bn_net.specs.Parts.{Parts};
     ghost use Rattle.bn_packed.specs.Ends.{net_of, IsWiring};
@@ -34,9 +33,10 @@ impl Model for Wiring {
     ghost invariant = { λ w. IsWiring w.targets w.sources };
 }
 
-impl Wiring {
+impl<C: Cell> Wiring<C> {
     /// The wires of this net.
-    pub(crate) fn of(alloc: Global, net: &Net<Rotary>) -> Result<Wiring, NoMemory>
+    pub(crate) fn of(alloc: Global, net: &Net<Rotary>) -> Result<Wiring<C>, NoMemory>
+        requires { length net.now.elements ≤ C.limit }
         ensures { IfOk result (λ w. w ≡ net.now) }
     {
         // What every net keeps: its wires are one to one, and in order.
@@ -57,51 +57,25 @@ impl Wiring {
     /// The input line to which the wire of this output line leads.
     pub(crate) fn target(&self, from: Line) -> Option<Line>
         requires { IsOutput (rotary_circuit self.now).tables from }
-        ensures { result ≡ target self.now.wires from }
+        ensures line { result ≡ target self.now.wires from }
+        ensures input { IfSome result (IsInput (rotary_circuit self.now).tables) }
     {
+        let _elements = self.len();
         self.targets.get(from)
     }
 
     /// The output line from which the wire of this input line comes.
     pub(crate) fn source(&self, to: Line) -> Option<Line>
         requires { IsInput (rotary_circuit self.now).tables to }
-        ensures { result ≡ source self.now.wires to }
-    {
-        self.sources.get(to)
-    }
-
-    /// Where the signal is once it has come out by this output line.
-    pub(crate) fn place_after(&self, from: Line) -> Place
-        requires { IsOutput (rotary_circuit self.now).tables from }
-        ensures { result ≡ place_after self.now.wires from }
-    {
-        match self.target(from) {
-            Some(to) => Place::Enter {
-                element: to.element,
-                line: to.line,
-            },
-            None => Place::Left {
-                element: from.element,
-                line: from.line,
-            },
-        }
-    }
-
-    /// The output line by which the signal came to this place.
-    pub(crate) fn line_before(&self, place: Place) -> Option<Line>
-        requires { IsPlace (rotary_circuit self.now) place }
-        ensures line { result ≡ line_before self.now.wires place }
+        ensures line { result ≡ source self.now.wires to }
         ensures output { IfSome result (IsOutput (rotary_circuit self.now).tables) }
     {
         let _elements = self.len();
-        match place {
-            Place::Enter { element, line } => self.source(Line { element, line }),
-            Place::Left { element, line } => Some(Line { element, line }),
-        }
+        self.sources.get(to)
     }
 
     /// The same wires once more.
-    pub(crate) fn copy(&self, alloc: Global) -> Result<Wiring, NoMemory>
+    pub(crate) fn copy(&self, alloc: Global) -> Result<Wiring<C>, NoMemory>
         ensures { IfOk result (λ w. w ≡ self.now) }
     {
         let targets = self.targets.copy(alloc)?;
@@ -111,7 +85,8 @@ impl Wiring {
 }
 
 // Where each output line of the net leads.
-fn targets_of(alloc: Global, net: &Net<Rotary>) -> Result<Ends, NoMemory>
+fn targets_of<C: Cell>(alloc: Global, net: &Net<Rotary>) -> Result<Ends<C>, NoMemory>
+    requires { length net.now.elements ≤ C.limit }
     ensures { IfOk result (AreEndsOf (target net.now.wires) (length net.now.elements)) }
 {
     let mut ends = Ends::with_room(alloc, net.len())?;
@@ -122,7 +97,8 @@ fn targets_of(alloc: Global, net: &Net<Rotary>) -> Result<Ends, NoMemory>
 }
 
 // Where each input line of the net comes from.
-fn sources_of(alloc: Global, net: &Net<Rotary>) -> Result<Ends, NoMemory>
+fn sources_of<C: Cell>(alloc: Global, net: &Net<Rotary>) -> Result<Ends<C>, NoMemory>
+    requires { length net.now.elements ≤ C.limit }
     ensures { IfOk result (AreEndsOf (source net.now.wires) (length net.now.elements)) }
 {
     let mut ends = Ends::with_room(alloc, net.len())?;

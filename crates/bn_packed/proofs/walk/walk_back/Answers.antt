@@ -1,24 +1,45 @@
-use Rattle.std.proofs.Common.{◌≡◌, ◌+◌, ◌-◌, ◌<◌, sym, ap, subst, arith}
+use Rattle.std.proofs.Common.{◌≡◌, ◌<◌, ◌+◌, ◌-◌, refl, sym, arith}
+use Rattle.std.proofs.lemmas.Bool.Decides.{nat_tests}
 use Rattle.bn_column.specs.Nets.{rotary_circuit}
 use Rattle.bn_packed.specs.PackedNets.{config_at}
-use Rattle.bn_packed.proofs.StepLemmas.{walked_back_none, leaving_below, walked_back_more}
+use Rattle.bn_packed.proofs.StepLemmas.{walked_back_none, left_below, left-IsConfig, left_walked_back}
 use Rattle.bn_packed.proofs.walk.walk_back.Goals as goal
 
-pub loop-made-init : goal.loop-made-init
-loop-made-init g c =
-    walked_back_none (rotary_circuit c.args.wiring.now) c.args.bars.now c.args.signal.place c.args.signal.steps _ (g.W.Watch.told c.args.watch.now) c.requires.good (omega arith)
+pub returns-then-count-eq0-clause-walked : goal.returns-then-count-eq0-clause-walked
+returns-then-count-eq0-clause-walked g c =
+    walked_back_none (rotary_circuit c.args.wiring.now) c.args.bars.now c.args.signal.place c.args.signal.steps c.args.signal.steps _ (g.W.Watch.told c.args.watch.now)
+    c.requires.good refl (omega arith)
 
-pub cross_back-input-requires-clause-element : goal.cross_back-input-requires-clause-element
-cross_back-input-requires-clause-element g c =
-    (leaving_below c.args.wiring.now (config_at c.loop-made.bars c.loop-made.place (c.args.signal.steps - c.loop-made.made)) c.in-Some.field-0 c.loop-made.invariant.good c.in-Some.ensures.output).0
+pub cross_back-requires-clause-element : goal.cross_back-requires-clause-element
+cross_back-requires-clause-element g c =
+    (left_below c.args.wiring.now c.len-elements.ensures.circuit c.args.bars.now c.args.bars.now c.args.signal.place c.in-Left.element c.in-Left.line 0 c.args.signal.steps c.requires.good c.in-Left.is).0
 
-pub cross_back-input-requires-clause-line : goal.cross_back-input-requires-clause-line
-cross_back-input-requires-clause-line g c =
-    (leaving_below c.args.wiring.now (config_at c.loop-made.bars c.loop-made.place (c.args.signal.steps - c.loop-made.made)) c.in-Some.field-0 c.loop-made.invariant.good c.in-Some.ensures.output).1
+pub cross_back-requires-clause-line : goal.cross_back-requires-clause-line
+cross_back-requires-clause-line g c =
+    (left_below c.args.wiring.now c.len-elements.ensures.circuit c.args.bars.now c.args.bars.now c.args.signal.place c.in-Left.element c.in-Left.line 0 c.args.signal.steps c.requires.good c.in-Left.is).1
 
-pub loop-made-preserved : goal.loop-made-preserved
-loop-made-preserved g c =
-    walked_back_more c.args.wiring.now c.len-elements.ensures.circuit (config_at c.args.bars.now c.args.signal.place c.args.signal.steps) c.loop-made.bars c.cross_back-input.new.self
-    c.loop-made.place c.in-Some.field-0 c.cross_back-input.result c.args.signal.steps c.loop-made.made
-    (g.W.Watch.told c.args.watch.now) (g.W.Watch.told c.loop-made.watch) (g.W.Watch.told c.enter.new.self)
-    c.loop-made.invariant (sym c.in-Some.ensures.line) c.in-Some.ensures.output c.cross_back-input.ensures (omega (arith, c.requires.counted, c.loop-made-test.true)) c.enter.ensures
+pub walk_back_from-requires-in-Left-clause-good : goal.walk_back_from-requires-in-Left-clause-good
+walk_back_from-requires-in-Left-clause-good g c =
+    left-IsConfig c.args.wiring.now c.len-elements.ensures.circuit c.args.bars.now c.cross_back.new.self c.args.signal.place c.in-Left.element c.in-Left.line c.cross_back.result c.args.signal.steps
+    c.requires.good c.in-Left.is c.cross_back.ensures some
+  where
+    some : 0 < c.args.signal.steps
+    some = grind (arith, nat_tests)
+
+pub returns-else-count-eq0-clause-walked : goal.returns-else-count-eq0-clause-walked
+returns-else-count-eq0-clause-walked g c =
+    left_walked_back c.args.wiring.now c.len-elements.ensures.circuit c.args.bars.now c.cross_back.new.self c.args.signal.place c.in-Left.element c.in-Left.line c.cross_back.result c.args.signal.steps
+    c.requires.good c.in-Left.is
+    (config_at c.walk_back_from-in-Left.new.bars c.walk_back_from-in-Left.result.place c.walk_back_from-in-Left.result.steps) c.entering.result
+    (c.args.signal.steps - c.walk_back_from-in-Left.result.steps) ((c.args.signal.steps - 1) - c.walk_back_from-in-Left.result.steps)
+    (g.W.Watch.told c.args.watch.now) (g.W.Watch.told c.enter.new.self) (g.W.Watch.told c.walk_back_from-in-Left.new.watch)
+    c.cross_back.ensures some c.entering.ensures c.enter.ensures c.walk_back_from-in-Left.ensures.walked (let low = c.walk_back_from-in-Left.ensures.backward in omega arith)
+  where
+    some : 0 < c.args.signal.steps
+    some = grind (arith, nat_tests)
+
+pub returns-else-count-eq0-clause-ended : goal.returns-else-count-eq0-clause-ended
+returns-else-count-eq0-clause-ended g c fewer = c.walk_back_from-in-Left.ensures.ended low
+  where
+    low : c.args.signal.steps - 1 < c.walk_back_from-in-Left.result.steps + (c.args.count - 1)
+    low = grind (arith, nat_tests)

@@ -6,7 +6,7 @@ use Rattle.bn_packed.proofs.EndLemmas.{below_input, line_below, source_within, n
 use Rattle.bn_packed.proofs.wiring.sources_of.Goals as goal
 
 pub source-requires : goal.source-requires
-source-requires c =
+source-requires g c =
     let below = line_below (length c.args.net.now.elements) c.loop-number.number low in
     below_input c.args.net.now.elements c.line_of.result (subst (IsLineBelow (length c.args.net.now.elements)) (sym c.line_of.ensures) below)
   where
@@ -14,11 +14,11 @@ source-requires c =
     low = omega (arith, c.loop-number-test.true, c.line_count-number-end.ensures)
 
 pub push-requires : goal.push-requires
-push-requires c =
+push-requires g c =
     subst (λ n. IfSome c.source.result (IsLineBelow n)) (sym c.loop-number.invariant.1) (source_within c.args.net.now c.len.ensures.circuit c.line_of.result c.source.result c.source.ensures)
 
 pub loop-number-preserved : goal.loop-number-preserved
-loop-number-preserved c =
+loop-number-preserved g c =
     (
       more_ends (source c.args.net.now.wires) c.loop-number.number c.loop-number.ends.ends c.push.new.self.ends c.source.result c.loop-number.invariant.0
       (c.source.ensures ∙ ap (source c.args.net.now.wires) c.line_of.ensures) c.in_ok-push.ensures.ends,

@@ -4,4 +4,4 @@ use Rattle.bn_packed.specs.Ends.{AreEnds}
 use Rattle.bn_packed.proofs.wiring.sources_of.Given as goal
 
 abbrev pub invariant-loop-number : goal.invariant-loop-number
-invariant-loop-number l = AreEnds (source l.net.wires) l.number l.ends.ends × (l.ends.elements ≡ length l.net.elements)
+invariant-loop-number g l = AreEnds (source l.net.wires) l.number l.ends.ends × (l.ends.elements ≡ length l.net.elements)

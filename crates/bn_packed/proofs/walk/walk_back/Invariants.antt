@@ -1,9 +1,0 @@
-use Rattle.std.proofs.Common.{◌-◌}
-use Rattle.bn_net.specs.Walking.{HasWalkedBack}
-use Rattle.bn_column.specs.Nets.{rotary_circuit}
-use Rattle.bn_packed.specs.PackedNets.{config_at}
-use Rattle.bn_packed.proofs.walk.walk_back.Given as goal
-
-abbrev pub invariant-loop-made : goal.invariant-loop-made
-invariant-loop-made g l =
-    HasWalkedBack (rotary_circuit l.wiring) (config_at l.fn.bars l.signal.place l.signal.steps) (config_at l.bars l.place (l.signal.steps - l.made)) l.made (g.W.Watch.told l.fn.watch) (g.W.Watch.told l.watch)
