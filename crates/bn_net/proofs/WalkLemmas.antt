@@ -105,6 +105,17 @@ walk_goes_back k circuit c d e made old mid new walked goes good hears =
       heard = subst (λ ts. Hears old ts new) (sym (places_back_more k circuit made (made + 1) c d e refl turned goes)) (hears-joins old mid new (places_back k made c) (e.place ∷ []) walked.heard hears);
     }
 
+-- a first step back, and then more
+pub walk_back_then : (k : Circuit) → IsCircuit k → (c d e : Config) (n m : ℕ) (old mid new : Option (List Place)) → m ≡ n + 1 → Goes k d c
+    → Hears old (d.place ∷ []) mid → HasWalkedBack k d e n mid new → HasWalkedBack k c e m old new
+walk_back_then k circuit c d e n m old mid new sum goes first rest =
+    let count : suc n ≡ m = omega arith in
+    record {
+      reaches = runs_join (Goes k) m n 1 e d c sum rest.reaches (c, goes, refl);
+      good = rest.good;
+      heard = subst (λ ts. Hears old ts new) (sym (places_back-Goes k circuit d c n goes) ∙ ap (λ i. places_back k i c) count) (hears-joins old mid new (d.place ∷ []) (places_back k n d) first rest.heard);
+    }
+
 pub walk_back_ends : (k : Circuit) → IsCircuit k → (c d : Config) (made t : ℕ) (old new : Option (List Place)) → HasWalkedBack k c d made old new → made ≤ t
     → (made < t → IsFirst k d) → Hears old (places_back k t c) new
 walk_back_ends k circuit c d made t old new walked within ended =
