@@ -1,2 +1,3 @@
 mod LayoutLemmas
 mod WireLemmas
+mod KeptLemmas

@@ -45,10 +45,10 @@ pub record IsSameBoard (a b : Flattened) : Type 0 where
 
 -- ---- what a layout keeps
 
--- a first command is sent from one of the control's states by one of its lines
+-- a first command is sent from one of the control's states by one of its lines to a tape
 abbrev pub IsFirstWithin : Layout → Option (ℕ × ℕ) → Type 0
 IsFirstWithin b None = Unit {0}
-IsFirstWithin b (Some f) = (f.0 < b.states) × (f.1 < lines_at b)
+IsFirstWithin b (Some f) = (f.0 < b.states) × (1 ≤ f.1) × (f.1 < lines_at b)
 
 -- a tape that is awaited is one of the three
 abbrev pub IsAwaitedWithin : Option (ℕ × ℕ) → Type 0

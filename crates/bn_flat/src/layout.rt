@@ -34,7 +34,28 @@ impl Layout {
     ghost use Rattle.bn_modules.specs.Controls.{lines_before};
     ghost use Rattle.bn_modules.specs.Networks.{bank_size, cell_size, cells_in};
     ghost use Rattle.bn_layout.specs.Layouts.{letters_at, lines_at, first_element, cell_element, elements_of};
+    ghost use Rattle.bn_assembly.specs.Assembled.{limits_of};
     ghost use Rattle.bn_flat.specs.Flattened.{IsLayoutKept};
+
+    /// The layout with these numbers.
+    pub(crate) fn new(
+        windows: Windows,
+        symbols: [u32; 3],
+        states: u32,
+        firsts: Vec<Option<(u32, u32)>>,
+        awaited: Vec<Option<(u32, u32)>>,
+    ) -> Layout
+        requires { IsLayoutKept (record { limits = limits_of windows; symbols = symbols; states = states; firsts = firsts.items; awaited = awaited.items }) }
+        ensures { result ≡ record { limits = limits_of windows; symbols = symbols; states = states; firsts = firsts.items; awaited = awaited.items } }
+    {
+        Layout {
+            windows,
+            symbols,
+            states,
+            firsts,
+            awaited,
+        }
+    }
 
     /// How many symbols a tape, counted from 1, has.
     pub(crate) fn letters(&self, tape: u32) -> u32

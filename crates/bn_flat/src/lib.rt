@@ -5,6 +5,7 @@
 // step, back_step, run, run_back, net_config, copy). The helper of bn_packed writes the readings as methods of Layout, each
 // by its definition, in the order bound, exit_of, moment, located, spelled, with their lemmas: layout.rt is the helper's from
 // now on (and a second file of methods if it grows over 800 lines).
+mod flatten;
 mod layout;
 mod located;
 mod wiring;
