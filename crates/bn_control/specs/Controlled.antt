@@ -5,7 +5,8 @@ use Rattle.bn_quad.specs.Quadruples.{Quadruples, final_of}
 use Rattle.bn_rsm.specs.Machines.{Machine, machine_code, machine_table}
 use Rattle.bn_modules.specs.declared.cell_line.CellLine.TheVariants.{Read}
 use Rattle.bn_modules.specs.Controls.{ControlState, Reads, ControlMove, Tape, IsEntry, IsNumbering, IsControlTable, lines_before, out_number}
-use Rattle.bn_control.specs.declared.make.TheConstants.{MOST_QUADRUPLES, MOST_STATES, MOST_SYMBOLS}
+use Rattle.bn_cell.specs.declared.numbers.TheConstants.{MOST_SYMBOLS}
+use Rattle.bn_control.specs.declared.make.TheConstants.{MOST_QUADRUPLES, MOST_STATES}
 
 -- The control as a sequential machine; how many symbols each tape has, tape 1 first; for each state of the machine of quadruples the control's state that awaits the answer to its first command, and the output line by which that is given, nothing for the final state; and for each state of the control the state of the machine of quadruples and the tape whose first read it awaits, if it awaits one.
 pub record Controlled : Type 0 where

@@ -1,5 +1,5 @@
 -- The first commands of a machine's states as the program keeps them.
-use Rattle.std.specs.Prelude.{◌≡◌, ℕ, ◌≤◌, ◌==◌, List, [], ◌∷◌, length, Some, slice_get, if◌then◌else◌, ◌⊎◌}
+use Rattle.std.specs.Prelude.{◌≡◌, ℕ, ◌≤◌, ◌==◌, List, length, Some, slice_get, if◌then◌else◌}
 use Rattle.bn_machine.specs.Machine.{nth}
 use Rattle.bn_quad.specs.Quadruples.{Quadruples, Rule, final_of}
 use Rattle.bn_modules.specs.Controls.{IsEntry}
