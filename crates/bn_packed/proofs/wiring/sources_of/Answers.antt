@@ -15,7 +15,8 @@ source-requires g c =
 
 pub push-requires : goal.push-requires
 push-requires g c =
-    subst (λ n. IfSome c.source.result (IsLineBelow n)) (sym c.loop-number.invariant.1) (source_within c.args.net.now c.len.ensures.circuit c.line_of.result c.source.result c.source.ensures)
+    subst (λ n. IfSome c.source.result (IsLineBelow n)) (sym c.loop-number.invariant.1)
+    (source_within c.args.net.now c.len.ensures.circuit c.line_of.result c.source.result c.source.ensures)
 
 pub loop-number-preserved : goal.loop-number-preserved
 loop-number-preserved g c = (

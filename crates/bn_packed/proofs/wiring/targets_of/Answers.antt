@@ -15,7 +15,8 @@ target-requires g c =
 
 pub push-requires : goal.push-requires
 push-requires g c =
-    subst (λ n. IfSome c.target.result (IsLineBelow n)) (sym c.loop-number.invariant.1) (target_within c.args.net.now c.len.ensures.circuit c.line_of.result c.target.result c.target.ensures)
+    subst (λ n. IfSome c.target.result (IsLineBelow n)) (sym c.loop-number.invariant.1)
+    (target_within c.args.net.now c.len.ensures.circuit c.line_of.result c.target.result c.target.ensures)
 
 pub loop-number-preserved : goal.loop-number-preserved
 loop-number-preserved g c = (
