@@ -1,13 +1,11 @@
 -- Each module is a bank of the board.
-use Rattle.std.specs.Prelude.{◌≡◌, ℕ, ◌+◌, ◌*◌, ◌<◌, ◌≤◌, List, [], ◌∷◌, length, replicate, Option, Some, slice_get, refl}
-use Rattle.std.proofs.Common.{zero, suc, arith, sym, ap, subst, ◌∙◌}
+use Rattle.std.specs.Prelude.{◌≡◌, ℕ, ◌+◌, ◌<◌, ◌≤◌, List, [], ◌∷◌, replicate, Some, slice_get, refl}
+use Rattle.std.proofs.Common.{zero, suc, arith, ap, ◌∙◌}
 use Rattle.bn_theory.specs.Tables.{Table}
-use Rattle.bn_theory.specs.Circuits.{Circuit}
-use Rattle.bn_theory.specs.declared.line.Line.{Line}
 use Rattle.bn_element.specs.Rotary.{rotary}
-use Rattle.bn_realise.specs.Banks.{IsBank, IsBankWire, column_at}
+use Rattle.bn_realise.specs.Banks.{column_at}
 use Rattle.bn_realise.specs.BankCrossing.{later_column}
-use Rattle.bn_boards.specs.Boards.{AreModules, IsBoard, IsBoardWire, own, base, size, size_of}
+use Rattle.bn_boards.specs.Boards.{own, base, size, size_of}
 use Rattle.bn_boards.specs.Laws.{ModulesAreBanks}
 
 -- a bank ends within the board

@@ -1,12 +1,10 @@
 -- A run of a network is a run of its board.
-use Rattle.std.specs.Prelude.{◌≡◌, ◌≢◌, ℕ, ◌+◌, ◌-◌, ◌*◌, ◌<◌, ◌≤◌, Bool, true, List, [], ◌∷◌, length, Option, Some, None, slice_get, slice_set, option_and_then, ◌⊎◌, refl}
-use Rattle.std.specs.Option.{option_map_or}
-use Rattle.std.proofs.Common.{zero, suc, arith, sym, ap, subst, ◌∙◌, inl, inr}
+use Rattle.std.specs.Prelude.{◌≡◌, ℕ, ◌+◌, ◌<◌, ◌≤◌, Bool, true, refl}
+use Rattle.std.proofs.Common.{zero, suc, arith, sym, subst}
 use Rattle.bn_theory.specs.Runs.{Reaches, Passes, Before, passes_join}
-use Rattle.bn_theory.specs.Circuits.{Circuit, clock, Goes, place_after}
-use Rattle.bn_theory.specs.declared.place.Place.{Place}
+use Rattle.bn_theory.specs.Circuits.{Circuit, clock, Goes}
 use Rattle.bn_theory.specs.declared.config.Config.{Config}
-use Rattle.bn_theory.specs.Situations.{Situation, situation, Turns, turn, turn_from}
+use Rattle.bn_theory.specs.Situations.{Situation, Turns}
 use Rattle.bn_rsm.specs.RunCosts.{step_cost, run_cost}
 use Rattle.bn_boards.specs.Boards.{AreModules, IsBoard, StandsFor, IsAmid}
 use Rattle.bn_boards.specs.Laws.{BoardsFollow}

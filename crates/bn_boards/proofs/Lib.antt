@@ -5,3 +5,4 @@ pub mod FollowedLemmas
 pub mod VisitedLemmas
 pub mod ModuleLemmas
 pub mod ListedLemmas
+pub mod GrownLemmas

@@ -19,7 +19,7 @@ use Rattle.bn_boards.proofs.MovedLemmas.{in_bank}
 use Rattle.bn_boards.proofs.ModuleLemmas.{found, replicated, lines_tell, bank_within, one_table, banks_apart, output_table, wired_output, wired_input, output_once, input_once}
 
 -- the line is where one of the list's wires begins
-abbrev IsSource : List Wire → Line → Type 0
+abbrev pub IsSource : List Wire → Line → Type 0
 IsSource [] out = ⊥
 IsSource (v ∷ vs) out = (v.from ≡ out) ⊎ IsSource vs out
 
@@ -37,7 +37,7 @@ source_tells (v ∷ vs) out =
     ]
 
 -- a wire of the list begins there
-leads-IsSource : (vs : List Wire) (from to : Line) → target vs from ≡ Some to → IsSource vs from
+pub leads-IsSource : (vs : List Wire) (from to : Line) → target vs from ≡ Some to → IsSource vs from
 leads-IsSource [] from to h = absurd (cc)
 leads-IsSource (v ∷ vs) from to h =
     elim (lines_tell v.from from) [
@@ -53,12 +53,12 @@ module _ (n : Circuit) (modules : AreModules n) where
   -- ---- the banks' own wires
 
   -- an own wire of one of the first modules
-  record IsOwnBelow (c : ℕ) (from to : Line) : Type 0 where
-    at_module : ℕ
-    table : Table
-    low : at_module < c
-    has : slice_get n.tables at_module ≡ Some table
-    wire : IsBankWire (base n.tables at_module) table from to
+  pub record IsOwnBelow (c : ℕ) (from to : Line) : Type 0 where
+    pub at_module : ℕ
+    pub table : Table
+    pub low : at_module < c
+    pub has : slice_get n.tables at_module ≡ Some table
+    pub wire : IsBankWire (base n.tables at_module) table from to
 
   -- own wires of two modules begin and end apart
   starts_apart : (m e : ℕ) (t u : Table) (from to line : Line) → slice_get n.tables m ≡ Some t → slice_get n.tables e ≡ Some u → m ≢ e
@@ -76,48 +76,54 @@ module _ (n : Circuit) (modules : AreModules n) where
       let second = bank_wire-IsWithinLines (base n.tables e) u (reversible e u is) (modules.square e u is) line to two in
       banks_apart n.tables m e t u to.element has is apart first.to_low first.to_high second.to_low second.to_high
 
+  own_either : (c : ℕ) (t : Table) → slice_get n.tables c ≡ Some t → (from to : Line) → IsOwnBelow (suc c) from to
+      → IsOwnBelow c from to ⊎ IsBankWire (base n.tables c) t from to
+  own_either c t has from to h =
+      let low = h.low in
+      elim (cases_lt h.at_module c) [
+        | inl less ↦ inl (record { at_module = h.at_module; table = h.table; low = less; has = h.has; wire = h.wire })
+        | inr more ↦
+            (let same : h.at_module ≡ c = omega arith in
+            let tables = one_table n.tables h.at_module c h.table t same h.has has in
+            inr (subst (λ m. IsBankWire (base n.tables m) t from to) same (subst (λ u. IsBankWire (base n.tables h.at_module) u from to) tables h.wire)))
+      ]
+
+  -- no module's own wires yet
+  pub own_none : AreWiresOf (IsOwnBelow 0) []
+  own_none = no_wires (IsOwnBelow 0) (λ from to h. let low = h.low in omega arith)
+
+  -- those of one module more
+  pub own_more : (c : ℕ) (t : Table) → slice_get n.tables c ≡ Some t → (ws bs : List Wire) → AreWiresOf (IsOwnBelow c) ws
+      → AreWiresOf (IsBankWire (base n.tables c) t) bs → AreWiresOf (IsOwnBelow (suc c)) (ws ++ bs)
+  own_more c t has ws bs before bank =
+      joined_wires (IsOwnBelow c) (IsBankWire (base n.tables c) t) (IsOwnBelow (suc c)) ws bs before bank
+      (λ from to line one two. let low = one.low in starts_apart one.at_module c one.table t from to line one.has has (λ e. omega arith) one.wire two)
+      (λ from to line one two. let low = one.low in ends_apart one.at_module c one.table t from line to one.has has (λ e. omega arith) one.wire two)
+      (λ from to h. let low = h.low in record { at_module = h.at_module; table = h.table; low = omega arith; has = h.has; wire = h.wire })
+      (λ from to h. record { at_module = c; table = t; low = omega arith; has = has; wire = h })
+      (own_either c t has)
+
   -- a list of the first modules' own wires, bank by bank
   own_list : (c : ℕ) → c ≤ length n.tables → (ws : List Wire) × AreWiresOf (IsOwnBelow c) ws
-  own_list zero within = ([], no_wires (IsOwnBelow 0) (λ from to h. let low = h.low in omega arith))
+  own_list zero within = ([], own_none)
   own_list (suc c) within =
       let before = own_list c (omega arith) in
       let here = found n.tables c (omega arith) in
-      let t = here.0 in
-      let has = here.1 in
-      let bank = bank_list (base n.tables c) t (reversible c t has) (modules.square c t has) (modules.some_lines c t has) in (
-        before.0 ++ bank.0,
-        joined_wires (IsOwnBelow c) (IsBankWire (base n.tables c) t) (IsOwnBelow (suc c)) before.0 bank.0 before.1 bank.1
-            (λ from to line one two. let low = one.low in starts_apart one.at_module c one.table t from to line one.has has (λ e. omega arith) one.wire two)
-            (λ from to line one two. let low = one.low in ends_apart one.at_module c one.table t from line to one.has has (λ e. omega arith) one.wire two)
-            (λ from to h. let low = h.low in record { at_module = h.at_module; table = h.table; low = omega arith; has = h.has; wire = h.wire })
-            (λ from to h. record { at_module = c; table = t; low = omega arith; has = has; wire = h })
-            (either c t has),
-      )
-    where
-      either : (c : ℕ) (t : Table) → slice_get n.tables c ≡ Some t → (from to : Line) → IsOwnBelow (suc c) from to
-          → IsOwnBelow c from to ⊎ IsBankWire (base n.tables c) t from to
-      either c t has from to h =
-          let low = h.low in
-          elim (cases_lt h.at_module c) [
-            | inl less ↦ inl (record { at_module = h.at_module; table = h.table; low = less; has = h.has; wire = h.wire })
-            | inr more ↦
-                (let same : h.at_module ≡ c = omega arith in
-                let tables = one_table n.tables h.at_module c h.table t same h.has has in
-                inr (subst (λ m. IsBankWire (base n.tables m) t from to) same (subst (λ u. IsBankWire (base n.tables h.at_module) u from to) tables h.wire)))
-          ]
+      let bank = bank_list (base n.tables c) here.0 (reversible c here.0 here.1) (modules.square c here.0 here.1) (modules.some_lines c here.0 here.1) in
+      (before.0 ++ bank.0, own_more c here.0 here.1 before.0 bank.0 before.1 bank.1)
 
   -- ---- the wires between banks
 
   -- a wire between banks whose own wire begins where one of the list's wires does
-  record IsBetweenOf (vs : List Wire) (from to : Line) : Type 0 where
-    out : Line
-    into : Line
-    table : Table
-    listed : IsSource vs out
-    wired : target n.wires out ≡ Some into
-    has : slice_get n.tables out.element ≡ Some table
-    leaves : from ≡ output_line (base n.tables out.element) table out.line
-    ends : to ≡ input_line (base n.tables into.element) into.line
+  pub record IsBetweenOf (vs : List Wire) (from to : Line) : Type 0 where
+    pub out : Line
+    pub into : Line
+    pub table : Table
+    pub listed : IsSource vs out
+    pub wired : target n.wires out ≡ Some into
+    pub has : slice_get n.tables out.element ≡ Some table
+    pub leaves : from ≡ output_line (base n.tables out.element) table out.line
+    pub ends : to ≡ input_line (base n.tables into.element) into.line
 
   -- one wire more in the list
   more_listed : (v : Wire) (vs : List Wire) (from to : Line) → IsBetweenOf vs from to → IsBetweenOf (v ∷ vs) from to
@@ -204,11 +210,11 @@ module _ (n : Circuit) (modules : AreModules n) where
   -- ---- all of them
 
   -- all the banks' own wires
-  abbrev Own : Line → Line → Type 0
+  abbrev pub Own : Line → Line → Type 0
   Own = IsOwnBelow (length n.tables)
 
   -- all wires between banks
-  abbrev Between : Line → Line → Type 0
+  abbrev pub Between : Line → Line → Type 0
   Between = IsBetweenOf n.wires
 
   -- a bank's output line lies in the bank
@@ -226,7 +232,7 @@ module _ (n : Circuit) (modules : AreModules n) where
       (omega arith, omega (arith, place.1))
 
   -- no own wire begins where a wire between banks does
-  no_from : (from to line : Line) → Own from to → Between from line → ⊥
+  pub no_from : (from to line : Line) → Own from to → Between from line → ⊥
   no_from from to line one two =
       let row = wired_output n modules two.out two.into two.table two.wired two.has in
       let wire = subst (λ x. IsBankWire (base n.tables one.at_module) one.table x to) two.leaves one.wire in
@@ -243,7 +249,7 @@ module _ (n : Circuit) (modules : AreModules n) where
       ]
 
   -- and none ends where one does
-  no_to : (from to line : Line) → Own from to → Between line to → ⊥
+  pub no_to : (from to line : Line) → Own from to → Between line to → ⊥
   no_to from to line one two =
       let at_input = wired_input n modules two.out two.into two.wired in
       let u = at_input.0 in
@@ -278,14 +284,14 @@ module _ (n : Circuit) (modules : AreModules n) where
       )
 
   -- a board's wires lead from its lines to its lines
-  record IsWithinBoard (from to : Line) : Type 0 where
-    from_element : from.element < size n.tables
-    from_line : from.line < 4
-    to_element : to.element < size n.tables
-    to_line : to.line < 4
+  pub record IsWithinBoard (from to : Line) : Type 0 where
+    pub from_element : from.element < size n.tables
+    pub from_line : from.line < 4
+    pub to_element : to.element < size n.tables
+    pub to_line : to.line < 4
 
   -- both ends are lines of the board
-  within : (from to : Line) → IsBoardWire n from to → IsWithinBoard from to
+  pub within : (from to : Line) → IsBoardWire n from to → IsWithinBoard from to
   within from to (own m t has wire) =
       let lines = bank_wire-IsWithinLines (base n.tables m) t (reversible m t has) (modules.square m t has) from to wire in
       let ends = bank_within n.tables m t has in

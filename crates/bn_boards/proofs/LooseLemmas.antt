@@ -1,25 +1,24 @@
 -- Where a module has no move, the signal leaves its bank by the loose line.
-use Rattle.std.specs.Prelude.{◌≡◌, ◌≢◌, ℕ, ◌+◌, ◌-◌, ◌*◌, ◌<◌, ◌≤◌, Bool, true, List, [], ◌∷◌, length, Option, Some, None, slice_get, slice_set, ◌⊎◌, refl}
+use Rattle.std.specs.Prelude.{◌≡◌, ℕ, ◌+◌, ◌<◌, ◌≤◌, Bool, true, List, length, Option, Some, None, slice_get, slice_set, ◌⊎◌, refl}
 use Rattle.std.specs.Option.{option_map_or}
-use Rattle.std.proofs.Common.{zero, suc, arith, sym, ap, subst, ◌∙◌, inl, inr}
+use Rattle.std.proofs.Common.{arith, sym, ap, subst, ◌∙◌, inl, inr}
 use Rattle.std.proofs.lemmas.Bool.Decides.{eqb_tells}
 use Rattle.std.proofs.lemmas.Option.{slice_get_within, slice_get-get_or}
 use Rattle.bn_theory.specs.Tables.{Table, IsReversible}
 use Rattle.bn_theory.specs.Runs.{Passes}
 use Rattle.bn_theory.specs.Circuits.{Circuit, clock, target, place_at, place_after, Goes, IsPlace, inputs_of}
 use Rattle.bn_theory.specs.declared.line.Line.{Line}
-use Rattle.bn_theory.specs.declared.place.Place.{Place}
 use Rattle.bn_theory.specs.declared.place.Place.TheVariants.{Enter, Left}
 use Rattle.bn_theory.specs.declared.config.Config.{Config}
 use Rattle.bn_element.specs.Rotary.{east, west}
 use Rattle.bn_column.specs.Columns.{line_at}
 use Rattle.bn_rsm.specs.Costs.{table_cost}
-use Rattle.bn_realise.specs.Banks.{IsBank, IsBankWire, IsBankEntering, IsResting, IsWithinBank, AreMarked, column_at, output_line, turning_line, moved, mark_after, exit_after}
+use Rattle.bn_realise.specs.Banks.{IsBank, IsBankWire, IsBankEntering, IsResting, IsWithinBank, AreMarked, column_at, turning_line, moved, mark_after, exit_after}
 use Rattle.bn_realise.specs.BankCrossing.{bank_crosses, moved-IsResting, moved-beside}
 use Rattle.bn_realise.specs.BankWires.{bank_wire-IsWithinLines, turning-wire}
-use Rattle.bn_theory.specs.Situations.{Situation, situation, Turns, IsAtEnd}
+use Rattle.bn_theory.specs.Situations.{Situation, situation, IsAtEnd}
 use Rattle.bn_rsm.specs.RunCosts.{step_cost, entry_cost}
-use Rattle.bn_boards.specs.Boards.{AreModules, IsBoard, IsBoardWire, own, between, base, size_of, on_board, StandsFor, IsAmid, IsLoose}
+use Rattle.bn_boards.specs.Boards.{AreModules, IsBoard, IsBoardWire, own, between, base, on_board, StandsFor, IsAmid, IsLoose}
 use Rattle.bn_boards.specs.Laws.{LooseMove}
 use Rattle.bn_boards.proofs.BankedLemmas.{modules-banks}
 use Rattle.bn_boards.proofs.MovedLemmas.{in_bank, other_bank, kept, marks}

@@ -1,5 +1,5 @@
 -- One move of a network is one crossing of a bank on its board.
-use Rattle.std.specs.Prelude.{◌≡◌, ◌≢◌, ℕ, ◌+◌, ◌-◌, ◌*◌, ◌<◌, ◌≤◌, Bool, true, List, [], ◌∷◌, length, Option, Some, None, slice_get, slice_set, option_and_then, ◌⊎◌, refl}
+use Rattle.std.specs.Prelude.{◌≡◌, ◌≢◌, ℕ, ◌+◌, ◌-◌, ◌<◌, ◌≤◌, Bool, true, List, [], ◌∷◌, length, Option, Some, None, slice_get, ◌⊎◌, refl}
 use Rattle.std.proofs.Common.{zero, suc, arith, sym, ap, subst, ◌∙◌, inl, inr}
 use Rattle.std.proofs.lemmas.Bool.{cases_lt}
 use Rattle.std.proofs.lemmas.Bool.Decides.{eqb_tells}
@@ -10,18 +10,15 @@ use Rattle.bn_theory.specs.Runs.{Passes}
 use Rattle.bn_theory.specs.Circuits.{Circuit, clock, target, place_at, place_after, Goes, IsPlace}
 use Rattle.bn_theory.specs.Laws.{same_lines, slice_get-set_same, slice_get-set_other, place_after-IsPlace}
 use Rattle.bn_theory.specs.declared.line.Line.{Line}
-use Rattle.bn_theory.specs.declared.place.Place.{Place}
-use Rattle.bn_theory.specs.declared.place.Place.TheVariants.{Enter, Left}
 use Rattle.bn_theory.specs.declared.config.Config.{Config}
-use Rattle.bn_element.specs.Rotary.{east, west}
-use Rattle.bn_column.specs.Columns.{line_at, IsAtRest}
+use Rattle.bn_column.specs.Columns.{line_at}
 use Rattle.bn_rsm.specs.Costs.{table_cost}
 use Rattle.bn_realise.specs.Banks.{IsBank, IsBankWire, IsBankEntering, IsBesideBank, IsResting, IsWithinBank, AreMarked, bottom_at, column_at, input_line, output_line, moved, mark_after, states_after, exit_after}
 use Rattle.bn_realise.specs.BankCrossing.{later_column, bank_crosses, moved-IsResting, moved-beside}
-use Rattle.bn_realise.specs.BankWires.{bank_wire-IsWithinLines, output-no_wire, column_once}
+use Rattle.bn_realise.specs.BankWires.{bank_wire-IsWithinLines, output-no_wire}
 use Rattle.bn_theory.specs.Situations.{Situation, Turns}
 use Rattle.bn_rsm.specs.RunCosts.{step_cost, entry_cost}
-use Rattle.bn_boards.specs.Boards.{AreModules, IsBoard, IsBoardWire, own, between, base, size, size_of, on_board, output_at, StandsFor, IsAmid}
+use Rattle.bn_boards.specs.Boards.{AreModules, IsBoard, IsBoardWire, own, between, base, size_of, on_board, output_at, StandsFor, IsAmid}
 use Rattle.bn_boards.specs.Laws.{OneMove}
 use Rattle.bn_boards.proofs.BankedLemmas.{modules-banks}
 

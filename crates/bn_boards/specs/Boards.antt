@@ -1,19 +1,14 @@
 -- The flat board of any circuit of modules (this project's own profile): each module as its bank of columns of rotary elements, one bank after another. It knows nothing of tapes, cells or controls.
-use Rattle.std.specs.Prelude.{◌≡◌, ◌≢◌, ◌↔◌, ℕ, zero, suc, ◌+◌, ◌-◌, ◌*◌, ◌<◌, ◌≤◌, Bool, true, false, not, List, [], ◌∷◌, ◌++◌, length, replicate, Option, Some, None, slice_get, slice_set, ◌⊎◌, if◌then◌else◌, ◌==◌, ◌&&◌}
-use Rattle.std.specs.List.{slice_index_or}
-use Rattle.bn_theory.specs.Runs.{Reaches, Passes}
-use Rattle.bn_theory.specs.Tables.{Table, IsReversible}
-use Rattle.bn_theory.specs.Circuits.{Circuit, clock, target, source, place_after, Goes, IsCircuit, IsConfig, IsPlace, IsStuck}
-use Rattle.bn_theory.specs.Stepping.{run, back}
+use Rattle.std.specs.Prelude.{◌≡◌, ◌↔◌, ℕ, zero, suc, ◌+◌, ◌*◌, ◌<◌, List, [], ◌∷◌, ◌++◌, length, replicate, Option, Some, None, slice_get, slice_set, ◌⊎◌}
+use Rattle.bn_theory.specs.Tables.{Table}
+use Rattle.bn_theory.specs.Circuits.{Circuit, target, IsCircuit, IsPlace}
 use Rattle.bn_theory.specs.declared.line.Line.{Line}
 use Rattle.bn_theory.specs.declared.place.Place.{Place}
 use Rattle.bn_theory.specs.declared.place.Place.TheVariants.{Enter, Left}
 use Rattle.bn_theory.specs.declared.config.Config.{Config}
 use Rattle.bn_element.specs.Rotary.{rotary, horizontal, vertical, east, west}
-use Rattle.bn_column.specs.Columns.{line_at}
-use Rattle.bn_realise.specs.Banks.{IsBank, IsBankWire, IsResting, AreMarked, bottom_at, column_at, input_line, output_line, turning_line}
-use Rattle.bn_theory.specs.Situations.{Situation, situation, Turns, IsAtEnd}
-use Rattle.bn_rsm.specs.RunCosts.{run_cost, step_cost}
+use Rattle.bn_realise.specs.Banks.{IsBankWire, IsResting, AreMarked, bottom_at, input_line, output_line, turning_line}
+use Rattle.bn_theory.specs.Situations.{Situation}
 
 -- how many elements a bank has; how many the first modules have together, which is the first element of the next; and how many all have
 abbrev pub size_of : Table → ℕ

@@ -1,18 +1,13 @@
 -- What the laws of this crate say, each the contract of a function with an empty body.
-use Rattle.std.specs.Prelude.{◌≡◌, ◌≢◌, ◌↔◌, ℕ, zero, suc, ◌+◌, ◌-◌, ◌*◌, ◌<◌, ◌≤◌, Bool, true, false, not, List, [], ◌∷◌, ◌++◌, length, replicate, Option, Some, None, slice_get, slice_set, ◌⊎◌, if◌then◌else◌, ◌==◌, ◌&&◌}
-use Rattle.std.specs.List.{slice_index_or}
+use Rattle.std.specs.Prelude.{◌≡◌, ℕ, ◌+◌, ◌<◌, ◌≤◌, Bool, true, Some, slice_get, ◌⊎◌}
 use Rattle.bn_theory.specs.Runs.{Reaches, Passes}
-use Rattle.bn_theory.specs.Tables.{Table, IsReversible}
-use Rattle.bn_theory.specs.Circuits.{Circuit, clock, target, source, place_after, Goes, IsCircuit, IsConfig, IsPlace, IsStuck}
-use Rattle.bn_theory.specs.Stepping.{run, back}
-use Rattle.bn_theory.specs.declared.line.Line.{Line}
-use Rattle.bn_theory.specs.declared.place.Place.{Place}
-use Rattle.bn_theory.specs.declared.place.Place.TheVariants.{Enter, Left}
+use Rattle.bn_theory.specs.Tables.{Table}
+use Rattle.bn_theory.specs.Circuits.{Circuit, clock, Goes}
+use Rattle.bn_theory.specs.Stepping.{run}
+use Rattle.bn_theory.specs.declared.place.Place.TheVariants.{Enter}
 use Rattle.bn_theory.specs.declared.config.Config.{Config}
-use Rattle.bn_element.specs.Rotary.{rotary, horizontal, vertical, east, west}
-use Rattle.bn_column.specs.Columns.{line_at}
-use Rattle.bn_realise.specs.Banks.{IsBank, IsBankWire, IsResting, AreMarked, bottom_at, column_at, input_line, output_line, turning_line}
-use Rattle.bn_theory.specs.Situations.{Situation, situation, Turns, IsAtEnd}
+use Rattle.bn_realise.specs.Banks.{IsBank}
+use Rattle.bn_theory.specs.Situations.{Situation, Turns, IsAtEnd}
 use Rattle.bn_rsm.specs.RunCosts.{run_cost, step_cost}
 use Rattle.bn_boards.specs.Boards.{AreModules, IsBoard, StandsFor, IsAmid, IsLoose, base}
 

@@ -1,3 +1,16 @@
 pub mod NumberLemmas
 pub mod LineLemmas
 pub mod StuckLemmas
+pub mod OrderedLemmas
+pub mod CommandLemmas
+pub mod RuleLemmas
+pub mod EntryLemmas
+pub mod NamedLemmas
+pub mod KeyLemmas
+pub mod SearchLemmas
+pub mod StatesLemmas
+pub mod NumberedLemmas
+pub mod WithinLemmas
+pub mod TableLemmas
+pub mod DraftLemmas
+pub mod MadeLemmas

@@ -5,7 +5,7 @@ use Rattle.bn_quad.specs.Quadruples.{Quadruples}
 use Rattle.bn_modules.specs.declared.cell_line.CellLine.{CellLine}
 use Rattle.bn_modules.specs.declared.cell_line.CellLine.TheVariants.{Read, Write, ShiftRight, ShiftLeft, Answer, DoneWrite, DoneRight, DoneLeft}
 use Rattle.bn_modules.specs.Controls.{ControlLine, Outside, Tape, lines_before, answer_offset, command_offset, control_lines, in_number, out_number}
-use Rattle.bn_control.proofs.NumberLemmas.{by_order}
+use Rattle.bn_controllaws.proofs.NumberLemmas.{by_order}
 
 -- ---- the lines of one tape
 

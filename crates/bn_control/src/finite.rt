@@ -34,7 +34,25 @@ impl Model for Control {
 
 impl Control {
     ghost use Rattle.std.specs.Prelude.{◌≡◌, ◌↔◌, ℕ, ◌<◌, ◌≤◌, Some, None, length, slice_get, IfSome};
-    ghost use Rattle.bn_control.specs.Controlled.{IsStuckAt, IsAnswer, IsTapeAwaited};
+    ghost use Rattle.bn_control.specs.Controlled.{IsStuckAt, IsAnswer, IsTapeAwaited, IsKept};
+
+    // A control of these parts.
+    pub(crate) fn new(
+        rsm: Rsm,
+        symbols: [u32; 3],
+        firsts: Vec<Option<(u32, u32)>>,
+        awaited: Vec<Option<(u32, u32)>>,
+    ) -> Control
+        requires { IsKept rsm symbols firsts.items awaited.items }
+        ensures { result ≡ record { machine = rsm; symbols = symbols; firsts = firsts.items; awaited = awaited.items } }
+    {
+        Control {
+            rsm,
+            symbols,
+            firsts,
+            awaited,
+        }
+    }
 
     /// The control as a sequential machine.
     pub fn rsm(&self) -> &Rsm
@@ -106,7 +124,7 @@ impl Control {
 
 // How many lines of a control come before those of the tape after this one; tape 0 is the outside.
 pub(crate) fn lines_before(symbols: &[u32; 3], tape: u32) -> u32
-    requires tape { tape < 3 }
+    requires tape { tape ≤ 3 }
     requires few { All (λ z. z ≤ MOST_SYMBOLS) symbols.now }
     ensures { result ≡ lines_before symbols.now tape }
 {

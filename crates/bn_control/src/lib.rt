@@ -1,8 +1,17 @@
 //! The finite control of a uniform machine of quadruples, as a reversible sequential machine.
 #![tactic(auto)]
 
+mod command;
+mod draft;
+mod entries;
 mod finite;
+mod line;
 mod make;
+mod named;
+mod numbered;
+mod order;
+mod state;
+mod states;
 
 pub use bn_rsm::NoMemory;
 pub use finite::Control;

@@ -1,12 +1,19 @@
 //! Controls are made here.
-ghost use Rattle.std.specs.Prelude.{ℕ, List, IfOk};
+ghost use Rattle.std.specs.Prelude.{◌≡◌, ℕ, List, IfOk};
+ghost use Rattle.bn_quad.specs.Quadruples.{IsQuadMachine};
+ghost use Rattle.bn_quad.specs.Calls.{IsUniformMachine};
 ghost use Rattle.bn_modules.specs.Controls.{ControlState};
 ghost use Rattle.bn_control.specs.Controlled.{IsControlOf, IsWithinLimits};
+ghost use Rattle.bn_control.specs.Made.{IsDraft};
 
+use crate::draft::Draft;
+use crate::entries::entries_of;
 use crate::finite::Control;
-use bn_quad::Uniform;
+use crate::named::named_moves;
+use crate::states::states_of;
+use bn_quad::{QuadMachine, Uniform};
 use bn_rsm::NoMemory;
-use std::alloc::Global;
+use std::alloc::{AllocError, Global};
 
 /// The most quadruples that a machine may have of which a control is made.
 pub const MOST_QUADRUPLES: u32 = 20_000;
@@ -23,5 +30,47 @@ pub fn control(alloc: Global, machine: &Uniform) -> Result<Control, NoMemory>
     requires { IsWithinLimits machine.now }
     ensures { IfOk result (λ c. (names : List ControlState) × IsControlOf machine.now names c) }
 {
-    Err(NoMemory)
+    match made(alloc, machine.machine()) {
+        Ok(control) => Ok(control),
+        Err(_) => Err(NoMemory),
+    }
+}
+
+// The control of a machine that is uniform.
+fn made(alloc: Global, machine: &QuadMachine) -> Result<Control, AllocError>
+    requires limits { IsWithinLimits machine.now }
+    requires uniform { IsUniformMachine machine.now }
+    ensures { IfOk result (λ c. (names : List ControlState) × IsControlOf machine.now names c) }
+{
+    let draft = drafted(alloc, machine)?;
+    let rsm = draft.rsm(alloc)?;
+    let firsts = draft.firsts(alloc)?;
+    let awaited = draft.awaited(alloc)?;
+    Ok(Control::new(rsm, draft.symbols, firsts, awaited))
+}
+
+// What the control is made of.
+fn drafted(alloc: Global, machine: &QuadMachine) -> Result<Draft, AllocError>
+    requires limits { IsWithinLimits machine.now }
+    requires uniform { IsUniformMachine machine.now }
+    ensures { IfOk result (IsDraft machine.now) }
+{
+    let entries = entries_of(alloc, machine)?;
+    let moves = named_moves(alloc, machine, entries.as_slice())?;
+    let states = states_of(alloc, entries.as_slice(), moves.as_slice())?;
+    Ok(Draft {
+        symbols: symbols_of(machine),
+        entries,
+        moves,
+        states,
+    })
+}
+
+// How many symbols each tape has, tape 1 first.
+fn symbols_of(machine: &QuadMachine) -> [u32; 3]
+    ensures symbols { result ≡ machine.now.symbols }
+    ensures valid { IsQuadMachine machine.now }
+{
+    let _quads = machine.quads();
+    [machine.symbols(1), machine.symbols(2), machine.symbols(3)]
 }

@@ -188,6 +188,13 @@ module _ (m : Quadruples) (l : Limits) where
     reversible t (inl e) = subst IsReversible (sym e) is.reversible
     reversible t (inr h) = subst IsReversible (sym h.2) (cells-reversible (letters m h.0))
 
+    -- a wire leads from an output line to an input line
+    pub wired : (from to : Line) → IsNetWire m l from to → IsOutput tables from × IsInput tables to
+    wired from to h =
+        let x = leaving m l from to h in
+        let y = coming m l from to h in
+        (subst (IsOutput tables) (sym x.2) (out_there x.0 x.1), subst (IsInput tables) (sym y.2) (in_there y.0 y.1))
+
     -- the circuit of the modules with the wires
     network_there : (k : Circuit) × IsNetwork m l names k
     network_there =
@@ -207,12 +214,6 @@ module _ (m : Quadruples) (l : Limits) where
             wires = λ from to. (are.sound from to, are.complete from to);
           },
         )
-      where
-        wired : (from to : Line) → IsNetWire m l from to → IsOutput tables from × IsInput tables to
-        wired from to h =
-            let x = leaving m l from to h in
-            let y = coming m l from to h in
-            (subst (IsOutput tables) (sym x.2) (out_there x.0 x.1), subst (IsInput tables) (sym y.2) (in_there y.0 y.1))
 
 -- a machine has a network, and two of them are alike
 pub networks-there : NetworksAreThere

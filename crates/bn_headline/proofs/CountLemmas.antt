@@ -1,5 +1,5 @@
 -- Costs are one, and what is told stops where a run stops.
-use Rattle.std.specs.Prelude.{◌≡◌, ℕ, ◌+◌, ◌-◌, ◌<◌, ◌≤◌, ◌∷◌, Some, refl}
+use Rattle.std.specs.Prelude.{◌≡◌, ℕ, ◌+◌, ◌-◌, ◌<◌, ◌≤◌, ◌∷◌, refl}
 use Rattle.std.proofs.Common.{zero, suc, arith, sym, ap, subst, ◌∙◌}
 use Rattle.bn_theory.specs.Runs.{Reaches}
 use Rattle.bn_theory.specs.Circuits.{Circuit, Goes, IsStuck}
@@ -10,7 +10,7 @@ use Rattle.bn_theory.specs.declared.config.Config.{Config}
 use Rattle.bn_theory.specs.Situations.{Situation, Turns, IsAtEnd}
 use Rattle.bn_rsm.specs.RunCosts.{run_cost}
 use Rattle.bn_layout.specs.Flats.{situation_at_start}
-use Rattle.bn_theory.proofs.SituationLemmas.{turns-turn, turns_once}
+use Rattle.bn_theory.proofs.SituationLemmas.{turns_once}
 use Rattle.bn_theory.proofs.RunPartLemmas.{runs_split}
 use Rattle.bn_headline.specs.Laws.{CostsAreOne}
 

@@ -1,17 +1,15 @@
 -- The board's run to its exit.
-use Rattle.std.specs.Prelude.{◌≡◌, ◌≢◌, ℕ, ◌+◌, ◌-◌, ◌*◌, ◌<◌, ◌≤◌, Bool, true, false, List, length, Option, Some, None, slice_get, refl, ◌⊎◌}
+use Rattle.std.specs.Prelude.{◌≡◌, ◌≢◌, ℕ, ◌+◌, ◌-◌, ◌*◌, ◌<◌, ◌≤◌, Bool, false, List, length, Some, refl, ◌⊎◌}
 use Rattle.std.proofs.Common.{zero, suc, arith, mul-suc, zero-add, le_trans, le_of_lt, sym, ap, subst, ◌∙◌, inl, inr}
 use Rattle.std.proofs.lemmas.Nat.{mul-le}
 use Rattle.std.proofs.lemmas.Option.{slice_get-get_or, slice_get_within}
 use Rattle.bn_theory.specs.Runs.{Reaches}
-use Rattle.bn_theory.specs.Tables.{Table}
 use Rattle.bn_theory.specs.Circuits.{Circuit, clock, Goes, IsStuck}
 use Rattle.bn_theory.specs.Stepping.{run}
 use Rattle.bn_theory.specs.RunLaws.{Reaches-run}
-use Rattle.bn_theory.specs.declared.place.Place.{Place}
 use Rattle.bn_theory.specs.declared.place.Place.TheVariants.{Enter, Left}
 use Rattle.bn_theory.specs.declared.config.Config.{Config}
-use Rattle.bn_element.specs.Rotary.{west, east}
+use Rattle.bn_element.specs.Rotary.{west}
 use Rattle.bn_machine.specs.Tape.{scanned}
 use Rattle.bn_machine.specs.Machine.{Program}
 use Rattle.bn_machine.specs.Outcome as outcome
@@ -27,19 +25,19 @@ use Rattle.bn_bennett.specs.Runs.{beginning_of, ending_of}
 use Rattle.bn_realise.specs.Banks.{IsResting, column_at}
 use Rattle.bn_layout.specs.declared.exit.Exit.{Exit}
 use Rattle.bn_layout.specs.declared.exit.Exit.TheVariants as exit
-use Rattle.bn_modules.specs.declared.cell_line.CellLine.TheVariants.{TakeRight, TakeLeft, Answer}
+use Rattle.bn_modules.specs.declared.cell_line.CellLine.TheVariants.{TakeRight, TakeLeft}
 use Rattle.bn_theory.specs.Situations.{Situation}
 use Rattle.bn_rsm.specs.RunCosts.{run_cost}
 use Rattle.bn_theory.specs.Counting.{tally, one_if}
 use Rattle.bn_modules.specs.Cells.{line_number}
-use Rattle.bn_modules.specs.Controls.{ControlState, End, Reads, letters, lines_before}
+use Rattle.bn_modules.specs.Controls.{End, letters, lines_before}
 use Rattle.bn_modules.specs.Networks.{IsTape, cells_in, first_cell, IsControlAt, ShowsTapes}
 use Rattle.bn_network.specs.Ends.{EndsBy, by_end, by_stop, by_right, by_left, IsStoppedAt, tape_of}
 use Rattle.bn_network.specs.Laws.{FirstMoment, NextMoment, LastMoment}
-use Rattle.bn_boards.specs.Boards.{StandsFor, IsLoose, base, size}
-use Rattle.bn_layout.specs.Layouts.{IsExit, IsNamedExit, named, ends, stuck, right, left, end_place, cell_output, is_moment, moments, elements_of, letters_at, spelled_by, spelled_config, lines_at}
+use Rattle.bn_boards.specs.Boards.{StandsFor, IsLoose}
+use Rattle.bn_layout.specs.Layouts.{IsExit, named, ends, stuck, right, left, cell_output, is_moment, letters_at, spelled_by, spelled_config, lines_at}
 use Rattle.bn_layout.specs.Flats.{Flat, machine_of, IsFlatOf, IsAccepted, situation_at_start, flat_start}
-use Rattle.bn_headline.specs.Costs.{HasCost, bound_of}
+use Rattle.bn_headline.specs.Costs.{bound_of}
 use Rattle.bn_headline.specs.Headline.{IsExitFor, EndsWith, RunsToExit, SpellsRestored}
 use Rattle.bn_layout.specs.Readings.{elements_in, BoardReads}
 use Rattle.bn_headline.specs.Journeys.{Strides, NetworkComes, NetworkEndsAs, BoardComes}
@@ -182,7 +180,7 @@ module _ (p : Program) (f : Flat) (test : Situation
         subst (λ z. IsResting x.states 0 u.states u.inputs (Some z)) (sym same) (stands.rests 0 u control.number has control.is).1;
     rows = λ m u has.
         let low : m < length s.states = (let h = slice_get_within f.network.tables m u has in let count = stands.count in omega arith) in
-        (_, (stands.rests m u _ has (slice_get-get_or s.states m 0 low)).1);
+        let at = stands.rests m u _ has (slice_get-get_or s.states m 0 low) in (_, at.0, at.1);
   }
 
   ends_with : (i n : ℕ) (o : Outcome) (d : Configuration ℕ) (e : Reason) (b : BoardComes f n d e) (x : Config) → x ≡ b.at_end

@@ -1,21 +1,19 @@
 -- From the machine's own outcome to the network's run.
-use Rattle.std.specs.Prelude.{◌≡◌, ◌≢◌, ℕ, ◌+◌, ◌*◌, ◌<◌, ◌≤◌, Bool, true, List, [], ◌∷◌, length, All, slice_index, refl, ◌⊎◌}
-use Rattle.std.proofs.Common.{zero, suc, arith, sym, ap, subst, ◌∙◌, inl, inr}
+use Rattle.std.specs.Prelude.{◌≡◌, ◌≢◌, ℕ, ◌+◌, ◌*◌, ◌<◌, Bool, List, length}
+use Rattle.std.proofs.Common.{zero, suc, sym, subst}
 use Rattle.bn_theory.specs.Runs.{Reaches}
-use Rattle.bn_machine.specs.Machine.{Program, IsMachine}
-use Rattle.bn_machine.specs.declared.quint.Shift.TheVariants.{Stay}
+use Rattle.bn_machine.specs.Machine.{Program}
 use Rattle.bn_machine.specs.Outcome as outcome
 use Rattle.bn_machine.specs.Outcome.{Limits, Outcome, HasOutcome}
-use Rattle.bn_quad.specs.Quadruples.{Configuration, Goes, Quadruples, final_of, IsQuadMachine, Rule, Rooms}
+use Rattle.bn_quad.specs.Quadruples.{Configuration, Goes, Rule, Rooms}
 use Rattle.bn_quad.specs.Calls.{IsUniformMachine}
 use Rattle.bn_stages.specs.List.{symbols_of}
-use Rattle.bn_stages.specs.Stages.{rooms_of, IsStandardMachine}
+use Rattle.bn_stages.specs.Stages.{rooms_of}
 use Rattle.bn_stages.specs.Steps.{Exit, Finished, Stopped, Leaving, EndsAt, finishes, stops, leaves}
 use Rattle.bn_bennett.specs.Laws.{TranslationsEndAlike, TranslationsAreUniform}
 use Rattle.bn_bennett.specs.Runs.{beginning_of, ending_of, Comes, MachineEndsAs}
 use Rattle.bn_theory.specs.Situations.{Situation}
 use Rattle.bn_modules.specs.Controls.{letters, ControlMove, IsEntry}
-use Rattle.bn_modules.specs.Networks.{IsTape}
 use Rattle.bn_modules.specs.Moments.{IsMomentOf, TellsMoments, HasLetters, quad_moves}
 use Rattle.bn_network.specs.Laws.{FirstMoment, NextMoment, LastMoment}
 use Rattle.bn_network.specs.Ends.{IsEarlyStop}

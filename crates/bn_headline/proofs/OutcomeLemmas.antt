@@ -1,14 +1,9 @@
 -- Exits and outcomes, the cost and the end, and a run taken back.
-use Rattle.std.specs.Prelude.{◌≡◌, ◌≢◌, ◌↔◌, ℕ, ◌+◌, ◌-◌, ◌*◌, ◌<◌, ◌≤◌, List, [], ◌∷◌, ◌++◌, length, Some, None, codes, decimal, slice_get, slice_index_or, drop, refl, ◌⊎◌}
-use Rattle.std.proofs.Common.{zero, suc, arith, zero-add, sym, ap, subst, ◌∙◌, inl, inr, get_or}
-use Rattle.std.proofs.lemmas.Bool.{cases_lt}
-use Rattle.std.proofs.lemmas.List.{append-nil}
-use Rattle.bn_theory.specs.Runs.{Reaches}
-use Rattle.bn_theory.specs.Circuits.{Circuit, Goes}
+use Rattle.std.specs.Prelude.{◌≡◌, ◌≢◌, ◌↔◌, ℕ, ◌+◌, ◌-◌, ◌≤◌, List, [], ◌∷◌, Some, slice_get, slice_index_or, refl}
+use Rattle.std.proofs.Common.{zero, suc, arith, zero-add, sym, ap, subst, ◌∙◌}
+use Rattle.bn_theory.specs.Circuits.{Goes}
 use Rattle.bn_theory.specs.declared.place.Place.{Place}
 use Rattle.bn_theory.specs.declared.place.Place.TheVariants.{Enter, Left}
-use Rattle.bn_theory.specs.declared.config.Config.{Config}
-use Rattle.bn_machine.specs.Tape.{word_tape, blank_tape}
 use Rattle.bn_machine.specs.Machine.{Program}
 use Rattle.bn_machine.specs.Outcome as outcome
 use Rattle.bn_machine.specs.Outcome.{Limits, Outcome, HasOutcome}
@@ -18,23 +13,18 @@ use Rattle.bn_stages.specs.List.{bennett}
 use Rattle.bn_stages.specs.declared.name.Name.{Name}
 use Rattle.bn_stages.specs.declared.name.Name.TheVariants.{Compute, GoRight}
 use Rattle.bn_bennett.specs.Translation.{IsTranslation, Translation, name_of}
-use Rattle.bn_bennett.specs.Meaning.{machine_state_by}
 use Rattle.bn_bennett.proofs.Counting.{numbers_states}
 use Rattle.bn_layout.specs.declared.exit.Exit.{Exit}
 use Rattle.bn_layout.specs.declared.exit.Exit.TheVariants as exit
-use Rattle.bn_layout.specs.declared.spelled.Spelled.{Spelled}
-use Rattle.bn_layout.specs.declared.spelled.SpelledTape.{SpelledTape}
-use Rattle.bn_boards.specs.Boards.{size}
-use Rattle.bn_layout.specs.Layouts.{Layout, moments, spelled_tape, config_tape, IsExit, IsNamedExit, named, unnamed, inside, ends, stuck, right, left}
-use Rattle.bn_layout.specs.Flats.{Flat, IsFlatOf, IsAccepted, flat_start}
-use Rattle.bn_headline.specs.Headline.{IsExitFor, EndsWith, RunsToExit, SpellsRestored}
-use Rattle.bn_headline.specs.Costs.{bound_of}
-use Rattle.bn_headline.specs.Laws.{BoardsRunToTheirExit, ExitsTellOutcomes, BoardsLeaveByOutcomes, LeavesByOutcome, EndsInTime, BoardsEndInTime, BoardsAreRestored, BoardsRunBack}
+use Rattle.bn_layout.specs.Layouts.{Layout, moments, IsExit, IsNamedExit, named, unnamed, inside, ends, stuck, right, left}
+use Rattle.bn_layout.specs.Flats.{Flat, flat_start}
+use Rattle.bn_headline.specs.Headline.{IsExitFor, RunsToExit, SpellsRestored}
+use Rattle.bn_headline.specs.Laws.{BoardsRunToTheirExit, ExitsTellOutcomes, BoardsLeaveByOutcomes, EndsInTime, BoardsEndInTime, BoardsAreRestored, BoardsRunBack}
 use Rattle.bn_layout.specs.Laws.{ExitsAreOne}
 use Rattle.bn_theory.proofs.RunPartLemmas.{runs_split, runs-undo_in_part, steps_of_run}
 use Rattle.bn_theory.specs.RunLaws.{run_stops, Reaches-run}
 use Rattle.bn_theory.specs.Stepping.{run, back}
-use Rattle.bn_headline.proofs.CountLemmas.{costs-one, places_stop, before_end}
+use Rattle.bn_headline.proofs.CountLemmas.{costs-one, before_end}
 
 -- the exit of an outcome is not without a name, and not inside
 pub not_unnamed : (f : Flat) (o : Outcome) (e : Exit) → IsExitFor f o e → e ≢ exit.Unnamed

@@ -1,31 +1,25 @@
 -- The network's run over its moments is a run of the board.
-use Rattle.std.specs.Prelude.{◌≡◌, ◌≢◌, ℕ, ◌+◌, ◌-◌, ◌*◌, ◌<◌, ◌≤◌, Bool, true, false, not, List, Option, Some, None, slice_get, option_and_then, refl, ◌⊎◌}
-use Rattle.std.specs.Option.{option_map_or}
+use Rattle.std.specs.Prelude.{◌≡◌, ◌≢◌, ℕ, ◌+◌, ◌*◌, ◌<◌, ◌≤◌, Bool, true, false, not, refl, ◌⊎◌}
 use Rattle.std.proofs.Common.{zero, suc, arith, sym, ap, subst, ◌∙◌, inl, inr}
 use Rattle.bn_theory.specs.Runs.{Reaches, Passes, passes_run, runs_join}
-use Rattle.bn_theory.specs.Tables.{Table}
-use Rattle.bn_theory.specs.Circuits.{Circuit, clock, Goes, go_of}
+use Rattle.bn_theory.specs.Circuits.{clock, Goes}
 use Rattle.bn_theory.specs.declared.place.Place.{Place}
 use Rattle.bn_theory.specs.declared.place.Place.TheVariants.{Enter, Left}
 use Rattle.bn_theory.specs.declared.config.Config.{Config}
-use Rattle.bn_machine.specs.Machine.{Program}
-use Rattle.bn_machine.specs.Outcome.{Limits}
 use Rattle.bn_quad.specs.Quadruples.{Configuration}
 use Rattle.bn_stages.specs.Steps.{Exit}
 use Rattle.bn_bennett.specs.Runs.{beginning_of}
-use Rattle.bn_rsm.specs.Costs.{table_cost, cost_by}
-use Rattle.bn_theory.specs.Situations.{Situation, Turns, turn, IsAtEnd}
-use Rattle.bn_rsm.specs.RunCosts.{run_cost, step_cost, entry_cost}
+use Rattle.bn_theory.specs.Situations.{Situation, Turns, IsAtEnd}
+use Rattle.bn_rsm.specs.RunCosts.{run_cost, step_cost}
 use Rattle.bn_theory.specs.Counting.{tally, one_if}
-use Rattle.bn_modules.specs.Moments.{Travels}
-use Rattle.bn_boards.specs.Boards.{AreModules, IsBoard, StandsFor, IsAmid, IsLoose}
+use Rattle.bn_boards.specs.Boards.{AreModules, IsBoard, StandsFor, IsLoose}
 use Rattle.bn_layout.specs.Layouts.{is_moment}
-use Rattle.bn_layout.specs.Flats.{Flat, machine_of, IsFlatOf, situation_at_start, flat_start}
+use Rattle.bn_layout.specs.Flats.{Flat, situation_at_start, flat_start}
 use Rattle.bn_layout.specs.Readings.{elements_in, MomentsAgree}
 use Rattle.bn_headline.specs.Journeys.{Strides, NetworkComes, BoardComes, BoardsComeAlike}
 use Rattle.bn_theory.proofs.CountingLemmas.{tallies-add, tally-zero}
 use Rattle.bn_boards.proofs.FollowedLemmas.{boards-follow}
-use Rattle.bn_rsm.proofs.RunCostLemmas.{cost-more, cost-none, cost-joins, one_cost, cost_some, left_cost}
+use Rattle.bn_rsm.proofs.RunCostLemmas.{cost-none, cost-joins, one_cost, cost_some, left_cost}
 use Rattle.bn_boards.proofs.LooseLemmas.{loose-move}
 
 negated : (b : Bool) → b ≡ false → not b ≡ true

@@ -1,11 +1,7 @@
 -- A board's whole run, the way to a loose line included: what a test says at each step.
-use Rattle.std.specs.Prelude.{◌≡◌, ℕ, ◌+◌, ◌-◌, ◌<◌, ◌≤◌, Bool, true, Option, Some, None, slice_get, refl, ◌⊎◌}
-use Rattle.std.specs.Option.{option_map_or}
+use Rattle.std.specs.Prelude.{◌≡◌, ℕ, ◌+◌, ◌-◌, ◌<◌, ◌≤◌, Bool, true, refl, ◌⊎◌}
 use Rattle.std.proofs.Common.{zero, suc, arith, sym, ap, subst, ◌∙◌, inl, inr}
 use Rattle.std.proofs.lemmas.Bool.{cases_lt}
-use Rattle.std.proofs.lemmas.Option.{option_and_then_some}
-use Rattle.bn_theory.specs.Tables.{Table}
-use Rattle.bn_rsm.specs.Costs.{table_cost, cost_by}
 use Rattle.bn_theory.specs.Runs.{Reaches, Passes, Before, passes_run}
 use Rattle.bn_theory.specs.Circuits.{Circuit, clock, Goes}
 use Rattle.bn_theory.specs.Stepping.{run}
@@ -13,13 +9,13 @@ use Rattle.bn_theory.specs.RunLaws.{Reaches-run, run_composes}
 use Rattle.bn_theory.specs.declared.place.Place.{Place}
 use Rattle.bn_theory.specs.declared.place.Place.TheVariants.{Enter, Left}
 use Rattle.bn_theory.specs.declared.config.Config.{Config}
-use Rattle.bn_theory.specs.Situations.{Situation, Turns, turn, IsAtEnd}
+use Rattle.bn_theory.specs.Situations.{Situation, Turns, IsAtEnd}
 use Rattle.bn_rsm.specs.RunCosts.{run_cost, step_cost, entry_cost}
 use Rattle.bn_boards.specs.Boards.{AreModules, IsBoard, StandsFor, IsAmid, IsLoose}
 use Rattle.bn_boards.specs.Laws.{IsAtMove}
 use Rattle.bn_theory.proofs.RunPartLemmas.{paths-between}
 use Rattle.bn_boards.proofs.FollowedLemmas.{boards-follow}
-use Rattle.bn_rsm.proofs.RunCostLemmas.{cost-more, cost-none, cost-joins, one_cost, cost_some}
+use Rattle.bn_rsm.proofs.RunCostLemmas.{cost-joins, one_cost}
 use Rattle.bn_boards.proofs.VisitedLemmas.{boards-visit}
 use Rattle.bn_boards.proofs.LooseLemmas.{loose-move}
 

@@ -21,15 +21,17 @@ use Rattle.bn_headline.specs.Costs.{HasCost}
 use Rattle.bn_headline.specs.Headline.{RunsToExit}
 use Rattle.bn_headline.proofs.ExitedLemmas.{boards-run}
 use Rattle.bn_headline.proofs.JourneyedLemmas.{networks-end}
-use Rattle.bn_layout.proofs.ReadingLemmas.{boards-read}
+use Rattle.bn_layout.proofs.ReadingLemmas.{boards-read, flat-Readings, own_flat, own_accepted}
 use Rattle.bn_layout.proofs.LetterLemmas.{letters_are, some_letters}
 use Rattle.bn_headline.specs.Moments.{MomentsAreByMarks, RunsTellMoments, BoardMomentsAreSums, BoardsHaveMoments}
 use Rattle.bn_headline.proofs.CellLemmas.{cells_lie}
 use Rattle.bn_headline.proofs.TellingLemmas.{commands_lead, found_moment}
 use Rattle.bn_headline.proofs.WalkLemmas.{goes_on}
-use Rattle.bn_headline.proofs.MomentLemmas.{banks-one_mark, moments-sums, tapes-one_head}
+use Rattle.bn_headline.proofs.MomentLemmas.{banks-one_mark, moments-sums, tapes-one_head, moments-told}
 use Rattle.bn_network.specs.Laws.{FirstMoment, NextMoment, LastMoment, HeadsStayOne}
 use Rattle.bn_headline.proofs.CountLemmas.{costs-one}
+use Rattle.bn_rsm.proofs.RunCostLemmas.{cost-joins}
+use Rattle.bn_headline.proofs.VisitLemmas.{reach}
 
 -- a configuration past the end is the last one
 up_to_end : (k : Circuit) (c : Config) (cost t : ℕ) → IsStuck k (run k c cost) → (s : ℕ) × (s ≤ cost) × (run k c t ≡ run k c s)
@@ -38,6 +40,24 @@ up_to_end k c cost t stuck =
       | inl past ↦ (cost, omega arith, run_composes k c cost (t - cost) t (omega arith) ∙ run-stuck k (run k c cost) stuck (t - cost))
       | inr before ↦ (t, before, refl)
     ]
+
+-- the network's moves from the start cost no more than the board's whole run
+cost_within : (f : Flat) (cost moves : ℕ) (at : Situation) → HasCost f cost → Reaches (Turns f.network) moves (situation_at_start f) at → run_cost f.network moves (situation_at_start f) ≤ cost
+cost_within f cost moves at has path =
+    elim (cases_lt has.moves moves) [
+      | inl less ↦ absurd (none_beyond (moves - has.moves) (omega arith) (goes_on f.network has.moves moves (situation_at_start f) has.last at has.run path (omega arith)))
+      | inr more ↦
+          (let rest = cost-joins f.network moves (has.moves - moves) (situation_at_start f) at path in
+          let count : moves + (has.moves - moves) ≡ has.moves = omega arith in
+          let part : run_cost f.network (moves + (has.moves - moves)) (situation_at_start f) ≡ run_cost f.network has.moves (situation_at_start f) = ap (λ n. run_cost f.network n (situation_at_start f)) count in
+          let whole = cost-joins f.network has.moves 1 (situation_at_start f) has.last has.run in
+          let is = has.is in
+          omega arith)
+    ]
+  where
+    none_beyond : (j : ℕ) → 0 < j → Reaches (Turns f.network) j has.last at → ⊥
+    none_beyond zero some path = omega arith
+    none_beyond (suc j) some path = has.ended path.0 path.1
 
 module _ (uniform : TranslationsAreUniform) (entries : StatesHaveEntries) where
   -- what the layout finds is the moment, where one column of the control is marked at most
@@ -83,6 +103,15 @@ module _ (uniform : TranslationsAreUniform) (entries : StatesHaveEntries) where
         record {
           sums = λ cost t a has low. board_moments-sums first next last p word l f cost flat accepted has (subst (λ v. v ≤ clock) (costs-one f way.cost cost way.has_cost has) room) t a low;
           found = λ cost t a has low. moments-sums uniform entries (networks-end alike uniform) outcomes first next last p word l f cost flat accepted has (subst (λ v. v ≤ clock) (costs-one f way.cost cost way.has_cost has) room) t a low;
+          each = λ moves a at path moment.
+              let read = (flat-Readings uniform entries p f (own_flat p word l f flat) (own_accepted p word l f flat accepted)).1 in
+              let low = cost_within f way.cost moves at way.has_cost path in
+              let none : (flat_start f).steps ≡ 0 = refl in
+              let time : (flat_start f).steps + run_cost f.network moves (situation_at_start f) ≤ clock = omega arith in
+              let there = reach f.network f.circuit read.modules_are flat.is_board (situation_at_start f) (flat_start f) read.starts_at moves at path time in
+              let now = run f.circuit (flat_start f) (run_cost f.network moves (situation_at_start f)) in
+              let told = (moments-told uniform entries p word l f flat accepted at now a there.0).1 moment in
+              (moments-sums uniform entries (networks-end alike uniform) outcomes first next last p word l f way.cost flat accepted way.has_cost room (run_cost f.network moves (situation_at_start f)) a low).0 told;
           marks = λ t m j i u here one two lies lies'.
               let s = up_to_end f.circuit (flat_start f) way.cost t way.ended in
               banks-one_mark uniform entries p word l f way.cost flat accepted way.has_cost room s.0 m j i u s.1 here one two (bar_at t s.0 _ s.2 lies) (bar_at t s.0 _ s.2 lies');

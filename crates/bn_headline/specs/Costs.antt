@@ -1,7 +1,6 @@
 -- What a board costs, and the bound on it: numbers of element steps (this project's own profile).
-use Rattle.std.specs.Prelude.{◌≡◌, ℕ, ◌+◌, ◌*◌, ◌∷◌}
+use Rattle.std.specs.Prelude.{◌≡◌, ℕ, ◌+◌, ◌*◌}
 use Rattle.bn_theory.specs.Runs.{Reaches}
-use Rattle.bn_theory.specs.Stepping.{run}
 use Rattle.bn_theory.specs.Situations.{Situation, Turns, IsAtEnd}
 use Rattle.bn_rsm.specs.RunCosts.{run_cost}
 use Rattle.bn_layout.specs.Layouts.{Layout, elements_of}

@@ -1,5 +1,5 @@
 -- The headline over the definitions: a board runs to the exit that the machine's own bounded run names, in exactly its cost.
-use Rattle.std.specs.Prelude.{◌≡◌, ℕ, ◌+◌, ◌*◌, ◌<◌, ◌≤◌, List, ◌∷◌, length, Some, slice_get}
+use Rattle.std.specs.Prelude.{◌≡◌, ℕ, ◌+◌, ◌*◌, ◌<◌, ◌≤◌, List, length, Some, slice_get}
 use Rattle.bn_theory.specs.Tables.{Table}
 use Rattle.bn_theory.specs.Runs.{Reaches}
 use Rattle.bn_theory.specs.Circuits.{clock, Goes, IsStuck}
@@ -7,7 +7,7 @@ use Rattle.bn_theory.specs.Stepping.{run}
 use Rattle.bn_theory.specs.declared.config.Config.{Config}
 use Rattle.bn_machine.specs.Machine.{Program}
 use Rattle.bn_machine.specs.Outcome as outcome
-use Rattle.bn_machine.specs.Outcome.{Limits, Outcome, HasOutcome}
+use Rattle.bn_machine.specs.Outcome.{Outcome}
 use Rattle.bn_quad.specs.Quadruples.{Configuration}
 use Rattle.bn_stages.specs.declared.name.Name.TheVariants.{Compute}
 use Rattle.bn_bennett.specs.Translation.{name_of}
@@ -18,7 +18,7 @@ use Rattle.bn_layout.specs.declared.exit.Exit.TheVariants as exit
 use Rattle.bn_modules.specs.Controls.{End}
 use Rattle.bn_boards.specs.Boards.{base}
 use Rattle.bn_layout.specs.Layouts.{IsExit, moments, spelled_by, spelled_config}
-use Rattle.bn_layout.specs.Flats.{Flat, IsFlatOf, IsAccepted, flat_start}
+use Rattle.bn_layout.specs.Flats.{Flat, flat_start}
 use Rattle.bn_headline.specs.Costs.{HasCost, bound_of}
 
 -- the exit that an outcome names: a state of the machine is the state of the reversible machine that computes in it
@@ -37,7 +37,7 @@ pub record SpellsRestored (f : Flat) (states : List ℕ) (y : List ℕ) : Type 0
   pub control : (u : Table) (q : ℕ) → slice_get f.network.tables 0 ≡ Some u → slice_get f.names q ≡ Some End
       → IsResting states 0 u.states u.inputs (Some q)
   pub rows : (m : ℕ) (u : Table) → slice_get f.network.tables m ≡ Some u → (q : ℕ)
-      × IsResting states (base f.network.tables m) u.states u.inputs (Some q)
+      × (q < u.states) × IsResting states (base f.network.tables m) u.states u.inputs (Some q)
 
 -- what is said at an end
 abbrev pub EndsWith : Flat → Config → ℕ → Outcome → Type 0
@@ -57,8 +57,3 @@ pub record RunsToExit (p : Program) (f : Flat) (i : ℕ) (o : Outcome) : Type 0 
   pub is_exit : IsExit f.layout (run f.circuit (flat_start f) cost).place exit
   pub for_outcome : IsExitFor f o exit
   pub with_tapes : EndsWith f (run f.circuit (flat_start f) cost) i o
-
-abbrev pub BoardsRunToTheirExit : Type 0
-BoardsRunToTheirExit =
-    (p : Program) (word : List ℕ) (l : Limits) (f : Flat) → IsFlatOf p word l f → IsAccepted p word l f
-    → (i : ℕ) (o : Outcome) → HasOutcome p word l i o → RunsToExit p f i o

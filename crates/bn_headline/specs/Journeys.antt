@@ -7,7 +7,7 @@ use Rattle.bn_theory.specs.declared.config.Config.{Config}
 use Rattle.bn_machine.specs.Tape.{scanned}
 use Rattle.bn_machine.specs.Machine.{Program}
 use Rattle.bn_machine.specs.Outcome as outcome
-use Rattle.bn_machine.specs.Outcome.{Limits, Outcome, HasOutcome}
+use Rattle.bn_machine.specs.Outcome.{Limits, Outcome}
 use Rattle.bn_quad.specs.Quadruples.{Configuration, Goes}
 use Rattle.bn_stages.specs.Stages.{rooms_of}
 use Rattle.bn_stages.specs.Steps.{HasNoFirstRead, Exit, Finished, Stopped, Leaving}
@@ -17,11 +17,11 @@ use Rattle.bn_bennett.specs.Runs.{beginning_of, ending_of}
 use Rattle.bn_theory.specs.Situations.{Situation, Turns, IsAtEnd}
 use Rattle.bn_rsm.specs.RunCosts.{run_cost}
 use Rattle.bn_theory.specs.Counting.{tally}
-use Rattle.bn_modules.specs.Moments.{IsMomentOf, Travels, TellsMoments}
+use Rattle.bn_modules.specs.Moments.{IsMomentOf, Travels}
 use Rattle.bn_network.specs.Ends.{EndsBy}
 use Rattle.bn_boards.specs.Boards.{AreModules, StandsFor, IsLoose}
 use Rattle.bn_layout.specs.Layouts.{is_moment}
-use Rattle.bn_layout.specs.Flats.{Flat, machine_of, IsFlatOf, IsAccepted, situation_at_start, flat_start}
+use Rattle.bn_layout.specs.Flats.{Flat, machine_of, IsFlatOf, situation_at_start, flat_start}
 use Rattle.bn_layout.specs.Readings.{elements_in, MomentsAgree}
 
 -- one step of the quadruple machine, and the network's moves from its moment to the next one
@@ -57,12 +57,6 @@ NetworkEndsAs f test i (outcome.Stuck j c) = (d : Configuration ℕ) × NetworkC
     × HasNoFirstRead (machine_of f).rules d
 NetworkEndsAs f test i (outcome.Outside t side) = (n : ℕ) × (d : Configuration ℕ)
     × NetworkComes f test n d (Leaving t side)
-
-abbrev pub NetworksEndAlike : Type 0
-NetworksEndAlike =
-    (p : Program) (word : List ℕ) (l : Limits) (f : Flat) (test : Situation → Bool) → IsFlatOf p word l f
-    → IsAccepted p word l f → TellsMoments (machine_of f) f.names f.network test
-    → (i : ℕ) (o : Outcome) → HasOutcome p word l i o → NetworkEndsAs f test i o
 
 -- ---- on the board
 

@@ -1,5 +1,5 @@
 -- What the laws of this crate say, each the contract of a function that only names the laws below it.
-use Rattle.std.specs.Prelude.{◌≡◌, ◌≢◌, ◌↔◌, ℕ, ◌+◌, ◌*◌, ◌<◌, ◌≤◌, List, ◌∷◌, length, Bool}
+use Rattle.std.specs.Prelude.{◌≡◌, ◌≢◌, ◌↔◌, ℕ, ◌+◌, ◌*◌, ◌<◌, ◌≤◌, List, length, Bool}
 use Rattle.bn_theory.specs.Circuits.{clock}
 use Rattle.bn_theory.specs.Stepping.{back, run}
 use Rattle.bn_theory.specs.declared.place.Place.TheVariants.{Enter}

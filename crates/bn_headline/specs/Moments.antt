@@ -102,6 +102,8 @@ pub record HasMoments (l : Limits) (f : Flat) : Type 0 where
       → IsBoardMoment (machine_of f) l f.names f.network (run f.circuit (flat_start f) t) a ↔ MomentOnBoard f t a
   pub found : (cost t a : ℕ) → HasCost f cost → t ≤ cost
       → (moment_at f.layout (run f.circuit (flat_start f) t) ≡ Some a) ↔ MomentOnBoard f t a
+  pub each : (moves a : ℕ) (at : Situation) → Reaches (Turns f.network) moves (situation_at_start f) at
+      → IsMoment (machine_of f) f.names f.network at a → MomentOnBoard f (run_cost f.network moves (situation_at_start f)) a
   pub marks : (t m j i : ℕ) (u : Table) → slice_get f.network.tables m ≡ Some u → j < u.states → i < u.states
       → slice_get (run f.circuit (flat_start f) t).states (bottom_at (base f.network.tables m) u.inputs j) ≡ Some horizontal
       → slice_get (run f.circuit (flat_start f) t).states (bottom_at (base f.network.tables m) u.inputs i) ≡ Some horizontal → i ≡ j

@@ -1,10 +1,9 @@
 -- Two boards of one machine, word and limits are alike.
-use Rattle.std.specs.Prelude.{◌≡◌, ◌≢◌, ◌↔◌, ℕ, ◌+◌, ◌<◌, List, [], ◌∷◌, length, replicate, Option, Some, None, slice_get, refl, ◌⊎◌}
+use Rattle.std.specs.Prelude.{◌≡◌, ℕ, ◌+◌, List, [], ◌∷◌, length, replicate, Option, Some, None, slice_get, refl}
 use Rattle.std.specs.Ordering.{nat_cmp}
 use Rattle.std.specs.Cmp.Lexicographic.{slice_cmp}
 use Rattle.std.specs.Cmp.{nat_cmp_is}
-use Rattle.std.specs.declared.cmp.Ordering.{Ordering}
-use Rattle.std.specs.declared.cmp.Ordering.TheVariants.{Less, Equal, Greater}
+use Rattle.std.specs.declared.cmp.Ordering.TheVariants.{Less, Equal}
 use Rattle.std.proofs.Common.{zero, suc, arith, sym, ap, subst, ◌∙◌, inl, inr}
 use Rattle.std.proofs.lemmas.Bool.Decides.{leb_tells}
 use Rattle.bn_theory.specs.Tables.{Table}
@@ -12,19 +11,16 @@ use Rattle.bn_theory.specs.Circuits.{Circuit, target, source, IsOneToOne}
 use Rattle.bn_theory.specs.declared.line.Line.{Line}
 use Rattle.bn_theory.specs.declared.line.Wire.{Wire}
 use Rattle.bn_element.specs.Rotary.{rotary}
-use Rattle.bn_machine.specs.Machine.{Program}
 use Rattle.bn_machine.specs.Outcome.{Limits}
 use Rattle.bn_quad.specs.Quadruples.{Quadruples}
 use Rattle.bn_bennett.specs.Laws.{TranslationsAreOne, TranslationsAreUniform}
-use Rattle.bn_bennett.specs.Translation.{Translation, IsTranslation}
-use Rattle.bn_stages.specs.Stages.{IsStandardMachine}
+use Rattle.bn_bennett.specs.Translation.{Translation}
 use Rattle.bn_realise.specs.Banks.{IsBankWire, input_line, output_line}
-use Rattle.bn_modules.specs.Controls.{ControlState, ControlMove, key_of, IsNumbering, IsControlTable, IsEntry, Reads, out_number}
+use Rattle.bn_modules.specs.Controls.{ControlState, ControlMove, key_of, IsNumbering, IsControlTable, out_number}
 use Rattle.bn_controllaws.specs.Laws.{HasEntries, ControlsAreOne, StatesHaveEntries}
 use Rattle.bn_modules.specs.Networks.{IsNetwork, module_tables, network_start}
 use Rattle.bn_boards.specs.Boards.{IsBoard, IsBoardWire, own, between, size, base, board_start}
 use Rattle.bn_layout.specs.Layouts.{Layout, IsLayout, IsFirstKept, final_kept, sent_kept}
-use Rattle.bn_layout.specs.Flats.{Flat, IsFlatOf, flat_start, AreSameFlats}
 use Rattle.bn_theory.specs.Alike.{AreAlike}
 use Rattle.bn_layout.specs.Laws.{FlatsAreOne}
 

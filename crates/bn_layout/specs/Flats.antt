@@ -1,5 +1,5 @@
 -- A machine's translation with its control, its network, its board and its layout: what a machine, a word and limits are compiled to.
-use Rattle.std.specs.Prelude.{◌≡◌, ◌≢◌, ℕ, ◌≤◌, List, ◌∷◌, length, All}
+use Rattle.std.specs.Prelude.{◌≡◌, ◌≢◌, ℕ, ◌≤◌, List, length, All}
 use Rattle.bn_theory.specs.Alike.{AreAlike}
 use Rattle.bn_theory.specs.Circuits.{Circuit}
 use Rattle.bn_theory.specs.declared.config.Config.{Config}
@@ -9,7 +9,7 @@ use Rattle.bn_quad.specs.Quadruples.{Quadruples}
 use Rattle.bn_stages.specs.Stages.{IsStandardMachine, IsSpelledBy}
 use Rattle.bn_bennett.specs.Translation.{Translation, IsTranslation}
 use Rattle.bn_theory.specs.Situations.{Situation}
-use Rattle.bn_modules.specs.Controls.{ControlState, IsNumbering, letters}
+use Rattle.bn_modules.specs.Controls.{ControlState, IsNumbering}
 use Rattle.bn_modules.specs.Networks.{IsNetwork, network_start}
 use Rattle.bn_boards.specs.Boards.{IsBoard, board_start, size}
 use Rattle.bn_layout.specs.Layouts.{Layout, IsLayout}

@@ -1,5 +1,5 @@
 -- The numbers by which a board is read (this project's own profile): its exits, its moments, and what its cells spell.
-use Rattle.std.specs.Prelude.{◌≡◌, ◌≢◌, ◌↔◌, ℕ, zero, suc, ◌+◌, ◌-◌, ◌*◌, ◌<◌, ◌≤◌, ℤ, pos, ◌-ℤ◌, Bool, false, not, List, [], ◌∷◌, length, map, position, Option, Some, None, slice_get, if◌then◌else◌, ◌==◌, ◌&&◌, nat_lt, is_some}
+use Rattle.std.specs.Prelude.{◌≡◌, ◌≢◌, ◌↔◌, ℕ, zero, suc, ◌+◌, ◌-◌, ◌*◌, ◌<◌, ◌≤◌, ℤ, pos, ◌-ℤ◌, Bool, false, not, List, [], length, map, position, Option, Some, None, slice_get, if◌then◌else◌, ◌==◌, ◌&&◌, nat_lt, is_some}
 use Rattle.std.specs.List.{range_with_len, slice_index_or}
 use Rattle.std.specs.Option.{option_map}
 use Rattle.bn_theory.specs.Circuits.{Circuit}
@@ -22,7 +22,7 @@ use Rattle.bn_modules.specs.Cells.{line_number, lines_of}
 use Rattle.bn_modules.specs.Controls.{ControlState, Reads, Tape as to_tape, ControlMove, IsEntry, lines_before, out_number}
 use Rattle.bn_modules.specs.Networks.{cells_in, left_of, bank_size, cell_size}
 
--- What a board keeps beside its net: the limits; the numbers of symbols; how many states the control has; for each state of the quadruple machine the control state and the output line of its first command, nothing for the final state; for each control state that awaits a first read, the state of the quadruple machine and the tape; and the final state.
+-- What a board keeps beside its net: the limits; the numbers of symbols; how many states the control has; for each state of the quadruple machine the control state and the output line of its first command, nothing for the final state; for each control state that awaits a first read, the state of the quadruple machine and the tape.
 pub record Layout : Type 0 where
   pub limits : Limits
   pub symbols : List ℕ
@@ -59,7 +59,7 @@ cell_output b t p l = Left (column_at (cell_element b t p) (lines_of (letters_at
 abbrev pub end_place : Layout → Place
 end_place b = Left (column_at 0 (lines_at b) (b.states - 1)) east
 
--- by which exit the signal left, if it left
+-- by which exit the signal left, if it left (a line of these by which a signal can have left has no wire)
 pub data IsNamedExit (b : Layout) (p : Place) : Exit → Type 0 where
   inside : (e l : ℕ) → p ≡ Enter e l → IsNamedExit b p Inside
   ends : p ≡ end_place b → IsNamedExit b p End

@@ -1,13 +1,11 @@
 -- Paths and their costs.
-use Rattle.std.specs.Prelude.{◌≡◌, ℕ, ◌+◌, ◌<◌, ◌≤◌, Bool, true, false, not, Option, Some, None, slice_set, refl}
-use Rattle.std.specs.Option.{option_map_or}
-use Rattle.std.proofs.Common.{zero, suc, arith, sym, ap, ◌∙◌}
-use Rattle.bn_theory.specs.Runs.{Reaches, passes_run, passes_join}
-use Rattle.bn_theory.specs.Circuits.{Circuit, place_after}
-use Rattle.bn_theory.specs.declared.place.Place.TheVariants.{Left}
-use Rattle.bn_theory.specs.Situations.{Situation, situation, Turns, turn, turn_from}
+use Rattle.std.specs.Prelude.{◌≡◌, ℕ, ◌+◌, ◌<◌, ◌≤◌, Bool, true, false, not, refl}
+use Rattle.std.proofs.Common.{arith, ap}
+use Rattle.bn_theory.specs.Runs.{passes_run, passes_join}
+use Rattle.bn_theory.specs.Circuits.{Circuit}
+use Rattle.bn_theory.specs.Situations.{Situation, Turns}
 use Rattle.bn_rsm.proofs.RunCostLemmas.{cost-none, one_cost, cost-joins}
-use Rattle.bn_rsm.specs.RunCosts.{step_cost, run_cost, entry_cost}
+use Rattle.bn_rsm.specs.RunCosts.{step_cost, run_cost}
 use Rattle.bn_modules.specs.Moments.{Travels}
 
 -- not no is yes

@@ -1,28 +1,16 @@
 -- What the laws of this crate say, each the contract of a function that only names the laws below it: from moment to moment, for every uniform machine and every window.
-use Rattle.std.specs.Prelude.{◌≡◌, ◌≢◌, ◌↔◌, ℕ, zero, suc, ◌+◌, ◌-◌, ◌*◌, ◌<◌, ◌≤◌, ℤ, pos, ◌+ℤ◌, Bool, true, false, not, List, [], ◌∷◌, length, All, Option, Some, None, is_some, slice_get, ◌⊎◌, if◌then◌else◌, ◌==◌, ◌&&◌}
-use Rattle.std.specs.Int.RustNames.{unsigned_abs}
-use Rattle.bn_theory.specs.Runs.{Reaches, Passes}
-use Rattle.bn_theory.specs.Circuits.{Circuit, target, place_after}
-use Rattle.bn_theory.specs.declared.place.Place.{Place}
-use Rattle.bn_theory.specs.declared.place.Place.TheVariants.{Enter, Left}
-use Rattle.bn_machine.specs.Tape.{Tape, scanned, word_tape, blank_tape}
+use Rattle.std.specs.Prelude.{◌≡◌, ℕ, ◌+◌, ◌*◌, ◌<◌, ◌≤◌, Bool, true, false, List, length, All, ◌⊎◌}
+use Rattle.bn_theory.specs.Circuits.{Circuit}
+use Rattle.bn_machine.specs.Tape.{word_tape, blank_tape}
 use Rattle.bn_machine.specs.Outcome.{Limits}
-use Rattle.bn_machine.specs.declared.quint.Shift.{Shift}
-use Rattle.bn_machine.specs.declared.quint.Shift.TheVariants as way
-use Rattle.bn_machine.specs.declared.quint.Side.{Side}
-use Rattle.bn_machine.specs.declared.quint.Side.TheVariants as side
-use Rattle.bn_machine.specs.Machine.{nth}
-use Rattle.bn_quad.specs.Quadruples.{Deed, Rewrite, Move, Rule, Configuration, Quadruples, Goes, GoesBy, IsQuadMachine, initial_of, final_of, Rooms}
+use Rattle.bn_quad.specs.Quadruples.{Configuration, Quadruples, GoesBy, IsQuadMachine, initial_of, final_of}
 use Rattle.bn_quad.specs.Calls.{IsUniformMachine}
-use Rattle.bn_stages.specs.Steps.{EndsAt, Exit, Finished, Stopped, Leaving, HasNoFirstRead, IsFirstOutside}
+use Rattle.bn_stages.specs.Steps.{EndsAt, Exit}
 use Rattle.bn_stages.specs.Stages.{rooms_of}
-use Rattle.bn_modules.specs.declared.cell_line.CellLine.{CellLine}
-use Rattle.bn_modules.specs.declared.cell_line.CellLine.TheVariants.{TakeRight, TakeLeft, Answer, Read}
-use Rattle.bn_theory.specs.Situations.{Situation, situation, Turns, IsAtEnd}
-use Rattle.bn_rsm.specs.RunCosts.{run_cost, step_cost}
-use Rattle.bn_modules.specs.Cells.{line_number}
-use Rattle.bn_modules.specs.Controls.{ControlState, Begin, End, Reads, ControlLine, Outside, Tape as to_tape, ControlMove, IsEntry, IsNumbering, letters, in_number, out_number, ControlGoes}
-use Rattle.bn_modules.specs.Networks.{line_at, IsNetwork, ShowsTapes, IsControlAt, first_cell, cells_in, left_of, network_start, elements_by, IsTape}
+use Rattle.bn_theory.specs.Situations.{Situation, Turns, IsAtEnd}
+use Rattle.bn_rsm.specs.RunCosts.{run_cost}
+use Rattle.bn_modules.specs.Controls.{ControlState, IsNumbering, letters}
+use Rattle.bn_modules.specs.Networks.{IsNetwork, network_start, elements_by}
 use Rattle.bn_modules.specs.Moments.{HasLetters, HasHeads, IsMomentOf, TellsMoments, Travels, quad_moves}
 use Rattle.bn_network.specs.Ends.{EndsBy, IsEarlyStop}
 

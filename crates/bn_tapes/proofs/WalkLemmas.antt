@@ -1,13 +1,11 @@
 -- Paths of a network with what they cost, one after the other.
-use Rattle.std.specs.Prelude.{◌≡◌, ℕ, ◌+◌, ◌*◌, ◌<◌, ◌≤◌, Bool, true, Option, Some, None, slice_set, refl}
-use Rattle.std.specs.Option.{option_map_or}
-use Rattle.std.proofs.Common.{zero, suc, arith, sym, ap, ◌∙◌}
+use Rattle.std.specs.Prelude.{◌≡◌, ℕ, ◌+◌, ◌*◌, ◌<◌, ◌≤◌, Bool, true, refl}
+use Rattle.std.proofs.Common.{arith, ap, ◌∙◌}
 use Rattle.bn_theory.specs.Runs.{Reaches, Passes, passes_run, passes_join}
-use Rattle.bn_theory.specs.Circuits.{Circuit, place_after}
+use Rattle.bn_theory.specs.Circuits.{Circuit}
 use Rattle.bn_theory.specs.declared.place.Place.TheVariants.{Left}
-use Rattle.bn_theory.specs.Situations.{Situation, situation, Turns, turn, turn_from}
-use Rattle.bn_theory.proofs.SituationLemmas.{same_situation, turns-turn}
-use Rattle.bn_rsm.proofs.RunCostLemmas.{cost-none, cost-more, one_cost, cost-joins}
+use Rattle.bn_theory.specs.Situations.{Situation, Turns}
+use Rattle.bn_rsm.proofs.RunCostLemmas.{cost-none, one_cost, cost-joins}
 use Rattle.bn_rsm.specs.RunCosts.{run_cost, step_cost, entry_cost}
 
 -- where the signal has left, a step more costs nothing

@@ -1,0 +1,6 @@
+pub mod SymbolLemmas
+pub mod WireLemmas
+pub mod PushLemmas
+pub mod StartLemmas
+pub mod FaultLemmas
+pub mod JoinLemmas

@@ -1,0 +1,67 @@
+use Rattle.std.specs.Prelude.{map}
+use Rattle.bn_assembly.specs.Modules.{module_table}
+use Rattle.std.proofs.Common.{List, refl, ◌≡◌, ◌∙◌, ℕ, ◌<◌, ◌≤◌, length, arith, sym, ap, subst}
+use Rattle.bn_theory.specs.Tables.{Table}
+use Rattle.bn_theory.specs.declared.line.Wire.{Wire}
+use Rattle.bn_theory.specs.declared.place.Place.TheVariants.{Enter}
+use Rattle.bn_net.specs.Faults.{AreFaultless}
+use Rattle.bn_rsm.specs.Machines.{machine_table}
+use Rattle.bn_column.specs.Wirings.{AreWiresOf}
+use Rattle.bn_modules.specs.Networks.{IsTape, IsNetWire, module_tables}
+use Rattle.bn_existence.proofs.NetworkLemmas.{wired}
+use Rattle.bn_assembly.specs.Assembled.{limits_of}
+use Rattle.bn_assembly.specs.WireLists.{network_wires}
+use Rattle.bn_assembly.proofs.FaultLemmas.{wires-faultless}
+use Rattle.bn_assembly.proofs.JoinLemmas.{joined_some, tables_are}
+use Rattle.bn_assembly.proofs.PushLemmas.{network_count}
+use Rattle.bn_assembly.proofs.SymbolLemmas.{some_letters}
+use Rattle.bn_assembly.proofs.WireLemmas.{network_wires-are}
+use Rattle.bn_assembly.proofs.make.join.Goals as goal
+
+tape : (t : ℕ) → 0 < t → t ≤ 3 → IsTape t
+tape t low high = record { low = low; high = high }
+
+pub net_of-requires-clause-few_wires : goal.net_of-requires-clause-few_wires
+net_of-requires-clause-few_wires c =
+    let m = c.args.machine.now in
+    let l = limits_of c.args.windows.now in
+    let some = some_letters m c.requires.valid.tapes c.requires.machine in
+    let most = network_count m l c.args.control.machine.states (some 1 (tape 1 (omega arith) (omega arith))) (some 2 (tape 2 (omega arith) (omega arith))) (some 3 (tape 3 (omega arith) (omega arith))) in
+    let few = c.requires.few in
+    let same : length c.as_slice.result.now ≡ length (network_wires m l) = ap (λ xs. length xs) (c.as_slice.ensures.value ∙ c.in_ok-wires.ensures) in
+    omega (arith, most, few, same)
+
+pub net_of-requires-clause-faultless : goal.net_of-requires-clause-faultless
+net_of-requires-clause-faultless c =
+    let m = c.args.machine.now in
+    let l = limits_of c.args.windows.now in
+    let tables = tables_are m l c.args.control c.in_ok-modules.modules.items c.in_ok-modules.ensures in
+    let is = c.requires.control.1 in
+    subst (λ (ws : List Wire). AreFaultless (map module_table c.in_ok-modules.modules.items) ws) (sym (c.as_slice.ensures.value ∙ c.in_ok-wires.ensures))
+    (subst (λ (ts : List Table). AreFaultless ts (network_wires m l)) (sym tables)
+    (wires-faultless (module_tables m l (machine_table c.args.control.machine)) (IsNetWire m l) (network_wires m l) (network_wires-are m l c.requires.valid.tapes) (wired m l c.requires.valid.tapes c.requires.control.0 (machine_table c.args.control.machine) is.table)))
+
+pub of-requires : goal.of-requires
+of-requires c =
+    let made = joined_some c.args.machine.now (limits_of c.args.windows.now) c.args.word.now c.args.control c.requires.valid.tapes c.requires.control c.requires.few c.in_ok-net.net (record { states = c.new.result; place = Enter 0 0; steps = 0 })
+    c.in_ok-modules.modules.items c.as_slice.result.now c.in_ok-modules.ensures c.in_ok-net.ensures.elements (c.as_slice.ensures.value ∙ c.in_ok-wires.ensures) c.in_ok-net.ensures.targets c.in_ok-net.ensures.circuit
+    (c.new.ensures ∙ c.in_ok-states.ensures) refl refl in
+    record {
+      machine = c.args.machine.now;
+      names = made.0;
+      word = c.args.word.now;
+      is_machine = c.requires.valid;
+      uniform = c.requires.uniform;
+      within = c.requires.machine;
+      small = c.requires.windows;
+      symbols = c.requires.word;
+      fits = c.requires.fits;
+      assembled = made.1;
+    }
+
+pub returns : goal.returns
+returns c =
+    let made = joined_some c.args.machine.now (limits_of c.args.windows.now) c.args.word.now c.args.control c.requires.valid.tapes c.requires.control c.requires.few c.in_ok-net.net (record { states = c.new.result; place = Enter 0 0; steps = 0 })
+    c.in_ok-modules.modules.items c.as_slice.result.now c.in_ok-modules.ensures c.in_ok-net.ensures.elements (c.as_slice.ensures.value ∙ c.in_ok-wires.ensures) c.in_ok-net.ensures.targets c.in_ok-net.ensures.circuit
+    (c.new.ensures ∙ c.in_ok-states.ensures) refl refl in
+    (made.0, rw c.of.ensures made.1)

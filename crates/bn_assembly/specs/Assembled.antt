@@ -1,0 +1,90 @@
+-- A network of the control and the tape cells, assembled for a machine, a window and a word.
+use Rattle.std.specs.Prelude.{◌≡◌, ℕ, ◌+◌, ◌<◌, ◌≤◌, List, All, length, Some, slice_get, refl}
+use Rattle.bn_theory.specs.Circuits.{Circuit}
+use Rattle.bn_theory.specs.Situations.{counted}
+use Rattle.bn_theory.specs.declared.config.Config.{Config}
+use Rattle.bn_net.specs.Parts.{Parts, circuit}
+use Rattle.bn_machine.specs.Outcome.{Limits}
+use Rattle.bn_quad.specs.Quadruples.{Quadruples, IsQuadMachine}
+use Rattle.bn_quad.specs.Calls.{IsUniformMachine}
+use Rattle.bn_modules.specs.Controls.{ControlState, IsNumbering, letters}
+use Rattle.bn_modules.specs.Networks.{IsNetwork, IsTape, cells_in, first_cell, network_start, elements_by}
+use Rattle.bn_cell.specs.declared.table.CellTable.{CellTable}
+use Rattle.bn_control.specs.Controlled.{Controlled, IsControlOf, IsWithinLimits}
+use Rattle.std.specs.Coded.{Coded, coded×, code_by}
+use Rattle.bn_assembly.specs.Codes.{net_code, config_code, limits_code}
+use Rattle.bn_assembly.specs.Modules.{module_table}
+use Rattle.bn_assembly.specs.declared.module.Module.{Module}
+use Rattle.bn_assembly.specs.declared.module.Module.TheVariants.{Control, Cell}
+use Rattle.bn_assembly.specs.declared.refusal.AssembleRefusal.{AssembleRefusal}
+use Rattle.bn_assembly.specs.declared.refusal.AssembleRefusal.TheVariants.{WordOutside, Elements, NoMemory}
+use Rattle.bn_assembly.specs.declared.windows.TheConstants.{MOST_CELLS}
+use Rattle.bn_assembly.specs.declared.windows.Windows.{Windows}
+use Rattle.bn_assembly.specs.declared.make.TheConstants.{MOST_ELEMENTS}
+
+-- the window of each tape, as limits of a run: tape 1 from -left to right, the history's steps, the output's letters
+abbrev pub limits_of : Windows → Limits
+limits_of w = record { left = w.left1; right = w.right1; steps = w.right2; output = w.right3 }
+
+-- no side is too long
+pub record AreSmall (l : Limits) : Type 0 where
+  pub left : l.left ≤ MOST_CELLS
+  pub right : l.right ≤ MOST_CELLS
+  pub steps : l.steps ≤ MOST_CELLS
+  pub output : l.output ≤ MOST_CELLS
+
+-- a network in a configuration, and the window for which it was assembled
+pub record Assembled : Type 0 where
+  pub net : Parts Module
+  pub config : Config
+  pub limits : Limits
+
+-- its code: net, configuration and window
+abbrev pub assembled_code : Coded Assembled
+assembled_code =
+    code_by (Parts Module × (Config × Limits)) (coded× net_code (coded× config_code limits_code))
+    (λ a. (a.net, (a.config, a.limits))) (λ p. record { net = p.0; config = p.1.0; limits = p.1.1 }) (λ _. refl)
+
+abbrev pub network_of : Assembled → Circuit
+network_of a = circuit module_table a.net
+
+-- The network is the machine's, for this window: module 0 is its control, the others are its cells, the wires are those of the network, the board would not have too many elements, and it is at the start with this word.
+pub record IsAssembled (m : Quadruples) (l : Limits) (word : List ℕ) (names : List ControlState) (a : Assembled) : Type 0 where
+  pub control : Controlled
+  pub first : slice_get a.net.elements 0 ≡ Some (Control control)
+  pub is_control : IsControlOf m names control
+  pub cells : (t p : ℕ) → IsTape t → p < cells_in l t
+      → (c : CellTable) × (slice_get a.net.elements (first_cell l t + p) ≡ Some (Cell c)) × (c.symbols ≡ letters m t)
+  pub network : IsNetwork m l names (network_of a)
+  pub few : elements_by m l (length names) ≤ MOST_ELEMENTS
+  pub config : a.config ≡ counted (network_start m l word) 0
+  pub limits : a.limits ≡ l
+
+-- the word's symbols are tape 1's, and none is blank
+abbrev pub IsWordOf : Quadruples → List ℕ → Type 0
+IsWordOf m word = All (λ s. (0 < s) × (s < letters m 1)) word
+
+-- What every assembly keeps: there is a machine with its control's states in order and a word for which it is assembled.
+pub record IsKept (a : Assembled) : Type 0 where
+  pub machine : Quadruples
+  pub names : List ControlState
+  pub word : List ℕ
+  pub is_machine : IsQuadMachine machine
+  pub uniform : IsUniformMachine machine
+  pub within : IsWithinLimits machine
+  pub small : AreSmall a.limits
+  pub symbols : IsWordOf machine word
+  pub fits : length word ≤ a.limits.right
+  pub assembled : IsAssembled machine a.limits word names a
+
+-- ---- refusals
+
+-- the number of elements of the board
+abbrev pub CountsElements : Quadruples → Limits → ℕ → Type 0
+CountsElements m l count = (names : List ControlState) × IsNumbering m names × (count ≡ elements_by m l (length names))
+
+-- what a refusal says: the word is longer than the right side of tape 1; or it isn't, and the board would have too many elements. Want of memory says only that the word fits.
+abbrev pub IsRefusal : Quadruples → Limits → List ℕ → AssembleRefusal → Type 0
+IsRefusal m l word (WordOutside needs) = (needs ≡ length word) × (l.right < length word)
+IsRefusal m l word (Elements count) = (length word ≤ l.right) × CountsElements m l count × (MOST_ELEMENTS < count)
+IsRefusal m l word NoMemory = length word ≤ l.right

@@ -1,0 +1,20 @@
+//! The network of a machine of quadruples: its finite control and the cells of its tapes, joined by wires.
+#![tactic(auto)]
+
+mod assembly;
+mod make;
+mod module;
+mod modules;
+mod refusal;
+mod start;
+mod windows;
+mod wires;
+
+pub use assembly::Assembly;
+pub use make::{MOST_ELEMENTS, assemble};
+pub use module::Module;
+pub use refusal::AssembleRefusal;
+pub use windows::{MOST_CELLS, Windows};
+
+#[cfg(test)]
+mod tests;

@@ -1,0 +1,175 @@
+//! Networks are assembled here.
+ghost use Rattle.std.specs.Prelude.{◌≡◌, ℕ, ◌*◌, ◌^◌, ◌<◌, ◌≤◌, List, IfOk, IfErr, length, map};
+ghost use Rattle.bn_theory.specs.Circuits.{IsCircuit, target};
+ghost use Rattle.bn_theory.specs.declared.line.Line.{Line};
+ghost use Rattle.bn_net.specs.Faults.{AreFaultless};
+ghost use Rattle.bn_net.specs.Parts.{circuit};
+ghost use Rattle.bn_quad.specs.Quadruples.{IsQuadMachine};
+ghost use Rattle.bn_quad.specs.Calls.{IsUniformMachine};
+ghost use Rattle.bn_modules.specs.Controls.{ControlState};
+ghost use Rattle.bn_modules.specs.Networks.{bank_size, cell_size, elements_by};
+ghost use Rattle.bn_control.specs.Controlled.{IsControlOf, IsWithinLimits};
+ghost use Rattle.bn_assembly.specs.Assembled.{AreSmall, IsAssembled, IsRefusal, IsWordOf, limits_of};
+ghost use Rattle.bn_assembly.specs.Modules.{module_table};
+
+use crate::assembly::Assembly;
+use crate::module::Module;
+use crate::modules::{letters, network_modules};
+use crate::refusal::AssembleRefusal;
+use crate::start::start_states;
+use crate::windows::Windows;
+use crate::wires::network_wires;
+use bn_cell::MOST_SYMBOLS;
+use bn_control::{Control, NoMemory, control};
+use bn_element::Element;
+use bn_net::{Config, Net, NetRefusal, Place, States, Wire};
+use bn_quad::{QuadMachine, Uniform};
+use std::alloc::Global;
+
+/// The greatest number of elements of a flat board.
+pub const MOST_ELEMENTS: u64 = 1_048_576;
+
+/// The network of a uniform machine for these windows, at the start with this word. `WordOutside` comes exactly where
+/// the word is longer than the right side of tape 1; else `Elements` comes only where the flat board would have more
+/// than `MOST_ELEMENTS` elements, and `Ok` only where it wouldn't.
+pub fn assemble(
+    alloc: Global,
+    machine: &Uniform,
+    windows: &Windows,
+    word: &[u32],
+) -> Result<Assembly, AssembleRefusal>
+    requires machine { IsWithinLimits machine.now }
+    requires windows { AreSmall (limits_of windows.now) }
+    requires few { length word.now < 2 ^ 32 }
+    requires word { IsWordOf machine.now word.now }
+    ensures made { IfOk result (λ a. (names : List ControlState) × IsAssembled machine.now (limits_of windows.now) word.now names a) }
+    ensures refused { IfErr result (IsRefusal machine.now (limits_of windows.now) word.now) }
+    ensures word { (limits_of windows.now).right < length word.now → result ≡ Err (AssembleRefusal.WordOutside (length word.now)) }
+{
+    if word.len() > windows.right1 as usize {
+        return Err(AssembleRefusal::WordOutside {
+            needs: word.len() as u32,
+        });
+    }
+    assemble_fitting(alloc, machine, windows, word)
+}
+
+// The same for a word that fits.
+fn assemble_fitting(
+    alloc: Global,
+    machine: &Uniform,
+    windows: &Windows,
+    word: &[u32],
+) -> Result<Assembly, AssembleRefusal>
+    requires machine { IsWithinLimits machine.now }
+    requires windows { AreSmall (limits_of windows.now) }
+    requires word { IsWordOf machine.now word.now }
+    requires fits { length word.now ≤ (limits_of windows.now).right }
+    ensures made { IfOk result (λ a. (names : List ControlState) × IsAssembled machine.now (limits_of windows.now) word.now names a) }
+    ensures refused { IfErr result (IsRefusal machine.now (limits_of windows.now) word.now) }
+{
+    let Ok(control) = control(alloc, machine) else {
+        return Err(AssembleRefusal::NoMemory);
+    };
+    let machine = machine.machine();
+    let _ = machine.quads();
+    let count = count_elements(machine, windows, control.rsm().states());
+    if count > MOST_ELEMENTS {
+        return Err(AssembleRefusal::Elements { count });
+    }
+    match join(alloc, control, machine, windows, word) {
+        Ok(assembly) => Ok(assembly),
+        Err(_) => Err(AssembleRefusal::NoMemory),
+    }
+}
+
+// How many elements the board has whose control has so many states.
+pub(crate) fn count_elements(machine: &QuadMachine, windows: &Windows, states: u32) -> u64
+    requires machine { IsWithinLimits machine.now }
+    requires windows { AreSmall (limits_of windows.now) }
+    ensures { result ≡ elements_by machine.now (limits_of windows.now) states }
+{
+    let (one, two, three) = (
+        letters(machine, 1),
+        letters(machine, 2),
+        letters(machine, 3),
+    );
+    bank_size(states, 1 + (one + 3) + (two + 3) + (three + 3))
+        + row_size(windows.cells(1), one)
+        + row_size(windows.cells(2), two)
+        + row_size(windows.cells(3), three)
+}
+
+// The network of a control and its cells, where the board is not too large.
+fn join(
+    alloc: Global,
+    control: Control,
+    machine: &QuadMachine,
+    windows: &Windows,
+    word: &[u32],
+) -> Result<Assembly, NoMemory>
+    requires machine { IsWithinLimits machine.now }
+    requires valid { IsQuadMachine machine.now }
+    requires uniform { IsUniformMachine machine.now }
+    requires windows { AreSmall (limits_of windows.now) }
+    requires word { IsWordOf machine.now word.now }
+    requires fits { length word.now ≤ (limits_of windows.now).right }
+    requires control { (names : List ControlState) × IsControlOf machine.now names control }
+    requires few { elements_by machine.now (limits_of windows.now) control.machine.states ≤ MOST_ELEMENTS }
+    ensures { IfOk result (λ a. (names : List ControlState) × IsAssembled machine.now (limits_of windows.now) word.now names a) }
+{
+    let wires = network_wires(alloc, machine, windows)?;
+    let states = start_states(alloc, machine, windows, word)?;
+    let modules = network_modules(alloc, control, machine, windows)?;
+    let net = net_of(alloc, modules, wires.as_slice())?;
+    let config = Config {
+        states: States::new(states),
+        place: Place::Enter {
+            element: 0,
+            line: 0,
+        },
+        steps: 0,
+    };
+    Ok(Assembly::of(net, config, *windows))
+}
+
+// The net of these modules and wires.
+fn net_of(alloc: Global, modules: Vec<Module>, wires: &[Wire]) -> Result<Net<Module>, NoMemory>
+    requires few_modules { length modules.items < 2 ^ 32 }
+    requires few_wires { length wires.now < 2 ^ 32 }
+    requires faultless { AreFaultless (map module_table modules.items) wires.now }
+    ensures elements { IfOk result (λ net. net.elements ≡ modules.items) }
+    ensures targets { IfOk result (λ net. (from : Line) → target net.wires from ≡ target wires.now from) }
+    ensures circuit { IfOk result (λ net. IsCircuit (circuit module_table net)) }
+{
+    match Net::try_new(alloc, modules, wires) {
+        Ok(net) => Ok(net),
+        Err(refusal) => Err(want_of_memory(refusal)),
+    }
+}
+
+// The one refusal that wires without a fault meet.
+fn want_of_memory(_refusal: NetRefusal) -> NoMemory
+    requires { _refusal ≡ NetRefusal.NoMemory }
+{
+    NoMemory
+}
+
+// The elements of a bank of so many states and lines.
+fn bank_size(states: u32, lines: u32) -> u64
+    requires { lines < 2 ^ 16 }
+    ensures size { result ≡ bank_size states lines }
+    ensures small { result < 2 ^ 50 }
+{
+    u64::from(states) * (u64::from(lines) + 1)
+}
+
+// The elements of a tape of so many cells for so many symbols.
+fn row_size(cells: u32, symbols: u32) -> u64
+    requires cells { cells < 2 ^ 22 }
+    requires symbols { symbols ≤ MOST_SYMBOLS }
+    ensures size { result ≡ cells * cell_size symbols }
+    ensures small { result < 2 ^ 60 }
+{
+    u64::from(cells) * bank_size(2 * symbols, 2 * symbols + 8)
+}

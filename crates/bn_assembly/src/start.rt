@@ -1,0 +1,82 @@
+//! The states in which a network starts.
+ghost use Rattle.std.specs.Prelude.{◌≡◌, ◌+◌, ◌-◌, ◌^◌, ◌<◌, ◌≤◌, [], ◌∷◌, ◌++◌, length, IfOk, OnOk};
+ghost use Rattle.bn_control.specs.Controlled.{IsWithinLimits};
+ghost use Rattle.bn_modules.specs.Controls.{letters};
+ghost use Rattle.bn_modules.specs.Networks.{network_start, start_cells};
+ghost use Rattle.bn_assembly.specs.Assembled.{AreSmall, IsWordOf, limits_of};
+ghost use Rattle.bn_assembly.specs.Starting.{start_state};
+
+use crate::windows::{MOST_CELLS, Windows};
+use bn_cell::MOST_SYMBOLS;
+use bn_control::NoMemory;
+use bn_quad::QuadMachine;
+use std::alloc::Global;
+
+// The state of each module at the start: the control in its first state, the word on tape 1 from cell 1 on, all else
+// blank, and the heads at 0.
+pub(crate) fn start_states(
+    alloc: Global,
+    machine: &QuadMachine,
+    windows: &Windows,
+    word: &[u32],
+) -> Result<Vec<u32>, NoMemory>
+    requires machine { IsWithinLimits machine.now }
+    requires windows { AreSmall (limits_of windows.now) }
+    requires word { IsWordOf machine.now word.now }
+    ensures { IfOk result (λ v. v.items ≡ (network_start machine.now (limits_of windows.now) word.now).states) }
+{
+    let mut states = Vec::new(alloc);
+    push(&mut states, 0)?;
+    push_cells(
+        &mut states,
+        machine.symbols(1),
+        windows.left1,
+        windows.right1,
+        word,
+    )?;
+    push_cells(&mut states, machine.symbols(2), 0, windows.right2, &[])?;
+    push_cells(&mut states, machine.symbols(3), 0, windows.right3, &[])?;
+    Ok(states)
+}
+
+// The states of a tape's cells, from `left` cells left of position 0 to `right` cells right of it.
+fn push_cells(
+    states: &mut Vec<u32>,
+    symbols: u32,
+    left: u32,
+    right: u32,
+    word: &[u32],
+) -> Result<(), NoMemory>
+    requires symbols { symbols ≤ MOST_SYMBOLS }
+    requires left { left ≤ MOST_CELLS }
+    requires right { right ≤ MOST_CELLS }
+    ensures { OnOk result (states.new.items ≡ states.old.items ++ start_cells symbols left word.now right) }
+{
+    for cell in 0..left + right + 1 {
+        push(states, start_state(symbols, left, cell, word))?;
+    }
+    Ok(())
+}
+
+// The state of a cell, counted from the first one.
+fn start_state(symbols: u32, left: u32, cell: u32, word: &[u32]) -> u32
+    ensures { result ≡ start_state symbols left word.now cell }
+{
+    if cell < left {
+        return 0;
+    }
+    if cell == left {
+        return symbols;
+    }
+    let letter = (cell - left - 1) as usize;
+    if letter < word.len() { word[letter] } else { 0 }
+}
+
+fn push(states: &mut Vec<u32>, state: u32) -> Result<(), NoMemory>
+    ensures { OnOk result (states.new.items ≡ states.old.items ++ state ∷ []) }
+{
+    match states.push(state) {
+        Ok(()) => Ok(()),
+        Err(_) => Err(NoMemory),
+    }
+}

@@ -1,0 +1,59 @@
+-- What a control is made of, and its parts.
+use Rattle.std.specs.Prelude.{◌≡◌, ◌↔◌, ℕ, ◌<◌, ◌≤◌, ◌^◌, List, All, map, Option, Some, slice_get, length}
+use Rattle.bn_quad.specs.Quadruples.{Quadruples, IsQuadMachine}
+use Rattle.bn_quad.specs.Calls.{IsUniformMachine}
+use Rattle.bn_modules.specs.Controls.{ControlState, Occurs}
+use Rattle.bn_control.specs.declared.draft.Draft.{Draft}
+use Rattle.bn_control.specs.declared.line.Sending.{Sending}
+use Rattle.bn_control.specs.declared.make.TheConstants.{MOST_SYMBOLS}
+use Rattle.bn_control.specs.declared.state.State.{State}
+use Rattle.bn_control.specs.States.{name_of, IsProper}
+use Rattle.bn_control.specs.Entries.{AreEntries, IsFirstSent}
+use Rattle.bn_control.specs.Named.{AreMoves}
+use Rattle.bn_control.specs.Ordered.{AreOrdered}
+use Rattle.bn_control.specs.Controlled.{IsFirstKept, IsAwaiting}
+
+-- all is made of this machine, which is uniform
+pub record IsDraft (m : Quadruples) (d : Draft) : Type 0 where
+  pub uniform : IsUniformMachine m
+  pub valid : IsQuadMachine m
+  pub symbols : m.symbols ≡ d.symbols
+  pub few_symbols : All (λ z. z ≤ MOST_SYMBOLS) d.symbols
+  pub entries : AreEntries m d.entries.items
+  pub moves : AreMoves m d.moves.items
+  pub few_moves : length d.moves.items < 2 ^ 32
+  pub ordered : AreOrdered m d.states.items
+  pub few_states : length d.states.items < 2 ^ 32
+
+-- it is made of some machine
+pub record IsSomeDraft (d : Draft) : Type 0 where
+  pub machine : Quadruples
+  pub is : IsDraft machine d
+
+-- this is sent first in some state of that machine
+pub record IsSomeEntry (d : Draft) (s : Sending) : Type 0 where
+  pub machine : Quadruples
+  pub is : IsDraft machine d
+  pub state : ℕ
+  pub sent : IsFirstSent machine state s
+
+-- the state is one of that machine's control
+pub record OccursInDraft (d : Draft) (q : State) : Type 0 where
+  pub machine : Quadruples
+  pub is : IsDraft machine d
+  pub occurs : Occurs machine (name_of q)
+  pub proper : IsProper q
+
+-- what a control keeps of the first commands of the first n states of the machine
+pub record AreFirsts (m : Quadruples) (ss : List State) (n : ℕ) (fs : List (Option (ℕ × ℕ))) : Type 0 where
+  pub counted : length fs ≡ n
+  pub each : (a : ℕ) (f : Option (ℕ × ℕ)) → slice_get fs a ≡ Some f → IsFirstKept m (map name_of ss) a f
+
+-- this tells whose first read a state of the control awaits, if it awaits one
+pub record TellsAwaited (m : Quadruples) (q : ControlState) (o : Option (ℕ × ℕ)) : Type 0 where
+  pub tells : (a t : ℕ) → (o ≡ Some (a, t)) ↔ IsAwaiting m q a t
+
+-- so do these for as many states as there are of them
+pub record AreAwaited (m : Quadruples) (ss : List State) (os : List (Option (ℕ × ℕ))) : Type 0 where
+  pub counted : length os ≡ length ss
+  pub each : (n : ℕ) (x : State) (o : Option (ℕ × ℕ)) → slice_get ss n ≡ Some x → slice_get os n ≡ Some o → TellsAwaited m (name_of x) o

@@ -1,0 +1,43 @@
+-- The moves of a control in numbers as the program keeps them.
+use Rattle.std.specs.Prelude.{◌≡◌, ℕ, ◌-◌, ◌≤◌, List, map, Some, slice_get, slice_index}
+use Rattle.bn_rsm.specs.declared.rsm_move.RsmMove.{RsmMove}
+use Rattle.bn_quad.specs.Quadruples.{Quadruples}
+use Rattle.bn_modules.specs.Cells.{IsLineOf}
+use Rattle.bn_modules.specs.Controls.{in_number, out_number}
+use Rattle.bn_cell.proofs.MemberLemmas.{IsMember}
+use Rattle.bn_control.specs.declared.line.Line.{Line}
+use Rattle.bn_control.specs.declared.line.Line.TheVariants.{Outside, Tape}
+use Rattle.bn_control.specs.declared.named.NamedMove.{NamedMove}
+use Rattle.bn_control.specs.declared.numbered.Move.{Move}
+use Rattle.bn_control.specs.declared.state.State.{State}
+use Rattle.bn_control.specs.States.{name_of}
+use Rattle.bn_control.specs.Commands.{line_of}
+use Rattle.bn_control.specs.Ordered.{HasNumber}
+
+-- a line of one of three tapes with so many symbols, and a symbol of that tape
+abbrev pub IsWithin : List ℕ → Line → Type 0
+IsWithin zs Outside = Unit {0}
+IsWithin zs (Tape t l) = (1 ≤ t) × (t ≤ 3) × IsLineOf (slice_index zs (t - 1)) l
+
+-- the states of a move have numbers, and its lines are in range
+pub record HasNumbers (ss : List State) (zs : List ℕ) (x : NamedMove) : Type 0 where
+  pub state : HasNumber ss x.state
+  pub line : IsWithin zs x.line
+  pub next : HasNumber ss x.to.state
+  pub out : IsWithin zs x.to.line
+
+-- the move in numbers
+pub record IsNumbered (m : Quadruples) (ss : List State) (x : NamedMove) (v : Move) : Type 0 where
+  pub state : slice_get (map name_of ss) v.state ≡ Some (name_of x.state)
+  pub line : v.line ≡ in_number m (line_of x.line)
+  pub next : slice_get (map name_of ss) v.next ≡ Some (name_of x.to.state)
+  pub out : v.out ≡ out_number m (line_of x.to.line)
+
+-- the moves in numbers
+pub record AreNumbered (m : Quadruples) (ss : List State) (xs : List NamedMove) (vs : List Move) : Type 0 where
+  pub only : (v : Move) → IsMember v vs → (x : NamedMove) × IsMember x xs × IsNumbered m ss x v
+  pub each : (x : NamedMove) → IsMember x xs → (v : Move) × IsMember v vs × IsNumbered m ss x v
+
+-- a move as a sequential machine has it
+abbrev pub rsm_move : Move → RsmMove
+rsm_move v = record { state = v.state; line = v.line; next = v.next; out = v.out }

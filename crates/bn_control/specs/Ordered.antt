@@ -1,0 +1,25 @@
+-- The states of a control in order as the program keeps them.
+use Rattle.std.specs.Prelude.{◌≡◌, ℕ, List, map, Some, slice_get}
+use Rattle.bn_quad.specs.Quadruples.{Quadruples}
+use Rattle.bn_modules.specs.Controls.{ControlState, Occurs, IsNumbering}
+use Rattle.bn_cell.proofs.MemberLemmas.{IsMember}
+use Rattle.bn_control.specs.declared.state.State.{State}
+use Rattle.bn_control.specs.States.{name_of, IsProper}
+
+-- the states of the control, in whatever order, and some maybe twice
+pub record AreStates (m : Quadruples) (ss : List State) : Type 0 where
+  pub proper : (x : State) → IsMember x ss → IsProper x
+  pub only : (x : State) → IsMember x ss → Occurs m (name_of x)
+  pub each : (q : ControlState) → Occurs m q → (x : State) × IsMember x ss × (name_of x ≡ q)
+
+-- the states of the control in their order
+pub record AreOrdered (m : Quadruples) (ss : List State) : Type 0 where
+  pub proper : (n : ℕ) (x : State) → slice_get ss n ≡ Some x → IsProper x
+  pub numbering : IsNumbering m (map name_of ss)
+
+-- the state is one of these states of a control
+pub record HasNumber (ss : List State) (x : State) : Type 0 where
+  pub machine : Quadruples
+  pub ordered : AreOrdered machine ss
+  pub occurs : Occurs machine (name_of x)
+  pub proper : IsProper x

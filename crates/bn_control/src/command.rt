@@ -1,0 +1,162 @@
+//! The commands of a quadruple, in the order in which a control sends them.
+ghost use Rattle.std.specs.Prelude.{◌≡◌, ℕ, ◌++◌, ◌∷◌, [], Option, IfOk, OnOk};
+ghost use Rattle.bn_quad.specs.Quadruples.{Rule};
+ghost use Rattle.bn_quad.specs.Kept.{quad_of};
+ghost use Rattle.bn_control.specs.States.{symbols_of};
+ghost use Rattle.bn_control.specs.Commands.{commands_by, read_commands, shift_commands, write_commands, read_command, shift_command, write_command, written};
+
+use crate::line::{Line, Sending};
+use crate::state::{State, Symbols};
+use bn_machine::Shift;
+use bn_modules::CellLine;
+use bn_quad::{Act, Quad};
+use std::alloc::{AllocError, Global};
+use std::cmp::Reverse;
+
+/// A command of a quadruple: what is sent, and the input line of the answer.
+#[derive(Clone, Copy, PartialEq, Eq, Debug)]
+pub(crate) struct Command {
+    /// What is sent.
+    pub(crate) sending: Sending,
+    /// The line by which the answer comes.
+    pub(crate) answer: Line,
+}
+
+/// The commands of a quadruple with this number, counted from 1: its reads by rising tape, its shifts by rising tape,
+/// its writes by falling tape.
+pub(crate) fn commands_of(
+    alloc: Global,
+    number: u32,
+    quad: &Quad,
+) -> Result<Vec<Command>, AllocError>
+    ensures { (r : Rule ℕ) → quad.now ≡ quad_of r → IfOk result (λ v. v.items ≡ commands_by number r) }
+{
+    let mut commands = Vec::new(alloc);
+    push_reads(&mut commands, quad)?;
+    push_shifts(&mut commands, number, quad)?;
+    push_writes(&mut commands, quad)?;
+    Ok(commands)
+}
+
+// The reads, by rising tape.
+fn push_reads(commands: &mut Vec<Command>, quad: &Quad) -> Result<(), AllocError>
+    ensures { (r : Rule ℕ) → quad.now ≡ quad_of r → OnOk result (commands.new.items ≡ commands.old.items ++ read_commands r) }
+{
+    let [one, two, three] = quad.read;
+    push_read(commands, quad.state, symbols(None, None), 1, one)?;
+    push_read(commands, quad.state, symbols(one, None), 2, two)?;
+    push_read(commands, quad.state, symbols(one, two), 3, three)
+}
+
+// The shifts, by rising tape.
+fn push_shifts(commands: &mut Vec<Command>, number: u32, quad: &Quad) -> Result<(), AllocError>
+    ensures { (r : Rule ℕ) → quad.now ≡ quad_of r → OnOk result (commands.new.items ≡ commands.old.items ++ shift_commands number r) }
+{
+    let [one, two, three] = quad.act;
+    push_shift(commands, number, 1, one)?;
+    push_shift(commands, number, 2, two)?;
+    push_shift(commands, number, 3, three)
+}
+
+// The writes, by falling tape.
+fn push_writes(commands: &mut Vec<Command>, quad: &Quad) -> Result<(), AllocError>
+    ensures { (r : Rule ℕ) → quad.now ≡ quad_of r → OnOk result (commands.new.items ≡ commands.old.items ++ write_commands r) }
+{
+    let [one, two, three] = quad.act;
+    let rest = symbols(written(two), written(one));
+    push_write(commands, quad.next, rest, 3, three)?;
+    push_write(commands, quad.next, symbols(written(one), None), 2, two)?;
+    push_write(commands, quad.next, symbols(None, None), 1, one)
+}
+
+// The read of a tape, if it is read, after these symbols.
+fn push_read(
+    commands: &mut Vec<Command>,
+    from: u32,
+    before: Symbols,
+    tape: u32,
+    read: Option<u32>,
+) -> Result<(), AllocError>
+    ensures { OnOk result (commands.new.items ≡ commands.old.items ++ read_command from before tape read) }
+{
+    if let Some(symbol) = read {
+        commands.push(Command {
+            sending: Sending {
+                state: State::Reads {
+                    from,
+                    count: before.len(),
+                    before,
+                },
+                line: Line::Tape(tape, CellLine::Read),
+            },
+            answer: Line::Tape(tape, CellLine::Answer(symbol)),
+        })?;
+    }
+    Ok(())
+}
+
+// The shift of a tape, if it is shifted other than by 0.
+fn push_shift(commands: &mut Vec<Command>, quad: u32, tape: u32, act: Act) -> Result<(), AllocError>
+    ensures { OnOk result (commands.new.items ≡ commands.old.items ++ shift_command quad tape act) }
+{
+    let (command, answer) = match act {
+        Act::Shift(Shift::Left) => (CellLine::ShiftLeft, CellLine::DoneLeft),
+        Act::Shift(Shift::Right) => (CellLine::ShiftRight, CellLine::DoneRight),
+        Act::Shift(Shift::Stay) | Act::Write(_) => return Ok(()),
+    };
+    commands.push(Command {
+        sending: Sending {
+            state: State::Shifts { quad, tape },
+            line: Line::Tape(tape, command),
+        },
+        answer: Line::Tape(tape, answer),
+    })?;
+    Ok(())
+}
+
+// The write on a tape, if it is written, with these symbols to come.
+fn push_write(
+    commands: &mut Vec<Command>,
+    to: u32,
+    rest: Symbols,
+    tape: u32,
+    act: Act,
+) -> Result<(), AllocError>
+    ensures { OnOk result (commands.new.items ≡ commands.old.items ++ write_command to rest tape act) }
+{
+    if let Act::Write(symbol) = act {
+        commands.push(Command {
+            sending: Sending {
+                state: State::Writes {
+                    to,
+                    tape: Reverse(tape),
+                    rest,
+                },
+                line: Line::Tape(tape, CellLine::Write(symbol)),
+            },
+            answer: Line::Tape(tape, CellLine::DoneWrite),
+        })?;
+    }
+    Ok(())
+}
+
+// The symbol that an act writes.
+fn written(act: Act) -> Option<u32>
+    ensures { result ≡ written act }
+{
+    match act {
+        Act::Write(symbol) => Some(symbol),
+        Act::Shift(_) => None,
+    }
+}
+
+// Those of two symbols that are there, in a row.
+fn symbols(first: Option<u32>, second: Option<u32>) -> Symbols
+    ensures { result ≡ symbols_of first second }
+{
+    match (first, second) {
+        (Some(first), second) => Symbols::Leading(first, second),
+        (None, Some(second)) => Symbols::Leading(second, None),
+        (None, None) => Symbols::Empty,
+    }
+}

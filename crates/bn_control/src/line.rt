@@ -1,0 +1,72 @@
+//! The lines of a control, and what it sends by them.
+
+use crate::finite::lines_before;
+use crate::make::MOST_SYMBOLS;
+use crate::state::State;
+use bn_modules::CellLine;
+
+/// A line of a control, in or out.
+#[derive(Clone, Copy, PartialEq, Eq, Debug)]
+pub(crate) enum Line {
+    /// From the outside, or to it.
+    Outside,
+    /// From a tape, counted from 1, or to it: on this line of its cells.
+    Tape(u32, CellLine),
+}
+
+/// What a control sends: by which line, and the state in which it awaits the answer.
+#[derive(Clone, Copy, PartialEq, Eq, Debug)]
+pub(crate) struct Sending {
+    /// The state in which the answer is awaited.
+    pub(crate) state: State,
+    /// The output line.
+    pub(crate) line: Line,
+}
+
+impl Line {
+    ghost use Rattle.std.specs.Prelude.{◌≡◌, ◌≤◌, All};
+    ghost use Rattle.bn_quad.specs.Quadruples.{Quadruples};
+    ghost use Rattle.bn_modules.specs.Controls.{in_number, out_number};
+    ghost use Rattle.bn_control.specs.Commands.{line_of};
+    ghost use Rattle.bn_control.specs.Numbered.{IsWithin};
+
+    /// Its number as an input line, where the tapes have so many symbols.
+    pub(crate) fn in_number(self, symbols: &[u32; 3]) -> u32
+        requires within { IsWithin symbols.now self }
+        requires few { All (λ z. z ≤ MOST_SYMBOLS) symbols.now }
+        ensures { (m : Quadruples) → m.symbols ≡ symbols.now → result ≡ in_number m (line_of self) }
+    {
+        let Line::Tape(tape, line) = self else {
+            return 0;
+        };
+        let symbols_there = symbols[tape as usize - 1];
+        let offset = match line {
+            CellLine::Answer(symbol) => symbol,
+            CellLine::DoneWrite => symbols_there,
+            CellLine::DoneRight => symbols_there + 1,
+            CellLine::DoneLeft => symbols_there + 2,
+            _ => 0,
+        };
+        lines_before(symbols, tape - 1) + offset
+    }
+
+    /// Its number as an output line, where the tapes have so many symbols.
+    pub(crate) fn out_number(self, symbols: &[u32; 3]) -> u32
+        requires within { IsWithin symbols.now self }
+        requires few { All (λ z. z ≤ MOST_SYMBOLS) symbols.now }
+        ensures { (m : Quadruples) → m.symbols ≡ symbols.now → result ≡ out_number m (line_of self) }
+    {
+        let Line::Tape(tape, line) = self else {
+            return 0;
+        };
+        let symbols_there = symbols[tape as usize - 1];
+        let offset = match line {
+            CellLine::Read => 0,
+            CellLine::Write(symbol) => 1 + symbol,
+            CellLine::ShiftRight => symbols_there + 1,
+            CellLine::ShiftLeft => symbols_there + 2,
+            _ => 0,
+        };
+        lines_before(symbols, tape - 1) + offset
+    }
+}
