@@ -30,13 +30,15 @@ pub word-within : (words : List ℕ) (n e : ℕ) → n ≤ 64 * length words →
 word-within words n e room within = omega arith
 
 -- the word that the code reads
-word-read : (words bars : List ℕ) (n e w : ℕ) → bars_of words n ≡ bars → n ≤ 64 * length words → e < length bars → w ≡ get_or words (e / 64) w → get_or words (e / 64) 0 ≡ w
+word-read : (words bars : List ℕ) (n e w : ℕ) → bars_of words n ≡ bars → n ≤ 64 * length words → e < length bars → w ≡ get_or words (e / 64) w
+    → get_or words (e / 64) 0 ≡ w
 word-read words bars n e w is room within read =
     let there : e < n = omega (arith, length-bars words n, ap length is) in
     sym (read ∙ get_or_default_zero words (e / 64) w (word-within words n e room there))
 
 -- the bit that the code reads
-pub read-bar : (words bars : List ℕ) (n e w : ℕ) → bars_of words n ≡ bars → n ≤ 64 * length words → e < length bars → w ≡ get_or words (e / 64) w → slice_get bars e ≡ Some (bit_and (w / 2 ^ (e % 64)) 1)
+pub read-bar : (words bars : List ℕ) (n e w : ℕ) → bars_of words n ≡ bars → n ≤ 64 * length words → e < length bars → w ≡ get_or words (e / 64) w
+    → slice_get bars e ≡ Some (bit_and (w / 2 ^ (e % 64)) 1)
 read-bar words bars n e w is room within read =
     let word = word-read words bars n e w is room within read in
     let there : e < n = omega (arith, length-bars words n, ap length is) in
@@ -78,21 +80,25 @@ bar-turned words e there =
 bar-kept : (words : List ℕ) (e i : ℕ) → e / 64 < length words → i ≢ e → bar_in (after words e) i ≡ bar_in words i
 bar-kept words e i there other = by_word (eqb_tells (i / 64) (e / 64))
   where
-    by_word : ((((i / 64) == (e / 64)) ≡ true) × (i / 64 ≡ e / 64)) ⊎ ((((i / 64) == (e / 64)) ≡ false) × (i / 64 ≢ e / 64)) → bar_in (after words e) i ≡ bar_in words i
+    by_word : ((((i / 64) == (e / 64)) ≡ true) × (i / 64 ≡ e / 64)) ⊎ ((((i / 64) == (e / 64)) ≡ false) × (i / 64 ≢ e / 64))
+        → bar_in (after words e) i ≡ bar_in words i
     by_word (inl same) =
         let word = get_or words (e / 64) 0 in
-        let read : get_or (after words e) (i / 64) 0 ≡ bit_xor word (2 ^ (e % 64)) = ap (λ x. get_or (after words e) x 0) same.1 ∙ get_or-set_same words (e / 64) (bit_xor word (2 ^ (e % 64))) 0 there in
+        let read : get_or (after words e) (i / 64) 0 ≡ bit_xor word (2 ^ (e % 64)) = ap (λ x. get_or (after words e) x 0) same.1 ∙ get_or-set_same words
+        (e / 64) (bit_xor word (2 ^ (e % 64))) 0 there in
         ap (λ x. bit_at x (i % 64)) read ∙ bit-kept word (e % 64) (i % 64) (apart i e other same.1) ∙ ap (λ x. bit_at (get_or words x 0) (i % 64)) (sym same.1)
     by_word (inr apart) = ap (λ x. bit_at x (i % 64)) (get_or-set_other words (e / 64) (i / 64) (bit_xor (get_or words (e / 64) 0) (2 ^ (e % 64))) 0 apart.1)
 
 bars-turned : (words : List ℕ) (n e : ℕ) → n ≤ 64 * length words → e < n → bars_of (after words e) n ≡ set (bars_of words n) e (1 - bar_in words e)
 bars-turned words n e room within =
-    sym (fill_by_all (bar_in (after words e)) (set (bars_of words n) e (1 - bar_in words e)) n 0 (length-set (bars_of words n) e (1 - bar_in words e) ∙ length-bars words n) (λ i low. each i low (eqb_tells i e)))
+    sym (fill_by_all (bar_in (after words e)) (set (bars_of words n) e (1 - bar_in words e)) n 0
+    (length-set (bars_of words n) e (1 - bar_in words e) ∙ length-bars words n) (λ i low. each i low (eqb_tells i e)))
   where
     there : e / 64 < length words
     there = omega arith
 
-    each : (i : ℕ) → i < n → (((i == e) ≡ true) × (i ≡ e)) ⊎ (((i == e) ≡ false) × (i ≢ e)) → get_or (set (bars_of words n) e (1 - bar_in words e)) i 0 ≡ bar_in (after words e) i
+    each : (i : ℕ) → i < n → (((i == e) ≡ true) × (i ≡ e)) ⊎ (((i == e) ≡ false) × (i ≢ e))
+        → get_or (set (bars_of words n) e (1 - bar_in words e)) i 0 ≡ bar_in (after words e) i
     each i low (inl same) =
         let long : e < length (bars_of words n) = omega (arith, length-bars words n) in
         ap (λ x. get_or (set (bars_of words n) e (1 - bar_in words e)) x 0) same.1 ∙ get_or-set_same (bars_of words n) e (1 - bar_in words e) 0 long
@@ -109,7 +115,8 @@ turn-bar words bars n e w is room within found =
     let bit : e % 64 < 64 = omega arith in
     let mask : 1 * 2 ^ (e % 64) % 2 ^ 64 ≡ 2 ^ (e % 64) = one_shl (e % 64) 64 bit in
     let read : slice_get bars e ≡ Some (bar_in words e) = ap (λ bs. slice_get bs e) (sym is) ∙ slice_get-bars words n e there in
-    let written : set words (e / 64) (bit_xor w (1 * 2 ^ (e % 64) % 2 ^ 64)) ≡ after words e = ap (λ m. set words (e / 64) (bit_xor w m)) mask ∙ ap (λ x. set words (e / 64) (bit_xor x (2 ^ (e % 64)))) (sym word) in
+    let written : set words (e / 64) (bit_xor w (1 * 2 ^ (e % 64) % 2 ^ 64)) ≡ after words e = ap (λ m. set words (e / 64) (bit_xor w m)) mask ∙ ap
+    (λ x. set words (e / 64) (bit_xor x (2 ^ (e % 64)))) (sym word) in
     rw read (ap Some (ap (λ bs. set bs e (1 - bar_in words e)) (sym is) ∙ sym (bars-turned words n e room there) ∙ ap (λ ws. bars_of ws n) (sym written)))
 
 -- words of zeros
@@ -131,7 +138,8 @@ pub count-bars : (words bars : List ℕ) (n : ℕ) → bars_of words n ≡ bars 
 count-bars words bars n is = ap length (sym is) ∙ length-bars words n
 
 -- one state more
-pub state-pushed : (bars states after : List ℕ) (e q : ℕ) → states ≡ take e bars → slice_get bars e ≡ Some q → after ≡ states ++ q ∷ [] → after ≡ take (e + 1) bars
+pub state-pushed : (bars states after : List ℕ) (e q : ℕ) → states ≡ take e bars → slice_get bars e ≡ Some q → after ≡ states ++ q ∷ []
+    → after ≡ take (e + 1) bars
 state-pushed bars states after e q so_far has pushed =
     let here : get_or bars e q ≡ q = get_or_from_slice_get bars e q q has in
     let more : take (e + 1) bars ≡ take e bars ++ get_or bars e q ∷ [] = take_more bars e q (slice_get_within bars e q has) in

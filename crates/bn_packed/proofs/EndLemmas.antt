@@ -96,7 +96,8 @@ length-tables (x ∷ elements) = ap suc (length-tables elements)
 -- a line that is there: its element and its number
 pub output_below : (elements : List Rotary) (l : Line) → IsOutput (map (λ _. rotary) elements) l → IsLineBelow (length elements) l
 output_below elements l there =
-    let within : l.element < length elements = subst (λ n. l.element < n) (length-tables elements) (output-within (map (λ _. rotary) elements) l.element l.line there) in
+    let within : l.element < length elements = subst (λ n. l.element < n) (length-tables elements)
+    (output-within (map (λ _. rotary) elements) l.element l.line there) in
     record { element = within; line = subst (λ n. l.line < n) (four_out elements l.element within) there }
 
 pub input_below : (elements : List Rotary) (l : Line) → IsInput (map (λ _. rotary) elements) l → IsLineBelow (length elements) l
@@ -118,19 +119,22 @@ line_by_number l i low is = same_lines (line_of i) l (omega arith) (omega arith)
 
 -- ---- the wires of ends
 
-pub wiring-wired : (targets sources : EndList) → IsWiring targets sources → IsWired (map (λ _. rotary) (rotaries targets.elements)) (rows_of targets.ends) (rows_of sources.ends)
+pub wiring-wired : (targets sources : EndList) → IsWiring targets sources
+    → IsWired (map (λ _. rotary) (rotaries targets.elements)) (rows_of targets.ends) (rows_of sources.ends)
 wiring-wired targets sources wiring =
     record {
       outputs = λ e. row_width targets.ends targets.elements e wiring.all_targets;
       inputs = λ e. row_width sources.ends targets.elements e wiring.all_sources ∙ same_counts (rotaries targets.elements) e;
       paired = wiring.paired;
-      few = let long : length (map {B = Table} (λ _. rotary) (rotaries targets.elements)) ≡ targets.elements = length-tables (rotaries targets.elements) ∙ length-replicate {A = Rotary} targets.elements (record {}) in subst (λ n. n < 2 ^ 32) (sym long) wiring.few;
+      few = let long : length (map {B = Table} (λ _. rotary) (rotaries targets.elements)) ≡ targets.elements = length-tables (rotaries targets.elements) ∙
+          length-replicate {A = Rotary} targets.elements (record {}) in subst (λ n. n < 2 ^ 32) (sym long) wiring.few;
     }
 
 pub wiring-IsCircuit : (targets sources : EndList) (now : Parts Rotary) → IsWiring targets sources → net_of targets ≡ now → IsCircuit (rotary_circuit now)
 wiring-IsCircuit targets sources now wiring is =
     subst (λ n. IsCircuit (rotary_circuit n)) is
-    (wired-IsCircuit (map (λ _. rotary) (rotaries targets.elements)) (rows_of targets.ends) (rows_of sources.ends) (tables-reversible (λ _. rotary) (λ _. rotary-IsReversible) (rotaries targets.elements)) (wiring-wired targets sources wiring))
+    (wired-IsCircuit (map (λ _. rotary) (rotaries targets.elements)) (rows_of targets.ends) (rows_of sources.ends)
+    (tables-reversible (λ _. rotary) (λ _. rotary-IsReversible) (rotaries targets.elements)) (wiring-wired targets sources wiring))
 
 length-net : (targets : EndList) (now : Parts Rotary) → net_of targets ≡ now → length now.elements ≡ targets.elements
 length-net targets now is = sym (ap (λ (n : Parts Rotary). length n.elements) is) ∙ length-replicate {A = Rotary} targets.elements (record {})
@@ -139,17 +143,22 @@ length-net targets now is = sym (ap (λ (n : Parts Rotary). length n.elements) i
 pub end_there : (n : ℕ) (ends : Ends) (l : Line) → length ends ≡ 4 * n → IsLineBelow n l → 4 * l.element + l.line < length ends
 end_there n ends l whole below = let e = below.element in let low = below.line in omega arith
 
-pub target_there : (targets sources : EndList) (now : Parts Rotary) (from : Line) → IsWiring targets sources → net_of targets ≡ now → IsOutput (map (λ _. rotary) now.elements) from
+pub target_there : (targets sources : EndList) (now : Parts Rotary) (from : Line) → IsWiring targets sources → net_of targets ≡ now
+    → IsOutput (map (λ _. rotary) now.elements) from
     → 4 * from.element + from.line < length targets.ends
 target_there targets sources now from wiring is there =
-    end_there targets.elements targets.ends from wiring.all_targets (subst (λ n. IsLineBelow n from) (length-net targets now is) (output_below now.elements from there))
+    end_there targets.elements targets.ends from wiring.all_targets (subst (λ n. IsLineBelow n from) (length-net targets now is)
+    (output_below now.elements from there))
 
-pub source_there : (targets sources : EndList) (now : Parts Rotary) (to : Line) → IsWiring targets sources → net_of targets ≡ now → IsInput (map (λ _. rotary) now.elements) to
+pub source_there : (targets sources : EndList) (now : Parts Rotary) (to : Line) → IsWiring targets sources → net_of targets ≡ now
+    → IsInput (map (λ _. rotary) now.elements) to
     → 4 * to.element + to.line < length sources.ends
 source_there targets sources now to wiring is there =
-    end_there targets.elements sources.ends to wiring.all_sources (subst (λ n. IsLineBelow n to) (length-net targets now is) (input_below now.elements to there))
+    end_there targets.elements sources.ends to wiring.all_sources (subst (λ n. IsLineBelow n to) (length-net targets now is)
+    (input_below now.elements to there))
 
-entry_read : (ends : Ends) (n : ℕ) (l : Line) (o : Option Line) → length ends ≡ 4 * n → l.line < 4 → slice_get ends (4 * l.element + l.line) ≡ Some o → entry (rows_of ends) l ≡ o
+entry_read : (ends : Ends) (n : ℕ) (l : Line) (o : Option Line) → length ends ≡ 4 * n → l.line < 4 → slice_get ends (4 * l.element + l.line) ≡ Some o
+    → entry (rows_of ends) l ≡ o
 entry_read ends n l o whole low read = row_entry ends n l.element l.line (4 * l.element + l.line) whole low refl ∙ rw read refl
 
 -- what is read there is the target, the source
@@ -157,13 +166,15 @@ pub target_read : (targets sources : EndList) (now : Parts Rotary) (from : Line)
     → IsOutput (map (λ _. rotary) now.elements) from → slice_get targets.ends (4 * from.element + from.line) ≡ Some o → o ≡ target now.wires from
 target_read targets sources now from o wiring is there read =
     let below = output_below now.elements from there in
-    sym (ap (λ (n : Parts Rotary). target n.wires from) (sym is) ∙ target-wires (rows_of targets.ends) from ∙ entry_read targets.ends targets.elements from o wiring.all_targets below.line read)
+    sym (ap (λ (n : Parts Rotary). target n.wires from) (sym is) ∙ target-wires (rows_of targets.ends) from ∙ entry_read targets.ends targets.elements from
+    o wiring.all_targets below.line read)
 
 pub source_read : (targets sources : EndList) (now : Parts Rotary) (to : Line) (o : Option Line) → IsWiring targets sources → net_of targets ≡ now
     → IsInput (map (λ _. rotary) now.elements) to → slice_get sources.ends (4 * to.element + to.line) ≡ Some o → o ≡ source now.wires to
 source_read targets sources now to o wiring is there read =
     let below = input_below now.elements to there in
-    sym (ap (λ (n : Parts Rotary). source n.wires to) (sym is) ∙ source-wires (rows_of targets.ends) (rows_of sources.ends) wiring.paired to ∙ entry_read sources.ends targets.elements to o wiring.all_sources below.line read)
+    sym (ap (λ (n : Parts Rotary). source n.wires to) (sym is) ∙ source-wires (rows_of targets.ends) (rows_of sources.ends) wiring.paired to ∙ entry_read
+    sources.ends targets.elements to o wiring.all_sources below.line read)
 
 -- ---- the ends of a net's wires
 
@@ -181,7 +192,8 @@ get-last (y ∷ xs) x zero is = absurd (omega arith)
 get-last (y ∷ xs) x (suc i) is = get-last xs x i (omega arith)
 
 -- one end more
-pub more_ends : (f : Line → Option Line) (n : ℕ) (ends after : Ends) (o : Option Line) → AreEnds f n ends → o ≡ f (line_of n) → after ≡ ends ++ o ∷ [] → AreEnds f (n + 1) after
+pub more_ends : (f : Line → Option Line) (n : ℕ) (ends after : Ends) (o : Option Line) → AreEnds f n ends → o ≡ f (line_of n) → after ≡ ends ++ o ∷ []
+    → AreEnds f (n + 1) after
 more_ends f n ends after o so_far is pushed =
     record {
       count = ap length pushed ∙ length-append ends (o ∷ []) ∙ ap (λ k. k + 1) so_far.count;
@@ -196,7 +208,8 @@ more_ends f n ends after o so_far is pushed =
     at i low (inr here) = get-last ends o i (here ∙ sym so_far.count) ∙ ap Some (is ∙ ap (λ k. f (line_of k)) (sym here))
 
 -- the rows hold what f tells, where f tells nothing of lines that aren't there
-pub ends_entry : (f : Line → Option Line) (n : ℕ) (e : EndList) → AreEndsOf f n e → ((l to : Line) → f l ≡ Some to → IsLineBelow n l) → (l : Line) → entry (rows_of e.ends) l ≡ f l
+pub ends_entry : (f : Line → Option Line) (n : ℕ) (e : EndList) → AreEndsOf f n e → ((l to : Line) → f l ≡ Some to → IsLineBelow n l) → (l : Line)
+    → entry (rows_of e.ends) l ≡ f l
 ends_entry f n e are only l = by_value (f l) refl
   where
     here : IsLineBelow n l → entry (rows_of e.ends) l ≡ f l
@@ -212,35 +225,41 @@ ends_entry f n e are only l = by_value (f l) refl
     elsewhere (inl high) none = row_entry_past e.ends l.element l.line high
     elsewhere (inr (low, inl past)) none =
         let count = are.ends.count in
-        row_entry e.ends n l.element l.line (4 * l.element + l.line) are.ends.count low refl ∙ rw (slice_get_past e.ends (4 * l.element + l.line) (omega arith)) refl
+        row_entry e.ends n l.element l.line (4 * l.element + l.line) are.ends.count low refl ∙ rw
+        (slice_get_past e.ends (4 * l.element + l.line) (omega arith)) refl
     elsewhere (inr (low, inr within)) none = here (record { element = within; line = low }) ∙ none
 
     by_value : (o : Option Line) → f l ≡ o → entry (rows_of e.ends) l ≡ f l
     by_value (Some to) is = here (only l to is)
     by_value None is = elsewhere sides is ∙ sym is
 
-target_only : (net : Parts Rotary) → IsCircuit (rotary_circuit net) → (from to : Line) → target net.wires from ≡ Some to → IsLineBelow (length net.elements) from
+target_only : (net : Parts Rotary) → IsCircuit (rotary_circuit net) → (from to : Line) → target net.wires from ≡ Some to
+    → IsLineBelow (length net.elements) from
 target_only net circuit from to is = output_below net.elements from (circuit.wired from to is).0
 
 source_only : (net : Parts Rotary) → IsCircuit (rotary_circuit net) → (to from : Line) → source net.wires to ≡ Some from → IsLineBelow (length net.elements) to
 source_only net circuit to from is = input_below net.elements to (circuit.wired from to ((circuit.one_to_one from to).1 is)).1
 
 -- an end leads to a line that is there
-pub target_within : (net : Parts Rotary) → IsCircuit (rotary_circuit net) → (from : Line) (o : Option Line) → o ≡ target net.wires from → IfSome o (IsLineBelow (length net.elements))
+pub target_within : (net : Parts Rotary) → IsCircuit (rotary_circuit net) → (from : Line) (o : Option Line) → o ≡ target net.wires from
+    → IfSome o (IsLineBelow (length net.elements))
 target_within net circuit from None is = tt
 target_within net circuit from (Some to) is = input_below net.elements to (circuit.wired from to (sym is)).1
 
-pub source_within : (net : Parts Rotary) → IsCircuit (rotary_circuit net) → (to : Line) (o : Option Line) → o ≡ source net.wires to → IfSome o (IsLineBelow (length net.elements))
+pub source_within : (net : Parts Rotary) → IsCircuit (rotary_circuit net) → (to : Line) (o : Option Line) → o ≡ source net.wires to
+    → IfSome o (IsLineBelow (length net.elements))
 source_within net circuit to None is = tt
 source_within net circuit to (Some from) is = output_below net.elements from (circuit.wired from to ((circuit.one_to_one from to).1 (sym is))).0
 
 -- what a line leads to is an input line
-pub target_input : (net : Parts Rotary) → IsCircuit (rotary_circuit net) → (from : Line) (o : Option Line) → o ≡ target net.wires from → IfSome o (IsInput (map (λ _. rotary) net.elements))
+pub target_input : (net : Parts Rotary) → IsCircuit (rotary_circuit net) → (from : Line) (o : Option Line) → o ≡ target net.wires from
+    → IfSome o (IsInput (map (λ _. rotary) net.elements))
 target_input net circuit from None is = tt
 target_input net circuit from (Some to) is = (circuit.wired from to (sym is)).1
 
 -- and what feeds a line is an output line
-pub source_output : (net : Parts Rotary) → IsCircuit (rotary_circuit net) → (to : Line) (o : Option Line) → o ≡ source net.wires to → IfSome o (IsOutput (map (λ _. rotary) net.elements))
+pub source_output : (net : Parts Rotary) → IsCircuit (rotary_circuit net) → (to : Line) (o : Option Line) → o ≡ source net.wires to
+    → IfSome o (IsOutput (map (λ _. rotary) net.elements))
 source_output net circuit to None is = tt
 source_output net circuit to (Some from) is = (circuit.wired from to ((circuit.one_to_one from to).1 (sym is))).0
 
@@ -266,9 +285,11 @@ same_parts : (m n : Parts Rotary) → m.elements ≡ n.elements → m.wires ≡ 
 same_parts m n elements wires = λ i. record { elements = elements i; wires = wires i }
 
 -- and the net that they give back
-pub net_again : (net : Parts Rotary) (targets : EndList) → IsCircuit (rotary_circuit net) → AreInOrder net.wires → AreEndsOf (target net.wires) (length net.elements) targets
+pub net_again : (net : Parts Rotary) (targets : EndList) → IsCircuit (rotary_circuit net) → AreInOrder net.wires
+    → AreEndsOf (target net.wires) (length net.elements) targets
     → net_of targets ≡ net
 net_again net targets circuit order forth =
     let t = ends_entry (target net.wires) (length net.elements) targets forth (target_only net circuit) in
     same_parts (net_of targets) net (ap rotaries forth.elements ∙ rotaries_all net.elements)
-    (in_order-same (wires_of 0 (rows_of targets.ends)) net.wires (rows_in_order 0 (rows_of targets.ends)) order (λ from. target-wires (rows_of targets.ends) from ∙ t from))
+    (in_order-same (wires_of 0 (rows_of targets.ends)) net.wires (rows_in_order 0 (rows_of targets.ends)) order
+    (λ from. target-wires (rows_of targets.ends) from ∙ t from))

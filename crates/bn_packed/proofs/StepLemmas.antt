@@ -59,7 +59,8 @@ move_of : (bars after : List ℕ) (e o : ℕ) (moves : ℕ → Option (ℕ × �
     → option_and_then (λ q. option_and_then {U = List ℕ × ℕ} (λ (m : ℕ × ℕ). Some (slice_set bars e m.0, m.1)) (moves q)) (slice_get bars e) ≡ Some (after, o)
     → IsMove bars after e o moves
 move_of bars after e o moves is =
-    option_and_then_some (λ q. option_and_then {U = List ℕ × ℕ} (λ (m : ℕ × ℕ). Some (slice_set bars e m.0, m.1)) (moves q)) (slice_get bars e) (after, o) is (λ q has h.
+    option_and_then_some (λ q. option_and_then {U = List ℕ
+        × ℕ} (λ (m : ℕ × ℕ). Some (slice_set bars e m.0, m.1)) (moves q)) (slice_get bars e) (after, o) is (λ q has h.
     option_and_then_some (λ (m : ℕ × ℕ). Some (slice_set bars e m.0, m.1)) (moves q) (after, o) h (λ m goes last.
     let both : ◌≡◌ {A = List ℕ × ℕ} (slice_set bars e m.0, m.1) (after, o) = cc in
     let states : slice_set bars e m.0 ≡ after = ap (λ (x : List ℕ × ℕ). x.0) both in
@@ -67,7 +68,8 @@ move_of bars after e o moves is =
     record { state = q; next = m.0; has_state = has; goes = goes ∙ ap (λ x. Some (m.0, x)) line; written = states }))
 
 module _ (net : Parts Rotary) (circuit : IsCircuit (rotary_circuit net)) where
-  module _ (bars after : List ℕ) (place : Place) (e i o n : ℕ) (config : IsConfig (rotary_circuit net) (config_at bars place n)) (at_place : place ≡ Enter e i) (cross : crossed bars e i ≡ Some (after, o)) where
+  module _ (bars after : List ℕ) (place : Place) (e i o n : ℕ) (config : IsConfig (rotary_circuit net) (config_at bars place n))
+      (at_place : place ≡ Enter e i) (cross : crossed bars e i ≡ Some (after, o)) where
     element_there : e < length net.elements
     element_there = (input_below net.elements (record { element = e; line = i }) (subst (IsPlace (rotary_circuit net)) at_place config.place)).element
 
@@ -109,27 +111,34 @@ module _ (net : Parts Rotary) (circuit : IsCircuit (rotary_circuit net)) where
 
   -- a crossing taken back is a step taken back
   crossed_back-Goes : (bars before : List ℕ) (place : Place) (from : Line) (i n p : ℕ) → IsConfig (rotary_circuit net) (config_at bars place n)
-      → line_before net.wires place ≡ Some from → IsOutput (rotary_circuit net).tables from → crossed_back bars from.element from.line ≡ Some (before, i) → n ≡ p + 1
+      → line_before net.wires place ≡ Some from → IsOutput (rotary_circuit net).tables from → crossed_back bars from.element from.line ≡ Some (before, i)
+      → n ≡ p + 1
       → Goes (rotary_circuit net) (config_at before (Enter from.element i) p) (config_at bars place n)
   crossed_back-Goes bars before place from i n p config came there cross counted =
       let below = output_below net.elements from there in
       let move = move_of bars before from.element i (λ r. rotary.back r from.line) cross in
-      back-Goes (rotary_circuit net) circuit (config_at before (Enter from.element i) p) (config_at bars place n) config from move.state move.next i came move.has_state
+      back-Goes (rotary_circuit net) circuit (config_at before (Enter from.element i) p) (config_at bars place n) config from move.state move.next i came
+      move.has_state
       (back-rotary net.elements from.element move.state from.line below.element ∙ move.goes)
-      (same_config (config_at before (Enter from.element i) p) (config_at (slice_set bars from.element move.next) (Enter from.element i) (n - 1)) (sym move.written) refl (omega arith))
+      (same_config (config_at before (Enter from.element i) p) (config_at (slice_set bars from.element move.next) (Enter from.element i) (n - 1))
+      (sym move.written) refl (omega arith))
       (λ none. absurd (omega arith))
 
   pub walked_back_more : (first : Config) (bars before : List ℕ) (place : Place) (from : Line) (i n made : ℕ) (old mid new : Option (List Place))
       → HasWalkedBack (rotary_circuit net) first (config_at bars place (n - made)) made old mid → line_before net.wires place ≡ Some from
-      → IsOutput (rotary_circuit net).tables from → crossed_back bars from.element from.line ≡ Some (before, i) → made < n → Hears mid (Enter from.element i ∷ []) new
+      → IsOutput (rotary_circuit net).tables from → crossed_back bars from.element from.line ≡ Some (before, i) → made < n
+      → Hears mid (Enter from.element i ∷ []) new
       → HasWalkedBack (rotary_circuit net) first (config_at before (Enter from.element i) (n - (made + 1))) (made + 1) old new
   walked_back_more first bars before place from i n made old mid new walked came there cross some hears =
       let goes = crossed_back-Goes bars before place from i (n - made) (n - (made + 1)) walked.good came there cross (omega arith) in
-      walk_goes_back (rotary_circuit net) circuit first (config_at bars place (n - made)) (config_at before (Enter from.element i) (n - (made + 1))) made old mid new walked goes
-      (previous-IsConfig (rotary_circuit net) circuit (config_at before (Enter from.element i) (n - (made + 1))) (config_at bars place (n - made)) walked.good goes) hears
+      walk_goes_back (rotary_circuit net) circuit first (config_at bars place (n - made)) (config_at before (Enter from.element i) (n - (made + 1))) made
+      old mid new walked goes
+      (previous-IsConfig (rotary_circuit net) circuit (config_at before (Enter from.element i) (n - (made + 1))) (config_at bars place (n - made))
+      walked.good goes) hears
 
   -- a step taken back from outside
-  module _ (bars before : List ℕ) (place : Place) (e l i n : ℕ) (config : IsConfig (rotary_circuit net) (config_at bars place n)) (at_place : place ≡ Left e l) where
+  module _ (bars before : List ℕ) (place : Place) (e l i n : ℕ) (config : IsConfig (rotary_circuit net) (config_at bars place n))
+      (at_place : place ≡ Left e l) where
     left-output : IsOutput (rotary_circuit net).tables (record { element = e; line = l })
     left-output = let there : IsPlace (rotary_circuit net) (Left e l) = subst (IsPlace (rotary_circuit net)) at_place config.place in there.0
 
@@ -138,17 +147,20 @@ module _ (net : Parts Rotary) (circuit : IsCircuit (rotary_circuit net)) where
 
     left-Goes : crossed_back bars e l ≡ Some (before, i) → 0 < n → Goes (rotary_circuit net) (config_at before (Enter e i) (n - 1)) (config_at bars place n)
     left-Goes cross some =
-        crossed_back-Goes bars before place (record { element = e; line = l }) i n (n - 1) config (ap (line_before net.wires) at_place) left-output cross (omega arith)
+        crossed_back-Goes bars before place (record { element = e; line = l }) i n (n - 1) config (ap (line_before net.wires) at_place) left-output cross
+        (omega arith)
 
     pub left-IsConfig : crossed_back bars e l ≡ Some (before, i) → 0 < n → IsConfig (rotary_circuit net) (config_at before (Enter e i) (n - 1))
     left-IsConfig cross some =
         previous-IsConfig (rotary_circuit net) circuit (config_at before (Enter e i) (n - 1)) (config_at bars place n) config (left-Goes cross some)
 
     pub left_walked_back : (end : Config) (then : Place) (m made : ℕ) (old mid new : Option (List Place)) → crossed_back bars e l ≡ Some (before, i) → 0 < n
-        → then ≡ Enter e i → Hears old (then ∷ []) mid → HasWalkedBack (rotary_circuit net) (config_at before (Enter e i) (n - 1)) end made mid new → m ≡ made + 1
+        → then ≡ Enter e i → Hears old (then ∷ []) mid → HasWalkedBack (rotary_circuit net) (config_at before (Enter e i) (n - 1)) end made mid new
+        → m ≡ made + 1
         → HasWalkedBack (rotary_circuit net) (config_at bars place n) end m old new
     left_walked_back end then m made old mid new cross some is hears walked sum =
-        walk_back_then (rotary_circuit net) circuit (config_at bars place n) (config_at before (Enter e i) (n - 1)) end made m old mid new sum (left-Goes cross some)
+        walk_back_then (rotary_circuit net) circuit (config_at bars place n) (config_at before (Enter e i) (n - 1)) end made m old mid new sum
+        (left-Goes cross some)
         (subst (λ x. Hears old (x ∷ []) mid) is hears) walked
 
 -- ---- ends of runs
@@ -164,7 +176,8 @@ pub record IsRun (k : Circuit) (c d : Config) (e made : ℕ) (old new : Option (
   pub undone : back k d made ≡ c
   pub told : Hears old (places k e c) new
 
-pub walk-IsRun : (k : Circuit) → IsCircuit k → (c d : Config) (e count made : ℕ) (old new : Option (List Place)) → HasWalked k c d made old new → c.steps ≤ clock
+pub walk-IsRun : (k : Circuit) → IsCircuit k → (c d : Config) (e count made : ℕ) (old new : Option (List Place)) → HasWalked k c d made old new
+    → c.steps ≤ clock
     → made ≤ count → count ≡ min e (clock - c.steps) → d.steps ≡ c.steps + made → (made < count → IsStuck k d) → IsRun k c d e made old new
 walk-IsRun k circuit c d e count made old new walked in_time within least counted stuck =
     record {
@@ -241,7 +254,8 @@ none_made_back k n P c d few path ended =
     at_start (suc n) none path = absurd (omega arith)
 
 -- no step yet
-pub walked_none : (k : Circuit) (bars : List ℕ) (from to : Place) (n m made : ℕ) (told : Option (List Place)) → IsConfig k (config_at bars from n) → from ≡ to → n ≡ m
+pub walked_none : (k : Circuit) (bars : List ℕ) (from to : Place) (n m made : ℕ) (told : Option (List Place)) → IsConfig k (config_at bars from n) → from ≡ to
+    → n ≡ m
     → 0 ≡ made → HasWalked k (config_at bars from n) (config_at bars to m) made told told
 walked_none k bars from to n m made told good here same none =
     subst (λ x. HasWalked k (config_at bars from n) (config_at bars to m) x told told) none
@@ -256,13 +270,15 @@ walked_back_none k bars from n m made told good same none =
 
 -- what the walk in a packed netlist comes to
 pub packed-IsRun : (now : PackedNet) (wiring : Parts Rotary) (bars after : List ℕ) (from to : Place) (n m e count : ℕ) (old new : Option (List Place))
-    → record { net = wiring; config = config_at bars from n } ≡ now → IsCircuit (rotary_circuit wiring) → n ≤ clock → count ≡ min e (clock - n) → n ≤ m → m ≤ n + count
+    → record { net = wiring; config = config_at bars from n } ≡ now → IsCircuit (rotary_circuit wiring) → n ≤ clock → count ≡ min e (clock - n) → n ≤ m
+    → m ≤ n + count
     → HasWalked (rotary_circuit wiring) (config_at bars from n) (config_at after to m) (m - n) old new
     → (m < n + count → IsStuck (rotary_circuit wiring) (config_at after to m))
     → IsRun (rotary_circuit now.net) now.config (config_at after to m) e (m - n) old new
 packed-IsRun now wiring bars after from to n m e count old new is circuit in_time least forward limit walked stuck =
     subst (λ (p : PackedNet). IsRun (rotary_circuit p.net) p.config (config_at after to m) e (m - n) old new) is
-    (walk-IsRun (rotary_circuit wiring) circuit (config_at bars from n) (config_at after to m) e count (m - n) old new walked in_time (omega arith) least (omega arith) (λ fewer. stuck (omega arith)))
+    (walk-IsRun (rotary_circuit wiring) circuit (config_at bars from n) (config_at after to m) e count (m - n) old new walked in_time (omega arith) least
+    (omega arith) (λ fewer. stuck (omega arith)))
 
 pub packed-IsRunBack : (now : PackedNet) (wiring : Parts Rotary) (bars after : List ℕ) (from to : Place) (n m e count : ℕ) (old new : Option (List Place))
     → record { net = wiring; config = config_at bars from n } ≡ now → IsCircuit (rotary_circuit wiring) → count ≡ min e n → m ≤ n → n ≤ m + count
@@ -271,7 +287,8 @@ pub packed-IsRunBack : (now : PackedNet) (wiring : Parts Rotary) (bars after : L
     → IsRunBack (rotary_circuit now.net) now.config (config_at after to m) e (n - m) old new
 packed-IsRunBack now wiring bars after from to n m e count old new is circuit least backward limit walked first =
     subst (λ (p : PackedNet). IsRunBack (rotary_circuit p.net) p.config (config_at after to m) e (n - m) old new) is
-    (walk-IsRunBack (rotary_circuit wiring) circuit (config_at bars from n) (config_at after to m) e count (n - m) old new walked (omega arith) least (omega arith) (λ fewer. first (omega arith)))
+    (walk-IsRunBack (rotary_circuit wiring) circuit (config_at bars from n) (config_at after to m) e count (n - m) old new walked (omega arith) least
+    (omega arith) (λ fewer. first (omega arith)))
 
 -- ---- what is packed
 
@@ -286,7 +303,8 @@ config-AreBars net c states config is e q has =
     let low : e < length (map {B = Table} (λ _. rotary) net.elements) = subst (λ n. e < n) config.count (slice_get_within c.states e q there) in
     subst (λ n. q < n) (two_states net.elements e low) (config.range e q there)
 
-pub packed-IsConfig : (net wiring : Parts Rotary) (c : Config) (bars states : List ℕ) → IsConfig (rotary_circuit net) c → wiring ≡ net → bars ≡ states → states ≡ c.states
+pub packed-IsConfig : (net wiring : Parts Rotary) (c : Config) (bars states : List ℕ) → IsConfig (rotary_circuit net) c → wiring ≡ net → bars ≡ states
+    → states ≡ c.states
     → IsConfig (rotary_circuit wiring) (config_at bars c.place c.steps)
 packed-IsConfig net wiring c bars states config same packed is =
     subst (λ n. IsConfig (rotary_circuit n) (config_at bars c.place c.steps)) (sym same)

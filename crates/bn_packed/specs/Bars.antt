@@ -22,8 +22,10 @@ turned bars e = option_and_then (λ q. Some (slice_set bars e (1 - q))) (slice_g
 
 -- the bars after the signal came into element e by this line, and the line by which it goes out
 abbrev pub crossed : List ℕ → ℕ → ℕ → Option (List ℕ × ℕ)
-crossed bars e i = option_and_then (λ q. option_and_then (λ m. Some (slice_set bars e m.0, m.1)) (rotary.go q i)) (slice_get bars e)
+crossed bars e i = option_and_then (λ q. option_and_then (λ m. Some (slice_set bars e m.0, m.1)) (rotary.go q i))
+    (slice_get bars e)
 
 -- the bars before the signal went out of element e by this line, and the line by which it had come in
 abbrev pub crossed_back : List ℕ → ℕ → ℕ → Option (List ℕ × ℕ)
-crossed_back bars e o = option_and_then (λ r. option_and_then (λ m. Some (slice_set bars e m.0, m.1)) (rotary.back r o)) (slice_get bars e)
+crossed_back bars e o = option_and_then (λ r. option_and_then (λ m. Some (slice_set bars e m.0, m.1))
+    (rotary.back r o)) (slice_get bars e)

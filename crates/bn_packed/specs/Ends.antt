@@ -56,4 +56,5 @@ pub record IsWiring (targets sources : EndList) : Type 0 where
   pub few : targets.elements < 2 ^ 32
   pub all_targets : length targets.ends ≡ 4 * targets.elements
   pub all_sources : length sources.ends ≡ 4 * targets.elements
-  pub paired : (from to : Line) → (entry (rows_of targets.ends) from ≡ Some to) ↔ (entry (rows_of sources.ends) to ≡ Some from)
+  pub paired : (from to : Line)
+      → (entry (rows_of targets.ends) from ≡ Some to) ↔ (entry (rows_of sources.ends) to ≡ Some from)

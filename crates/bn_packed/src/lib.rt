@@ -13,3 +13,6 @@ mod wiring;
 
 pub use bn_net::NoMemory;
 pub use packed::Packed;
+
+#[cfg(test)]
+mod tests;

@@ -210,7 +210,9 @@ impl Packed {
         let _elements = self.wires.len();
         let before = self.signal.steps;
         let count = e.min(before);
-        self.signal = self.wires.walk_back(&mut self.bars, self.signal, count, watch);
+        self.signal = self
+            .wires
+            .walk_back(&mut self.bars, self.signal, count, watch);
         before - self.signal.steps
     }
 }

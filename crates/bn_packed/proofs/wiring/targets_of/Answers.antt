@@ -15,12 +15,12 @@ target-requires g c =
 
 pub push-requires : goal.push-requires
 push-requires g c =
-    subst (λ n. IfSome c.target.result (IsLineBelow n)) (sym c.loop-number.invariant.1) (target_within c.args.net.now c.len.ensures.circuit c.line_of.result c.target.result c.target.ensures)
+    subst (λ n. IfSome c.target.result (IsLineBelow n)) (sym c.loop-number.invariant.1)
+    (target_within c.args.net.now c.len.ensures.circuit c.line_of.result c.target.result c.target.ensures)
 
 pub loop-number-preserved : goal.loop-number-preserved
-loop-number-preserved g c =
-    (
-      more_ends (target c.args.net.now.wires) c.loop-number.number c.loop-number.ends.ends c.push.new.self.ends c.target.result c.loop-number.invariant.0
+loop-number-preserved g c = (
+  more_ends (target c.args.net.now.wires) c.loop-number.number c.loop-number.ends.ends c.push.new.self.ends c.target.result c.loop-number.invariant.0
       (c.target.ensures ∙ ap (target c.args.net.now.wires) c.line_of.ensures) c.in_ok-push.ensures.ends,
-      c.in_ok-push.ensures.elements ∙ c.loop-number.invariant.1,
-    )
+  c.in_ok-push.ensures.elements ∙ c.loop-number.invariant.1,
+)

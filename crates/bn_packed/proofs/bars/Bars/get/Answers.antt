@@ -8,4 +8,5 @@ index-requires c =
 
 pub returns-clause-bar : goal.returns-clause-bar
 returns-clause-bar c =
-    read-bar c.self.inside.words.items c.args.self.now c.self.inside.count c.args.element c.index.result.now c.self.view_is c.self.invariant c.requires c.index.ensures
+    read-bar c.self.inside.words.items c.args.self.now c.self.inside.count c.args.element c.index.result.now c.self.view_is c.self.invariant c.requires
+    c.index.ensures

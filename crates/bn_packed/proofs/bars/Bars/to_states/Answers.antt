@@ -10,7 +10,8 @@ get-requires c =
 pub loop-element-preserved : goal.loop-element-preserved
 loop-element-preserved c =
     let pushed : c.push.new.self.items ≡ c.loop-element.states.items ++ c.get.result ∷ [] = search rules in
-    state-pushed c.args.self.now c.loop-element.states.items c.push.new.self.items c.loop-element.element c.get.result c.loop-element.invariant c.get.ensures.bar pushed
+    state-pushed c.args.self.now c.loop-element.states.items c.push.new.self.items c.loop-element.element c.get.result c.loop-element.invariant
+    c.get.ensures.bar pushed
 
 pub returns : goal.returns
 returns c =

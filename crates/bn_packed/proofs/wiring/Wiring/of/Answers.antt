@@ -4,7 +4,8 @@ use Rattle.bn_packed.proofs.wiring.Wiring.of.Goals as goal
 
 pub invariant_of-result : goal.invariant_of-result
 invariant_of-result g c =
-    net-IsWiring c.args.net.now c.in_ok-targets.targets c.in_ok-sources.sources c.len-elements.ensures.circuit few c.in_ok-targets.ensures c.in_ok-sources.ensures
+    net-IsWiring c.args.net.now c.in_ok-targets.targets c.in_ok-sources.sources c.len-elements.ensures.circuit few c.in_ok-targets.ensures
+    c.in_ok-sources.ensures
   where
     few : length c.args.net.now.elements < 2 ^ 32
     few = search rules
