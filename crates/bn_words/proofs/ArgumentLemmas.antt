@@ -9,6 +9,7 @@ use Rattle.bn_words.specs.Arguments.{Argument, Number, Word, IsArgument, IsNoArg
 use Rattle.bn_words.specs.Requests.{IsWithin, AreWithin}
 use Rattle.std.proofs.lemmas.List.{get_or-map, length-map, length-set, map-append, take_more, take_more_set}
 use Rattle.std.proofs.lemmas.Option.{slice_get-get_or}
+use Rattle.std.proofs.Math.Seq.{take-length}
 use Rattle.bn_words.specs.declared.value.Value.{Value}
 use Rattle.bn_words.specs.declared.kind.Kind.{Kind}
 use Rattle.bn_words.specs.declared.kind.Kind.TheVariants.{Count, Ordinal, Letters}
@@ -159,11 +160,11 @@ has_read_one text kinds strings values n string word value inside few count stan
     let room : n < length values = omega (arith, h.room) in
     let all : length (map text strings) ≡ length strings = simp length-map in
     let words : take (n + 1) (map text strings) ≡ take n (map text strings) ++ word ∷ [] =
-        take_more (map text strings) n word (omega arith)
-        ∙ ap (λ w. take n (map text strings) ++ w ∷ []) (get_or-map text strings n string word within ∙ ap text (sym stands) ∙ sym text_is) in
+    take_more (map text strings) n word (omega arith)
+    ∙ ap (λ w. take n (map text strings) ++ w ∷ []) (get_or-map text strings n string word within ∙ ap text (sym stands) ∙ sym text_is) in
     let kinds_are : take (n + 1) kinds ≡ take n kinds ++ kind ∷ [] = take_more kinds n (Count 0) inside in
     let values_are : map argument_of (take (n + 1) (slice_set values n value)) ≡ map argument_of (take n values) ++ argument_of value ∷ [] =
-        ap (map argument_of) (take_more_set values n value room) ∙ map-append argument_of (take n values) (value ∷ []) in
+    ap (map argument_of) (take_more_set values n value room) ∙ map-append argument_of (take n values) (value ∷ []) in
     let more = one_argument_more (take n kinds) (take n (map text strings)) (map argument_of (take n values)) kind word (argument_of value) h.says k in
     record {
       room = length-set values n value ∙ h.room;
@@ -179,5 +180,17 @@ none_at text kinds strings n string word inside count stands text_is none =
     let within : n < length strings = omega arith in
     let all : length (map text strings) ≡ length strings = simp length-map in
     let there : slice_get (map text strings) n ≡ Some word =
-        slice_get-get_or (map text strings) n word (omega arith) ∙ ap (λ w. Some w) (get_or-map text strings n string word within ∙ ap text (sym stands) ∙ sym text_is) in
+    slice_get-get_or (map text strings) n word (omega arith) ∙ ap (λ w. Some w) (get_or-map text strings n string word within ∙ ap text (sym stands) ∙ sym text_is) in
     no_argument_at kinds (map text strings) n (get_or kinds n (Count 0)) word (slice_get-get_or kinds n (Count 0) inside) there none
+
+-- all words
+pub has_read_all : {S : Type 0} (text : S → List ℕ) (kinds of_row : List Kind) (strings : List S) (values : List Value) (n : ℕ) → kinds ≡ of_row → length kinds ≤ n → length strings ≡ length kinds → HasRead text kinds strings values n → n ≤ length kinds → AreArguments of_row (map text strings) (map argument_of (take (length of_row) values))
+has_read_all text kinds of_row strings values n same all count h end =
+    let n_is : n ≡ length kinds = omega arith in
+    let words : length (map text strings) ≡ length strings = simp length-map in
+    let behind : take n (map text strings) ≡ map text strings = ap (λ k. take k (map text strings)) (n_is ∙ sym (words ∙ count)) ∙ take-length (map text strings) in
+    let row : take n kinds ≡ kinds = ap (λ k. take k kinds) n_is ∙ take-length kinds in
+    let here = subst (λ ks. AreArguments ks (take n (map text strings)) (map argument_of (take n values))) row h.says in
+    let there = subst (λ ws. AreArguments kinds ws (map argument_of (take n values))) behind here in
+    let sized = subst (λ k. AreArguments kinds (map text strings) (map argument_of (take k values))) n_is there in
+    subst (λ ks. AreArguments ks (map text strings) (map argument_of (take (length ks) values))) same sized

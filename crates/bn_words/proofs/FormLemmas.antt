@@ -39,12 +39,12 @@ not_both_rows r s e words a b first second h k =
     let behind : h.behind ≡ k.behind = cc in
     elim (either (names_differ r.name s.name) (lists_differ r.kinds s.kinds) e) [
       | inl apart ↦
-        let same : r.name ≡ s.name = ap (λ (x : Row). x.name) (sym first) ∙ names ∙ ap (λ (x : Row). x.name) second in
-        itself s.name (subst (λ name. names_differ name s.name ≡ true) same apart)
+          let same : r.name ≡ s.name = ap (λ (x : Row). x.name) (sym first) ∙ names ∙ ap (λ (x : Row). x.name) second in
+          itself s.name (subst (λ name. names_differ name s.name ≡ true) same apart)
       | inr apart ↦
-        let left = subst (λ (x : Row). AreArguments x.kinds h.behind a.arguments) first h.arguments in
-        let right = subst (λ (x : Row). AreArguments x.kinds k.behind b.arguments) second k.arguments in
-        not_both_lists r.kinds s.kinds apart k.behind a.arguments b.arguments (subst (λ ws. AreArguments r.kinds ws a.arguments) behind left) right
+          let left = subst (λ (x : Row). AreArguments x.kinds h.behind a.arguments) first h.arguments in
+          let right = subst (λ (x : Row). AreArguments x.kinds k.behind b.arguments) second k.arguments in
+          not_both_lists r.kinds s.kinds apart k.behind a.arguments b.arguments (subst (λ ws. AreArguments r.kinds ws a.arguments) behind left) right
     ]
 
 -- ---- all rows
@@ -88,12 +88,12 @@ rows_before r [] = 0
 rows_before r (s ∷ rows) = if rows_differ r s then suc (rows_before r rows) else 0
 
 -- the form's place in the table, case by case
-pub place_of : (form : Form) → (i : ℕ) × (slice_get forms i ≡ Some form)
+pub place_of : (f : Form) → (i : ℕ) × (slice_get forms i ≡ Some f)
 place_of Step = (rows_before (row_of Step) (map row_of forms), refl)
-place_of form = (rows_before (row_of form) (map row_of forms), refl)
+place_of f = (rows_before (row_of f) (map row_of forms), refl)
 
-row_at : (i : ℕ) (form : Form) → slice_get forms i ≡ Some form → slice_get (map row_of forms) i ≡ Some (row_of form)
-row_at i form e = slice_get-map row_of forms i ∙ ap (λ (o : Option Form). elim o [ None ↦ None | Some f ↦ Some (row_of f) ]) e
+row_at : (i : ℕ) (f : Form) → slice_get forms i ≡ Some f → slice_get (map row_of forms) i ≡ Some (row_of f)
+row_at i f e = slice_get-map row_of forms i ∙ ap (λ (o : Option Form). elim o [ None ↦ None | Some g ↦ Some (row_of g) ]) e
 
 apart : (words : List (List ℕ)) (a b : Request) (i j : ℕ) → slice_get forms i ≡ Some a.form → slice_get forms j ≡ Some b.form → i < j → HasForm words a → HasForm words b → ⊥
 apart words a b i j here there less h k =
@@ -124,9 +124,9 @@ one_form words a b h k =
     λ t. record { form = forms_are t; arguments = arguments t }
 
 -- no form has more words behind its name than this
-pub few_kinds : (form : Form) → length (row_of form).kinds ≤ 6
+pub few_kinds : (f : Form) → length (row_of f).kinds ≤ 6
 few_kinds Step = omega arith
-few_kinds form = omega arith
+few_kinds f = omega arith
 
 -- the first n forms of the table have none of the words
 unfoldable pub NoneBefore : List (List ℕ) → ℕ → Type 0
@@ -137,30 +137,30 @@ unfolding NoneBefore
 none_at_first words k low = absurd (omega arith)
 
 -- a form whose name it isn't, or whose kinds they aren't
-pub not_of_form : (words : List (List ℕ)) (name : List ℕ) (behind : List (List ℕ)) (form : Form) → words ≡ name ∷ behind → ((row_of form).name ≢ name) ⊎ HaveNoArguments (row_of form).kinds behind → (request : Request) → request.form ≡ form → HasForm words request → ⊥
-not_of_form words name behind form words_are why request of h = by_cause why
+pub not_of_form : (words : List (List ℕ)) (name : List ℕ) (behind : List (List ℕ)) (f : Form) → words ≡ name ∷ behind → ((row_of f).name ≢ name) ⊎ HaveNoArguments (row_of f).kinds behind → (request : Request) → request.form ≡ f → HasForm words request → ⊥
+not_of_form words name behind f words_are why request of h = by_cause why
   where
     one : (row_of request.form).name ∷ h.behind ≡ name ∷ behind
     one = sym h.words_are ∙ words_are
 
-    by_cause : ((row_of form).name ≢ name) ⊎ HaveNoArguments (row_of form).kinds behind → ⊥
+    by_cause : ((row_of f).name ≢ name) ⊎ HaveNoArguments (row_of f).kinds behind → ⊥
     by_cause (inl other) =
         let names : (row_of request.form).name ≡ name = let e = one in cc in
-        other (ap (λ f. (row_of f).name) (sym of) ∙ names)
+        other (ap (λ g. (row_of g).name) (sym of) ∙ names)
     by_cause (inr none) =
         let rest : h.behind ≡ behind = let e = one in cc in
-        none request.arguments (subst (λ ws. AreArguments (row_of form).kinds ws request.arguments) rest (subst (λ f. AreArguments (row_of f).kinds h.behind request.arguments) of h.arguments))
+        none request.arguments (subst (λ ws. AreArguments (row_of f).kinds ws request.arguments) rest (subst (λ g. AreArguments (row_of g).kinds h.behind request.arguments) of h.arguments))
 
-pub none_more : (words : List (List ℕ)) (n : ℕ) (form : Form) → NoneBefore words n → slice_get forms n ≡ Some form → ((request : Request) → request.form ≡ form → HasForm words request → ⊥) → NoneBefore words (n + 1)
+pub none_more : (words : List (List ℕ)) (n : ℕ) (f : Form) → NoneBefore words n → slice_get forms n ≡ Some f → ((request : Request) → request.form ≡ f → HasForm words request → ⊥) → NoneBefore words (n + 1)
 unfolding NoneBefore
-none_more words n form before here none k low request there h = by_order (cases_lt k n)
+none_more words n f before here none k low request there h = by_order (cases_lt k n)
   where
     by_order : (k < n) ⊎ (n ≤ k) → ⊥
     by_order (inl less) = before k less request there h
     by_order (inr more) =
         let same : k ≡ n = omega arith in
         let also : slice_get forms n ≡ Some request.form = subst (λ i. slice_get forms i ≡ Some request.form) same there in
-        let one : request.form ≡ form = cc in
+        let one : request.form ≡ f = cc in
         none request one h
 
 pub none_at_all : (words : List (List ℕ)) (n : ℕ) → length forms ≤ n → NoneBefore words n → HasNoForm words

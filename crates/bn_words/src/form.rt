@@ -1,6 +1,6 @@
 //! The table of the forms of a command line.
 
-ghost use Rattle.std.specs.Prelude.{◌≡◌, ◌≤◌, length};
+ghost use Rattle.std.specs.Prelude.{◌≡◌};
 ghost use Rattle.bn_words.specs.Forms.{row_of};
 
 use crate::kind::Kind;
@@ -56,13 +56,22 @@ impl Form {
         ensures kinds { result.kinds.now ≡ (row_of self).kinds }
     {
         match self {
-            Form::Step => Row { name: "step", kinds: &[Count(MOST_STEPS)] },
-            Form::Back => Row { name: "back", kinds: &[Count(MOST_STEPS)] },
-            Form::Check => Row { name: "check", kinds: &[] },
-            Form::Machine => Row { name: "machine", kinds: &[Letters, Count(MOST_NUMBER)] },
-            Form::Reversible => Row { name: "reversible", kinds: &[] },
-            Form::Bennett => Row { name: "bennett", kinds: &[] },
-            Form::Realise => Row { name: "realise", kinds: &[Ordinal(MOST_NUMBER), Ordinal(MOST_NUMBER)] },
+            Form::Step => Row::new("step", &[Count(MOST_STEPS)]),
+            Form::Back => Row::new("back", &[Count(MOST_STEPS)]),
+            Form::Check => Row::new("check", &[]),
+            Form::Machine => Row::new("machine", &[Letters, Count(MOST_NUMBER)]),
+            Form::Reversible => Row::new("reversible", &[]),
+            Form::Bennett => Row::new("bennett", &[]),
+            Form::Realise => Row::new("realise", &[Ordinal(MOST_NUMBER), Ordinal(MOST_NUMBER)]),
         }
+    }
+}
+
+impl Row {
+    fn new(name: &'static str, kinds: &'static [Kind]) -> Row
+        ensures name { result.name.now ≡ name.now }
+        ensures kinds { result.kinds.now ≡ kinds.now }
+    {
+        Row { name, kinds }
     }
 }

@@ -5,5 +5,4 @@ ghost use Rattle.bn_words.specs.Laws.{WordsHaveOneReading};
 /// Words ask for at most one thing.
 pub fn words_have_one_reading()
     ensures { WordsHaveOneReading }
-{
-}
+{}

@@ -100,4 +100,3 @@ fn request_of(form: Form, words: &[String]) -> Option<Request<'_>>
     }
     Some(Request { form, values })
 }
-

@@ -21,8 +21,8 @@ loop-form-preserved c =
     (not_of_form words (string_bytes {Z = Global} c.in_ok-name.name.now) (map (string_bytes {Z = Global}) c.in_ok-name.behind.now) form parts (elim c.if-eq.branch [
       | then-eq+in_default w ↦ inr w.in_default.ensures
       | else-eq w ↦
-        let other = other_text c.row.result.name.now c.as_str.result.now w.if-eq.ensures in
-        inl (λ same. other (c.row.ensures.name ∙ same ∙ sym c.as_str.ensures.value))
+          let other = other_text c.row.result.name.now c.as_str.result.now w.if-eq.ensures in
+          inl (λ same. other (c.row.ensures.name ∙ same ∙ sym c.as_str.ensures.value))
     ]))
 
 pub returns : goal.returns
