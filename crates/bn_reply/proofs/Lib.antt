@@ -1,0 +1,4 @@
+pub mod LetterLemmas
+pub mod SameRuns
+pub mod StandardOrNot
+pub mod Walks
