@@ -1,14 +1,11 @@
 -- What comes of bytes that are to be a table, of a machine that is to be in standard form, and of a word.
-use Rattle.std.specs.Prelude.{◌≡◌, ◌≢◌, ℕ, List}
+use Rattle.std.specs.Prelude.{◌≡◌, ℕ, List}
 use Rattle.bn_table.specs.Reading.{Reads}
 use Rattle.bn_table.specs.Rows.{Named}
 use Rattle.bn_standard.specs.Standard.{IsStandard}
-use Rattle.bn_standard.specs.Verdict.{IsRefusal}
-use Rattle.bn_standard.specs.declared.why.Why.{Why}
-use Rattle.bn_standard.specs.declared.why.Why.TheVariants.{NoMemory}
-use Rattle.bn_reply.specs.Lines.{foreign_line, why_line}
+use Rattle.bn_reply.specs.Lines.{foreign_line}
 use Rattle.bn_reply.specs.Words.{IsFirstForeign, IsSpelledBy}
-use Rattle.bn_reply.specs.TableReply.{TellsFault}
+use Rattle.bn_reply.specs.TableReply.{TellsFault, TellsWhy}
 use Rattle.bn_reply.specs.declared.reply.Reply.{Reply}
 use Rattle.bn_reply.specs.declared.status.Status.TheVariants as statuses
 use Rattle.bn_reply.specs.declared.opening.OpenedTable.{OpenedTable}
@@ -23,18 +20,10 @@ abbrev pub IsOpenedTable : List ℕ → OpenedTable → Type 0
 IsOpenedTable bytes (table.Read t) = Reads bytes t
 IsOpenedTable bytes (table.Refused reply) = (reply.status ≡ statuses.Text) × TellsFault bytes reply.text.items
 
--- the answer tells a demand of standard form that this table's machine doesn't meet
-pub record IsUnfit (t : Named) (reply : Reply) : Type 0 where
-  pub machine : reply.status ≡ statuses.Machine
-  pub why : Why
-  pub first : IsRefusal t.machine.quints why
-  pub said : why ≢ NoMemory
-  pub told : reply.text.items ≡ why_line why
-
 -- the table's machine, which is in standard form, or what is answered where it isn't
 abbrev pub IsJudged : Named → Judged → Type 0
 IsJudged t (judged.Standard s) = (s ≡ t.machine) × IsStandard t.machine.quints
-IsJudged t (judged.Refused reply) = IsUnfit t reply
+IsJudged t (judged.Refused reply) = (reply.status ≡ statuses.Machine) × TellsWhy t reply.text.items
 
 -- the answer tells the first place of the word that is foreign
 pub record IsForeign (t : Named) (word : List ℕ) (reply : Reply) : Type 0 where

@@ -25,28 +25,34 @@ pub record TellsFirst {T F : Type 0} (IsReading : T → Type 0) (found : Option 
 abbrev pub TellsFault : List ℕ → List ℕ → Type 0
 TellsFault bytes text = TellsFirst (Reads bytes) (fault_of (entries_of bytes)) fault_line text
 
--- the bytes read as a table whose machine isn't in standard form, and the text tells the first demand that isn't met
-pub record TellsWhy (bytes text : List ℕ) : Type 0 where
-  pub table : Named
-  pub reads : Reads bytes table
-  pub unfit : IsStandard table.machine.quints → ⊥
+-- What is answered to these bytes, where `tells` is what is answered to a table: the fault of bytes that are no table, or that.
+pub data TableReplies (tells : Named → Status → List ℕ → List Place → Type 0) (bytes : List ℕ) (status : Status) (text : List ℕ) (told : List Place) : Type 0 where
+  faulty : TellsFault bytes text → status ≡ statuses.Text → told ≡ [] → TableReplies tells bytes status text told
+  read : (t : Named) → Reads bytes t → tells t status text told → TableReplies tells bytes status text told
+
+-- the table's machine isn't in standard form, and the text tells the first demand that it doesn't meet
+pub record TellsWhy (t : Named) (text : List ℕ) : Type 0 where
+  pub unfit : IsStandard t.machine.quints → ⊥
   pub why : Why
-  pub first : IsRefusal table.machine.quints why
+  pub first : IsRefusal t.machine.quints why
   pub said : why ≢ whys.NoMemory
   pub told : text ≡ why_line why
 
--- the bytes read as this table, and its machine is in standard form
-pub record ReadsStandard (bytes : List ℕ) (t : Named) : Type 0 where
-  pub reads : Reads bytes t
-  pub standard : IsStandard t.machine.quints
+-- What is answered to a table, where `tells` is what is answered where its machine is in standard form: the demand that it doesn't meet, or that.
+pub data JudgedReplies (tells : Status → List ℕ → List Place → Type 0) (t : Named) (status : Status) (text : List ℕ) (told : List Place) : Type 0 where
+  unfit : TellsWhy t text → status ≡ statuses.Machine → told ≡ [] → JudgedReplies tells t status text told
+  fit : IsStandard t.machine.quints → tells status text told → JudgedReplies tells t status text told
 
--- What is answered to these bytes, where `tells` is what is answered to a table with a machine in standard form: the fault of bytes that are no table, the demand that a machine doesn't meet, or that.
-pub data StandardReplies (tells : Named → Status → List ℕ → List Place → Type 0) (bytes : List ℕ) (status : Status) (text : List ℕ) (told : List Place) : Type 0 where
-  faulty : TellsFault bytes text → status ≡ statuses.Text → told ≡ [] → StandardReplies tells bytes status text told
-  unfit : TellsWhy bytes text → status ≡ statuses.Machine → told ≡ [] → StandardReplies tells bytes status text told
-  fit : (t : Named) → ReadsStandard bytes t → tells t status text told → StandardReplies tells bytes status text told
+-- what is answered to these bytes, where `tells` is what is answered to a table with a machine in standard form
+abbrev pub StandardReplies : (Named → Status → List ℕ → List Place → Type 0) → List ℕ → Status → List ℕ → List Place → Type 0
+StandardReplies tells = TableReplies (λ t. JudgedReplies (tells t) t)
 
 -- What is answered to a word, where `tells` is what is answered to the symbols that spell it: the first place that is foreign, or that.
 pub data WordReplies (tells : List ℕ → Status → List ℕ → List Place → Type 0) (t : Named) (word : List ℕ) (status : Status) (text : List ℕ) (told : List Place) : Type 0 where
   foreign : (p : ℕ) → IsFirstForeign t word p → text ≡ foreign_line p → status ≡ statuses.Word → told ≡ [] → WordReplies tells t word status text told
   spelled : (symbols : List ℕ) → IsSpelledBy t word symbols → tells symbols status text told → WordReplies tells t word status text told
+
+-- the bytes read as this table, and its machine is in standard form
+pub record ReadsStandard (bytes : List ℕ) (t : Named) : Type 0 where
+  pub reads : Reads bytes t
+  pub standard : IsStandard t.machine.quints
