@@ -14,7 +14,7 @@ use Rattle.bn_netlist.specs.FaultLaws.{faults-agree}
 use Rattle.bn_netlist.proofs.DecideLemmas.{texts-spell-or-fault}
 use Rattle.bn_netlist.proofs.SameTexts.{same_text}
 use Rattle.bn_reply.specs.Answering.{HasAnswer, IsOneAnswer, IsSettled}
-use Rattle.bn_reply.specs.Codes.{IsAnswer}
+use Rattle.bn_reply.specs.Codes.{IsReplyStatus}
 use Rattle.bn_reply.specs.declared.status.Status.{Status}
 use Rattle.bn_reply.proofs.SameRuns.{AreAlike, run-alike, back-alike, places-alike, places_back-alike}
 use Rattle.bn_reply.proofs.SettledLemmas.{agree}
@@ -134,9 +134,9 @@ module _ (goes : Circuit → Config → Config) (tells : Circuit → Config → 
   circuit_one bytes status other text second told heard (misspelled a e m) (walked b d) = absurd (walked_or_not bytes second text heard b a)
   circuit_one bytes status other text second told heard (misspelled a e m) (misspelled b d n) = agree Text status other text second told heard e d (one_fault bytes text second a b) m n
 
-  circuit_status : (bytes : List ℕ) (status : Status) (text : List ℕ) (told : List Place) → CircuitReplies goes tells bytes status text told → IsAnswer status
-  circuit_status bytes status text told (walked a e) = subst IsAnswer (sym e) tt
-  circuit_status bytes status text told (misspelled a e m) = subst IsAnswer (sym e) tt
+  circuit_status : (bytes : List ℕ) (status : Status) (text : List ℕ) (told : List Place) → CircuitReplies goes tells bytes status text told → IsReplyStatus status
+  circuit_status bytes status text told (walked a e) = subst IsReplyStatus (sym e) tt
+  circuit_status bytes status text told (misspelled a e m) = subst IsReplyStatus (sym e) tt
 
   pub circuit_settled : (bytes : List ℕ) → IsSettled (CircuitReplies goes tells bytes)
   circuit_settled bytes = record { some = by_spelling bytes (texts-spell-or-fault bytes); one = circuit_one bytes; status = circuit_status bytes }

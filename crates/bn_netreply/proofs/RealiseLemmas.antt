@@ -22,7 +22,7 @@ use Rattle.bn_realise.specs.BankNets.{elements_of}
 use Rattle.bn_netreply.specs.RealiseReply.{BankReplies, lacking, large, bank, IsBankSpelling, IsPlaceOf, LacksPlace, no_line, no_state, RealiseReplies, faulty, clashing, reading, RealiseIsSettled, TellsBank, TellsClash, TellsElements, TellsRsmFault, clash_line, rsm_fault_line}
 use Rattle.bn_netreply.specs.Refused.{IsRsmRefused}
 use Rattle.bn_reply.specs.Answering.{HasAnswer, IsOneAnswer}
-use Rattle.bn_reply.specs.Codes.{IsAnswer}
+use Rattle.bn_reply.specs.Codes.{IsReplyStatus}
 use Rattle.bn_reply.specs.declared.reply.Reply.{Reply}
 use Rattle.bn_reply.specs.declared.reply.NoMemory.{NoMemory as WantOfMemory}
 use Rattle.bn_theory.specs.declared.place.Place.{Place}
@@ -77,10 +77,10 @@ bank_one m q i s u a b x y (bank h e l) (bank k f n) =
     let second = subst (λ j. IsBankSpelling m k.state j h.spelling) row first in
     agree statuses.Done s u a b x y e f (h.spelled.written ∙ same_bank m k.state k.row h.spelling k.spelling second k.bank ∙ sym k.spelled.written) l n
 
-bank_status : (m : Machine) (q i : ℕ) (s : Status) (text : List ℕ) (told : List Place) → BankReplies m q i s text told → IsAnswer s
-bank_status m q i s text told (lacking h e l) = subst IsAnswer (sym e) tt
-bank_status m q i s text told (large h e l) = subst IsAnswer (sym e) tt
-bank_status m q i s text told (bank h e l) = subst IsAnswer (sym e) tt
+bank_status : (m : Machine) (q i : ℕ) (s : Status) (text : List ℕ) (told : List Place) → BankReplies m q i s text told → IsReplyStatus s
+bank_status m q i s text told (lacking h e l) = subst IsReplyStatus (sym e) tt
+bank_status m q i s text told (large h e l) = subst IsReplyStatus (sym e) tt
+bank_status m q i s text told (bank h e l) = subst IsReplyStatus (sym e) tt
 
 less_one : (n : ℕ) → 1 ≤ n → (k : ℕ) × (n ≡ k + 1)
 less_one zero h = absurd (omega arith)
@@ -156,9 +156,9 @@ realise_one q i bytes s u a b x y (reading m reads h) (reading n also k) =
     let same : m ≡ n = one_machine bytes m n reads also in
     bank_one n q i s u a b x y (subst (λ z. BankReplies z q i s a x) same h) k
 
-realise_status : (q i : ℕ) (bytes : List ℕ) (s : Status) (text : List ℕ) (told : List Place) → RealiseReplies q i bytes s text told → IsAnswer s
-realise_status q i bytes s text told (faulty h e l) = subst IsAnswer (sym e) tt
-realise_status q i bytes s text told (clashing h e l) = subst IsAnswer (sym e) tt
+realise_status : (q i : ℕ) (bytes : List ℕ) (s : Status) (text : List ℕ) (told : List Place) → RealiseReplies q i bytes s text told → IsReplyStatus s
+realise_status q i bytes s text told (faulty h e l) = subst IsReplyStatus (sym e) tt
+realise_status q i bytes s text told (clashing h e l) = subst IsReplyStatus (sym e) tt
 realise_status q i bytes s text told (reading m reads h) = bank_status m q i s text told h
 
 pub realise_settled : RealiseIsSettled

@@ -11,6 +11,7 @@ use Rattle.bn_table.specs.Rows.{Named}
 use Rattle.bn_standard.specs.Standard.{IsStandard}
 use Rattle.bn_reply.specs.TableReply.{JudgedReplies, fit, TableReplies, read, WordReplies, spelled}
 use Rattle.bn_reply.specs.Words.{IsSpelledBy}
+use Rattle.bn_reply.proofs.Walks.{hears-nothing}
 use Rattle.bn_reply.specs.declared.reply.Reply.{Reply}
 use Rattle.bn_reply.specs.declared.reply.NoMemory.{NoMemory as WantOfMemory}
 use Rattle.bn_reply.specs.declared.status.Status.{Status}
@@ -41,3 +42,8 @@ fit_replies tells t (Err e) standard answer = tt
 pub spelled_replies : (tells : List ℕ → Status → List ℕ → List Place → Type 0) (t : Named) (word symbols : List ℕ) (result : Result Reply WantOfMemory) → IsSpelledBy t word symbols → IfOk result (λ r. tells symbols r.status r.text.items []) → IfOk result (λ r. WordReplies tells t word r.status r.text.items [])
 spelled_replies tells t word symbols (Ok r) is answer = spelled symbols is answer
 spelled_replies tells t word symbols (Err e) is answer = tt
+
+-- a reply that tells a watch nothing
+pub silent : (answers : Status → List ℕ → List Place → Type 0) (result : Result Reply WantOfMemory) (told : Option (List Place)) → IfOk result (λ r. answers r.status r.text.items []) → IfOk result (λ r. IsReplied answers r told told)
+silent answers (Ok r) told h = record { places = []; right = h; hears = hears-nothing told }
+silent answers (Err e) told h = tt

@@ -5,7 +5,7 @@ use Rattle.bn_table.specs.Reading.{Reads}
 use Rattle.bn_table.specs.Rows.{Named, IsTable}
 use Rattle.bn_standard.specs.Standard.{IsStandard}
 use Rattle.bn_reply.specs.Answering.{AgreeInAll, HasAnswer, IsDone, IsOneAnswer, IsSettled}
-use Rattle.bn_reply.specs.Codes.{IsAnswer}
+use Rattle.bn_reply.specs.Codes.{IsReplyStatus}
 use Rattle.bn_reply.specs.Lines.{foreign_line}
 use Rattle.bn_reply.specs.Words.{IsFirstForeign, IsSpelledBy}
 use Rattle.bn_reply.specs.Opened.{IsForeign}
@@ -26,7 +26,7 @@ pub done_settled : (answer : List ℕ) → IsSettled (IsDone answer)
 done_settled answer = record {
   some = (statuses.Done, answer, [], record { done = refl; text_is = refl; silent = refl });
   one = λ status other text second told heard a b. agree statuses.Done status other text second told heard a.done b.done (a.text_is ∙ sym b.text_is) a.silent b.silent;
-  status = λ status text told a. subst IsAnswer (sym a.done) tt;
+  status = λ status text told a. subst IsReplyStatus (sym a.done) tt;
 }
 
 -- ---- a table
@@ -44,8 +44,8 @@ module _ (tells : Named → Status → List ℕ → List Place → Type 0) (byte
       let same : v ≡ t = one_table bytes v t k h in
       (settled t h).one s u a b x y answer (subst (λ (w : Named). tells w u b y) same other)
 
-  table_status : (s : Status) (text : List ℕ) (told : List Place) → TableReplies tells bytes s text told → IsAnswer s
-  table_status s text told (faulty h e n) = subst IsAnswer (sym e) tt
+  table_status : (s : Status) (text : List ℕ) (told : List Place) → TableReplies tells bytes s text told → IsReplyStatus s
+  table_status s text told (faulty h e n) = subst IsReplyStatus (sym e) tt
   table_status s text told (read t h answer) = (settled t h).status s text told answer
 
   pub table_settled : IsSettled (TableReplies tells bytes)
@@ -64,8 +64,8 @@ module _ (tells : Status → List ℕ → List Place → Type 0) (t : Named) (se
   judged_one s u a b x y (fit h answer) (unfit k f m) = absurd (k.unfit h)
   judged_one s u a b x y (fit h answer) (fit k other) = (settled h).one s u a b x y answer other
 
-  judged_status : (s : Status) (text : List ℕ) (told : List Place) → JudgedReplies tells t s text told → IsAnswer s
-  judged_status s text told (unfit h e n) = subst IsAnswer (sym e) tt
+  judged_status : (s : Status) (text : List ℕ) (told : List Place) → JudgedReplies tells t s text told → IsReplyStatus s
+  judged_status s text told (unfit h e n) = subst IsReplyStatus (sym e) tt
   judged_status s text told (fit h answer) = (settled h).status s text told answer
 
   pub judged_settled : IsSettled (JudgedReplies tells t)
@@ -99,8 +99,8 @@ module _ (tells : List ℕ → Status → List ℕ → List Place → Type 0) (t
       let same : ys ≡ xs = spelled_once t table word ys xs k h in
       (settled xs h).one s u a b x y answer (subst (λ (zs : List ℕ). tells zs u b y) same other)
 
-  word_status : (s : Status) (text : List ℕ) (told : List Place) → WordReplies tells t word s text told → IsAnswer s
-  word_status s text told (foreign p h told_is e n) = subst IsAnswer (sym e) tt
+  word_status : (s : Status) (text : List ℕ) (told : List Place) → WordReplies tells t word s text told → IsReplyStatus s
+  word_status s text told (foreign p h told_is e n) = subst IsReplyStatus (sym e) tt
   word_status s text told (spelled symbols h answer) = (settled symbols h).status s text told answer
 
   pub word_settled : IsSettled (WordReplies tells t word)

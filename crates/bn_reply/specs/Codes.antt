@@ -23,3 +23,8 @@ IsAnswer ReadFault = ⊥
 IsAnswer WriteFault = ⊥
 IsAnswer NoMemory = ⊥
 IsAnswer _ = Unit {0}
+
+-- the status of a command's own answer: besides, the words have a form
+abbrev pub IsReplyStatus : Status → Type 0
+IsReplyStatus Usage = ⊥
+IsReplyStatus status = IsAnswer status

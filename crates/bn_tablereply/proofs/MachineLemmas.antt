@@ -6,7 +6,7 @@ use Rattle.bn_machine.specs.Run.{Ending, HasEnding, Halted, Stuck, Running}
 use Rattle.bn_machine.specs.OutcomeLaws.{ending_exists, ending_once}
 use Rattle.bn_table.specs.Rows.{Named}
 use Rattle.bn_reply.specs.Answering.{HasAnswer, IsOneAnswer, IsSettled}
-use Rattle.bn_reply.specs.Codes.{IsAnswer}
+use Rattle.bn_reply.specs.Codes.{IsReplyStatus}
 use Rattle.bn_reply.specs.TableReply.{WordReplies}
 use Rattle.bn_reply.specs.declared.reply.Reply.{Reply}
 use Rattle.bn_reply.specs.declared.reply.NoMemory.{NoMemory as WantOfMemory}
@@ -30,13 +30,13 @@ module _ (t : Named) (n : ℕ) (symbols : List ℕ) where
         places = h.silent ∙ sym k.silent;
       }
 
-  ending_answers : (e : Ending) → IsAnswer (status_of e)
+  ending_answers : (e : Ending) → IsReplyStatus (status_of e)
   ending_answers (Halted y) = tt
   ending_answers (Stuck state symbol) = tt
   ending_answers Running = tt
 
   run_settled : IsSettled (TellsRun t n symbols)
-  run_settled = record { some = run_some; one = run_one; status = λ s text told h. subst IsAnswer (sym h.status_is) (ending_answers h.ending) }
+  run_settled = record { some = run_some; one = run_one; status = λ s text told h. subst IsReplyStatus (sym h.status_is) (ending_answers h.ending) }
 
 pub machine_settled : MachineIsSettled
 machine_settled word n bytes =

@@ -13,7 +13,7 @@ use Rattle.bn_qtable.proofs.ReadingLaws.{no_fault_of, one_reading, reading_of}
 use Rattle.bn_qtable.specs.Rows.{QuadTable}
 use Rattle.bn_theory.specs.declared.place.Place.{Place}
 use Rattle.bn_reply.specs.Answering.{HasAnswer, IsOneAnswer}
-use Rattle.bn_reply.specs.Codes.{IsAnswer}
+use Rattle.bn_reply.specs.Codes.{IsReplyStatus}
 use Rattle.bn_reply.proofs.SettledLemmas.{agree}
 use Rattle.bn_reply.proofs.TableLemmas.{first_once, read_or_told}
 use Rattle.bn_tablereply.specs.ReversibleReply.{IsVerdict, TellsVerdicts, TellsQuadFault, ReversibleReplies, faulty, judged, ReversibleIsSettled, quad_fault_line, verdict_line}
@@ -78,9 +78,9 @@ module _ (bytes : List ℕ) where
       let tables : v ≡ t = one_reading (entries_of bytes) v t also reads in
       agree statuses.Done s u a b x y e f (verdicts_once t.machine.rules a b h (subst (λ (w : QuadTable). TellsVerdicts w.machine.rules b) tables k)) n m
 
-  reversible_status : (s : Status) (text : List ℕ) (told : List Place) → ReversibleReplies bytes s text told → IsAnswer s
-  reversible_status s text told (faulty h e n) = subst IsAnswer (sym e) tt
-  reversible_status s text told (judged t reads h e n) = subst IsAnswer (sym e) tt
+  reversible_status : (s : Status) (text : List ℕ) (told : List Place) → ReversibleReplies bytes s text told → IsReplyStatus s
+  reversible_status s text told (faulty h e n) = subst IsReplyStatus (sym e) tt
+  reversible_status s text told (judged t reads h e n) = subst IsReplyStatus (sym e) tt
 
 pub reversible_settled : ReversibleIsSettled
 reversible_settled bytes = record {

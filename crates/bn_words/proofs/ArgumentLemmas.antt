@@ -6,7 +6,8 @@ use Rattle.bn_base.specs.NumberLaws.{decimal-once, read_number-no_digit}
 use Rattle.bn_base.specs.declared.numbers.Digits.{Digits}
 use Rattle.bn_base.specs.declared.numbers.Digits.TheVariants.{NoDigit}
 use Rattle.bn_words.specs.Arguments.{Argument, Number, Word, IsArgument, IsNoArgument, IsNumber, AreArguments, HaveNoArguments, argument_of}
-use Rattle.bn_words.specs.Requests.{IsWithin, AreWithin}
+use Rattle.bn_words.specs.Forms.{row_of}
+use Rattle.bn_words.specs.Requests.{AreWithin, HasForm, IsRequest, IsWithin, Request, number_of}
 use Rattle.std.proofs.lemmas.List.{get_or-map, length-map, length-set, map-append, take_more, take_more_set}
 use Rattle.std.proofs.lemmas.Option.{slice_get-get_or}
 use Rattle.std.proofs.Math.Seq.{take-length}
@@ -194,3 +195,21 @@ has_read_all text kinds of_row strings values n same all count h end =
     let there = subst (λ ws. AreArguments kinds ws (map argument_of (take n values))) behind here in
     let sized = subst (λ k. AreArguments kinds (map text strings) (map argument_of (take k values))) n_is there in
     subst (λ ks. AreArguments ks (map text strings) (map argument_of (take (length ks) values))) same sized
+
+-- what is said of an ordinal is at least 1
+pub ordinal_least : (kinds : List Kind) (xs : List Argument) (n most : ℕ) → AreWithin kinds xs → slice_get kinds n ≡ Some (Ordinal most) → 1 ≤ number_of (slice_get xs n)
+ordinal_least [] xs n most h here = cc
+ordinal_least (k ∷ ks) [] n most h here = absurd h
+ordinal_least (k ∷ ks) (x ∷ xs) zero most h here = of_kind (subst (λ j. IsWithin j x) (let e : k ≡ Ordinal most = cc in e) h.0)
+  where
+    of_kind : IsWithin (Ordinal most) x → 1 ≤ number_of (Some x)
+    of_kind w = least x w
+      where
+        least : (y : Argument) → IsWithin (Ordinal most) y → 1 ≤ number_of (Some y)
+        least (Number m) v = v.0
+        least (Word l) v = absurd v
+ordinal_least (k ∷ ks) (x ∷ xs) (suc n) most h here = ordinal_least ks xs n most h.1 here
+
+-- a request of some words is in the limits of its row
+pub form-AreWithin : (words : List (List ℕ)) (request : Request) → HasForm words request → IsRequest request
+form-AreWithin words request h = are_within (row_of request.form).kinds h.behind request.arguments h.arguments
