@@ -1,4 +1,3 @@
 pub mod Commands
-pub mod DispatchLemmas
 pub mod AnswerLemmas
 pub mod EndLemmas

@@ -11,7 +11,8 @@ use bn_tablereply::{reply_bennett, reply_check, reply_machine, reply_reversible}
 use bn_words::{Form, Request};
 use std::alloc::Global;
 
-// The reply to a request.
+// The reply to a request. Where a command's reply is that of its form, `Commands` says so.
+#[tactic(auto, using(crate::proofs::Commands::replies))]
 pub(crate) fn reply_to<W: Watch>(
     alloc: Global,
     request: &Request<'_>,
