@@ -19,7 +19,7 @@ use Rattle.bn_rsmtable.proofs.ReadingLaws.{machine_or_refusal, no_fault_of, one_
 use Rattle.bn_rsmtable.specs.declared.refusal.RsmTableRefusal.{RsmTableRefusal}
 use Rattle.bn_rsmtable.specs.declared.refusal.RsmTableRefusal.TheVariants as faults
 use Rattle.bn_realise.specs.BankNets.{elements_of}
-use Rattle.bn_netreply.specs.RealiseReply.{BankReplies, lacking, large, bank, IsBankSpelling, IsPlaceOf, LacksPlace, no_line, no_state, RealiseReplies, faulty, clashing, reading, RealiseIsSettled, TellsBank, TellsClash, TellsElements, TellsRsmFault, clash_line, rsm_fault_line}
+use Rattle.bn_netreply.specs.RealiseReply.{BankReplies, lacking, large, bank, IsBankSpelling, IsPlaceOf, LacksPlace, no_line, no_state, RealiseReplies, faulty, clashing, reading, RealiseIsSettled, TellsBank, TellsClash, clash_line, rsm_fault_line}
 use Rattle.bn_netreply.specs.Refused.{IsRsmRefused}
 use Rattle.bn_reply.specs.Answering.{HasAnswer, IsOneAnswer}
 use Rattle.bn_reply.specs.Codes.{IsReplyStatus}

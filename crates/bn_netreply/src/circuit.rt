@@ -111,5 +111,4 @@ fn line_bytes(alloc: Global, line: u64, what: &[u8]) -> Result<Vec<u8>, AllocErr
 /// nothing: its contract is the law.
 pub fn circuits_have_one_reply()
     ensures { CircuitIsSettled }
-{
-}
+{}

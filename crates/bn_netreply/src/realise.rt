@@ -19,12 +19,7 @@ use std::alloc::Global;
 
 /// What `realise` answers to a state, an input line, both counted from 1, and some bytes: whether they
 /// are the table of a machine that has both, and then the text of its bank.
-pub fn reply_realise(
-    alloc: Global,
-    state: u32,
-    line: u32,
-    bytes: &[u8],
-) -> Result<Reply, NoMemory>
+pub fn reply_realise(alloc: Global, state: u32, line: u32, bytes: &[u8]) -> Result<Reply, NoMemory>
     requires state { 1 ≤ state }
     requires line { 1 ≤ line }
     ensures { IfOk result (λ r. RealiseReplies state line bytes.now r.status r.text.items []) }
@@ -161,5 +156,4 @@ fn exit_line(rsm: &Rsm, state: u32, line: u32) -> Line
 /// function does nothing: its contract is the law.
 pub fn realise_has_one_reply()
     ensures { RealiseIsSettled }
-{
-}
+{}

@@ -1,5 +1,5 @@
 -- How a reply comes about, and how it is written.
-use Rattle.std.specs.Prelude.{◌≡◌, ℕ, List, [], Option, Some, None, Result, Ok, Err, IfOk, refl}
+use Rattle.std.specs.Prelude.{◌≡◌, ℕ, List, [], Option, Some, None, Result, Ok, Err, IfOk}
 use Rattle.std.proofs.Common.{sym, ap, subst, ◌∙◌, append-nil}
 use Rattle.bn_theory.specs.declared.place.Place.{Place}
 use Rattle.bn_io.specs.Told.{Grows, GrowsByFront}

@@ -1,5 +1,5 @@
 -- A word has one list of symbols, or a first place that is foreign, and not both.
-use Rattle.std.proofs.Common.{◌≡◌, ◌≢◌, ℕ, zero, suc, ◌+◌, ◌<◌, ◌≤◌, ◌∷◌, ◌++◌, List, [], length, take, get_or, ◌⊎◌, inl, inr, refl, sym, subst, ap, ◌∙◌, arith, Option, Some, None}
+use Rattle.std.proofs.Common.{◌≡◌, ◌≢◌, ℕ, zero, suc, ◌+◌, ◌<◌, ◌≤◌, ◌∷◌, ◌++◌, List, [], length, take, get_or, ◌⊎◌, inl, inr, sym, subst, ap, ◌∙◌, arith, Some}
 use Rattle.std.specs.Prelude.{Contains, slice_index, slice_get}
 use Rattle.std.proofs.lemmas.Bool.{cases_lt}
 use Rattle.std.proofs.lemmas.Bool.Decides.{eqb_tells}

@@ -51,11 +51,7 @@ fn symbol_of(table: &Table, byte: u8) -> Option<u32>
 }
 
 /// Appends the letters of some symbols.
-pub fn push_letters(
-    text: &mut Vec<u8>,
-    table: &Table,
-    symbols: &[u32],
-) -> Result<(), NoMemory>
+pub fn push_letters(text: &mut Vec<u8>, table: &Table, symbols: &[u32]) -> Result<(), NoMemory>
     requires { All (λ symbol. symbol < table.now.machine.symbols) symbols.now }
     ensures { OnOk result (text.new.items ≡ text.old.items ++ letters_of table.now symbols.now) }
 {

@@ -1,7 +1,6 @@
 -- `machine` has one answer to all words, numbers of steps and bytes.
 use Rattle.std.specs.Prelude.{Result, Ok, Err, IfOk}
 use Rattle.std.proofs.Common.{◌≡◌, ℕ, List, [], refl, sym, subst, ap, ◌∙◌}
-use Rattle.bn_theory.specs.declared.place.Place.{Place}
 use Rattle.bn_machine.specs.Run.{Ending, HasEnding, Halted, Stuck, Running}
 use Rattle.bn_machine.specs.OutcomeLaws.{ending_exists, ending_once}
 use Rattle.bn_table.specs.Rows.{Named}
@@ -10,7 +9,6 @@ use Rattle.bn_reply.specs.Codes.{IsReplyStatus}
 use Rattle.bn_reply.specs.TableReply.{WordReplies}
 use Rattle.bn_reply.specs.declared.reply.Reply.{Reply}
 use Rattle.bn_reply.specs.declared.reply.NoMemory.{NoMemory as WantOfMemory}
-use Rattle.bn_reply.specs.declared.status.Status.{Status}
 use Rattle.bn_reply.proofs.SettledLemmas.{standard_settled, word_settled}
 use Rattle.bn_reply.proofs.TableLemmas.{reads_table}
 use Rattle.bn_tablereply.specs.MachineReply.{MachineIsSettled, TellsRun, ending_text, status_of}

@@ -37,7 +37,11 @@ fn translate_table(alloc: Global, table: &Table) -> Result<Reply, NoMemory>
 }
 
 // The text of the reversible machine of a table's machine.
-fn translated_text(alloc: Global, table: &Table, standard: &Standard<'_>) -> Result<Vec<u8>, NoMemory>
+fn translated_text(
+    alloc: Global,
+    table: &Table,
+    standard: &Standard<'_>,
+) -> Result<Vec<u8>, NoMemory>
     requires { standard.now ≡ table.now.machine }
     ensures { IfOk result (λ text. text.items ≡ bennett_text table.now) }
 {
@@ -58,5 +62,4 @@ fn translated_text(alloc: Global, table: &Table, standard: &Standard<'_>) -> Res
 /// To all bytes `bennett` has an answer, and only one. The function does nothing: its contract is the law.
 pub fn bennett_has_one_reply()
     ensures { BennettIsSettled }
-{
-}
+{}

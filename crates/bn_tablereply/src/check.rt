@@ -49,5 +49,4 @@ fn standard_text(alloc: Global, machine: &Machine) -> Result<Vec<u8>, NoMemory>
 /// To all bytes `check` has an answer, and only one. The function does nothing: its contract is the law.
 pub fn check_has_one_reply()
     ensures { CheckIsSettled }
-{
-}
+{}

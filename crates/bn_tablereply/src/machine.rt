@@ -6,8 +6,10 @@ ghost use Rattle.bn_tablereply.specs.MachineReply.{MachineIsSettled, MachineRepl
 ghost use Rattle.bn_tablereply.specs.MachineRun.{FitsTable, ending_of};
 
 use crate::machine_run::{Ended, Ending, run_word};
-use bn_reply::{Judged, NoMemory, OpenedTable, OpenedWord, Reply, Status};
-use bn_reply::{judge_table, open_table, open_word, push_letters};
+use bn_reply::{
+    Judged, NoMemory, OpenedTable, OpenedWord, Reply, Status, judge_table, open_table, open_word,
+    push_letters,
+};
 use bn_table::Table;
 use std::alloc::Global;
 
@@ -124,5 +126,4 @@ fn running_text(alloc: Global, steps: u32) -> Result<Vec<u8>, NoMemory>
 /// nothing: its contract is the law.
 pub fn machine_has_one_reply()
     ensures { MachineIsSettled }
-{
-}
+{}

@@ -81,5 +81,4 @@ fn verdict_text(alloc: Global, name: &str, found: Option<(u32, u32)>) -> Result<
 /// To all bytes `reversible` has an answer, and only one. The function does nothing: its contract is the law.
 pub fn reversible_has_one_reply()
     ensures { ReversibleIsSettled }
-{
-}
+{}

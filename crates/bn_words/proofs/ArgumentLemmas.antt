@@ -1,9 +1,8 @@
 -- A word says one thing of a kind, and words of kinds that differ aren't there.
-use Rattle.std.specs.Prelude.{◌≡◌, ℕ, ◌<◌, ◌≤◌, List, [], ◌∷◌, ◌++◌, ◌≢◌, ◌+◌, length, map, take, slice_get, slice_set, Some, Bool, true, false, ◌||◌, decimal, Result, Ok, Err, refl, ◌⊎◌}
+use Rattle.std.specs.Prelude.{◌≡◌, ℕ, ◌<◌, ◌≤◌, List, [], ◌∷◌, ◌++◌, ◌≢◌, ◌+◌, length, map, take, slice_get, slice_set, Some, Bool, true, false, ◌||◌, decimal, Ok, Err, refl, ◌⊎◌}
 use Rattle.std.proofs.Common.{zero, suc, get_or, arith, sym, ap, subst, ◌∙◌, inl, inr}
-use Rattle.bn_base.specs.Number.{greatest, read_number}
+use Rattle.bn_base.specs.Number.{read_number}
 use Rattle.bn_base.specs.NumberLaws.{decimal-once, read_number-no_digit}
-use Rattle.bn_base.specs.declared.numbers.Digits.{Digits}
 use Rattle.bn_base.specs.declared.numbers.Digits.TheVariants.{NoDigit}
 use Rattle.bn_words.specs.Arguments.{Argument, Number, Word, IsArgument, IsNoArgument, IsNumber, AreArguments, HaveNoArguments, argument_of}
 use Rattle.bn_words.specs.Forms.{row_of}

@@ -1,5 +1,5 @@
 -- What a command line asks for, and its words (this project's own profile).
-use Rattle.std.specs.Prelude.{◌≡◌, ℕ, ◌≤◌, List, [], ◌∷◌, Option, Some, None, slice_get}
+use Rattle.std.specs.Prelude.{◌≡◌, ℕ, ◌≤◌, List, [], ◌∷◌, Option, Some, slice_get}
 use Rattle.bn_words.specs.Arguments.{Argument, Number, Word, AreArguments}
 use Rattle.bn_words.specs.Forms.{row_of}
 use Rattle.bn_words.specs.declared.form.Form.{Form}

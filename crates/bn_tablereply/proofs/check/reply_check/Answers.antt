@@ -1,5 +1,4 @@
 use Rattle.std.proofs.Common.{subst}
-use Rattle.bn_table.specs.Rows.{Named}
 use Rattle.bn_reply.specs.Answering.{IsDone}
 use Rattle.bn_reply.specs.Opened.{IsOpenedTable}
 use Rattle.bn_reply.specs.TableReply.{JudgedReplies}

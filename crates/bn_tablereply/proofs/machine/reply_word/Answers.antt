@@ -1,8 +1,7 @@
-use Rattle.std.proofs.Common.{subst, sym}
+use Rattle.std.proofs.Common.{subst}
 use Rattle.bn_machine.specs.Machine.{Program}
 use Rattle.bn_machine.specs.Run.{HasEnding}
 use Rattle.bn_reply.specs.Opened.{IsOpenedWord}
-use Rattle.bn_reply.specs.Words.{IsSpelledBy}
 use Rattle.bn_reply.proofs.ReplyLemmas.{spelled_replies}
 use Rattle.bn_reply.proofs.SettledLemmas.{foreign_replies}
 use Rattle.bn_tablereply.specs.MachineReply.{TellsRun}

@@ -1,4 +1,4 @@
-use Rattle.std.proofs.Common.{◌≡◌, ◌≤◌, map, length, Err, Global, refl, ap, subst, inr, arith}
+use Rattle.std.proofs.Common.{◌≤◌, map, length, Err, Global, refl, ap, subst, inr, arith}
 use Rattle.std.specs.String.{string_bytes}
 use Rattle.bn_words.specs.Requests.{HasForm, HasNoForm}
 use Rattle.bn_top.specs.Answers.{input_limit}

@@ -1,8 +1,7 @@
-use Rattle.std.proofs.Common.{◌≡◌, ◌<◌, map, length, get_or, Global, arith, sym, refl, ap, ◌∙◌, inl, inr, subst, List, ℕ}
+use Rattle.std.proofs.Common.{◌<◌, map, length, get_or, Global, arith, sym, ap, ◌∙◌, inl, inr}
 use Rattle.std.specs.String.{string_bytes}
 use Rattle.std.specs.Cmp.Lexicographic.{other_text}
 use Rattle.std.proofs.lemmas.Option.{slice_get-get_or}
-use Rattle.bn_words.specs.Forms.{row_of}
 use Rattle.bn_words.specs.declared.form.Form.TheVariants.{Step}
 use Rattle.bn_words.proofs.FormLemmas.{forms, none_at_all, none_at_first, none_more, not_of_form}
 use Rattle.bn_words.proofs.request.read_words.Goals as goal

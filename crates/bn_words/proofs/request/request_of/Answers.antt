@@ -1,4 +1,4 @@
-use Rattle.std.proofs.Common.{◌≡◌, ◌≤◌, ◌<◌, Global, length, map, take, refl, rules, arith, sym, subst, ap}
+use Rattle.std.proofs.Common.{◌≤◌, Global, length, map, take, refl, rules, arith, sym, subst}
 use Rattle.std.specs.String.{string_bytes}
 use Rattle.bn_words.specs.Arguments.{HaveNoArguments, argument_of}
 use Rattle.bn_words.specs.Forms.{row_of}
