@@ -1,0 +1,3 @@
+mod LayoutLemmas
+mod WireLemmas
+mod KeptLemmas

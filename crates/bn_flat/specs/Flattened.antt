@@ -13,6 +13,7 @@ use Rattle.bn_net.specs.Parts.{Parts}
 use Rattle.bn_column.specs.Nets.{rotary_circuit}
 use Rattle.bn_modules.specs.Networks.{IsTape}
 use Rattle.bn_control.specs.Controlled.{Controlled}
+use Rattle.bn_control.specs.declared.make.TheConstants.{MOST_SYMBOLS}
 use Rattle.bn_boards.specs.Boards.{IsBoard, board_start}
 use Rattle.bn_layout.specs.Layouts.{Layout, elements_of, end_place, letters_at, lines_at}
 use Rattle.bn_assembly.specs.Assembled.{Assembled, AreSmall, network_of}
@@ -44,21 +45,22 @@ pub record IsSameBoard (a b : Flattened) : Type 0 where
 
 -- ---- what a layout keeps
 
--- a first command is sent from one of the control's states by one of its lines
+-- a first command is sent from one of the control's states by one of its lines to a tape
 abbrev pub IsFirstWithin : Layout → Option (ℕ × ℕ) → Type 0
 IsFirstWithin b None = Unit {0}
-IsFirstWithin b (Some f) = (f.0 < b.states) × (f.1 < lines_at b)
+IsFirstWithin b (Some f) = (f.0 < b.states) × (1 ≤ f.1) × (f.1 < lines_at b)
 
 -- a tape that is awaited is one of the three
 abbrev pub IsAwaitedWithin : Option (ℕ × ℕ) → Type 0
 IsAwaitedWithin None = Unit {0}
 IsAwaitedWithin (Some p) = IsTape p.1
 
--- Its numbers are small: the windows, the symbols, at least one on each tape, and the elements in all; the control has a state, and its lists fit it.
+-- Its numbers are small: the windows, the symbols, of which each tape has one or more, and the elements in all; the control has a state, and its lists fit it.
 pub record IsLayoutKept (b : Layout) : Type 0 where
   pub small : AreSmall b.limits
   pub tapes : length b.symbols ≡ 3
   pub some_symbols : All (λ z. 1 ≤ z) b.symbols
+  pub few_symbols : All (λ z. z ≤ MOST_SYMBOLS) b.symbols
   pub some_states : 0 < b.states
   pub few : elements_of b ≤ MOST_ELEMENTS
   pub firsts : All (IsFirstWithin b) b.firsts

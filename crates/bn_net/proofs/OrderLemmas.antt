@@ -81,12 +81,15 @@ in_order-same [] (y ∷ ys) first second alike = absurd (let none = alike y.from
 in_order-same (x ∷ xs) [] first second alike = absurd (let none = alike x.from in let some = target-here x xs in cc)
 in_order-same (x ∷ xs) (y ∷ ys) first second alike =
     elim (line_cases x.from y.from) [
-      | inl low ↦ absurd (let some = target-here x xs in let none = target-first x.from (y ∷ ys) (low, first_joins x.from y.from ys low second.0) in let both = alike x.from in cc)
+      | inl low ↦ absurd (let some = target-here x xs in let none = target-first x.from (y ∷ ys) (low, first_joins x.from y.from ys low second.0) in let
+      both = alike x.from in cc)
       | inr other ↦
           (elim other [
-            | inl high ↦ absurd (let some = target-here y ys in let none = target-first y.from (x ∷ xs) (high, first_joins y.from x.from xs high first.0) in let both = alike y.from in cc)
+            | inl high ↦ absurd (let some = target-here y ys in let none = target-first y.from (x ∷ xs) (high, first_joins y.from x.from xs high first.0) in
+            let both = alike y.from in cc)
             | inr same ↦
-                (let some : Some x.to ≡ Some y.to = sym (target-here x xs) ∙ alike x.from ∙ subst (λ a. target (y ∷ ys) a ≡ Some y.to) (sym same) (target-here y ys) in
+                (let some : Some x.to ≡ Some y.to = sym (target-here x xs) ∙ alike x.from ∙ subst (λ a. target (y ∷ ys) a ≡ Some y.to) (sym same)
+                (target-here y ys) in
                 let to : x.to ≡ y.to = cc in
                 let rest = in_order-same xs ys first.1 second.1 (tails same) in
                 ap (λ w. w ∷ xs) (same_wires x y same to) ∙ ap (λ ws. y ∷ ws) rest)
@@ -105,7 +108,8 @@ in_order-same (x ∷ xs) (y ∷ ys) first second alike =
 
 -- ---- the wires of rows
 
-row_first : (a : Line) (e l : ℕ) (row : List (Option Line)) (ws : List Wire) → a.element ≡ e → a.line < l → ComesFirst a ws → ComesFirst a (wires_of_row e l row ++ ws)
+row_first : (a : Line) (e l : ℕ) (row : List (Option Line)) (ws : List Wire) → a.element ≡ e → a.line < l → ComesFirst a ws
+    → ComesFirst a (wires_of_row e l row ++ ws)
 row_first a e l [] ws same low first = first
 row_first a e l (None ∷ row) ws same low first = row_first a e (suc l) row ws same (omega arith) first
 row_first a e l (Some to ∷ row) ws same low first = (inr (same, low), row_first a e (suc l) row ws same (omega arith) first)
@@ -119,7 +123,8 @@ rows_first : (a : Line) (e : ℕ) (rows : Rows) → a.element < e → ComesFirst
 rows_first a e [] low = tt
 rows_first a e (row ∷ rows) low = later_row_first a e 0 row (wires_of (suc e) rows) low (rows_first a (suc e) rows (omega arith))
 
-row_in_order : (e l : ℕ) (row : List (Option Line)) (ws : List Wire) → ((a : Line) → a.element ≡ e → ComesFirst a ws) → AreInOrder ws → AreInOrder (wires_of_row e l row ++ ws)
+row_in_order : (e l : ℕ) (row : List (Option Line)) (ws : List Wire) → ((a : Line) → a.element ≡ e → ComesFirst a ws) → AreInOrder ws
+    → AreInOrder (wires_of_row e l row ++ ws)
 row_in_order e l [] ws first rest = rest
 row_in_order e l (None ∷ row) ws first rest = row_in_order e (suc l) row ws first rest
 row_in_order e l (Some to ∷ row) ws first rest =
@@ -133,5 +138,6 @@ rows_in_order e (row ∷ rows) =
     row_in_order e 0 row (wires_of (suc e) rows) (λ a same. rows_first a (suc e) rows (omega arith)) (rows_in_order (suc e) rows)
 
 -- so are those of a net
-pub view-AreInOrder : {E : Type 0} (elements : List E) (targets : Rows) (now : Parts E) → record { elements = elements; wires = wires_of 0 targets } ≡ now → AreInOrder now.wires
+pub view-AreInOrder : {E : Type 0} (elements : List E) (targets : Rows) (now : Parts E) → record { elements = elements; wires = wires_of 0 targets } ≡ now
+    → AreInOrder now.wires
 view-AreInOrder {E} elements targets now is = subst (λ (n : Parts E). AreInOrder n.wires) is (rows_in_order 0 targets)

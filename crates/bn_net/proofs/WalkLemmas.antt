@@ -56,7 +56,8 @@ walk_goes k c d e made old mid new walked goes good hears =
     record {
       reaches = runs_more (Goes k) made c d e walked.reaches goes;
       good = good;
-      heard = subst (λ ts. Hears old ts new) (sym (places_more k made (made + 1) c d e refl walked.reaches goes)) (hears-joins old mid new (places k made c) (e.place ∷ []) walked.heard hears);
+      heard = subst (λ ts. Hears old ts new) (sym (places_more k made (made + 1) c d e refl walked.reaches goes))
+      (hears-joins old mid new (places k made c) (e.place ∷ []) walked.heard hears);
     }
 
 -- at the end all places were told
@@ -95,14 +96,28 @@ pub walk_back_starts : (k : Circuit) (c : Config) (told : Option (List Place)) �
 walk_back_starts k c told good =
     record { reaches = refl; good = good; heard = subst (λ ts. Hears told ts told) (sym (places_back-zero k c)) (hears-nothing told) }
 
-pub walk_goes_back : (k : Circuit) → IsCircuit k → (c d e : Config) (made : ℕ) (old mid new : Option (List Place)) → HasWalkedBack k c d made old mid → Goes k e d
+pub walk_goes_back : (k : Circuit) → IsCircuit k → (c d e : Config) (made : ℕ) (old mid new : Option (List Place)) → HasWalkedBack k c d made old mid
+    → Goes k e d
     → IsConfig k e → Hears mid (e.place ∷ []) new → HasWalkedBack k c e (made + 1) old new
 walk_goes_back k circuit c d e made old mid new walked goes good hears =
     let turned = runs_turned (Goes k) made d c walked.reaches in
     record {
       reaches = runs_join (Goes k) (made + 1) 1 made e d c (omega arith) (d, goes, refl) walked.reaches;
       good = good;
-      heard = subst (λ ts. Hears old ts new) (sym (places_back_more k circuit made (made + 1) c d e refl turned goes)) (hears-joins old mid new (places_back k made c) (e.place ∷ []) walked.heard hears);
+      heard = subst (λ ts. Hears old ts new) (sym (places_back_more k circuit made (made + 1) c d e refl turned goes))
+      (hears-joins old mid new (places_back k made c) (e.place ∷ []) walked.heard hears);
+    }
+
+-- a first step back, and then more
+pub walk_back_then : (k : Circuit) → IsCircuit k → (c d e : Config) (n m : ℕ) (old mid new : Option (List Place)) → m ≡ n + 1 → Goes k d c
+    → Hears old (d.place ∷ []) mid → HasWalkedBack k d e n mid new → HasWalkedBack k c e m old new
+walk_back_then k circuit c d e n m old mid new sum goes first rest =
+    let count : suc n ≡ m = omega arith in
+    record {
+      reaches = runs_join (Goes k) m n 1 e d c sum rest.reaches (c, goes, refl);
+      good = rest.good;
+      heard = subst (λ ts. Hears old ts new) (sym (places_back-Goes k circuit d c n goes) ∙ ap (λ i. places_back k i c) count)
+      (hears-joins old mid new (d.place ∷ []) (places_back k n d) first rest.heard);
     }
 
 pub walk_back_ends : (k : Circuit) → IsCircuit k → (c d : Config) (made t : ℕ) (old new : Option (List Place)) → HasWalkedBack k c d made old new → made ≤ t

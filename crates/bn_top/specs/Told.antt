@@ -5,9 +5,8 @@ use Rattle.bn_io.specs.Faults.{Rose}
 use Rattle.bn_io.specs.Told.{Loses, Grows, GrowsByFront}
 use Rattle.bn_net.specs.Watching.{Hears}
 use Rattle.bn_top.specs.Answers.{Answers, usage_text, read_fault_text}
-use Rattle.bn_top.specs.declared.status.Status.{Status}
-use Rattle.bn_top.specs.declared.status.Status.TheVariants.{Usage, WriteFault, NoMemory}
-use Rattle.bn_top.specs.Replying.{IsUnfinished}
+use Rattle.bn_reply.specs.declared.status.Status.{Status}
+use Rattle.bn_reply.specs.declared.status.Status.TheVariants.{Usage, WriteFault}
 
 -- The answer was given whole: the sink took its text, and the watch heard its places.
 pub record IsAnswered (words : List (List ℕ)) (bytes : List ℕ) (status : Status) (taken took : Option (List ℕ)) (told heard : Option (List Place)) : Type 0 where
@@ -49,9 +48,3 @@ pub record IsReadFaultCut (before now : ℕ) (taken took : Option (List ℕ)) (t
 -- the source gave more bytes than the limit
 abbrev pub GaveMore : Option (List ℕ) → Option (List ℕ) → ℕ → Type 0
 GaveMore old new limit = (piece : List ℕ) × Loses old new piece × (limit < length piece)
-
--- How the answer of a command to its input ends: given whole; cut short by the sink; or not given, for want of memory.
-pub data AnswerEnds (replies : Status → List ℕ → List Place → Type 0) (result : Status) (taken took : Option (List ℕ)) (before now : ℕ) (told heard : Option (List Place)) : Type 0 where
-  whole : (text : List ℕ) (places : List Place) → replies result text places → Grows taken took text → Hears told places heard → AnswerEnds replies result taken took before now told heard
-  cut : result ≡ WriteFault → Rose before now → (status : Status) (text : List ℕ) (places : List Place) → replies status text places → GrowsByFront taken took text → Hears told places heard → AnswerEnds replies result taken took before now told heard
-  wanting : result ≡ NoMemory → took ≡ taken → IsUnfinished replies told heard → AnswerEnds replies result taken took before now told heard

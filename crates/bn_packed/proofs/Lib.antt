@@ -1,0 +1,3 @@
+pub mod BarLemmas
+pub mod EndLemmas
+pub mod StepLemmas

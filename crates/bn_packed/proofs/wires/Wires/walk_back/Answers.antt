@@ -1,0 +1,15 @@
+use Rattle.std.proofs.Common.{sym, subst}
+use Rattle.bn_theory.specs.Circuits.{IsFirst}
+use Rattle.bn_column.specs.Nets.{rotary_circuit}
+use Rattle.bn_packed.specs.PackedNets.{net_in, config_at}
+use Rattle.bn_packed.proofs.wires.Wires.walk_back.Goals as goal
+
+pub returns-in-Narrow-clause-ended : goal.returns-in-Narrow-clause-ended
+returns-in-Narrow-clause-ended g c fewer =
+    subst (λ w. IsFirst (rotary_circuit (net_in w)) (config_at c.walk_back.new.bars c.walk_back.result.place c.walk_back.result.steps)) (sym c.in-Narrow.is)
+    (c.walk_back.ensures.ended fewer)
+
+pub returns-in-Wide-clause-ended : goal.returns-in-Wide-clause-ended
+returns-in-Wide-clause-ended g c fewer =
+    subst (λ w. IsFirst (rotary_circuit (net_in w)) (config_at c.walk_back-in-Wide.new.bars c.walk_back-in-Wide.result.place
+    c.walk_back-in-Wide.result.steps)) (sym c.in-Wide.is) (c.walk_back-in-Wide.ensures.ended fewer)

@@ -1,0 +1,31 @@
+-- Bars of rotary elements, kept as bits and crossed by the signal.
+use Rattle.std.specs.Prelude.{ℕ, ◌+◌, ◌-◌, ◌/◌, ◌%◌, ◌<◌, ◌≡◌, List, map, slice_get, slice_set, slice_index, Option, Some, option_and_then}
+use Rattle.std.specs.List.{range_with_len}
+use Rattle.std.specs.Int.{bit_at}
+use Rattle.bn_element.specs.Rotary.{rotary}
+
+-- the bar of element e among words of 64 bits
+abbrev pub bar_in : List ℕ → ℕ → ℕ
+bar_in words e = bit_at (slice_index words (e / 64)) (e % 64)
+
+-- the first n bars
+abbrev pub bars_of : List ℕ → ℕ → List ℕ
+bars_of words n = map (bar_in words) (range_with_len 0 n)
+
+-- each state is one of a bar
+abbrev pub AreBars : List ℕ → Type 0
+AreBars states = (e q : ℕ) → slice_get states e ≡ Some q → q < 2
+
+-- the bars after that of element e was turned
+abbrev pub turned : List ℕ → ℕ → Option (List ℕ)
+turned bars e = option_and_then (λ q. Some (slice_set bars e (1 - q))) (slice_get bars e)
+
+-- the bars after the signal came into element e by this line, and the line by which it goes out
+abbrev pub crossed : List ℕ → ℕ → ℕ → Option (List ℕ × ℕ)
+crossed bars e i = option_and_then (λ q. option_and_then (λ m. Some (slice_set bars e m.0, m.1)) (rotary.go q i))
+    (slice_get bars e)
+
+-- the bars before the signal went out of element e by this line, and the line by which it had come in
+abbrev pub crossed_back : List ℕ → ℕ → ℕ → Option (List ℕ × ℕ)
+crossed_back bars e o = option_and_then (λ r. option_and_then (λ m. Some (slice_set bars e m.0, m.1))
+    (rotary.back r o)) (slice_get bars e)

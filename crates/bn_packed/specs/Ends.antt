@@ -1,0 +1,60 @@
+-- How a packed netlist keeps its wires: for each line the line at the other end, in the order of the lines' numbers. Line l of element e has number 4 * e + l.
+use Rattle.std.specs.Prelude.{◌≡◌, ℕ, ◌+◌, ◌*◌, ◌/◌, ◌%◌, ◌^◌, ◌<◌, ◌==◌, nat_lt, ◌↔◌, if◌then◌else◌, List, [], ◌∷◌, length, map, replicate, Option, Some, None, slice_get}
+use Rattle.bn_theory.specs.declared.line.Line.{Line}
+use Rattle.bn_element.specs.declared.rotary.Rotary.{Rotary}
+use Rattle.bn_net.specs.Rows.{Rows, entry, wires_of}
+use Rattle.bn_net.specs.Parts.{Parts}
+
+-- the line with this number
+abbrev pub line_of : ℕ → Line
+line_of n = record { element = n / 4; line = n % 4 }
+
+-- the line is one of the four of one of so many elements
+pub record IsLineBelow (elements : ℕ) (l : Line) : Type 0 where
+  pub element : l.element < elements
+  pub line : l.line < 4
+
+-- what a number of 32 bits tells: the greatest one that there is no wire
+abbrev pub narrow_end : ℕ → Option Line
+narrow_end cell = if cell == 4294967295 then None else Some (line_of cell)
+
+-- what a number of 64 bits tells: one past all lines that there is no wire
+abbrev pub wide_end : ℕ → Option Line
+wide_end cell = if nat_lt 4294967295 (cell / 4) then None else Some (line_of cell)
+
+-- the ends of wires that lead to so many elements
+pub record EndList : Type 0 where
+  pub elements : ℕ
+  pub ends : List (Option Line)
+
+-- the ends of the first n lines are what f tells of them
+pub record AreEnds (f : Line → Option Line) (n : ℕ) (ends : List (Option Line)) : Type 0 where
+  pub count : length ends ≡ n
+  pub each : (i : ℕ) → i < n → slice_get ends i ≡ Some (f (line_of i))
+
+-- the ends of all lines of so many elements are what f tells of them
+pub record AreEndsOf (f : Line → Option Line) (n : ℕ) (e : EndList) : Type 0 where
+  pub elements : e.elements ≡ n
+  pub ends : AreEnds f (4 * n) e.ends
+
+-- the ends in rows of four, a row an element
+abbrev pub rows_of : List (Option Line) → Rows
+rows_of (north ∷ east ∷ south ∷ west ∷ ends) = (north ∷ east ∷ south ∷ west ∷ []) ∷ rows_of ends
+rows_of _ = []
+
+-- so many rotary elements
+abbrev pub rotaries : ℕ → List Rotary
+rotaries n = replicate n (record {})
+
+-- the net of these ends
+abbrev pub net_of : EndList → Parts Rotary
+net_of targets = record { elements = rotaries targets.elements; wires = wires_of 0 (rows_of targets.ends) }
+
+-- The ends are those of the same wires, kept both ways: four for each of the elements, and an output line leads to an input line exactly where that one comes from it.
+pub record IsWiring (targets sources : EndList) : Type 0 where
+  pub same : sources.elements ≡ targets.elements
+  pub few : targets.elements < 2 ^ 32
+  pub all_targets : length targets.ends ≡ 4 * targets.elements
+  pub all_sources : length sources.ends ≡ 4 * targets.elements
+  pub paired : (from to : Line)
+      → (entry (rows_of targets.ends) from ≡ Some to) ↔ (entry (rows_of sources.ends) to ≡ Some from)

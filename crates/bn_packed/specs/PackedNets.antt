@@ -1,0 +1,22 @@
+-- A packed netlist as contracts see it.
+use Rattle.std.specs.Prelude.{ℕ, List}
+use Rattle.bn_theory.specs.declared.place.Place.{Place}
+use Rattle.bn_theory.specs.declared.config.Config.{Config}
+use Rattle.bn_element.specs.declared.rotary.Rotary.{Rotary}
+use Rattle.bn_net.specs.Parts.{Parts}
+use Rattle.bn_packed.specs.declared.wires.Wires.{Wires}
+use Rattle.bn_packed.specs.declared.wires.Wires.TheVariants.{Narrow, Wide}
+
+-- a net of rotary elements, and a configuration of it
+pub record PackedNet : Type 0 where
+  pub net : Parts Rotary
+  pub config : Config
+
+-- the configuration with these bars, the signal at this place, after so many steps
+abbrev pub config_at : List ℕ → Place → ℕ → Config
+config_at bars place steps = record { states = bars; place = place; steps = steps }
+
+-- the net whose wires these are, in numbers of whatever size
+abbrev pub net_in : Wires → Parts Rotary
+net_in (Narrow net) = net
+net_in (Wide net) = net

@@ -1,0 +1,170 @@
+//! The bars of rotary elements, one bit each.
+
+ghost use Rattle.std.specs.Prelude.{◌≡◌, ℕ, ◌<◌, ◌≤◌, List, length, map, replicate, Some, IfOk, slice_get, slice_set};
+ghost use Rattle.bn_packed.specs.Bars.{AreBars, turned, crossed, crossed_back};
+
+use bn_element::{EAST, HORIZONTAL, NORTH, SOUTH, VERTICAL, WEST};
+use bn_net::NoMemory;
+use std::alloc::Global;
+use std::marker::Model;
+
+/// The bars of elements, 64 in a word: a bit is 1 where the bar lies along north and south. Clauses
+/// see the list of states.
+#[derive(Debug, Drop)]
+pub(crate) struct Bars {
+    count: usize,
+    words: Vec<u64>,
+}
+
+impl Model for Bars {
+    ghost use Rattle.std.specs.Prelude.{ℕ, ◌+◌, ◌*◌, ◌≤◌, List, length};
+    ghost use Rattle.bn_packed.specs.Bars.{bars_of};
+
+    ghost Value = { List ℕ };
+
+    ghost view = { λ b. bars_of b.words.items b.count };
+
+    ghost invariant = { λ b. b.count ≤ 64 * length b.words.items };
+}
+
+impl Bars {
+    /// The bars in these states.
+    pub(crate) fn of(alloc: Global, states: &[u32]) -> Result<Bars, NoMemory>
+        requires { AreBars states.now }
+        ensures { IfOk result (λ b. b ≡ states.now) }
+    {
+        let mut bars = Bars::horizontal(alloc, states.len())?;
+        for element in 0..states.len() {
+            bars.set(element, states[element]);
+        }
+        Ok(bars)
+    }
+
+    /// The states of the bars.
+    pub(crate) fn to_states(&self, alloc: Global) -> Result<Vec<u32>, NoMemory>
+        ensures { IfOk result (λ v. v.items ≡ self.now) }
+    {
+        let Ok(mut states) = Vec::with_capacity(alloc, self.count) else {
+            return Err(NoMemory);
+        };
+        for element in 0..self.count {
+            states.push(self.get(element)).map_err(|_| NoMemory)?;
+        }
+        Ok(states)
+    }
+
+    /// The state of an element's bar.
+    pub(crate) fn get(&self, element: usize) -> u32
+        requires { element < length self.now }
+        ensures bar { slice_get self.now element ≡ Some result }
+        ensures range { result < 2 }
+    {
+        ((self.words[element / 64] >> (element % 64)) & 1) as u32
+    }
+
+    /// Lets the signal cross an element from this line, and answers the output line. The bar turns
+    /// where the signal comes across it.
+    #[tactic(auto, using(bn_column::specs::Crossing::set_same))]
+    pub(crate) fn cross(&mut self, element: usize, line: u32) -> u32
+        requires element { element < length self.old }
+        requires line { line < 4 }
+        ensures { crossed self.old element line ≡ Some (self.new, result) }
+    {
+        match (self.get(element), line) {
+            (HORIZONTAL, NORTH) => {
+                self.turn(element);
+                WEST
+            }
+            (HORIZONTAL, EAST) => WEST,
+            (HORIZONTAL, SOUTH) => {
+                self.turn(element);
+                EAST
+            }
+            (HORIZONTAL, WEST) => EAST,
+            (VERTICAL, NORTH) => SOUTH,
+            (VERTICAL, EAST) => {
+                self.turn(element);
+                NORTH
+            }
+            (VERTICAL, SOUTH) => NORTH,
+            (VERTICAL, WEST) => {
+                self.turn(element);
+                SOUTH
+            }
+            _ => unreachable!(),
+        }
+    }
+
+    /// Takes the signal's crossing of an element back from the output line, and answers the line by
+    /// which it came.
+    #[tactic(auto, using(bn_column::specs::Crossing::set_same))]
+    pub(crate) fn cross_back(&mut self, element: usize, line: u32) -> u32
+        requires element { element < length self.old }
+        requires line { line < 4 }
+        ensures { crossed_back self.old element line ≡ Some (self.new, result) }
+    {
+        match (self.get(element), line) {
+            (HORIZONTAL, NORTH) => {
+                self.turn(element);
+                EAST
+            }
+            (HORIZONTAL, EAST) => WEST,
+            (HORIZONTAL, SOUTH) => {
+                self.turn(element);
+                WEST
+            }
+            (HORIZONTAL, WEST) => EAST,
+            (VERTICAL, NORTH) => SOUTH,
+            (VERTICAL, EAST) => {
+                self.turn(element);
+                SOUTH
+            }
+            (VERTICAL, SOUTH) => NORTH,
+            (VERTICAL, WEST) => {
+                self.turn(element);
+                NORTH
+            }
+            _ => unreachable!(),
+        }
+    }
+
+    /// The same bars once more.
+    pub(crate) fn copy(&self, alloc: Global) -> Result<Bars, NoMemory>
+        ensures { IfOk result (λ b. b ≡ self.now) }
+    {
+        let words = self.words.as_slice().to_vec(alloc).map_err(|_| NoMemory)?;
+        Ok(Bars {
+            count: self.count,
+            words,
+        })
+    }
+
+    // So many bars along west and east.
+    fn horizontal(alloc: Global, count: usize) -> Result<Bars, NoMemory>
+        ensures { IfOk result (λ b. b ≡ replicate count 0) }
+    {
+        let Ok(words) = vec![in alloc; 0; count.div_ceil(64)] else {
+            return Err(NoMemory);
+        };
+        Ok(Bars { count, words })
+    }
+
+    // Gives a bar that lies along west and east this state.
+    fn set(&mut self, element: usize, state: u32)
+        requires bar { slice_get self.old element ≡ Some 0 }
+        requires state { state < 2 }
+        ensures { self.new ≡ slice_set self.old element state }
+    {
+        if state == VERTICAL {
+            self.turn(element);
+        }
+    }
+
+    // Turns an element's bar.
+    fn turn(&mut self, element: usize)
+        requires { element < length self.old }
+        ensures { turned self.old element ≡ Some self.new }
+    {
+        self.words[element / 64] ^= 1 << (element % 64);
+    }
+}

@@ -1,0 +1,109 @@
+//! The other end of a line's wire as one number.
+
+ghost use Rattle.std.specs.Prelude.{◌≡◌, ◌+◌, ◌*◌, ◌/◌, ◌^◌, ◌<◌, IfSome};
+ghost use Rattle.bn_packed.specs.Ends.{line_of, narrow_end, wide_end, IsLineBelow};
+
+use bn_net::Line;
+
+/// The number of lines of an element, in and out.
+pub(crate) const LINES: u32 = 4;
+
+/// The greatest number of elements whose lines have numbers of 32 bits, with one number left for
+/// `LOOSE`.
+pub(crate) const NARROW: u32 = 1_073_741_823;
+
+/// What stands for no wire among numbers of 32 bits.
+const LOOSE: u32 = 4_294_967_295;
+
+/// What stands for no wire among numbers of 64 bits.
+const WIDE_LOOSE: u64 = 18_446_744_073_709_551_615;
+
+/// A number that tells the other end of a line's wire, or that there is no wire.
+pub(crate) trait Cell: Copy {
+    ghost use Rattle.std.specs.Prelude.{ℕ, Option};
+    ghost use Rattle.bn_theory.specs.declared.line.Line.{Line};
+
+    /// What it tells.
+    ghost tells: { Self → Option Line };
+
+    /// The number of elements whose lines it can tell.
+    ghost limit: { ℕ };
+
+    /// The number that tells this end.
+    fn pack(end: Option<Line>) -> Self
+        requires { IfSome end (IsLineBelow limit) }
+        ensures { tells result ≡ end };
+
+    /// The end that it tells.
+    fn end(self) -> Option<Line>
+        ensures { result ≡ tells self };
+}
+
+impl Cell for u32 {
+    ghost use Rattle.bn_packed.specs.Ends.{narrow_end};
+
+    ghost tells = { narrow_end };
+
+    ghost limit = { 1073741823 };
+
+    fn pack(end: Option<Line>) -> u32 {
+        match end {
+            Some(line) => LINES * line.element + line.line,
+            None => LOOSE,
+        }
+    }
+
+    fn end(self) -> Option<Line> {
+        if self == LOOSE {
+            return None;
+        }
+        Some(Line {
+            element: self / LINES,
+            line: self % LINES,
+        })
+    }
+}
+
+impl Cell for u64 {
+    ghost use Rattle.bn_packed.specs.Ends.{wide_end};
+
+    ghost tells = { wide_end };
+
+    ghost limit = { 4294967296 };
+
+    fn pack(end: Option<Line>) -> u64 {
+        match end {
+            Some(line) => u64::from(LINES) * u64::from(line.element) + u64::from(line.line),
+            None => WIDE_LOOSE,
+        }
+    }
+
+    fn end(self) -> Option<Line> {
+        let element = self / u64::from(LINES);
+        if element > u64::from(u32::MAX) {
+            return None;
+        }
+        Some(Line {
+            element: element as u32,
+            line: (self % u64::from(LINES)) as u32,
+        })
+    }
+}
+
+/// The number of a line among those of all elements, element by element.
+pub(crate) fn line_number(line: Line) -> usize
+    ensures { result ≡ 4 * line.element + line.line }
+{
+    LINES as usize * line.element as usize + line.line as usize
+}
+
+/// The line with this number.
+pub(crate) fn line_of(number: usize) -> Line
+    requires { number / 4 < 2 ^ 32 }
+    ensures { result ≡ line_of number }
+{
+    Line {
+        element: (number / LINES as usize) as u32,
+        line: (number % LINES as usize) as u32,
+    }
+}

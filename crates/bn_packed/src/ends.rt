@@ -1,0 +1,89 @@
+//! The other ends of the wires of all lines, in one array.
+
+ghost use Rattle.std.specs.Prelude.{◌≡◌, ℕ, ◌+◌, ◌*◌, ◌<◌, ◌≤◌, List, [], ◌∷◌, ◌++◌, length, Some, IfOk, IfSome, OnOk, slice_get};
+
+use crate::cells::{Cell, LINES, line_number};
+use bn_net::{Line, NoMemory};
+use std::alloc::Global;
+use std::marker::Model;
+
+/// For each line, in the order of the lines' numbers, the line at the other end of its wire. Clauses
+/// see the number of elements that these ends may name, and the list of ends.
+#[derive(Debug, Drop)]
+pub(crate) struct Ends<C: Cell> {
+    elements: u32,
+    cells: Vec<C>,
+}
+
+impl<C: Cell> Model for Ends<C> {
+    ghost use Rattle.std.specs.Prelude.{map, ◌≤◌};
+    ghost use Rattle.bn_packed.specs.Ends.{EndList};
+
+    ghost Value = { EndList };
+
+    ghost view = { λ m. record { elements = m.elements; ends = map C.tells m.cells.items } };
+
+    ghost invariant = { λ m. m.elements ≤ C.limit };
+}
+
+impl<C: Cell> Ends<C> {
+    ghost use Rattle.bn_packed.specs.Ends.{EndList, IsLineBelow};
+
+    /// No ends yet, with room for those of so many elements.
+    pub(crate) fn with_room(alloc: Global, elements: u32) -> Result<Ends<C>, NoMemory>
+        requires { elements ≤ C.limit }
+        ensures elements { IfOk result (λ m. m.elements ≡ elements) }
+        ensures ends { IfOk result (λ m. m.ends ≡ []) }
+    {
+        let lines = LINES as usize * elements as usize;
+        let Ok(cells) = Vec::with_capacity(alloc, lines) else {
+            return Err(NoMemory);
+        };
+        Ok(Ends { elements, cells })
+    }
+
+    /// The number of elements.
+    pub(crate) fn elements(&self) -> u32
+        ensures { result ≡ self.now.elements }
+    {
+        self.elements
+    }
+
+    /// The other end of this line's wire.
+    pub(crate) fn get(&self, line: Line) -> Option<Line>
+        requires { 4 * line.element + line.line < length self.now.ends }
+        ensures { slice_get self.now.ends (4 * line.element + line.line) ≡ Some result }
+    {
+        self.cells[line_number(line)].end()
+    }
+
+    /// Adds the end of the next line's wire.
+    pub(crate) fn push(&mut self, end: Option<Line>) -> Result<(), NoMemory>
+        requires { IfSome end (IsLineBelow self.old.elements) }
+        ensures elements { self.new.elements ≡ self.old.elements }
+        ensures ends { OnOk result (self.new.ends ≡ self.old.ends ++ end ∷ []) }
+    {
+        match self.cells.push(C::pack(end)) {
+            Ok(()) => Ok(()),
+            Err(_) => Err(NoMemory),
+        }
+    }
+
+    /// The same ends once more.
+    pub(crate) fn copy(&self, alloc: Global) -> Result<Ends<C>, NoMemory>
+        ensures { IfOk result (λ m. m ≡ self.now) }
+    {
+        let Ok(mut cells) = Vec::with_capacity(alloc, self.cells.len()) else {
+            return Err(NoMemory);
+        };
+        for cell in &self.cells {
+            if cells.push(*cell).is_err() {
+                return Err(NoMemory);
+            }
+        }
+        Ok(Ends {
+            elements: self.elements,
+            cells,
+        })
+    }
+}

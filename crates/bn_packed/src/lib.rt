@@ -1,0 +1,18 @@
+//! Packed netlists: a net of rotary elements and a configuration of it, kept so that a step waits for
+//! memory once.
+#![tactic(auto)]
+
+mod bars;
+mod cells;
+mod ends;
+mod packed;
+mod signal;
+mod walk;
+mod wires;
+mod wiring;
+
+pub use bn_net::NoMemory;
+pub use packed::Packed;
+
+#[cfg(test)]
+mod tests;

@@ -1,0 +1,218 @@
+//! Packed netlists.
+
+ghost use Rattle.std.specs.Prelude.{◌≡◌, ◌+◌, ◌<◌, ◌≤◌, length, Some, IfOk, slice_get};
+ghost use Rattle.std.specs.Bool.{OnTrue, OnFalse};
+ghost use Rattle.bn_theory.specs.Runs.{Reaches};
+ghost use Rattle.bn_theory.specs.Circuits.{IsCircuit, IsConfig, IsOutput, Goes, IsStuck, IsFirst, target};
+ghost use Rattle.bn_theory.specs.Stepping.{run, back, places, places_back};
+ghost use Rattle.bn_net.specs.Watching.{Hears};
+ghost use Rattle.bn_column.specs.Nets.{rotary_circuit};
+
+use crate::bars::Bars;
+use crate::signal::Signal;
+use crate::wires::Wires;
+use bn_element::Rotary;
+use bn_net::{CLOCK, Config, Line, Net, NoMemory, Place, Quiet, States, Watch};
+use std::alloc::Global;
+use std::marker::Model;
+
+/// A net of rotary elements with a configuration of it, packed: one bit a bar, and one number of 32
+/// bits an output line and an input line, in nets of fewer than 2 to the power 30 elements (in larger
+/// ones one of 64 bits). Elements and lines are counted from 0. Clauses see the net and the
+/// configuration.
+#[derive(Debug, Drop)]
+pub struct Packed {
+    wires: Wires,
+    bars: Bars,
+    signal: Signal,
+}
+
+impl Model for Packed {
+    ghost use Rattle.bn_theory.specs.Circuits.{IsConfig};
+    ghost use Rattle.bn_column.specs.Nets.{rotary_circuit};
+    ghost use Rattle.bn_packed.specs.PackedNets.{PackedNet, net_in, config_at};
+
+    ghost Value = { PackedNet };
+
+    ghost view = { λ p. record { net = net_in p.wires; config = config_at p.bars p.signal.place p.signal.steps } };
+
+    ghost invariant = { λ p. IsConfig (rotary_circuit (net_in p.wires)) (config_at p.bars p.signal.place p.signal.steps) };
+}
+
+impl Packed {
+    /// Packs the net and the configuration.
+    pub fn from_net(alloc: Global, net: &Net<Rotary>, config: &Config) -> Result<Packed, NoMemory>
+        requires { IsConfig (rotary_circuit net.now) config.now }
+        ensures net { IfOk result (λ p. p.net ≡ net.now) }
+        ensures config { IfOk result (λ p. p.config ≡ config.now) }
+    {
+        let wires = Wires::of(alloc, net)?;
+        let bars = Bars::of(alloc, config.states.as_slice())?;
+        Ok(Packed {
+            wires,
+            bars,
+            signal: Signal {
+                place: config.place,
+                steps: config.steps,
+            },
+        })
+    }
+
+    /// The configuration.
+    pub fn to_config(&self, alloc: Global) -> Result<Config, NoMemory>
+        ensures config { IfOk result (λ c. c ≡ self.now.config) }
+        ensures good { IsConfig (rotary_circuit self.now.net) self.now.config }
+    {
+        let states = self.bars.to_states(alloc)?;
+        Ok(Config {
+            states: States::new(states),
+            place: self.signal.place,
+            steps: self.signal.steps,
+        })
+    }
+
+    /// The number of elements. Its contract also tells what all packed netlists keep.
+    pub fn len(&self) -> u32
+        ensures number { result ≡ length self.now.net.elements }
+        ensures circuit { IsCircuit (rotary_circuit self.now.net) }
+        ensures good { IsConfig (rotary_circuit self.now.net) self.now.config }
+    {
+        self.wires.len()
+    }
+
+    /// Where the signal is.
+    pub fn place(&self) -> Place
+        ensures { result ≡ self.now.config.place }
+    {
+        self.signal.place
+    }
+
+    /// The element steps made so far, at most `CLOCK`.
+    pub fn steps(&self) -> u64
+        ensures { result ≡ self.now.config.steps }
+    {
+        self.signal.steps
+    }
+
+    /// The state of an element's bar, `HORIZONTAL` or `VERTICAL`.
+    pub fn bar(&self, element: u32) -> u32
+        requires { element < length self.now.net.elements }
+        ensures { slice_get self.now.config.states element ≡ Some result }
+    {
+        self.bars.get(element as usize)
+    }
+
+    /// The input line to which the wire of this output line leads, `None` exactly where no wire
+    /// leaves it.
+    pub fn target(&self, from: Line) -> Option<Line>
+        requires { IsOutput (rotary_circuit self.now.net).tables from }
+        ensures { result ≡ target self.now.net.wires from }
+    {
+        self.wires.target(from)
+    }
+
+    /// The same packed netlist once more.
+    pub fn copy(&self, alloc: Global) -> Result<Packed, NoMemory>
+        ensures { IfOk result (λ p. p ≡ self.now) }
+    {
+        let wires = self.wires.copy(alloc)?;
+        let bars = self.bars.copy(alloc)?;
+        Ok(Packed {
+            wires,
+            bars,
+            signal: self.signal,
+        })
+    }
+
+    /// Makes one element step. `false` exactly where none can be made, and then nothing changed: the
+    /// signal has left, or the steps are `CLOCK`. Takes no memory.
+    pub fn step(&mut self) -> bool
+        ensures net { self.new.net ≡ self.old.net }
+        ensures made { OnTrue result (Goes (rotary_circuit self.old.net) self.old.config self.new.config) }
+        ensures kept { OnFalse result (self.new.config ≡ self.old.config) }
+        ensures stuck { OnFalse result (IsStuck (rotary_circuit self.old.net) self.old.config) }
+        ensures good { IsConfig (rotary_circuit self.old.net) self.new.config }
+    {
+        self.run(1) == 1
+    }
+
+    /// Takes one element step back. `false` exactly where no step led here, and then nothing
+    /// changed: the steps are 0, or no wire feeds the input line. Takes no memory.
+    pub fn back_step(&mut self) -> bool
+        ensures net { self.new.net ≡ self.old.net }
+        ensures made { OnTrue result (Goes (rotary_circuit self.old.net) self.new.config self.old.config) }
+        ensures kept { OnFalse result (self.new.config ≡ self.old.config) }
+        ensures first { OnFalse result (IsFirst (rotary_circuit self.old.net) self.old.config) }
+        ensures good { IsConfig (rotary_circuit self.old.net) self.new.config }
+    {
+        self.run_back(1) == 1
+    }
+
+    /// Makes at most `e` element steps and answers how many: fewer only where none can be made from
+    /// where it ends. Takes no memory.
+    pub fn run(&mut self, e: u64) -> u64
+        ensures net { self.new.net ≡ self.old.net }
+        ensures bound { result ≤ e }
+        ensures made { Reaches (Goes (rotary_circuit self.old.net)) result self.old.config self.new.config }
+        ensures ended { result < e → IsStuck (rotary_circuit self.old.net) self.new.config }
+        ensures run { self.new.config ≡ run (rotary_circuit self.old.net) self.old.config e }
+        ensures undone { back (rotary_circuit self.old.net) self.new.config result ≡ self.old.config }
+        ensures good { IsConfig (rotary_circuit self.old.net) self.new.config }
+    {
+        self.run_watched(e, &mut Quiet)
+    }
+
+    /// Takes at most `e` element steps back and answers how many: fewer only where no step led to
+    /// where it ends. Takes no memory.
+    pub fn run_back(&mut self, e: u64) -> u64
+        ensures net { self.new.net ≡ self.old.net }
+        ensures bound { result ≤ e }
+        ensures made { Reaches (Goes (rotary_circuit self.old.net)) result self.new.config self.old.config }
+        ensures ended { result < e → IsFirst (rotary_circuit self.old.net) self.new.config }
+        ensures back { self.new.config ≡ back (rotary_circuit self.old.net) self.old.config e }
+        ensures undone { run (rotary_circuit self.old.net) self.new.config result ≡ self.old.config }
+        ensures good { IsConfig (rotary_circuit self.old.net) self.new.config }
+    {
+        self.run_back_watched(e, &mut Quiet)
+    }
+
+    /// Makes at most `e` element steps, as `run` does, and tells the watch the place after each.
+    /// Takes no memory.
+    pub fn run_watched<W: Watch>(&mut self, e: u64, watch: &mut W) -> u64
+        ensures net { self.new.net ≡ self.old.net }
+        ensures bound { result ≤ e }
+        ensures made { Reaches (Goes (rotary_circuit self.old.net)) result self.old.config self.new.config }
+        ensures ended { result < e → IsStuck (rotary_circuit self.old.net) self.new.config }
+        ensures run { self.new.config ≡ run (rotary_circuit self.old.net) self.old.config e }
+        ensures undone { back (rotary_circuit self.old.net) self.new.config result ≡ self.old.config }
+        ensures good { IsConfig (rotary_circuit self.old.net) self.new.config }
+        ensures told { Hears (W.told watch.old) (places (rotary_circuit self.old.net) e self.old.config) (W.told watch.new) }
+    {
+        let _elements = self.wires.len();
+        let before = self.signal.steps;
+        let count = e.min(CLOCK - before);
+        self.signal = self.wires.walk(&mut self.bars, self.signal, count, watch);
+        self.signal.steps - before
+    }
+
+    /// Takes at most `e` element steps back, as `run_back` does, and tells the watch the place after
+    /// each. Takes no memory.
+    pub fn run_back_watched<W: Watch>(&mut self, e: u64, watch: &mut W) -> u64
+        ensures net { self.new.net ≡ self.old.net }
+        ensures bound { result ≤ e }
+        ensures made { Reaches (Goes (rotary_circuit self.old.net)) result self.new.config self.old.config }
+        ensures ended { result < e → IsFirst (rotary_circuit self.old.net) self.new.config }
+        ensures back { self.new.config ≡ back (rotary_circuit self.old.net) self.old.config e }
+        ensures undone { run (rotary_circuit self.old.net) self.new.config result ≡ self.old.config }
+        ensures good { IsConfig (rotary_circuit self.old.net) self.new.config }
+        ensures told { Hears (W.told watch.old) (places_back (rotary_circuit self.old.net) e self.old.config) (W.told watch.new) }
+    {
+        let _elements = self.wires.len();
+        let before = self.signal.steps;
+        let count = e.min(before);
+        self.signal = self
+            .wires
+            .walk_back(&mut self.bars, self.signal, count, watch);
+        before - self.signal.steps
+    }
+}

@@ -1,0 +1,150 @@
+//! Steps of the signal, one after another, with no test of the clock among them.
+
+ghost use Rattle.std.specs.Prelude.{◌≡◌, ◌+◌, ◌-◌, ◌<◌, ◌≤◌};
+ghost use Rattle.bn_theory.specs.Circuits.{IsConfig, IsStuck, IsFirst, clock};
+ghost use Rattle.bn_theory.specs.declared.place.Place.TheVariants.{Enter, Left};
+ghost use Rattle.bn_net.specs.Walking.{HasWalked, HasWalkedBack};
+ghost use Rattle.bn_column.specs.Nets.{rotary_circuit};
+ghost use Rattle.bn_packed.specs.PackedNets.{config_at};
+
+use crate::bars::Bars;
+use crate::cells::Cell;
+use crate::signal::Signal;
+use crate::wiring::Wiring;
+use bn_net::{Line, Place, Watch};
+
+/// Makes at most `count` steps, for which the clock has room, and tells the watch the place after
+/// each.
+pub(crate) fn walk<C: Cell, W: Watch>(
+    wiring: &Wiring<C>,
+    bars: &mut Bars,
+    signal: Signal,
+    count: u64,
+    watch: &mut W,
+) -> Signal
+    requires good { IsConfig (rotary_circuit wiring.now) (config_at bars.old signal.place signal.steps) }
+    requires room { signal.steps + count ≤ clock }
+    ensures forward { signal.steps ≤ result.steps }
+    ensures limit { result.steps ≤ signal.steps + count }
+    ensures walked { HasWalked (rotary_circuit wiring.now) (config_at bars.old signal.place signal.steps) (config_at bars.new result.place result.steps) (result.steps - signal.steps) (W.told watch.old) (W.told watch.new) }
+    ensures ended { result.steps < signal.steps + count → IsStuck (rotary_circuit wiring.now) (config_at bars.new result.place result.steps) }
+{
+    let _elements = wiring.len();
+    let Place::Enter { element, line } = signal.place else {
+        return signal;
+    };
+    let mut at_line = Line { element, line };
+    for made in 0..count {
+        let from = Line {
+            element: at_line.element,
+            line: bars.cross(at_line.element as usize, at_line.line),
+        };
+        let Some(to) = wiring.target(from) else {
+            let place = left_by(from);
+            watch.enter(&place);
+            return Signal {
+                place,
+                steps: signal.steps + made + 1,
+            };
+        };
+        watch.enter(&entering(to));
+        at_line = to;
+    }
+    Signal {
+        place: entering(at_line),
+        steps: signal.steps + count,
+    }
+}
+
+/// Takes at most `count` steps back, which have been counted, and tells the watch the place after
+/// each.
+pub(crate) fn walk_back<C: Cell, W: Watch>(
+    wiring: &Wiring<C>,
+    bars: &mut Bars,
+    signal: Signal,
+    count: u64,
+    watch: &mut W,
+) -> Signal
+    requires good { IsConfig (rotary_circuit wiring.now) (config_at bars.old signal.place signal.steps) }
+    requires counted { count ≤ signal.steps }
+    ensures backward { result.steps ≤ signal.steps }
+    ensures limit { signal.steps ≤ result.steps + count }
+    ensures walked { HasWalkedBack (rotary_circuit wiring.now) (config_at bars.old signal.place signal.steps) (config_at bars.new result.place result.steps) (signal.steps - result.steps) (W.told watch.old) (W.told watch.new) }
+    ensures ended { signal.steps < result.steps + count → IsFirst (rotary_circuit wiring.now) (config_at bars.new result.place result.steps) }
+{
+    let _elements = wiring.len();
+    match signal.place {
+        Place::Enter { element, line } => {
+            let to = Line { element, line };
+            walk_back_from(wiring, bars, to, signal.steps, count, watch)
+        }
+        Place::Left { element, line } => {
+            if count == 0 {
+                return signal;
+            }
+            let to = Line {
+                element,
+                line: bars.cross_back(element as usize, line),
+            };
+            watch.enter(&entering(to));
+            walk_back_from(wiring, bars, to, signal.steps - 1, count - 1, watch)
+        }
+    }
+}
+
+// The same from the place where the signal is about to enter this line, after so many steps.
+fn walk_back_from<C: Cell, W: Watch>(
+    wiring: &Wiring<C>,
+    bars: &mut Bars,
+    to: Line,
+    steps: u64,
+    count: u64,
+    watch: &mut W,
+) -> Signal
+    requires good { IsConfig (rotary_circuit wiring.now) (config_at bars.old (Enter to.element to.line) steps) }
+    requires counted { count ≤ steps }
+    ensures backward { result.steps ≤ steps }
+    ensures limit { steps ≤ result.steps + count }
+    ensures walked { HasWalkedBack (rotary_circuit wiring.now) (config_at bars.old (Enter to.element to.line) steps) (config_at bars.new result.place result.steps) (steps - result.steps) (W.told watch.old) (W.told watch.new) }
+    ensures ended { steps < result.steps + count → IsFirst (rotary_circuit wiring.now) (config_at bars.new result.place result.steps) }
+{
+    let _elements = wiring.len();
+    let mut at_line = to;
+    for made in 0..count {
+        let Some(from) = wiring.source(at_line) else {
+            return Signal {
+                place: entering(at_line),
+                steps: steps - made,
+            };
+        };
+        at_line = Line {
+            element: from.element,
+            line: bars.cross_back(from.element as usize, from.line),
+        };
+        watch.enter(&entering(at_line));
+    }
+    Signal {
+        place: entering(at_line),
+        steps: steps - count,
+    }
+}
+
+// The signal is about to enter this line.
+fn entering(to: Line) -> Place
+    ensures { result ≡ Enter to.element to.line }
+{
+    Place::Enter {
+        element: to.element,
+        line: to.line,
+    }
+}
+
+// The signal has left by this line.
+fn left_by(from: Line) -> Place
+    ensures { result ≡ Left from.element from.line }
+{
+    Place::Left {
+        element: from.element,
+        line: from.line,
+    }
+}

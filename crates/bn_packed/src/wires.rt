@@ -1,0 +1,112 @@
+//! The wires of a net in numbers of the size that its lines need.
+
+ghost use Rattle.std.specs.Prelude.{◌≡◌, ◌+◌, ◌-◌, ◌<◌, ◌≤◌, length, IfOk};
+ghost use Rattle.bn_theory.specs.Circuits.{IsCircuit, IsConfig, IsOutput, IsStuck, IsFirst, target, clock};
+ghost use Rattle.bn_net.specs.Walking.{HasWalked, HasWalkedBack};
+ghost use Rattle.bn_column.specs.Nets.{rotary_circuit};
+ghost use Rattle.bn_packed.specs.PackedNets.{net_in, config_at};
+
+use crate::bars::Bars;
+use crate::cells::NARROW;
+use crate::signal::Signal;
+use crate::walk::{walk, walk_back};
+use crate::wiring::Wiring;
+use bn_element::Rotary;
+use bn_net::{Line, Net, NoMemory, Watch};
+use std::alloc::Global;
+
+/// The wires of a net of rotary elements, in 32 bits a line where these are enough, or else in 64.
+#[derive(Debug, Drop)]
+pub(crate) enum Wires {
+    Narrow(Wiring<u32>),
+    Wide(Wiring<u64>),
+}
+
+impl Wires {
+    /// The wires of this net.
+    pub(crate) fn of(alloc: Global, net: &Net<Rotary>) -> Result<Wires, NoMemory>
+        ensures { IfOk result (λ w. net_in w ≡ net.now) }
+    {
+        if net.len() <= NARROW {
+            Ok(Wires::Narrow(Wiring::of(alloc, net)?))
+        } else {
+            Ok(Wires::Wide(Wiring::of(alloc, net)?))
+        }
+    }
+
+    /// The number of elements. Its contract also tells what all wires keep.
+    pub(crate) fn len(&self) -> u32
+        ensures number { result ≡ length (net_in self.now).elements }
+        ensures circuit { IsCircuit (rotary_circuit (net_in self.now)) }
+    {
+        match self {
+            Wires::Narrow(wiring) => wiring.len(),
+            Wires::Wide(wiring) => wiring.len(),
+        }
+    }
+
+    /// The input line to which the wire of this output line leads.
+    pub(crate) fn target(&self, from: Line) -> Option<Line>
+        requires { IsOutput (rotary_circuit (net_in self.now)).tables from }
+        ensures { result ≡ target (net_in self.now).wires from }
+    {
+        match self {
+            Wires::Narrow(wiring) => wiring.target(from),
+            Wires::Wide(wiring) => wiring.target(from),
+        }
+    }
+
+    /// The same wires once more.
+    pub(crate) fn copy(&self, alloc: Global) -> Result<Wires, NoMemory>
+        ensures { IfOk result (λ w. net_in w ≡ net_in self.now) }
+    {
+        match self {
+            Wires::Narrow(wiring) => Ok(Wires::Narrow(wiring.copy(alloc)?)),
+            Wires::Wide(wiring) => Ok(Wires::Wide(wiring.copy(alloc)?)),
+        }
+    }
+
+    /// Makes at most `count` steps, for which the clock has room, and tells the watch the place after
+    /// each.
+    pub(crate) fn walk<W: Watch>(
+        &self,
+        bars: &mut Bars,
+        signal: Signal,
+        count: u64,
+        watch: &mut W,
+    ) -> Signal
+        requires good { IsConfig (rotary_circuit (net_in self.now)) (config_at bars.old signal.place signal.steps) }
+        requires room { signal.steps + count ≤ clock }
+        ensures forward { signal.steps ≤ result.steps }
+        ensures limit { result.steps ≤ signal.steps + count }
+        ensures walked { HasWalked (rotary_circuit (net_in self.now)) (config_at bars.old signal.place signal.steps) (config_at bars.new result.place result.steps) (result.steps - signal.steps) (W.told watch.old) (W.told watch.new) }
+        ensures ended { result.steps < signal.steps + count → IsStuck (rotary_circuit (net_in self.now)) (config_at bars.new result.place result.steps) }
+    {
+        match self {
+            Wires::Narrow(wiring) => walk(wiring, bars, signal, count, watch),
+            Wires::Wide(wiring) => walk(wiring, bars, signal, count, watch),
+        }
+    }
+
+    /// Takes at most `count` steps back, which have been counted, and tells the watch the place after
+    /// each.
+    pub(crate) fn walk_back<W: Watch>(
+        &self,
+        bars: &mut Bars,
+        signal: Signal,
+        count: u64,
+        watch: &mut W,
+    ) -> Signal
+        requires good { IsConfig (rotary_circuit (net_in self.now)) (config_at bars.old signal.place signal.steps) }
+        requires counted { count ≤ signal.steps }
+        ensures backward { result.steps ≤ signal.steps }
+        ensures limit { signal.steps ≤ result.steps + count }
+        ensures walked { HasWalkedBack (rotary_circuit (net_in self.now)) (config_at bars.old signal.place signal.steps) (config_at bars.new result.place result.steps) (signal.steps - result.steps) (W.told watch.old) (W.told watch.new) }
+        ensures ended { signal.steps < result.steps + count → IsFirst (rotary_circuit (net_in self.now)) (config_at bars.new result.place result.steps) }
+    {
+        match self {
+            Wires::Narrow(wiring) => walk_back(wiring, bars, signal, count, watch),
+            Wires::Wide(wiring) => walk_back(wiring, bars, signal, count, watch),
+        }
+    }
+}

@@ -1,0 +1,116 @@
+//! The wires of a net of rotary elements, kept both ways.
+
+ghost use Rattle.std.specs.Prelude.{◌≡◌, ◌+◌, ◌*◌, ◌^◌, ◌<◌, ◌≤◌, List, [], length, map, Some, IfOk, IfSome, slice_get};
+ghost use Rattle.bn_theory.specs.Circuits.{IsCircuit, IsInput, IsOutput, target, source};
+ghost use Rattle.bn_theory.specs.declared.line.Line.{Line};
+ghost use Rattle.bn_column.specs.Nets.{rotary_circuit};
+ghost use Rattle.bn_packed.specs.Ends.{AreEndsOf};
+
+use crate::cells::{Cell, LINES, line_of};
+use crate::ends::Ends;
+use bn_element::Rotary;
+use bn_net::{Line, Net, NoMemory};
+use std::alloc::Global;
+use std::marker::Model;
+
+/// The wires of a net of rotary elements: where each output line leads, and where each input line
+/// comes from. Clauses see the net.
+#[derive(Debug, Drop)]
+pub(crate) struct Wiring<C: Cell> {
+    targets: Ends<C>,
+    sources: Ends<C>,
+}
+
+impl<C: Cell> Model for Wiring<C> {
+    ghost use Rattle.bn_element.specs.declared.rotary.Rotary.{Rotary};
+    ghost use Rattle.bn_net.specs.Parts.{Parts};
+    ghost use Rattle.bn_packed.specs.Ends.{net_of, IsWiring};
+
+    ghost Value = { Parts Rotary };
+
+    ghost view = { λ w. net_of w.targets };
+
+    ghost invariant = { λ w. IsWiring w.targets w.sources };
+}
+
+impl<C: Cell> Wiring<C> {
+    /// The wires of this net.
+    pub(crate) fn of(alloc: Global, net: &Net<Rotary>) -> Result<Wiring<C>, NoMemory>
+        requires { length net.now.elements ≤ C.limit }
+        ensures { IfOk result (λ w. w ≡ net.now) }
+    {
+        // What every net keeps: its wires are one to one, and in order.
+        let _elements = net.len();
+        let targets = targets_of(alloc, net)?;
+        let sources = sources_of(alloc, net)?;
+        Ok(Wiring { targets, sources })
+    }
+
+    /// The number of elements. Its contract also tells what all wirings keep.
+    pub(crate) fn len(&self) -> u32
+        ensures number { result ≡ length self.now.elements }
+        ensures circuit { IsCircuit (rotary_circuit self.now) }
+    {
+        self.targets.elements()
+    }
+
+    /// The input line to which the wire of this output line leads.
+    pub(crate) fn target(&self, from: Line) -> Option<Line>
+        requires { IsOutput (rotary_circuit self.now).tables from }
+        ensures line { result ≡ target self.now.wires from }
+        ensures input { IfSome result (IsInput (rotary_circuit self.now).tables) }
+    {
+        let _elements = self.len();
+        self.targets.get(from)
+    }
+
+    /// The output line from which the wire of this input line comes.
+    pub(crate) fn source(&self, to: Line) -> Option<Line>
+        requires { IsInput (rotary_circuit self.now).tables to }
+        ensures line { result ≡ source self.now.wires to }
+        ensures output { IfSome result (IsOutput (rotary_circuit self.now).tables) }
+    {
+        let _elements = self.len();
+        self.sources.get(to)
+    }
+
+    /// The same wires once more.
+    pub(crate) fn copy(&self, alloc: Global) -> Result<Wiring<C>, NoMemory>
+        ensures { IfOk result (λ w. w ≡ self.now) }
+    {
+        let targets = self.targets.copy(alloc)?;
+        let sources = self.sources.copy(alloc)?;
+        Ok(Wiring { targets, sources })
+    }
+}
+
+// Where each output line of the net leads.
+fn targets_of<C: Cell>(alloc: Global, net: &Net<Rotary>) -> Result<Ends<C>, NoMemory>
+    requires { length net.now.elements ≤ C.limit }
+    ensures { IfOk result (AreEndsOf (target net.now.wires) (length net.now.elements)) }
+{
+    let mut ends = Ends::with_room(alloc, net.len())?;
+    for number in 0..line_count(net) {
+        ends.push(net.target(line_of(number)))?;
+    }
+    Ok(ends)
+}
+
+// Where each input line of the net comes from.
+fn sources_of<C: Cell>(alloc: Global, net: &Net<Rotary>) -> Result<Ends<C>, NoMemory>
+    requires { length net.now.elements ≤ C.limit }
+    ensures { IfOk result (AreEndsOf (source net.now.wires) (length net.now.elements)) }
+{
+    let mut ends = Ends::with_room(alloc, net.len())?;
+    for number in 0..line_count(net) {
+        ends.push(net.source(line_of(number)))?;
+    }
+    Ok(ends)
+}
+
+// The number of output lines, and of input lines.
+fn line_count(net: &Net<Rotary>) -> usize
+    ensures { result ≡ 4 * length net.now.elements }
+{
+    LINES as usize * net.len() as usize
+}
