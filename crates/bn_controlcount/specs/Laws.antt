@@ -29,13 +29,17 @@ without_shift p = count_by (λ q. stays q.shift) p.quints
 
 -- how many states other than the start are no quintuple's next, and how many other than the final are no quintuple's state
 abbrev pub never_entered : Program → ℕ
-never_entered p = count_by (λ j. not (j == start_of p.quints) && not (is_entered p.quints j)) (range_with_len 0 p.states)
+never_entered p =
+    count_by (λ j. not (j == start_of p.quints) && not (is_entered p.quints j)) (range_with_len 0 p.states)
 
 abbrev pub never_left : Program → ℕ
-never_left p = count_by (λ j. not (j == final_of p.quints) && not (is_left p.quints j)) (range_with_len 0 p.states)
+never_left p =
+    count_by (λ j. not (j == final_of p.quints) && not (is_left p.quints j)) (range_with_len 0 p.states)
 
 -- the states of the control of a machine's translation are so many
 abbrev pub ControlsAreCounted : Type 0
 ControlsAreCounted =
-    (p : Program) (t : Translation) (names : List ControlState) → IsStandardMachine p → FitsTable p → IsTranslation p t → IsNumbering t.machine names
-    → length names + 2 * without_shift p + never_entered p + never_left p ≡ 12 * length p.quints + 4 * (p.states - 1) + 8 * p.symbols + 16
+    (p : Program) (t : Translation) (names : List ControlState)
+    → IsStandardMachine p → FitsTable p → IsTranslation p t → IsNumbering t.machine names
+    → length names + 2 * without_shift p + never_entered p + never_left p
+    ≡ 12 * length p.quints + 4 * (p.states - 1) + 8 * p.symbols + 16

@@ -50,7 +50,8 @@ ReadsTell p a (q ∷ l) = (is_reader p a ≡ true) × (symbols_in l ≡ later p 
 
 abbrev pub WritesTell : Program → Name → List (ℕ × ℕ) → Type 0
 WritesTell p a [] = Unit {0}
-WritesTell p a (q ∷ l) = (is_written p a ≡ true) × (q.0 ≡ low a) × (symbols_in (reverse (q ∷ l)) ≡ earlier p a q.1 ++ q.1 ∷ [])
+WritesTell p a (q ∷ l) =
+    (is_written p a ≡ true) × (q.0 ≡ low a) × (symbols_in (reverse (q ∷ l)) ≡ earlier p a q.1 ++ q.1 ∷ [])
 
 -- the states of a quadruple tell of it
 pub record Tells (p : Program) (r : Rule Name) : Type 0 where
