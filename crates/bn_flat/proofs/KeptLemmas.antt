@@ -42,6 +42,12 @@ line_within (x ∷ y ∷ z ∷ []) (suc (suc (suc zero))) o three tape low = (om
 line_within (x ∷ y ∷ z ∷ []) (suc (suc (suc (suc t)))) o three tape low = absurd (let last = tape.high in omega arith)
 line_within (x ∷ y ∷ z ∷ w ∷ zs) t o three tape low = absurd (omega arith)
 
+offset_low : (m : Quadruples) (t o : ℕ) → IsTape t → o < letters m t + 3 → o < slice_index m.symbols (t - 1) + 3
+offset_low m zero o tape low = absurd (let first = tape.low in omega arith)
+offset_low m (suc t) o tape low =
+    let index : t ≡ suc t - 1 = omega arith in
+    subst (λ i. o < slice_index m.symbols i + 3) index low
+
 module _ (a : Assembled) (v : Controlled) (kept : IsKept a) (here : slice_get a.net.elements 0 ≡ Some (Control v)) where
   control : IsControlOf kept.machine kept.names v
   control = one_control kept.machine a.limits kept.word kept.names a v kept.assembled here
@@ -63,15 +69,11 @@ module _ (a : Assembled) (v : Controlled) (kept : IsKept a) (here : slice_get a.
           let states = states_are in
           let low = slice_get_within kept.names q k.0 at in
           let offset : command_offset (letters kept.machine command.tape) command.line < slice_index kept.machine.symbols (command.tape - 1) + 3 =
-              offset_low command.tape command.is_tape (let same = number.0 in let few = number.1 in omega arith) in
+          offset_low kept.machine command.tape (command_offset (letters kept.machine command.tape) command.line) command.is_tape (let same = number.0 in let few = number.1 in omega arith) in
           let within = line_within kept.machine.symbols command.tape (command_offset (letters kept.machine command.tape) command.line) kept.is_machine.tapes command.is_tape offset in
           let out : out_number kept.machine k.1 ≡ lines_before kept.machine.symbols (command.tape - 1) + command_offset (letters kept.machine command.tape) command.line = ap (out_number kept.machine) command.is in
           let lines : lines_at (layout_of a v) ≡ lines_before kept.machine.symbols 3 = ap (λ zs. lines_before zs 3) control.symbols in
           (omega arith, (let first = within.0 in omega arith), (let last = within.1 in omega arith))
-
-      offset_low : (t : ℕ) → IsTape t → {o : ℕ} → o < letters kept.machine t + 3 → o < slice_index kept.machine.symbols (t - 1) + 3
-      offset_low zero tape low = absurd (let first = tape.low in omega arith)
-      offset_low (suc t) tape low = subst (λ i. _ < slice_index kept.machine.symbols i + 3) (omega arith) low
 
   pub kept-layout : All IsTapeAwaited v.awaited → IsLayoutKept (layout_of a v)
   kept-layout tapes = record {
