@@ -56,4 +56,5 @@ pub record TellsAwaited (m : Quadruples) (q : ControlState) (o : Option (ℕ × 
 -- so do these for as many states as there are of them
 pub record AreAwaited (m : Quadruples) (ss : List State) (os : List (Option (ℕ × ℕ))) : Type 0 where
   pub counted : length os ≡ length ss
-  pub each : (n : ℕ) (x : State) (o : Option (ℕ × ℕ)) → slice_get ss n ≡ Some x → slice_get os n ≡ Some o → TellsAwaited m (name_of x) o
+  pub each : (n : ℕ) (x : State) (o : Option (ℕ × ℕ)) → slice_get ss n ≡ Some x → slice_get os n ≡ Some o
+      → TellsAwaited m (name_of x) o

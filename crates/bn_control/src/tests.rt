@@ -123,3 +123,72 @@ fn first_commands_and_stuck_reads_are_told(rt: HostRuntime) -> Result<(), Fail> 
     assert_eq!(rt; asked(&control, 3, 11), None);
     Ok(())
 }
+
+// Twenty thousand quadruples: two for each of 4,000 quintuples of 44 states and 91 letters, ahead and back, and 4,000
+// that shift every tape.
+fn greatest(alloc: Global) -> Result<Uniform, Fail>
+    ensures { IfOk result IsWithinLimits }
+{
+    let blank = Some(0);
+    let stay = Act::Write(0);
+    let mut quads = Vec::new(alloc);
+    for m in 0..4_000u32 {
+        let letter = m % 91;
+        let work = [Some(letter), None, blank];
+        let history = [None, blank, None];
+        let within = m.wrapping_add(44);
+        let next = (m % 43).wrapping_add(1);
+        quads.push(quad(m / 91, work, [Act::Write(letter), RIGHT, stay], within))?;
+        quads.push(quad(
+            within,
+            history,
+            [RIGHT, Act::Write(m.wrapping_add(1)), STAY],
+            next,
+        ))?;
+    }
+    for i in 0..4_000u32 {
+        let state = i.wrapping_add(8_088);
+        quads.push(quad(
+            state,
+            [None, None, None],
+            [RIGHT, LEFT, RIGHT],
+            state.wrapping_add(1),
+        ))?;
+    }
+    for k in 0..4_000u32 {
+        let m = 3_999u32.wrapping_sub(k);
+        let letter = m % 91;
+        let history = [None, Some(m.wrapping_add(1)), None];
+        let within = m.wrapping_add(4_088);
+        let next = (m % 43).wrapping_add(4_045);
+        quads.push(quad(next, history, [LEFT, stay, STAY], within))?;
+        quads.push(quad(
+            within,
+            [Some(letter), None, blank],
+            [Act::Write(letter), LEFT, stay],
+            (m / 91).wrapping_add(4_044),
+        ))?;
+    }
+    if quads.len() > 20_000 {
+        return Err(Fail::from("too many quadruples"));
+    }
+    let Ok(machine) = QuadMachine::try_new(quads, 12_089, [91, 4_001, 91]) else {
+        return Err(Fail::from("no machine"));
+    };
+    match machine.into_uniform() {
+        Ok(machine) => Ok(machine),
+        Err(_) => Err(Fail::from("not uniform")),
+    }
+}
+
+#[test]
+fn the_control_of_twenty_thousand_quadruples_is_made(rt: HostRuntime) -> Result<(), Fail> {
+    let machine = greatest(rt.alloc())?;
+    assert_eq!(rt; machine.machine().quads().len(), 20_000);
+    let Ok(control) = control(rt.alloc(), &machine) else {
+        return Err(Fail::from("no control"));
+    };
+    assert_eq!(rt; control.rsm().states(), 60_177);
+    assert_eq!(rt; control.rsm().lines_in(), 4_193);
+    Ok(())
+}
