@@ -119,3 +119,10 @@ module _ (tells : List ℕ → Status → List ℕ → List Place → Type 0) (t
 pub foreign_replies : (tells : List ℕ → Status → List ℕ → List Place → Type 0) (t : Named) (word : List ℕ) (reply : Reply) → IsForeign t word reply →
     WordReplies tells t word reply.status reply.text.items []
 foreign_replies tells t word reply h = foreign h.place h.first h.told h.refused refl
+
+-- what is answered to a word that these symbols spell is what is answered to them
+pub word_tells : (tells : List ℕ → Status → List ℕ → List Place → Type 0) (t : Named) → IsTable t → (word symbols : List ℕ) (s : Status) (text : List ℕ)
+    (told : List Place) → IsSpelledBy t word symbols → WordReplies tells t word s text told → tells symbols s text told
+word_tells tells t table word symbols s text told is (foreign p h told_is e n) = absurd (not_foreign t table word symbols p is h)
+word_tells tells t table word symbols s text told is (spelled ys k answer) =
+    subst (λ (zs : List ℕ). tells zs s text told) (spelled_once t table word ys symbols k is) answer
