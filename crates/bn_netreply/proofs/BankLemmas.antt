@@ -81,7 +81,7 @@ module _ (m : Machine) (state row : ℕ) (state_in : state < m.states) (row_in :
           let low : e < elements_of m = subst (λ n. e < n) whole inside in
           let bottom : bottom_at 0 m.lines state < elements_of m = (let b = bottom_inside m.states m.lines state state_in in omega arith) in
           subst (λ ts. q < states_of ts e) (sym tables) (rw (rotary_states (elements_of m) e low)
-              (bar_low (elements_of m) (bottom_at 0 m.lines state) e q bottom h))
+          (bar_low (elements_of m) (bottom_at 0 m.lines state) e q bottom h))
 
   -- the line by which the signal comes out is a line of the bank
   exit_low : (o : Option (ℕ × ℕ)) → (machine_table m).go state row ≡ o →
@@ -117,7 +117,7 @@ module _ (m : Machine) (state row : ℕ) (state_in : state < m.states) (row_in :
       no_target (Some to) is =
           let wire = (h.wires s.end to).0 is in
           absurd (no_exit_wire 0 (machine_table m) (machine_table-IsReversible m) state row to state_in row_in refl
-              (subst (λ from. IsBankWire 0 (machine_table m) from to) h.end wire))
+          (subst (λ from. IsBankWire 0 (machine_table m) from to) h.end wire))
 
   -- each bank that isn't too large has a spelling
   pub bank_spelled : elements_of m ≤ most_elements → (s : Spelling) × IsBankSpelling m state row s × Spelled s (text_of s)
@@ -130,8 +130,14 @@ module _ (m : Machine) (state row : ℕ) (state_in : state < m.states) (row_in :
         start = input_line 0 row;
         end = exit_after 0 (machine_table m) state row ((machine_table m).go state row);
       } in
-      let bank : IsBankSpelling m state row s = record { elements = refl; wires = λ from to.
-          (ws.1.sound from to, ws.1.complete from to); config = refl; start = refl; end = refl } in
+      let bank : IsBankSpelling m state row s = record {
+        elements = refl;
+        wires = λ from to.
+            (ws.1.sound from to, ws.1.complete from to);
+        config = refl;
+        start = refl;
+        end = refl;
+      } in
       let circuit : IsCircuit (circuit_of s) = record {
         reversible = λ e t at. rotary_reversible (elements_of m) e t at;
         one_to_one = apart-IsOneToOne ws.0 ws.1.apart;

@@ -92,7 +92,7 @@ module _ (goes : Circuit → Config → Config) (tells : Circuit → Config → 
   unwritten c bytes d told heard gone =
       told_some Done (text_of (moved_to (spelling_of c) d)) (tells (circuit (λ _. rotary) c.net) c.config) (tells (circuit (λ _. rotary) c.net) c.config) []
       (walked (gone_walk c bytes d told heard (text_of (moved_to (spelling_of c) d)) gone refl) refl)
-          (sym (append-nil (tells (circuit (λ _. rotary) c.net) c.config))) gone.hears
+      (sym (append-nil (tells (circuit (λ _. rotary) c.net) c.config))) gone.hears
 
 -- the configuration that was read is one of the net's circuit
 pub read-IsConfig : (c : NetConfig) (bytes : List ℕ) → Spelled (spelling_of c) bytes → IsConfig (circuit (λ _. rotary) c.net) c.config
@@ -124,9 +124,9 @@ module _ (goes : Circuit → Config → Config) (tells : Circuit → Config → 
       let t = b.spelling in
       let same = spellings-agree s t bytes a.spelled b.spelled in
       let gone : goes (circuit_of s) s.config ≡ goes (circuit_of t) t.config = goes-alike (circuit_of s) (circuit_of t) (alike s t same) s.config
-          ∙ ap (goes (circuit_of t)) same.config in
+      ∙ ap (goes (circuit_of t)) same.config in
       let tale : tells (circuit_of s) s.config ≡ tells (circuit_of t) t.config = tells-alike (circuit_of s) (circuit_of t) (alike s t same) s.config
-          ∙ ap (tells (circuit_of t)) same.config in
+      ∙ ap (tells (circuit_of t)) same.config in
       (a.written ∙ text-alike s t (goes (circuit_of s) s.config) same ∙ ap (λ c. text_of (moved_to t c)) gone ∙ sym b.written, a.places ∙ tale ∙ sym b.places)
 
   walked_or_not : (bytes text second : List ℕ) (told : List Place) → Walked goes tells bytes text told → Misspelled bytes second → ⊥

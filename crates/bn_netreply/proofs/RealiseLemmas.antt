@@ -46,7 +46,7 @@ same_bank : (m : Machine) (state row : ℕ) (s t : Spelling) → IsBankSpelling 
 same_bank m state row s t h k =
     same_text s t (h.elements ∙ sym k.elements)
     (λ from. same_targets (target s.wires from) (target t.wires from) (λ to is. (k.wires from to).1 ((h.wires from to).0 is))
-        (λ to is. (h.wires from to).1 ((k.wires from to).0 is)))
+    (λ to is. (h.wires from to).1 ((k.wires from to).0 is)))
     (h.config ∙ sym k.config) (h.start ∙ sym k.start) (h.end ∙ sym k.end)
 
 not_lacking : (m : Machine) (q i : ℕ) (text : List ℕ) → LacksPlace m q i text → q ≤ m.states → i ≤ m.lines → ⊥
@@ -96,11 +96,20 @@ bank_to_all m q i some_state some_row = by_state (cases_lt m.states q)
     by_count there row (inr few) =
         let state = less_one q some_state in
         let line = less_one i some_row in
-        let place : IsPlaceOf m q i state.0 line.0 = record { state_is = state.1; row_is = line.1; state_in = omega (arith, state.1); row_in = omega
-            (arith, line.1) } in
-        let found = bank_spelled m state.0 line.0 place.state_in place.row_in few in
-        (statuses.Done, text_of found.0, [], bank (record
-            { state = state.0; row = line.0; place = place; spelling = found.0; bank = found.1; spelled = found.2 }) refl refl)
+        let place : IsPlaceOf m q i state.0 line.0 = record {
+          state_is = state.1;
+          row_is = line.1;
+          state_in = omega (arith, state.1);
+          row_in = omega
+              (arith, line.1);
+        } in
+        let found = bank_spelled m state.0 line.0 place.state_in place.row_in few in (
+          statuses.Done,
+          text_of found.0,
+          [],
+          bank (record
+              { state = state.0; row = line.0; place = place; spelling = found.0; bank = found.1; spelled = found.2 }) refl refl,
+        )
 
     by_line : q ≤ m.states → (m.lines < i) ⊎ (i ≤ m.lines) → HasAnswer (BankReplies m q i)
     by_line there (inl low) = (statuses.Word, _, [], lacking (no_line there low refl) refl refl)
@@ -117,7 +126,7 @@ clash_once bytes a b h k =
     let same : h.clashes.found ≡ k.clashes.found = one_reading (entries_of bytes) h.clashes.found k.clashes.found h.clashes.reads k.clashes.reads in
     let moved = subst (λ ms. moves.IsRefusal (states_named ms) (lines_named ms) ms h.said) same h.clashes.clash in
     let one : h.said ≡ k.said = refusal_once (states_named k.clashes.found)
-        (lines_named k.clashes.found) k.clashes.found h.said k.said moved k.clashes.clash h.some k.some in
+    (lines_named k.clashes.found) k.clashes.found h.said k.said moved k.clashes.clash h.some k.some in
     h.told ∙ ap clash_line one ∙ sym k.told
 
 no_clash : (bytes a : List ℕ) (m : Machine) → TellsClash bytes a → Reads bytes m → ⊥
@@ -138,18 +147,33 @@ realise_some q i bytes some_state some_row (inl m) = let h = bank_to_all m.0 q i
 realise_some q i bytes some_state some_row (inr refused) = by_refusal refused.0 refused.1 refused.2
   where
     told : (e : RsmTableRefusal) → fault_of (entries_of bytes) ≡ Some e → HasAnswer (RealiseReplies q i bytes)
-    told e first = (statuses.Text, rsm_fault_line e, [], faulty
-        (record { unread = λ ms reads. unread bytes e first ms reads; fault = e; first = first; told = refl }) refl refl)
+    told e first = (
+      statuses.Text,
+      rsm_fault_line e,
+      [],
+      faulty
+          (record { unread = λ ms reads. unread bytes e first ms reads; fault = e; first = first; told = refl }) refl refl,
+    )
 
     by_refusal : (e : RsmTableRefusal) → e ≢ faults.NoMemory → IsRefusal bytes e → HasAnswer (RealiseReplies q i bytes)
     by_refusal (faults.FieldCount n) some is = told (faults.FieldCount n) is
     by_refusal (faults.Number n k) some is = told (faults.Number n k) is
     by_refusal (faults.TooMany n) some is = told (faults.TooMany n) is
     by_refusal faults.Empty some is = told faults.Empty is
-    by_refusal (faults.SameDomain a b) some is = (statuses.Machine, _, [], clashing
-        (record { said = clash.SameDomain a b; clashes = is; some = (λ e. cc); told = refl }) refl refl)
-    by_refusal (faults.SameRange a b) some is = (statuses.Machine, _, [], clashing
-        (record { said = clash.SameRange a b; clashes = is; some = (λ e. cc); told = refl }) refl refl)
+    by_refusal (faults.SameDomain a b) some is = (
+      statuses.Machine,
+      _,
+      [],
+      clashing
+          (record { said = clash.SameDomain a b; clashes = is; some = (λ e. cc); told = refl }) refl refl,
+    )
+    by_refusal (faults.SameRange a b) some is = (
+      statuses.Machine,
+      _,
+      [],
+      clashing
+          (record { said = clash.SameRange a b; clashes = is; some = (λ e. cc); told = refl }) refl refl,
+    )
     by_refusal faults.NoMemory some is = absurd (some refl)
 
 realise_one : (q i : ℕ) (bytes : List ℕ) → IsOneAnswer (RealiseReplies q i bytes)

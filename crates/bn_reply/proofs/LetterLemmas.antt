@@ -65,7 +65,7 @@ one_more t word n symbols s inside h symbol = record {
   };
   before =
       let more : AllBefore (IsLetterOf t) word (suc (suc n)) = all_before_more (IsLetterOf t) word (suc n) (get_or word n 0) h.before
-          (at_number word n inside) symbol.letter in
+      (at_number word n inside) symbol.letter in
       let e : suc (suc n) ≡ suc (n + 1) = omega arith in
       subst (AllBefore (IsLetterOf t) word) e more;
 }
@@ -83,4 +83,4 @@ pub letters_of-next : (t : Named) (text symbols : List ℕ) (n byte : ℕ) → n
 letters_of-next t text symbols n byte inside here =
     append_assoc text (letters_of t (take n symbols)) (byte ∷ [])
     ∙ ap (λ (rest : List ℕ). text ++ rest) (sym (letters_of-more t (take n symbols) (get_or symbols n 0) byte here)
-        ∙ ap (letters_of t) (sym (take_more symbols n 0 inside)))
+    ∙ ap (letters_of t) (sym (take_more symbols n 0 inside)))

@@ -22,7 +22,7 @@ pub written_ends : (replies : Status → List ℕ → List Place → Type 0) (r 
     Finishes r.status result taken took before now text → AnswerEnds replies result taken took before now heard_before heard
 written_ends replies r result taken took before now heard_before heard text reply is (whole meant grows) =
     ends_of.whole r.text.items reply.places (subst (λ st. replies st r.text.items reply.places) (sym meant) reply.right)
-        (subst (Grows taken took) is grows) reply.hears
+    (subst (Grows taken took) is grows) reply.hears
 written_ends replies r result taken took before now heard_before heard text reply is (cut failed rose grows) =
     ends_of.cut failed rose r.status r.text.items reply.places reply.right (subst (GrowsByFront taken took) is grows) reply.hears
 

@@ -17,8 +17,12 @@ pub record AreAlike (k m : Circuit) : Type 0 where
 
 module _ (k m : Circuit) (alike : AreAlike k m) where
   moved-alike : (c : Config) (e : ℕ) (r : ℕ × ℕ) → moved_on k c e r ≡ moved_on m c e r
-  moved-alike c e r = ap (λ (t : Option Line). let d : Config = record { states = (moved_on k c e r).states; place = place_at t
-      (record { element = e; line = r.1 }); steps = c.steps + 1 } in d) (alike.targets (record { element = e; line = r.1 }))
+  moved-alike c e r = ap (λ (t : Option Line). let d : Config = record {
+    states = (moved_on k c e r).states;
+    place = place_at t
+        (record { element = e; line = r.1 });
+    steps = c.steps + 1;
+  } in d) (alike.targets (record { element = e; line = r.1 }))
 
   moves-alike : (c : Config) (e : ℕ) (o : Option (ℕ × ℕ)) →
       option_and_then (λ r. if nat_le (c.steps + 1) clock then Some (moved_on k c e r) else None) o ≡ option_and_then
@@ -49,8 +53,8 @@ module _ (k m : Circuit) (alike : AreAlike k m) where
   previous_by-alike d zero = refl
   previous_by-alike d (suc n) =
       let found : List Table → Option Line → Option Config = λ ts l. option_and_then
-          (λ o. option_and_then (λ r. option_and_then (λ x. Some (moved_back d n o.element x)) (back_of ts o.element r o.line))
-          (slice_get d.states o.element)) l in
+      (λ o. option_and_then (λ r. option_and_then (λ x. Some (moved_back d n o.element x)) (back_of ts o.element r o.line))
+      (slice_get d.states o.element)) l in
       ap (λ ts. found ts (line_before k.wires d.place)) alike.tables ∙ ap (found m.tables) (line_before-alike d.place)
 
   previous-alike : (d : Config) → previous k d ≡ previous m d

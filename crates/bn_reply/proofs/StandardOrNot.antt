@@ -115,8 +115,12 @@ repeats_from qs (suc fuel) n sum before =
     let next : suc n + fuel ≡ length qs = omega arith in
     let here = nth-get_or qs n nought inside in
     elim (first_or_none (Clashes (suc n) (get_or qs n nought)) (λ j q. clashes (suc n) (get_or qs n nought) j q) qs) [
-      | inl f ↦ inr (suc n, f.number, least_repeat qs (suc n) f.number before
-          (least_second qs (suc n) (get_or qs n nought) f.number f.quint here f.before f.stands f.holds))
+      | inl f ↦ inr (
+        suc n,
+        f.number,
+        least_repeat qs (suc n) f.number before
+            (least_second qs (suc n) (get_or qs n nought) f.number f.quint here f.before f.stands f.holds),
+      )
       | inr none ↦ repeats_from qs fuel (suc n) next (none_repeated_more qs (suc n) before
           (no_repeat qs (suc n) (get_or qs n nought) (suc (length qs)) here (omega arith) none))
     ]

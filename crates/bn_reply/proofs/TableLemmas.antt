@@ -67,8 +67,14 @@ why_once t a b h k = h.told ∙ ap why_line (verdict_once t.machine.quints h.why
 
 -- a demand that isn't met, told in its line
 pub why_told : (t : Named) (why : Why) (text : List ℕ) → IsRefusal t.machine.quints why → why ≢ whys.NoMemory → text ≡ why_line why → TellsWhy t text
-why_told t why text first said told = record { unfit = λ s. said
-    (standard_accepted t.machine.quints why s first); why = why; first = first; said = said; told = told }
+why_told t why text first said told = record {
+  unfit = λ s. said
+      (standard_accepted t.machine.quints why s first);
+  why = why;
+  first = first;
+  said = said;
+  told = told;
+}
 
 -- the machine is in standard form, or the first demand that it doesn't meet is told
 pub standard_or_told : (t : Named) → IsStandard t.machine.quints ⊎ ((text : List ℕ) × TellsWhy t text)

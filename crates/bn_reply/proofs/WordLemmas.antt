@@ -72,7 +72,7 @@ spelled_once t h word xs ys a b =
         let first = slice_get-get_or t.letters (slice_index xs k) 0 (a.symbols_known k 0 low).known in
         let second = slice_get-get_or t.letters (slice_index ys k) 0 (b.symbols_known k 0 also).known in
         let letters : slice_index t.letters (slice_index xs k) ≡ slice_index t.letters (slice_index ys k) = sym (byte_at t word xs k a low)
-            ∙ byte_at t word ys k b also in
+        ∙ byte_at t word ys k b also in
         one_symbol t h (slice_index xs k) (slice_index ys k) (slice_index t.letters (slice_index ys k)) (first ∙ ap (λ (x : ℕ). Some x) letters) second
 
 -- ---- one of the two

@@ -63,9 +63,9 @@ step_fits room p c d m h goes =
       state = subst (λ (s : ℕ). s < p.states) (sym by.applies.to) inside.next;
       symbols = λ q.
           let there : cell d.tape q ≡ cond (int_eq q c.tape.head) by.quint.write (cell c.tape q) = ap (λ t. cell t q) by.applies.writes
-              ∙ cell-write c.tape by.quint.write q in
+          ∙ cell-write c.tape by.quint.write q in
           subst (λ (s : ℕ). s < p.symbols) (sym there) (written_fits p.symbols (int_eq q c.tape.head) by.quint.write (cell c.tape q) inside.write
-              (h.symbols q));
+          (h.symbols q));
     }
 
 run_fits : (room : Room) (p : Program) (i : ℕ) (c d : Moment) → IsMachine p → Fits p c → Reaches (Goes room p) i c d → Fits p d
@@ -113,5 +113,5 @@ pub ending_fits : (t : Named) (word symbols : List ℕ) (n i : ℕ) (e : Ending)
 ending_fits t word symbols n i e h spelled ending =
     let m = table_machine t h in
     let fits = run_fits anywhere t.machine i (start t.machine symbols) ending.moment m
-        (start_fits t.machine symbols m (spelled_symbols t word symbols h spelled)) ending.run in
+    (start_fits t.machine symbols m (spelled_symbols t word symbols h spelled)) ending.run in
     end_fits t n i ending.moment e fits ending.ends

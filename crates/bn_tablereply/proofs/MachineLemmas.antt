@@ -16,9 +16,13 @@ use Rattle.bn_tablereply.specs.MachineReply.{MachineIsSettled, TellsRun, ending_
 module _ (t : Named) (n : ℕ) (symbols : List ℕ) where
   run_some : HasAnswer (TellsRun t n symbols)
   run_some =
-      let found = ending_exists t.machine symbols n in
-      (status_of found.1, ending_text t found.0 found.1, [], record
-          { steps = found.0; ending = found.1; comes_out = found.2; status_is = refl; text_is = refl; silent = refl })
+      let found = ending_exists t.machine symbols n in (
+        status_of found.1,
+        ending_text t found.0 found.1,
+        [],
+        record
+            { steps = found.0; ending = found.1; comes_out = found.2; status_is = refl; text_is = refl; silent = refl },
+      )
 
   run_one : IsOneAnswer (TellsRun t n symbols)
   run_one s u a b x y h k =

@@ -12,8 +12,11 @@ use Rattle.bn_tablereply.specs.MachineRun.{IsLetterAt}
 
 -- outside of the window all is blank
 pub blank_outside : (w : Windowed) → IsWindowed w → (position : ℤ) → (IsInside w position → ⊥) → cell w.tape position ≡ 0
-blank_outside w h position outside = elim (eqb_tells (cell w.tape position) 0) [ inl blank ↦ blank.1 | inr letter ↦ absurd
-    (outside (h.outside position letter.1)) ]
+blank_outside w h position outside = elim (eqb_tells (cell w.tape position) 0) [
+  | inl blank ↦ blank.1
+  | inr letter ↦ absurd
+      (outside (h.outside position letter.1))
+]
 
 -- The letters y stand right of the head of a tape in a window, and the position is the one behind them.
 pub record HasRead (w : Windowed) (position : ℤ) (y : List ℕ) : Type 0 where

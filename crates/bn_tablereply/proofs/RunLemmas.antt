@@ -18,7 +18,7 @@ one_step_more p made state w at v after u r turn = record {
   same = turn.1 ∙ ap (λ (x : Windowed). with_tape x u.tape) r.same;
   run =
       let step : Goes (within w.left w.right) p (moment at v) (moment after u) = subst (λ (room : Room). Goes room p (moment at v) (moment after u))
-          (same_room w v r.same) turn.0 in
+      (same_room w v r.same) turn.0 in
       runs_more (Goes (within w.left w.right) p) made (moment state w) (moment at v) (moment after u) r.run step;
 }
 

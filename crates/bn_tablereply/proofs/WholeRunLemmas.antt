@@ -101,7 +101,7 @@ whole_ending p word n left right made at v turns.Final after u (Halted output) f
     let h = cuts p word n left right made at v few low high side early r in
     let final : IsFinal p h.whole = agrees_final (pos most) p (moment at v) h.whole (agrees_turned (pos most) h.whole (moment at v) h.agrees) turn.0 in
     let here : IsWholeOutput v (drop (min most (length word)) word) output.items = subst
-        (λ (x : Windowed). IsWholeOutput x (drop (min most (length word)) word) output.items) turn.2 out in
+    (λ (x : Windowed). IsWholeOutput x (drop (min most (length word)) word) output.items) turn.2 out in
     record {
       moment = h.whole;
       run = h.run;
@@ -157,7 +157,7 @@ pub ran_inside : (p : Program) (word : List ℕ) (n held right state : ℕ) (w :
     Starts p word n held right state w → IsRun p n state w made turn after u → StaysInside turn
 ran_inside p word n held right state w made turn after u s r =
     turn_inside p word n (n + 1) right made r.at r.tape turn after u s.few (omega arith) (omega arith) (omega arith) r.in_time
-        (reached_from p word n held right state w made r.at r.tape s r.reached) r.last
+    (reached_from p word n held right state w made r.at r.tape s r.reached) r.last
 
 -- the slice behind the front is the rest of the word
 rest_of : (word : List ℕ) (held : ℕ) → take (length word - held) (drop held word) ≡ drop held word
@@ -168,5 +168,5 @@ pub ran_whole : (p : Program) (word : List ℕ) (n held right state : ℕ) (w : 
     IsEndingOf turn u (take (length word - held) (drop held word)) e → HasEnding p word n made (ending_of e)
 ran_whole p word n held right state w made turn after u e s letters r out =
     whole_ending p word n (n + 1) right made r.at r.tape turn after u e s.few (omega arith) (omega arith) (omega arith) letters r.in_time r.early
-        (reached_from p word n held right state w made r.at r.tape s r.reached) r.last
+    (reached_from p word n held right state w made r.at r.tape s r.reached) r.last
     (subst (λ (rest : List ℕ). IsEndingOf turn u rest e) (rest_of word held ∙ ap (λ (k : ℕ). drop k word) s.front) out)

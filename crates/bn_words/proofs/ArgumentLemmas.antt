@@ -48,7 +48,7 @@ no_letters : (letters : List ℕ) (n : ℕ) → IsNumber (61 ∷ letters) n → 
 no_letters letters n h =
     let none : read_number (61 ∷ letters) 0 ≡ Err NoDigit = (read_number-no_digit (61 ∷ letters) 0).1 refl in
     let read : read_number (61 ∷ letters) 0 ≡ Ok (n, length (decimal n)) = subst (λ w. read_number w 0 ≡ Ok (n, length (decimal n))) (sym h.spelled)
-        (read-whole n h.bound) in
+    (read-whole n h.bound) in
     cc (none, read)
 
 -- ---- kinds that no word has both of
@@ -180,7 +180,7 @@ has_read_one text kinds strings values n string word value inside few count stan
           subst (λ xs. AreArguments (take (n + 1) kinds) (take (n + 1) (map text strings)) xs) (sym values_are)
           (subst (λ ws. AreArguments (take (n + 1) kinds) ws (map argument_of (take n values) ++ argument_of value ∷ [])) (sym words)
           (subst (λ ks. AreArguments ks (take n (map text strings) ++ word ∷ []) (map argument_of (take n values) ++ argument_of value ∷ []))
-              (sym kinds_are) more));
+          (sym kinds_are) more));
     }
 
 -- a word that isn't of its kind
@@ -192,7 +192,7 @@ none_at text kinds strings n string word inside count stands text_is none =
     let all : length (map text strings) ≡ length strings = simp length-map in
     let there : slice_get (map text strings) n ≡ Some word =
     slice_get-get_or (map text strings) n word (omega arith)
-        ∙ ap (λ w. Some w) (get_or-map text strings n string word within ∙ ap text (sym stands) ∙ sym text_is) in
+    ∙ ap (λ w. Some w) (get_or-map text strings n string word within ∙ ap text (sym stands) ∙ sym text_is) in
     no_argument_at kinds (map text strings) n (get_or kinds n (Count 0)) word (slice_get-get_or kinds n (Count 0) inside) there none
 
 -- all words
@@ -203,7 +203,7 @@ has_read_all text kinds of_row strings values n same all count h end =
     let n_is : n ≡ length kinds = omega arith in
     let words : length (map text strings) ≡ length strings = simp length-map in
     let behind : take n (map text strings) ≡ map text strings = ap (λ k. take k (map text strings)) (n_is ∙ sym (words ∙ count))
-        ∙ take-length (map text strings) in
+    ∙ take-length (map text strings) in
     let row : take n kinds ≡ kinds = ap (λ k. take k kinds) n_is ∙ take-length kinds in
     let here = subst (λ ks. AreArguments ks (take n (map text strings)) (map argument_of (take n values))) row h.says in
     let there = subst (λ ws. AreArguments kinds ws (map argument_of (take n values))) behind here in

@@ -102,7 +102,7 @@ apart : (words : List (List ℕ)) (a b : Request) (i j : ℕ) → slice_get form
     HasForm words b → ⊥
 apart words a b i j here there less h k =
     not_both_rows (row_of a.form) (row_of b.form) (two_differ (map row_of forms) table_differs i j (row_of a.form) (row_of b.form) less (row_at i a.form here)
-        (row_at j b.form there)) words a b refl refl h k
+    (row_at j b.form there)) words a b refl refl h k
 
 one_row : (words : List (List ℕ)) (a b : Request) → HasForm words a → HasForm words b → a.form ≡ b.form
 one_row words a b h k = by_order (place_of a.form) (place_of b.form)
@@ -126,7 +126,7 @@ one_form words a b h k =
     let behind : h.behind ≡ k.behind = cc in
     let left = subst (λ f. AreArguments (row_of f).kinds h.behind a.arguments) forms_are h.arguments in
     let arguments = arguments_once (row_of b.form).kinds k.behind a.arguments b.arguments
-        (subst (λ ws. AreArguments (row_of b.form).kinds ws a.arguments) behind left) k.arguments in
+    (subst (λ ws. AreArguments (row_of b.form).kinds ws a.arguments) behind left) k.arguments in
     λ t. record { form = forms_are t; arguments = arguments t }
 
 -- no form has more words behind its name than this
@@ -157,7 +157,7 @@ not_of_form words name behind f words_are why request of h = by_cause why
     by_cause (inr none) =
         let rest : h.behind ≡ behind = let e = one in cc in
         none request.arguments (subst (λ ws. AreArguments (row_of f).kinds ws request.arguments) rest
-            (subst (λ g. AreArguments (row_of g).kinds h.behind request.arguments) of h.arguments))
+        (subst (λ g. AreArguments (row_of g).kinds h.behind request.arguments) of h.arguments))
 
 pub none_more : (words : List (List ℕ)) (n : ℕ) (f : Form) → NoneBefore words n → slice_get forms n ≡ Some f →
     ((request : Request) → request.form ≡ f → HasForm words request → ⊥) → NoneBefore words (n + 1)

@@ -29,11 +29,17 @@ impl<'a> Model for Request<'a> {
 
     ghost Value = { Request };
 
-    ghost view = { λ r. record { form = r.form; arguments = map argument_of
-        (take (length (row_of r.form).kinds) r.values) } };
+    ghost view = { λ r. record {
+      form = r.form;
+      arguments = map argument_of
+          (take (length (row_of r.form).kinds) r.values);
+    } };
 
-    ghost invariant = { λ r. IsRequest (record { form = r.form; arguments = map argument_of
-        (take (length (row_of r.form).kinds) r.values) }) };
+    ghost invariant = { λ r. IsRequest (record {
+      form = r.form;
+      arguments = map argument_of
+          (take (length (row_of r.form).kinds) r.values);
+    }) };
 }
 
 impl<'a> Request<'a> {

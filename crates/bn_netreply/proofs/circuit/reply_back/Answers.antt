@@ -17,11 +17,11 @@ write_config-requires g c = read-Admits c.in-Ok.read c.args.bytes.now c.back_wat
 pub returns-in-Ok-write_config-clause-replied : goal.returns-in-Ok-write_config-clause-replied
 returns-in-Ok-write_config-clause-replied g c =
     replied (λ k d. back k d c.args.count) (λ k d. places_back k c.args.count d) c.in-Ok.read c.args.bytes.now c.back_watched.new.config
-        (g.W.Watch.told c.args.watch.now) (g.W.Watch.told c.back_watched.new.watch) _
+    (g.W.Watch.told c.args.watch.now) (g.W.Watch.told c.back_watched.new.watch) _
     (record { spelled = c.in-Ok.ensures.spelled; gone = c.back_watched.ensures.back; hears = c.back_watched.ensures.told }) refl c.in-Ok-write_config.ensures
 
 pub returns-clause-interrupted : goal.returns-clause-interrupted
 returns-clause-interrupted g c =
     unwritten (λ k d. back k d c.args.count) (λ k d. places_back k c.args.count d) c.in-Ok.read c.args.bytes.now c.back_watched.new.config
-        (g.W.Watch.told c.args.watch.now) (g.W.Watch.told c.back_watched.new.watch)
+    (g.W.Watch.told c.args.watch.now) (g.W.Watch.told c.back_watched.new.watch)
     (record { spelled = c.in-Ok.ensures.spelled; gone = c.back_watched.ensures.back; hears = c.back_watched.ensures.told })

@@ -16,11 +16,11 @@ write_config-requires g c = read-Admits c.in-Ok.read c.args.bytes.now c.run_watc
 pub returns-in-Ok-write_config-clause-replied : goal.returns-in-Ok-write_config-clause-replied
 returns-in-Ok-write_config-clause-replied g c =
     replied (λ k d. run k d c.args.count) (λ k d. places k c.args.count d) c.in-Ok.read c.args.bytes.now c.run_watched.new.config
-        (g.W.Watch.told c.args.watch.now) (g.W.Watch.told c.run_watched.new.watch) _
+    (g.W.Watch.told c.args.watch.now) (g.W.Watch.told c.run_watched.new.watch) _
     (record { spelled = c.in-Ok.ensures.spelled; gone = c.run_watched.ensures.run; hears = c.run_watched.ensures.told }) refl c.in-Ok-write_config.ensures
 
 pub returns-clause-interrupted : goal.returns-clause-interrupted
 returns-clause-interrupted g c =
     unwritten (λ k d. run k d c.args.count) (λ k d. places k c.args.count d) c.in-Ok.read c.args.bytes.now c.run_watched.new.config
-        (g.W.Watch.told c.args.watch.now) (g.W.Watch.told c.run_watched.new.watch)
+    (g.W.Watch.told c.args.watch.now) (g.W.Watch.told c.run_watched.new.watch)
     (record { spelled = c.in-Ok.ensures.spelled; gone = c.run_watched.ensures.run; hears = c.run_watched.ensures.told })

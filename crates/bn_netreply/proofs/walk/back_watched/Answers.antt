@@ -13,8 +13,8 @@ back_step-requires g c = c.loop-made.invariant.good
 pub returns-then-not-back_step-clause-back : goal.returns-then-not-back_step-clause-back
 returns-then-not-back_step-clause-back g c =
     c.if-not-back_step.ensures.kept ∙ sym (back_stops (circuit g.E.Element.table c.args.net.now) c.len-elements.ensures.circuit c.loop-made._made c.args.count
-        c.loop-made.config c.args.config.now c.loop-made.invariant.good c.loop-made.invariant.reaches (omega (arith, c.loop-made-test.true))
-        (λ _. c.if-not-back_step.ensures.first))
+    c.loop-made.config c.args.config.now c.loop-made.invariant.good c.loop-made.invariant.reaches (omega (arith, c.loop-made-test.true))
+    (λ _. c.if-not-back_step.ensures.first))
 
 pub returns-then-not-back_step-clause-good : goal.returns-then-not-back_step-clause-good
 returns-then-not-back_step-clause-good g c = c.back_step.ensures.good
@@ -32,8 +32,8 @@ loop-made-preserved g c = walk_goes_back (circuit g.E.Element.table c.args.net.n
 pub returns-clause-back : goal.returns-clause-back
 returns-clause-back g c =
     sym (back_stops (circuit g.E.Element.table c.args.net.now) c.len-elements.ensures.circuit c.loop-made._made c.args.count c.loop-made.config
-        c.args.config.now c.loop-made.invariant.good c.loop-made.invariant.reaches c.loop-made.auto._made-end
-        (λ fewer. absurd (omega (arith, c.loop-made-test.false))))
+    c.args.config.now c.loop-made.invariant.good c.loop-made.invariant.reaches c.loop-made.auto._made-end
+    (λ fewer. absurd (omega (arith, c.loop-made-test.false))))
 
 pub returns-clause-good : goal.returns-clause-good
 returns-clause-good g c = c.loop-made.invariant.good

@@ -13,7 +13,7 @@ step-requires g c = c.loop-made.invariant.good
 pub returns-then-not-step-clause-run : goal.returns-then-not-step-clause-run
 returns-then-not-step-clause-run g c =
     c.if-not-step.ensures.kept ∙ sym (run_stops (circuit g.E.Element.table c.args.net.now) c.loop-made._made c.args.count c.args.config.now c.loop-made.config
-        c.loop-made.invariant.reaches (omega (arith, c.loop-made-test.true)) (λ _. c.if-not-step.ensures.stuck))
+    c.loop-made.invariant.reaches (omega (arith, c.loop-made-test.true)) (λ _. c.if-not-step.ensures.stuck))
 
 pub returns-then-not-step-clause-good : goal.returns-then-not-step-clause-good
 returns-then-not-step-clause-good g c = c.step.ensures.good
@@ -30,7 +30,7 @@ loop-made-preserved g c = walk_goes (circuit g.E.Element.table c.args.net.now) c
 pub returns-clause-run : goal.returns-clause-run
 returns-clause-run g c =
     sym (run_stops (circuit g.E.Element.table c.args.net.now) c.loop-made._made c.args.count c.args.config.now c.loop-made.config c.loop-made.invariant.reaches
-        c.loop-made.auto._made-end (λ fewer. absurd (omega (arith, c.loop-made-test.false))))
+    c.loop-made.auto._made-end (λ fewer. absurd (omega (arith, c.loop-made-test.false))))
 
 pub returns-clause-good : goal.returns-clause-good
 returns-clause-good g c = c.loop-made.invariant.good

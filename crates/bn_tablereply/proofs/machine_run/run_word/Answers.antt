@@ -11,7 +11,7 @@ ending_after-requires c =
       tape_is = c.in-Ok.ensures.made;
     } in
     ran_inside c.args.machine.now c.args.word.now c.args.steps c.min-held.result c.max-right.result c.start_state-state.result c.in-Ok.tape c.run-made.result.0
-        c.run-made.result.1 c.run-made.new.state c.run-made.new.tape
+    c.run-made.result.1 c.run-made.new.state c.run-made.new.tape
     starts c.run-made.ensures
 
 pub returns : goal.returns
@@ -24,5 +24,5 @@ returns c =
       tape_is = c.in-Ok.ensures.made;
     } in
     ran_whole c.args.machine.now c.args.word.now c.args.steps c.min-held.result c.max-right.result c.start_state-state.result c.in-Ok.tape c.run-made.result.0
-        c.run-made.result.1 c.run-made.new.state c.run-made.new.tape c.in_ok-ending_after.field-0
+    c.run-made.result.1 c.run-made.new.state c.run-made.new.tape c.in_ok-ending_after.field-0
     starts c.requires.letters c.run-made.ensures c.in_ok-ending_after.ensures
