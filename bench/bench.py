@@ -114,4 +114,5 @@ def main():
         assert back == text
 
 
-main()
+if __name__ == "__main__":
+    main()

@@ -1,6 +1,6 @@
 -- The numbers of a layout stay small.
 use Rattle.std.specs.Prelude.{◌≡◌, ℕ, suc, ◌+◌, ◌*◌, ◌<◌, ◌≤◌, length, slice_get, refl}
-use Rattle.std.proofs.Common.{arith, zero, mul-le-mul_right}
+use Rattle.std.proofs.Common.{arith, zero, mul-le-mul_left, mul-le-mul_right}
 use Rattle.bn_modules.specs.Networks.{IsTape, bank_size, cell_size, cells_in}
 use Rattle.bn_layout.specs.Layouts.{Layout, letters_at, lines_at, first_element, elements_of}
 use Rattle.bn_flat.specs.Flattened.{IsLayoutKept}
@@ -31,3 +31,11 @@ pub cells_within : (b : Layout) (t c : ℕ) → IsLayoutKept b → 1 ≤ t → t
     → first_element b t + c * cell_size (letters_at b t) ≤ MOST_ELEMENTS
 cells_within b t c kept first last within =
     through b t (c * cell_size (letters_at b t)) kept first last (mul-le-mul_right (cell_size (letters_at b t)) within)
+
+-- the bound has few digits
+pub bound_within : (e n : ℕ) → e ≤ MOST_ELEMENTS → n ≤ 8388615 → 48 * e * n ≤ 422212817387520
+bound_within e n elements begun =
+    let first : 48 * e ≤ 50331648 = omega arith in
+    let left : 48 * e * n ≤ 50331648 * n = mul-le-mul_right n first in
+    let right : 50331648 * n ≤ 50331648 * 8388615 = mul-le-mul_left 50331648 begun in
+    omega arith

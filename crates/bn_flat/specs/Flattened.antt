@@ -13,7 +13,7 @@ use Rattle.bn_net.specs.Parts.{Parts}
 use Rattle.bn_column.specs.Nets.{rotary_circuit}
 use Rattle.bn_modules.specs.Networks.{IsTape}
 use Rattle.bn_control.specs.Controlled.{Controlled}
-use Rattle.bn_control.specs.declared.make.TheConstants.{MOST_SYMBOLS}
+use Rattle.bn_cell.specs.declared.numbers.TheConstants.{MOST_SYMBOLS}
 use Rattle.bn_boards.specs.Boards.{IsBoard, board_start}
 use Rattle.bn_layout.specs.Layouts.{Layout, elements_of, end_place, letters_at, lines_at}
 use Rattle.bn_assembly.specs.Assembled.{Assembled, AreSmall, network_of}

@@ -35,6 +35,7 @@ impl Layout {
     ghost use Rattle.bn_modules.specs.Networks.{bank_size, cell_size, cells_in};
     ghost use Rattle.bn_layout.specs.Layouts.{letters_at, lines_at, first_element, cell_element, elements_of};
     ghost use Rattle.bn_assembly.specs.Assembled.{limits_of};
+    ghost use Rattle.bn_headline.specs.Costs.{bound_of};
     ghost use Rattle.bn_flat.specs.Flattened.{IsLayoutKept};
 
     /// The layout with these numbers.
@@ -177,5 +178,15 @@ impl Layout {
         ensures kept { IsLayoutKept self.now }
     {
         self.first_element(4)
+    }
+
+    /// A bound on the element steps that the board makes from its start to its exit.
+    #[tactic(auto, using(crate::proofs::LayoutLemmas::bound_within))]
+    pub(crate) fn bound(&self) -> u64
+        ensures { result ≡ bound_of self.now }
+    {
+        let elements = u64::from(self.elements());
+        let begun = 4 * u64::from(self.windows.right2) + 4 * u64::from(self.windows.right3) + 7;
+        48 * elements * begun
     }
 }

@@ -82,11 +82,11 @@ in_order-same (x ∷ xs) [] first second alike = absurd (let none = alike x.from
 in_order-same (x ∷ xs) (y ∷ ys) first second alike =
     elim (line_cases x.from y.from) [
       | inl low ↦ absurd (let some = target-here x xs in let none = target-first x.from (y ∷ ys) (low, first_joins x.from y.from ys low second.0) in let
-      both = alike x.from in cc)
+          both = alike x.from in cc)
       | inr other ↦
           (elim other [
             | inl high ↦ absurd (let some = target-here y ys in let none = target-first y.from (x ∷ xs) (high, first_joins y.from x.from xs high first.0) in
-            let both = alike y.from in cc)
+                let both = alike y.from in cc)
             | inr same ↦
                 (let some : Some x.to ≡ Some y.to = sym (target-here x xs) ∙ alike x.from ∙ subst (λ a. target (y ∷ ys) a ≡ Some y.to) (sym same)
                 (target-here y ys) in

@@ -57,7 +57,7 @@ walk_goes k c d e made old mid new walked goes good hears =
       reaches = runs_more (Goes k) made c d e walked.reaches goes;
       good = good;
       heard = subst (λ ts. Hears old ts new) (sym (places_more k made (made + 1) c d e refl walked.reaches goes))
-      (hears-joins old mid new (places k made c) (e.place ∷ []) walked.heard hears);
+          (hears-joins old mid new (places k made c) (e.place ∷ []) walked.heard hears);
     }
 
 -- at the end all places were told
@@ -105,7 +105,7 @@ walk_goes_back k circuit c d e made old mid new walked goes good hears =
       reaches = runs_join (Goes k) (made + 1) 1 made e d c (omega arith) (d, goes, refl) walked.reaches;
       good = good;
       heard = subst (λ ts. Hears old ts new) (sym (places_back_more k circuit made (made + 1) c d e refl turned goes))
-      (hears-joins old mid new (places_back k made c) (e.place ∷ []) walked.heard hears);
+          (hears-joins old mid new (places_back k made c) (e.place ∷ []) walked.heard hears);
     }
 
 -- a first step back, and then more
@@ -117,7 +117,7 @@ walk_back_then k circuit c d e n m old mid new sum goes first rest =
       reaches = runs_join (Goes k) m n 1 e d c sum rest.reaches (c, goes, refl);
       good = rest.good;
       heard = subst (λ ts. Hears old ts new) (sym (places_back-Goes k circuit d c n goes) ∙ ap (λ i. places_back k i c) count)
-      (hears-joins old mid new (d.place ∷ []) (places_back k n d) first rest.heard);
+          (hears-joins old mid new (d.place ∷ []) (places_back k n d) first rest.heard);
     }
 
 pub walk_back_ends : (k : Circuit) → IsCircuit k → (c d : Config) (made t : ℕ) (old new : Option (List Place)) → HasWalkedBack k c d made old new → made ≤ t

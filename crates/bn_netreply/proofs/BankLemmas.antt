@@ -74,15 +74,18 @@ module _ (m : Machine) (state row : ℕ) (state_in : state < m.states) (row_in :
       whole : length (slice_set (replicate (elements_of m) vertical) (bottom_at 0 m.lines state) horizontal) ≡ elements_of m
       whole = simp (length-set, length-replicate) refl
 
-      in_range : (e q : ℕ) → slice_get (slice_set (replicate (elements_of m) vertical) (bottom_at 0 m.lines state) horizontal) e ≡ Some q → q < states_of c.tables e
+      in_range : (e q : ℕ) → slice_get (slice_set (replicate (elements_of m) vertical) (bottom_at 0 m.lines state) horizontal) e ≡ Some q →
+          q < states_of c.tables e
       in_range e q h =
           let inside = slice_get_within (slice_set (replicate (elements_of m) vertical) (bottom_at 0 m.lines state) horizontal) e q h in
           let low : e < elements_of m = subst (λ n. e < n) whole inside in
           let bottom : bottom_at 0 m.lines state < elements_of m = (let b = bottom_inside m.states m.lines state state_in in omega arith) in
-          subst (λ ts. q < states_of ts e) (sym tables) (rw (rotary_states (elements_of m) e low) (bar_low (elements_of m) (bottom_at 0 m.lines state) e q bottom h))
+          subst (λ ts. q < states_of ts e) (sym tables) (rw (rotary_states (elements_of m) e low)
+          (bar_low (elements_of m) (bottom_at 0 m.lines state) e q bottom h))
 
   -- the line by which the signal comes out is a line of the bank
-  exit_low : (o : Option (ℕ × ℕ)) → (machine_table m).go state row ≡ o → ((exit_after 0 (machine_table m) state row o).element < elements_of m) × ((exit_after 0 (machine_table m) state row o).line < 4)
+  exit_low : (o : Option (ℕ × ℕ)) → (machine_table m).go state row ≡ o →
+      ((exit_after 0 (machine_table m) state row o).element < elements_of m) × ((exit_after 0 (machine_table m) state row o).line < 4)
   exit_low None none = (let h = row_inside m.states m.lines state row state_in row_in in omega arith, omega arith)
   exit_low (Some move) goes =
       let out = ((machine_table-IsReversible m).arrives state row move.0 move.1 goes).1 in
@@ -96,7 +99,8 @@ module _ (m : Machine) (state row : ℕ) (state_in : state < m.states) (row_in :
         circuit = circuit;
         config = subst (λ c. IsConfig (circuit_of s) c) (sym h.config) (start_config (circuit_of s) (ap (λ n. replicate n rotary) h.elements));
         start = rw (h.start, h.elements) (rw (rotary_inputs (elements_of m) (0 + row) (let low = row_low in omega arith)) (omega arith));
-        end = rw (h.end, h.elements) (let low = exit_low ((machine_table m).go state row) refl in rw (rotary_outputs (elements_of m) (exit_after 0 (machine_table m) state row ((machine_table m).go state row)).element low.0) low.1);
+        end = rw (h.end, h.elements) (let low = exit_low ((machine_table m).go state row) refl in
+            rw (rotary_outputs (elements_of m) (exit_after 0 (machine_table m) state row ((machine_table m).go state row)).element low.0) low.1);
         unfed = no_source (source s.wires s.start) refl;
         unwired = no_target (target s.wires s.end) refl;
       }
@@ -112,7 +116,8 @@ module _ (m : Machine) (state row : ℕ) (state_in : state < m.states) (row_in :
       no_target None is = refl
       no_target (Some to) is =
           let wire = (h.wires s.end to).0 is in
-          absurd (no_exit_wire 0 (machine_table m) (machine_table-IsReversible m) state row to state_in row_in refl (subst (λ from. IsBankWire 0 (machine_table m) from to) h.end wire))
+          absurd (no_exit_wire 0 (machine_table m) (machine_table-IsReversible m) state row to state_in row_in refl
+          (subst (λ from. IsBankWire 0 (machine_table m) from to) h.end wire))
 
   -- each bank that isn't too large has a spelling
   pub bank_spelled : elements_of m ≤ most_elements → (s : Spelling) × IsBankSpelling m state row s × Spelled s (text_of s)
@@ -125,7 +130,14 @@ module _ (m : Machine) (state row : ℕ) (state_in : state < m.states) (row_in :
         start = input_line 0 row;
         end = exit_after 0 (machine_table m) state row ((machine_table m).go state row);
       } in
-      let bank : IsBankSpelling m state row s = record { elements = refl; wires = λ from to. (ws.1.sound from to, ws.1.complete from to); config = refl; start = refl; end = refl } in
+      let bank : IsBankSpelling m state row s = record {
+        elements = refl;
+        wires = λ from to.
+            (ws.1.sound from to, ws.1.complete from to);
+        config = refl;
+        start = refl;
+        end = refl;
+      } in
       let circuit : IsCircuit (circuit_of s) = record {
         reversible = λ e t at. rotary_reversible (elements_of m) e t at;
         one_to_one = apart-IsOneToOne ws.0 ws.1.apart;
@@ -133,7 +145,8 @@ module _ (m : Machine) (state row : ℕ) (state_in : state < m.states) (row_in :
       } in
       (s, bank, record { admitted = bank-Admits s bank few circuit; written = refl })
     where
-      wire_within : (from to : Line) → IsBankWire 0 (machine_table m) from to → IsOutput (replicate (elements_of m) rotary) from × IsInput (replicate (elements_of m) rotary) to
+      wire_within : (from to : Line) → IsBankWire 0 (machine_table m) from to →
+          IsOutput (replicate (elements_of m) rotary) from × IsInput (replicate (elements_of m) rotary) to
       wire_within from to wire =
           let h = bank_wire-IsWithinLines 0 (machine_table m) (machine_table-IsReversible m) refl from to wire in
           let leaves : from.element < elements_of m = omega (arith, h.from_high) in
@@ -141,7 +154,8 @@ module _ (m : Machine) (state row : ℕ) (state_in : state < m.states) (row_in :
           (rw (rotary_outputs (elements_of m) from.element leaves) h.from_line, rw (rotary_inputs (elements_of m) to.element ends) h.to_line)
 
 -- a bank's net with its start spells the bank
-pub net_spelling : (m : Machine) (v : Banked) (c : NetConfig) (state row : ℕ) → IsBankOf v (machine_table m) → c.net ≡ v.net → c.config ≡ start_at v.states v.lines state row → c.start ≡ line_at row west
+pub net_spelling : (m : Machine) (v : Banked) (c : NetConfig) (state row : ℕ) → IsBankOf v (machine_table m) → c.net ≡ v.net →
+    c.config ≡ start_at v.states v.lines state row → c.start ≡ line_at row west
     → c.end ≡ exit_after 0 (machine_table m) state row ((machine_table m).go state row) → IsBankSpelling m state row (spelling_of c)
 net_spelling m v c state row is net config start end =
     let of_net : IsBankNet c.net (machine_table m) = subst (λ n. IsBankNet n (machine_table m)) (sym net) is.net in
@@ -163,7 +177,8 @@ pub net_circuit : (c : NetConfig) (net : Parts Rotary) → net ≡ c.net → IsC
 net_circuit c net same is = subst IsCircuit (circuits-agree c) (subst (λ n. IsCircuit (circuit (λ _. rotary) n)) same is)
 
 -- the number of an output line's element
-pub output_fits : (m : Machine) (q i n k o : ℕ) (move : ℕ × ℕ) → q < m.states → i < m.lines → elements_of m ≤ 1048576 → (machine_table m).go q i ≡ Some move → n ≡ m.states → k ≡ m.lines → o ≡ move.1 → (n - 1) * (k + 1) + o < 1048576
+pub output_fits : (m : Machine) (q i n k o : ℕ) (move : ℕ × ℕ) → q < m.states → i < m.lines → elements_of m ≤ 1048576 → (machine_table m).go q i ≡ Some move →
+    n ≡ m.states → k ≡ m.lines → o ≡ move.1 → (n - 1) * (k + 1) + o < 1048576
 output_fits m q i n k o move state row few goes states lines out =
     let low = ((machine_table-IsReversible m).arrives q i move.0 move.1 goes).1 in
     let h = exit_fits m (m.states - 1) move.1 (omega arith) low few in

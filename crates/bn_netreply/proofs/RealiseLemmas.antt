@@ -19,7 +19,8 @@ use Rattle.bn_rsmtable.proofs.ReadingLaws.{machine_or_refusal, no_fault_of, one_
 use Rattle.bn_rsmtable.specs.declared.refusal.RsmTableRefusal.{RsmTableRefusal}
 use Rattle.bn_rsmtable.specs.declared.refusal.RsmTableRefusal.TheVariants as faults
 use Rattle.bn_realise.specs.BankNets.{elements_of}
-use Rattle.bn_netreply.specs.RealiseReply.{BankReplies, lacking, large, bank, IsBankSpelling, IsPlaceOf, LacksPlace, no_line, no_state, RealiseReplies, faulty, clashing, reading, RealiseIsSettled, TellsBank, TellsClash, clash_line, rsm_fault_line}
+use Rattle.bn_netreply.specs.RealiseReply.{BankReplies, lacking, large, bank, IsBankSpelling, IsPlaceOf, LacksPlace, no_line, no_state, RealiseReplies, faulty}
+use Rattle.bn_netreply.specs.RealiseReply.{clashing, reading, RealiseIsSettled, TellsBank, TellsClash, clash_line, rsm_fault_line}
 use Rattle.bn_netreply.specs.Refused.{IsRsmRefused}
 use Rattle.bn_reply.specs.Answering.{HasAnswer, IsOneAnswer}
 use Rattle.bn_reply.specs.Codes.{IsReplyStatus}
@@ -44,7 +45,8 @@ same_targets None (Some y) f g = g y refl
 same_bank : (m : Machine) (state row : ℕ) (s t : Spelling) → IsBankSpelling m state row s → IsBankSpelling m state row t → text_of s ≡ text_of t
 same_bank m state row s t h k =
     same_text s t (h.elements ∙ sym k.elements)
-    (λ from. same_targets (target s.wires from) (target t.wires from) (λ to is. (k.wires from to).1 ((h.wires from to).0 is)) (λ to is. (h.wires from to).1 ((k.wires from to).0 is)))
+    (λ from. same_targets (target s.wires from) (target t.wires from) (λ to is. (k.wires from to).1 ((h.wires from to).0 is))
+    (λ to is. (h.wires from to).1 ((k.wires from to).0 is)))
     (h.config ∙ sym k.config) (h.start ∙ sym k.start) (h.end ∙ sym k.end)
 
 not_lacking : (m : Machine) (q i : ℕ) (text : List ℕ) → LacksPlace m q i text → q ≤ m.states → i ≤ m.lines → ⊥
@@ -94,9 +96,20 @@ bank_to_all m q i some_state some_row = by_state (cases_lt m.states q)
     by_count there row (inr few) =
         let state = less_one q some_state in
         let line = less_one i some_row in
-        let place : IsPlaceOf m q i state.0 line.0 = record { state_is = state.1; row_is = line.1; state_in = omega (arith, state.1); row_in = omega (arith, line.1) } in
-        let found = bank_spelled m state.0 line.0 place.state_in place.row_in few in
-        (statuses.Done, text_of found.0, [], bank (record { state = state.0; row = line.0; place = place; spelling = found.0; bank = found.1; spelled = found.2 }) refl refl)
+        let place : IsPlaceOf m q i state.0 line.0 = record {
+          state_is = state.1;
+          row_is = line.1;
+          state_in = omega (arith, state.1);
+          row_in = omega
+              (arith, line.1);
+        } in
+        let found = bank_spelled m state.0 line.0 place.state_in place.row_in few in (
+          statuses.Done,
+          text_of found.0,
+          [],
+          bank (record
+              { state = state.0; row = line.0; place = place; spelling = found.0; bank = found.1; spelled = found.2 }) refl refl,
+        )
 
     by_line : q ≤ m.states → (m.lines < i) ⊎ (i ≤ m.lines) → HasAnswer (BankReplies m q i)
     by_line there (inl low) = (statuses.Word, _, [], lacking (no_line there low refl) refl refl)
@@ -112,7 +125,8 @@ clash_once : (bytes a b : List ℕ) → TellsClash bytes a → TellsClash bytes 
 clash_once bytes a b h k =
     let same : h.clashes.found ≡ k.clashes.found = one_reading (entries_of bytes) h.clashes.found k.clashes.found h.clashes.reads k.clashes.reads in
     let moved = subst (λ ms. moves.IsRefusal (states_named ms) (lines_named ms) ms h.said) same h.clashes.clash in
-    let one : h.said ≡ k.said = refusal_once (states_named k.clashes.found) (lines_named k.clashes.found) k.clashes.found h.said k.said moved k.clashes.clash h.some k.some in
+    let one : h.said ≡ k.said = refusal_once (states_named k.clashes.found)
+    (lines_named k.clashes.found) k.clashes.found h.said k.said moved k.clashes.clash h.some k.some in
     h.told ∙ ap clash_line one ∙ sym k.told
 
 no_clash : (bytes a : List ℕ) (m : Machine) → TellsClash bytes a → Reads bytes m → ⊥
@@ -127,24 +141,44 @@ no_clash bytes a m h reads =
 unread : (bytes : List ℕ) (e : RsmTableRefusal) → fault_of (entries_of bytes) ≡ Some e → (ms : List RsmMove) → AreReadAs (entries_of bytes) ms → ⊥
 unread bytes e first ms reads = let none = no_fault_of (entries_of bytes) ms reads in cc
 
-realise_some : (q i : ℕ) (bytes : List ℕ) → 1 ≤ q → 1 ≤ i → ((m : Machine) × Reads bytes m) ⊎ ((e : RsmTableRefusal) × (e ≢ faults.NoMemory) × IsRefusal bytes e) → HasAnswer (RealiseReplies q i bytes)
+realise_some : (q i : ℕ) (bytes : List ℕ) → 1 ≤ q → 1 ≤ i →
+    ((m : Machine) × Reads bytes m) ⊎ ((e : RsmTableRefusal) × (e ≢ faults.NoMemory) × IsRefusal bytes e) → HasAnswer (RealiseReplies q i bytes)
 realise_some q i bytes some_state some_row (inl m) = let h = bank_to_all m.0 q i some_state some_row in (h.0, h.1, h.2, reading m.0 m.1 h.3)
 realise_some q i bytes some_state some_row (inr refused) = by_refusal refused.0 refused.1 refused.2
   where
     told : (e : RsmTableRefusal) → fault_of (entries_of bytes) ≡ Some e → HasAnswer (RealiseReplies q i bytes)
-    told e first = (statuses.Text, rsm_fault_line e, [], faulty (record { unread = λ ms reads. unread bytes e first ms reads; fault = e; first = first; told = refl }) refl refl)
+    told e first = (
+      statuses.Text,
+      rsm_fault_line e,
+      [],
+      faulty
+          (record { unread = λ ms reads. unread bytes e first ms reads; fault = e; first = first; told = refl }) refl refl,
+    )
 
     by_refusal : (e : RsmTableRefusal) → e ≢ faults.NoMemory → IsRefusal bytes e → HasAnswer (RealiseReplies q i bytes)
     by_refusal (faults.FieldCount n) some is = told (faults.FieldCount n) is
     by_refusal (faults.Number n k) some is = told (faults.Number n k) is
     by_refusal (faults.TooMany n) some is = told (faults.TooMany n) is
     by_refusal faults.Empty some is = told faults.Empty is
-    by_refusal (faults.SameDomain a b) some is = (statuses.Machine, _, [], clashing (record { said = clash.SameDomain a b; clashes = is; some = (λ e. cc); told = refl }) refl refl)
-    by_refusal (faults.SameRange a b) some is = (statuses.Machine, _, [], clashing (record { said = clash.SameRange a b; clashes = is; some = (λ e. cc); told = refl }) refl refl)
+    by_refusal (faults.SameDomain a b) some is = (
+      statuses.Machine,
+      _,
+      [],
+      clashing
+          (record { said = clash.SameDomain a b; clashes = is; some = (λ e. cc); told = refl }) refl refl,
+    )
+    by_refusal (faults.SameRange a b) some is = (
+      statuses.Machine,
+      _,
+      [],
+      clashing
+          (record { said = clash.SameRange a b; clashes = is; some = (λ e. cc); told = refl }) refl refl,
+    )
     by_refusal faults.NoMemory some is = absurd (some refl)
 
 realise_one : (q i : ℕ) (bytes : List ℕ) → IsOneAnswer (RealiseReplies q i bytes)
-realise_one q i bytes s u a b x y (faulty h e l) (faulty k f n) = agree statuses.Text s u a b x y e f (first_once (AreReadAs (entries_of bytes)) (fault_of (entries_of bytes)) rsm_fault_line a b h k) l n
+realise_one q i bytes s u a b x y (faulty h e l) (faulty k f n) = agree statuses.Text s u a b x y e f
+    (first_once (AreReadAs (entries_of bytes)) (fault_of (entries_of bytes)) rsm_fault_line a b h k) l n
 realise_one q i bytes s u a b x y (faulty h e l) (clashing k f n) = absurd (h.unread k.clashes.found k.clashes.reads)
 realise_one q i bytes s u a b x y (faulty h e l) (reading m reads k) = absurd (h.unread m.moves reads.moves)
 realise_one q i bytes s u a b x y (clashing h e l) (faulty k f n) = absurd (k.unread h.clashes.found h.clashes.reads)
@@ -169,14 +203,17 @@ realise_settled q i bytes some_state some_row = record {
 }
 
 -- a refusal of the bytes, told in its line, is a reply of `realise`
-pub refused_replies : (q i : ℕ) (bytes : List ℕ) (e : RsmTableRefusal) (s : Status) (text : List ℕ) → IsRefusal bytes e → IsRsmRefused e s text → RealiseReplies q i bytes s text []
+pub refused_replies : (q i : ℕ) (bytes : List ℕ) (e : RsmTableRefusal) (s : Status) (text : List ℕ) → IsRefusal bytes e → IsRsmRefused e s text →
+    RealiseReplies q i bytes s text []
 refused_replies q i bytes e s text is told = by_refusal e is told
   where
-    faulty_text : (e : RsmTableRefusal) → fault_of (entries_of bytes) ≡ Some e → (s ≡ statuses.Text) × (text ≡ rsm_fault_line e) → RealiseReplies q i bytes s text []
+    faulty_text : (e : RsmTableRefusal) → fault_of (entries_of bytes) ≡ Some e → (s ≡ statuses.Text) × (text ≡ rsm_fault_line e) →
+        RealiseReplies q i bytes s text []
     faulty_text e first h =
         faulty (record { unread = λ ms reads. unread bytes e first ms reads; fault = e; first = first; told = h.1 }) h.0 refl
 
-    clashing_text : (said : RsmRefusal) → said ≢ clash.NoMemory → Clashes bytes said → (s ≡ statuses.Machine) × (text ≡ clash_line said) → RealiseReplies q i bytes s text []
+    clashing_text : (said : RsmRefusal) → said ≢ clash.NoMemory → Clashes bytes said → (s ≡ statuses.Machine) × (text ≡ clash_line said) →
+        RealiseReplies q i bytes s text []
     clashing_text said some clashes h =
         clashing (record { said = said; clashes = clashes; some = some; told = h.1 }) h.0 refl
 
@@ -190,6 +227,7 @@ refused_replies q i bytes e s text is told = by_refusal e is told
     by_refusal faults.NoMemory is h = absurd h
 
 -- the reply of a machine that is read
-pub machine_replies : (q i : ℕ) (bytes : List ℕ) (m : Machine) (result : Result Reply WantOfMemory) → Reads bytes m → IfOk result (λ r. BankReplies m q i r.status r.text.items []) → IfOk result (λ r. RealiseReplies q i bytes r.status r.text.items [])
+pub machine_replies : (q i : ℕ) (bytes : List ℕ) (m : Machine) (result : Result Reply WantOfMemory) → Reads bytes m →
+    IfOk result (λ r. BankReplies m q i r.status r.text.items []) → IfOk result (λ r. RealiseReplies q i bytes r.status r.text.items [])
 machine_replies q i bytes m (Ok r) reads h = reading m reads h
 machine_replies q i bytes m (Err e) reads h = tt

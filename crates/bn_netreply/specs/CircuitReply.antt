@@ -4,7 +4,8 @@ use Rattle.bn_theory.specs.Circuits.{Circuit}
 use Rattle.bn_theory.specs.declared.place.Place.{Place}
 use Rattle.bn_theory.specs.declared.config.Config.{Config}
 use Rattle.bn_netlist.specs.Spelling.{Spelling, circuit_of, Spelled, text_of, moved_to}
-use Rattle.bn_netlist.specs.Faults.{Fault, malformed, too_many, no_element, out_of_order, end_wired, left_wired, start_fed, second_source, IsFirstFault}
+use Rattle.bn_netlist.specs.Faults.{Fault, malformed, too_many, no_element, out_of_order, end_wired, left_wired}
+use Rattle.bn_netlist.specs.Faults.{start_fed, second_source, IsFirstFault}
 use Rattle.bn_theory.specs.Stepping.{run, back, places, places_back}
 use Rattle.bn_reply.specs.Answering.{IsSettled}
 use Rattle.bn_reply.specs.declared.status.Status.{Status}
@@ -32,15 +33,18 @@ pub record Misspelled (bytes text : List ℕ) : Type 0 where
   pub first : IsFirstFault bytes line fault
   pub written : text ≡ fault_text line fault
 
--- The bytes spell a configuration; the text is that of the configuration to which its circuit goes, with the same start and end, and a watch is told the places on the way.
-pub record Walked (goes : Circuit → Config → Config) (tells : Circuit → Config → List Place) (bytes text : List ℕ) (told : List Place) : Type 0 where
+-- The bytes spell a configuration; the text is that of the configuration to which its circuit goes, with the same start
+-- and end, and a watch is told the places on the way.
+pub record Walked (goes : Circuit → Config → Config) (tells : Circuit → Config → List Place) (bytes text : List ℕ)
+    (told : List Place) : Type 0 where
   pub spelling : Spelling
   pub spelled : Spelled spelling bytes
   pub written : text ≡ text_of (moved_to spelling (goes (circuit_of spelling) spelling.config))
   pub places : told ≡ tells (circuit_of spelling) spelling.config
 
 -- What such a command answers: the first fault of bytes that are no configuration text, or that text.
-pub data CircuitReplies (goes : Circuit → Config → Config) (tells : Circuit → Config → List Place) (bytes : List ℕ) (status : Status) (text : List ℕ) (told : List Place) : Type 0 where
+pub data CircuitReplies (goes : Circuit → Config → Config) (tells : Circuit → Config → List Place) (bytes : List ℕ)
+    (status : Status) (text : List ℕ) (told : List Place) : Type 0 where
   misspelled : Misspelled bytes text → status ≡ Text → told ≡ [] → CircuitReplies goes tells bytes status text told
   walked : Walked goes tells bytes text told → status ≡ Done → CircuitReplies goes tells bytes status text told
 

@@ -1,4 +1,6 @@
--- What the command `realise` answers: the configuration text of the bank of rotary elements that realises a reversible sequential machine, in a state and with the signal at an input line (Morita 2017; the bank and the texts are this project's own profile). The state and the line are counted from 1 in the words.
+-- What the command `realise` answers: the configuration text of the bank of rotary elements that realises a reversible
+-- sequential machine, in a state and with the signal at an input line (Morita 2017; the bank and the texts are this
+-- project's own profile). The state and the line are counted from 1 in the words.
 use Rattle.std.specs.Prelude.{◌≡◌, ◌≢◌, ◌↔◌, ℕ, ◌+◌, ◌<◌, ◌≤◌, List, [], ◌∷◌, Some, codes, decimal}
 use Rattle.bn_theory.specs.Circuits.{target}
 use Rattle.bn_theory.specs.declared.line.Line.{Line}
@@ -68,7 +70,8 @@ pub record TellsElements (m : Machine) (q i : ℕ) (text : List ℕ) : Type 0 wh
   pub many : most_elements < elements_of m
   pub told : text ≡ line (codes "size: elements " ∷ decimal (elements_of m) ∷ [])
 
--- What is spelled is the machine's bank, with the bank's own wires and no others, at rest in this state, with the signal about to enter this input line, which is the start; the end is the line by which the signal comes out.
+-- What is spelled is the machine's bank, with the bank's own wires and no others, at rest in this state, with the
+-- signal about to enter this input line, which is the start; the end is the line by which the signal comes out.
 pub record IsBankSpelling (m : Machine) (state row : ℕ) (s : Spelling) : Type 0 where
   pub elements : s.elements ≡ elements_of m
   pub wires : (from to : Line) → (target s.wires from ≡ Some to) ↔ IsBankWire 0 (machine_table m) from to
@@ -91,11 +94,13 @@ pub data BankReplies (m : Machine) (q i : ℕ) (status : Status) (text : List �
   large : TellsElements m q i text → status ≡ statuses.Size → told ≡ [] → BankReplies m q i status text told
   bank : TellsBank m q i text → status ≡ statuses.Done → told ≡ [] → BankReplies m q i status text told
 
--- What `realise` answers to these bytes: the fault of bytes that are no moves; two moves that agree on a side; or what is answered of the machine.
+-- What `realise` answers to these bytes: the fault of bytes that are no moves; two moves that agree on a side; or what
+-- is answered of the machine.
 pub data RealiseReplies (q i : ℕ) (bytes : List ℕ) (status : Status) (text : List ℕ) (told : List Place) : Type 0 where
   faulty : TellsRsmFault bytes text → status ≡ statuses.Text → told ≡ [] → RealiseReplies q i bytes status text told
   clashing : TellsClash bytes text → status ≡ statuses.Machine → told ≡ [] → RealiseReplies q i bytes status text told
-  reading : (m : Machine) → Reads bytes m → BankReplies m q i status text told → RealiseReplies q i bytes status text told
+  reading : (m : Machine) → Reads bytes m → BankReplies m q i status text told →
+      RealiseReplies q i bytes status text told
 
 -- it has one answer to all states and lines, counted from 1, and all bytes
 abbrev pub RealiseIsSettled : Type 0

@@ -1,8 +1,10 @@
 -- What is answered to the refusals of the readers, in the code's own words.
 use Rattle.std.specs.Prelude.{◌≡◌, ℕ, List, [], ◌∷◌, ◌++◌, decimal, codes}
-use Rattle.bn_netlist.specs.Faults.{malformed, too_many, no_element, out_of_order, end_wired, left_wired, start_fed, second_source}
+use Rattle.bn_netlist.specs.Faults.{malformed, too_many, no_element, out_of_order, end_wired, left_wired, start_fed}
+use Rattle.bn_netlist.specs.Faults.{second_source}
 use Rattle.bn_netlist.specs.declared.refusal.NetlistRefusal.{NetlistRefusal}
-use Rattle.bn_netlist.specs.declared.refusal.NetlistRefusal.TheVariants.{Syntax, Order, Target, TwoSources, StartFed, EndWired, LeftWired, TooMany, NoMemory}
+use Rattle.bn_netlist.specs.declared.refusal.NetlistRefusal.TheVariants.{Syntax, Order, Target, TwoSources, StartFed}
+use Rattle.bn_netlist.specs.declared.refusal.NetlistRefusal.TheVariants.{EndWired, LeftWired, TooMany, NoMemory}
 use Rattle.bn_rsm.specs.declared.refusal.RsmRefusal.TheVariants as clash
 use Rattle.bn_rsmtable.specs.declared.refusal.RsmTableRefusal.{RsmTableRefusal}
 use Rattle.bn_rsmtable.specs.declared.refusal.RsmTableRefusal.TheVariants as faults
@@ -29,10 +31,13 @@ IsRefused NoMemory status text = ⊥
 
 -- the status and the line of a refusal
 abbrev pub IsRsmRefused : RsmTableRefusal → Status → List ℕ → Type 0
-IsRsmRefused (faults.SameDomain i j) status text = (status ≡ statuses.Machine) × (text ≡ clash_line (clash.SameDomain i j))
-IsRsmRefused (faults.SameRange i j) status text = (status ≡ statuses.Machine) × (text ≡ clash_line (clash.SameRange i j))
+IsRsmRefused (faults.SameDomain i j) status text = (status ≡ statuses.Machine)
+    × (text ≡ clash_line (clash.SameDomain i j))
+IsRsmRefused (faults.SameRange i j) status text = (status ≡ statuses.Machine)
+    × (text ≡ clash_line (clash.SameRange i j))
 IsRsmRefused faults.NoMemory status text = ⊥
-IsRsmRefused (faults.FieldCount i) status text = (status ≡ statuses.Text) × (text ≡ rsm_fault_line (faults.FieldCount i))
+IsRsmRefused (faults.FieldCount i) status text = (status ≡ statuses.Text)
+    × (text ≡ rsm_fault_line (faults.FieldCount i))
 IsRsmRefused (faults.Number i j) status text = (status ≡ statuses.Text) × (text ≡ rsm_fault_line (faults.Number i j))
 IsRsmRefused (faults.TooMany i) status text = (status ≡ statuses.Text) × (text ≡ rsm_fault_line (faults.TooMany i))
 IsRsmRefused faults.Empty status text = (status ≡ statuses.Text) × (text ≡ rsm_fault_line faults.Empty)

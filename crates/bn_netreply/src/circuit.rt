@@ -20,8 +20,10 @@ pub fn reply_step<W: Watch>(
     bytes: &[u8],
     watch: &mut W,
 ) -> Result<Reply, NoMemory>
-    ensures replied { IfOk result (λ r. IsReplied (StepReplies count bytes.now) r (W.told watch.old) (W.told watch.new)) }
-    ensures interrupted { OnErr result (IsUnfinished (StepReplies count bytes.now) (W.told watch.old) (W.told watch.new)) }
+    ensures replied { IfOk result (λ r. IsReplied (StepReplies count bytes.now) r (W.told watch.old)
+        (W.told watch.new)) }
+    ensures interrupted { OnErr result (IsUnfinished (StepReplies count bytes.now) (W.told watch.old)
+        (W.told watch.new)) }
 {
     let mut read = match read_config(alloc, bytes) {
         Ok(read) => read,
@@ -45,8 +47,10 @@ pub fn reply_back<W: Watch>(
     bytes: &[u8],
     watch: &mut W,
 ) -> Result<Reply, NoMemory>
-    ensures replied { IfOk result (λ r. IsReplied (BackReplies count bytes.now) r (W.told watch.old) (W.told watch.new)) }
-    ensures interrupted { OnErr result (IsUnfinished (BackReplies count bytes.now) (W.told watch.old) (W.told watch.new)) }
+    ensures replied { IfOk result (λ r. IsReplied (BackReplies count bytes.now) r (W.told watch.old)
+        (W.told watch.new)) }
+    ensures interrupted { OnErr result (IsUnfinished (BackReplies count bytes.now) (W.told watch.old)
+        (W.told watch.new)) }
 {
     let mut read = match read_config(alloc, bytes) {
         Ok(read) => read,

@@ -39,7 +39,8 @@ pub(crate) fn back_watched<E: Element, W: Watch>(
     requires { IsConfig (circuit E.table net.now) config.old }
     ensures back { config.new ≡ back (circuit E.table net.now) config.old count }
     ensures good { IsConfig (circuit E.table net.now) config.new }
-    ensures told { Hears (W.told watch.old) (places_back (circuit E.table net.now) count config.old) (W.told watch.new) }
+    ensures told { Hears (W.told watch.old) (places_back (circuit E.table net.now) count config.old)
+        (W.told watch.new) }
 {
     let _elements = net.len();
     for _made in 0..count {

@@ -60,7 +60,7 @@ move_of : (bars after : List ℕ) (e o : ℕ) (moves : ℕ → Option (ℕ × �
     → IsMove bars after e o moves
 move_of bars after e o moves is =
     option_and_then_some (λ q. option_and_then {U = List ℕ
-        × ℕ} (λ (m : ℕ × ℕ). Some (slice_set bars e m.0, m.1)) (moves q)) (slice_get bars e) (after, o) is (λ q has h.
+    × ℕ} (λ (m : ℕ × ℕ). Some (slice_set bars e m.0, m.1)) (moves q)) (slice_get bars e) (after, o) is (λ q has h.
     option_and_then_some (λ (m : ℕ × ℕ). Some (slice_set bars e m.0, m.1)) (moves q) (after, o) h (λ m goes last.
     let both : ◌≡◌ {A = List ℕ × ℕ} (slice_set bars e m.0, m.1) (after, o) = cc in
     let states : slice_set bars e m.0 ≡ after = ap (λ (x : List ℕ × ℕ). x.0) both in

@@ -70,28 +70,30 @@ impl Bars {
         requires line { line < 4 }
         ensures { crossed self.old element line ≡ Some (self.new, result) }
     {
-        match (self.get(element), line) {
-            (HORIZONTAL, NORTH) => {
-                self.turn(element);
-                WEST
-            }
-            (HORIZONTAL, EAST) => WEST,
-            (HORIZONTAL, SOUTH) => {
-                self.turn(element);
-                EAST
-            }
-            (HORIZONTAL, WEST) => EAST,
-            (VERTICAL, NORTH) => SOUTH,
-            (VERTICAL, EAST) => {
+        if self.get(element) == VERTICAL {
+            if line == NORTH {
+                SOUTH
+            } else if line == SOUTH {
+                NORTH
+            } else if line == EAST {
                 self.turn(element);
                 NORTH
-            }
-            (VERTICAL, SOUTH) => NORTH,
-            (VERTICAL, WEST) => {
+            } else {
                 self.turn(element);
                 SOUTH
             }
-            _ => unreachable!(),
+        } else {
+            if line == EAST {
+                WEST
+            } else if line == WEST {
+                EAST
+            } else if line == NORTH {
+                self.turn(element);
+                WEST
+            } else {
+                self.turn(element);
+                EAST
+            }
         }
     }
 
@@ -103,28 +105,30 @@ impl Bars {
         requires line { line < 4 }
         ensures { crossed_back self.old element line ≡ Some (self.new, result) }
     {
-        match (self.get(element), line) {
-            (HORIZONTAL, NORTH) => {
-                self.turn(element);
-                EAST
-            }
-            (HORIZONTAL, EAST) => WEST,
-            (HORIZONTAL, SOUTH) => {
-                self.turn(element);
-                WEST
-            }
-            (HORIZONTAL, WEST) => EAST,
-            (VERTICAL, NORTH) => SOUTH,
-            (VERTICAL, EAST) => {
+        if self.get(element) == VERTICAL {
+            if line == NORTH {
+                SOUTH
+            } else if line == SOUTH {
+                NORTH
+            } else if line == EAST {
                 self.turn(element);
                 SOUTH
-            }
-            (VERTICAL, SOUTH) => NORTH,
-            (VERTICAL, WEST) => {
+            } else {
                 self.turn(element);
                 NORTH
             }
-            _ => unreachable!(),
+        } else {
+            if line == EAST {
+                WEST
+            } else if line == WEST {
+                EAST
+            } else if line == NORTH {
+                self.turn(element);
+                EAST
+            } else {
+                self.turn(element);
+                WEST
+            }
         }
     }
 

@@ -1,5 +1,6 @@
 -- The letters of a word, one after another.
-use Rattle.std.proofs.Common.{append_assoc, ◌≡◌, ◌≢◌, ◌<◌, ◌+◌, ◌++◌, ◌∷◌, ◌∙◌, ℕ, suc, List, [], length, take, get_or, Option, Some, None, arith, sym, ap, subst, refl}
+use Rattle.std.proofs.Common.{append_assoc, ◌≡◌, ◌≢◌, ◌<◌, ◌+◌, ◌++◌, ◌∷◌, ◌∙◌, ℕ, suc, List, [], length, take, get_or, Option, Some, None, arith, sym, ap}
+use Rattle.std.proofs.Common.{subst, refl}
 use Rattle.std.specs.Prelude.{Contains, IfSome, IfNone, MatchOption, slice_get}
 use Rattle.std.proofs.lemmas.List.{take_more, map-append}
 use Rattle.std.proofs.lemmas.List.Elements.{All-push}
@@ -15,7 +16,8 @@ pub letter_at : (t : Named) (byte symbol : ℕ) → slice_get t.letters symbol �
 letter_at t byte symbol here = (symbol, slice_get_within t.letters symbol byte here, get_or_from_slice_get t.letters symbol byte byte here)
 
 -- what a table's answer says of a byte that isn't the blank's letter
-pub symbol_found : (t : Named) → IsTable t → (byte : ℕ) → byte ≢ blank → (o : Option ℕ) → IfSome o (λ s. slice_get t.letters s ≡ Some byte) → IfNone o (Contains t.letters byte → ⊥) → MatchOption o (IsLetterOf t byte → ⊥) (IsSymbolOf t byte)
+pub symbol_found : (t : Named) → IsTable t → (byte : ℕ) → byte ≢ blank → (o : Option ℕ) → IfSome o (λ s. slice_get t.letters s ≡ Some byte) →
+    IfNone o (Contains t.letters byte → ⊥) → MatchOption o (IsLetterOf t byte → ⊥) (IsSymbolOf t byte)
 symbol_found t h byte apart None found none = λ letter. none letter.known
 symbol_found t h byte apart (Some s) found none = record {
   letter = record { known = letter_at t byte s found; apart = apart };
@@ -27,7 +29,8 @@ symbol_found t h byte apart (Some s) found none = record {
 }
 
 -- the letters of one symbol more
-pub letters_of-more : (t : Named) (symbols : List ℕ) (s byte : ℕ) → slice_get t.letters s ≡ Some byte → letters_of t (symbols ++ s ∷ []) ≡ letters_of t symbols ++ byte ∷ []
+pub letters_of-more : (t : Named) (symbols : List ℕ) (s byte : ℕ) → slice_get t.letters s ≡ Some byte →
+    letters_of t (symbols ++ s ∷ []) ≡ letters_of t symbols ++ byte ∷ []
 letters_of-more t symbols s byte here =
     map-append (λ symbol. get_or t.letters symbol 0) symbols (s ∷ [])
     ∙ ap (λ (b : ℕ). letters_of t symbols ++ b ∷ []) (get_or_from_slice_get t.letters s byte 0 here)
@@ -47,7 +50,8 @@ none_so_far t word = record {
 at_number : (word : List ℕ) (n : ℕ) → n < length word → nth word (suc n) ≡ Some (get_or word n 0)
 at_number word n h = slice_get-get_or word n 0 h
 
-pub one_more : (t : Named) (word : List ℕ) (n : ℕ) (symbols : List ℕ) (s : ℕ) → n < length word → SpelledSoFar t word n symbols → IsSymbolOf t (get_or word n 0) s → SpelledSoFar t word (n + 1) (symbols ++ s ∷ [])
+pub one_more : (t : Named) (word : List ℕ) (n : ℕ) (symbols : List ℕ) (s : ℕ) → n < length word → SpelledSoFar t word n symbols →
+    IsSymbolOf t (get_or word n 0) s → SpelledSoFar t word (n + 1) (symbols ++ s ∷ [])
 one_more t word n symbols s inside h symbol = record {
   spelled = record {
     letters =
@@ -60,19 +64,23 @@ one_more t word n symbols s inside h symbol = record {
     });
   };
   before =
-      let more : AllBefore (IsLetterOf t) word (suc (suc n)) = all_before_more (IsLetterOf t) word (suc n) (get_or word n 0) h.before (at_number word n inside) symbol.letter in
+      let more : AllBefore (IsLetterOf t) word (suc (suc n)) = all_before_more (IsLetterOf t) word (suc n) (get_or word n 0) h.before
+      (at_number word n inside) symbol.letter in
       let e : suc (suc n) ≡ suc (n + 1) = omega arith in
       subst (AllBefore (IsLetterOf t) word) e more;
 }
 
 -- the byte behind them is the first that is foreign
-pub first_foreign : (t : Named) (word : List ℕ) (n : ℕ) (symbols : List ℕ) → n < length word → SpelledSoFar t word n symbols → (IsLetterOf t (get_or word n 0) → ⊥) → IsFirstForeign t word (n + 1)
+pub first_foreign : (t : Named) (word : List ℕ) (n : ℕ) (symbols : List ℕ) → n < length word → SpelledSoFar t word n symbols →
+    (IsLetterOf t (get_or word n 0) → ⊥) → IsFirstForeign t word (n + 1)
 first_foreign t word n symbols inside h foreign =
     let e : suc n ≡ n + 1 = omega arith in
     subst (IsFirstForeign t word) e (record { byte = get_or word n 0; stands = at_number word n inside; foreign = foreign; before = h.before })
 
 -- the letters of the symbols up to one more
-pub letters_of-next : (t : Named) (text symbols : List ℕ) (n byte : ℕ) → n < length symbols → slice_get t.letters (get_or symbols n 0) ≡ Some byte → (text ++ letters_of t (take n symbols)) ++ byte ∷ [] ≡ text ++ letters_of t (take (n + 1) symbols)
+pub letters_of-next : (t : Named) (text symbols : List ℕ) (n byte : ℕ) → n < length symbols → slice_get t.letters (get_or symbols n 0) ≡ Some byte →
+    (text ++ letters_of t (take n symbols)) ++ byte ∷ [] ≡ text ++ letters_of t (take (n + 1) symbols)
 letters_of-next t text symbols n byte inside here =
     append_assoc text (letters_of t (take n symbols)) (byte ∷ [])
-    ∙ ap (λ (rest : List ℕ). text ++ rest) (sym (letters_of-more t (take n symbols) (get_or symbols n 0) byte here) ∙ ap (letters_of t) (sym (take_more symbols n 0 inside)))
+    ∙ ap (λ (rest : List ℕ). text ++ rest) (sym (letters_of-more t (take n symbols) (get_or symbols n 0) byte here)
+    ∙ ap (letters_of t) (sym (take_more symbols n 0 inside)))

@@ -17,13 +17,22 @@ pub record AreAlike (k m : Circuit) : Type 0 where
 
 module _ (k m : Circuit) (alike : AreAlike k m) where
   moved-alike : (c : Config) (e : ℕ) (r : ℕ × ℕ) → moved_on k c e r ≡ moved_on m c e r
-  moved-alike c e r = ap (λ (t : Option Line). let d : Config = record { states = (moved_on k c e r).states; place = place_at t (record { element = e; line = r.1 }); steps = c.steps + 1 } in d) (alike.targets (record { element = e; line = r.1 }))
+  moved-alike c e r = ap (λ (t : Option Line). let d : Config = record {
+    states = (moved_on k c e r).states;
+    place = place_at t
+        (record { element = e; line = r.1 });
+    steps = c.steps + 1;
+  } in d) (alike.targets (record { element = e; line = r.1 }))
 
-  moves-alike : (c : Config) (e : ℕ) (o : Option (ℕ × ℕ)) → option_and_then (λ r. if nat_le (c.steps + 1) clock then Some (moved_on k c e r) else None) o ≡ option_and_then (λ r. if nat_le (c.steps + 1) clock then Some (moved_on m c e r) else None) o
+  moves-alike : (c : Config) (e : ℕ) (o : Option (ℕ × ℕ)) →
+      option_and_then (λ r. if nat_le (c.steps + 1) clock then Some (moved_on k c e r) else None) o ≡ option_and_then
+      (λ r. if nat_le (c.steps + 1) clock then Some (moved_on m c e r) else None) o
   moves-alike c e None = refl
   moves-alike c e (Some r) = ap (λ d. if nat_le (c.steps + 1) clock then Some d else None) (moved-alike c e r)
 
-  states-alike : (c : Config) (e i : ℕ) (o : Option ℕ) → option_and_then (λ q. option_and_then (λ r. if nat_le (c.steps + 1) clock then Some (moved_on k c e r) else None) (go_of k.tables e q i)) o ≡ option_and_then (λ q. option_and_then (λ r. if nat_le (c.steps + 1) clock then Some (moved_on m c e r) else None) (go_of m.tables e q i)) o
+  states-alike : (c : Config) (e i : ℕ) (o : Option ℕ) → option_and_then
+      (λ q. option_and_then (λ r. if nat_le (c.steps + 1) clock then Some (moved_on k c e r) else None) (go_of k.tables e q i)) o ≡ option_and_then
+      (λ q. option_and_then (λ r. if nat_le (c.steps + 1) clock then Some (moved_on m c e r) else None) (go_of m.tables e q i)) o
   states-alike c e i None = refl
   states-alike c e i (Some q) =
       ap (λ ts. option_and_then (λ r. if nat_le (c.steps + 1) clock then Some (moved_on k c e r) else None) (go_of ts e q i)) alike.tables
@@ -43,7 +52,9 @@ module _ (k m : Circuit) (alike : AreAlike k m) where
   previous_by-alike : (d : Config) (n : ℕ) → previous_by k d n ≡ previous_by m d n
   previous_by-alike d zero = refl
   previous_by-alike d (suc n) =
-      let found : List Table → Option Line → Option Config = λ ts l. option_and_then (λ o. option_and_then (λ r. option_and_then (λ x. Some (moved_back d n o.element x)) (back_of ts o.element r o.line)) (slice_get d.states o.element)) l in
+      let found : List Table → Option Line → Option Config = λ ts l. option_and_then
+      (λ o. option_and_then (λ r. option_and_then (λ x. Some (moved_back d n o.element x)) (back_of ts o.element r o.line))
+      (slice_get d.states o.element)) l in
       ap (λ ts. found ts (line_before k.wires d.place)) alike.tables ∙ ap (found m.tables) (line_before-alike d.place)
 
   previous-alike : (d : Config) → previous k d ≡ previous m d
@@ -74,4 +85,5 @@ module _ (k m : Circuit) (alike : AreAlike k m) where
   pub places_back-alike : (t : ℕ) (c : Config) → places_back k t c ≡ places_back m t c
   unfolding places_back
   places_back-alike zero c = refl
-  places_back-alike (suc t) c = placed-alike (places_back k t) (places_back m t) (places_back-alike t) (previous k c) ∙ ap (λ o. placed o (places_back m t)) (previous-alike c)
+  places_back-alike (suc t) c = placed-alike (places_back k t) (places_back m t) (places_back-alike t) (previous k c)
+      ∙ ap (λ o. placed o (places_back m t)) (previous-alike c)

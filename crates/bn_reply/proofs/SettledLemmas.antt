@@ -9,7 +9,8 @@ use Rattle.bn_reply.specs.Codes.{IsReplyStatus}
 use Rattle.bn_reply.specs.Lines.{foreign_line}
 use Rattle.bn_reply.specs.Words.{IsFirstForeign, IsSpelledBy}
 use Rattle.bn_reply.specs.Opened.{IsForeign}
-use Rattle.bn_reply.specs.TableReply.{JudgedReplies, unfit, fit, ReadsStandard, StandardReplies, TableReplies, faulty, read, TellsFault, TellsWhy, WordReplies, foreign, spelled}
+use Rattle.bn_reply.specs.TableReply.{JudgedReplies, unfit, fit, ReadsStandard, StandardReplies, TableReplies, faulty, read, TellsFault, TellsWhy, WordReplies}
+use Rattle.bn_reply.specs.TableReply.{foreign, spelled}
 use Rattle.bn_reply.specs.declared.reply.Reply.{Reply}
 use Rattle.bn_reply.specs.declared.status.Status.{Status}
 use Rattle.bn_reply.specs.declared.status.Status.TheVariants as statuses
@@ -17,7 +18,8 @@ use Rattle.bn_reply.proofs.TableLemmas.{fault_once, one_table, standard_or_told,
 use Rattle.bn_reply.proofs.WordLemmas.{foreign_once, not_foreign, spelled_once, spelled_or_foreign}
 
 -- two answers that have the same status and text and tell nothing
-pub agree : (meant status other : Status) (text second : List ℕ) (told heard : List Place) → status ≡ meant → other ≡ meant → text ≡ second → told ≡ [] → heard ≡ [] → AgreeInAll status other text second told heard
+pub agree : (meant status other : Status) (text second : List ℕ) (told heard : List Place) → status ≡ meant → other ≡ meant → text ≡ second → told ≡ [] →
+    heard ≡ [] → AgreeInAll status other text second told heard
 agree meant status other text second told heard s o same t h = record { statuses = s ∙ sym o; texts = same; places = t ∙ sym h }
 
 -- ---- one text
@@ -25,7 +27,8 @@ agree meant status other text second told heard s o same t h = record { statuses
 pub done_settled : (answer : List ℕ) → IsSettled (IsDone answer)
 done_settled answer = record {
   some = (statuses.Done, answer, [], record { done = refl; text_is = refl; silent = refl });
-  one = λ status other text second told heard a b. agree statuses.Done status other text second told heard a.done b.done (a.text_is ∙ sym b.text_is) a.silent b.silent;
+  one = λ status other text second told heard a b. agree statuses.Done status other text second told heard a.done b.done
+      (a.text_is ∙ sym b.text_is) a.silent b.silent;
   status = λ status text told a. subst IsReplyStatus (sym a.done) tt;
 }
 
@@ -72,13 +75,17 @@ module _ (tells : Status → List ℕ → List Place → Type 0) (t : Named) (se
   judged_settled = record { some = judged_some (standard_or_told t); one = judged_one; status = judged_status }
 
 -- a table with a machine in standard form
-pub standard_settled : (tells : Named → Status → List ℕ → List Place → Type 0) (bytes : List ℕ) → ((t : Named) → ReadsStandard bytes t → IsSettled (tells t)) → IsSettled (StandardReplies tells bytes)
-standard_settled tells bytes settled = table_settled (λ t. JudgedReplies (tells t) t) bytes (λ t reads. judged_settled (tells t) t (λ standard. settled t (record { reads = reads; standard = standard })))
+pub standard_settled : (tells : Named → Status → List ℕ → List Place → Type 0) (bytes : List ℕ) → ((t : Named) → ReadsStandard bytes t → IsSettled (tells t)) →
+    IsSettled (StandardReplies tells bytes)
+standard_settled tells bytes settled = table_settled (λ t. JudgedReplies (tells t) t) bytes
+    (λ t reads. judged_settled (tells t) t (λ standard. settled t (record { reads = reads; standard = standard })))
 
 -- what is answered to bytes that read as such a table is what is answered to it
-pub standard_tells : (tells : Named → Status → List ℕ → List Place → Type 0) (bytes : List ℕ) (t : Named) (s : Status) (text : List ℕ) (told : List Place) → ReadsStandard bytes t → StandardReplies tells bytes s text told → tells t s text told
+pub standard_tells : (tells : Named → Status → List ℕ → List Place → Type 0) (bytes : List ℕ) (t : Named) (s : Status) (text : List ℕ) (told : List Place) →
+    ReadsStandard bytes t → StandardReplies tells bytes s text told → tells t s text told
 standard_tells tells bytes t s text told h (faulty k e n) = absurd (k.unread t h.reads)
-standard_tells tells bytes t s text told h (read u reads answer) = by_verdict (subst (λ (v : Named). JudgedReplies (tells v) v s text told) (one_table bytes u t reads h.reads) answer)
+standard_tells tells bytes t s text told h (read u reads answer) = by_verdict
+    (subst (λ (v : Named). JudgedReplies (tells v) v s text told) (one_table bytes u t reads h.reads) answer)
   where
     by_verdict : JudgedReplies (tells t) t s text told → tells t s text told
     by_verdict (unfit why e n) = absurd (why.unfit h.standard)
@@ -86,13 +93,15 @@ standard_tells tells bytes t s text told h (read u reads answer) = by_verdict (s
 
 -- ---- a word
 
-module _ (tells : List ℕ → Status → List ℕ → List Place → Type 0) (t : Named) (table : IsTable t) (word : List ℕ) (settled : (symbols : List ℕ) → IsSpelledBy t word symbols → IsSettled (tells symbols)) where
+module _ (tells : List ℕ → Status → List ℕ → List Place → Type 0) (t : Named) (table : IsTable t) (word : List ℕ)
+    (settled : (symbols : List ℕ) → IsSpelledBy t word symbols → IsSettled (tells symbols)) where
   word_some : ((symbols : List ℕ) × IsSpelledBy t word symbols) ⊎ ((p : ℕ) × IsFirstForeign t word p) → HasAnswer (WordReplies tells t word)
   word_some (inl s) = let some = (settled s.0 s.1).some in (some.0, some.1, some.2, spelled s.0 s.1 some.3)
   word_some (inr p) = (statuses.Word, foreign_line p.0, [], foreign p.0 p.1 refl refl refl)
 
   word_one : IsOneAnswer (WordReplies tells t word)
-  word_one s u a b x y (foreign p h told e n) (foreign q k also f m) = agree statuses.Word s u a b x y e f (told ∙ ap foreign_line (foreign_once t word p q h k) ∙ sym also) n m
+  word_one s u a b x y (foreign p h told e n) (foreign q k also f m) = agree statuses.Word s u a b x y e f
+      (told ∙ ap foreign_line (foreign_once t word p q h k) ∙ sym also) n m
   word_one s u a b x y (foreign p h told e n) (spelled symbols k answer) = absurd (not_foreign t table word symbols p k h)
   word_one s u a b x y (spelled symbols h answer) (foreign q k also f m) = absurd (not_foreign t table word symbols q h k)
   word_one s u a b x y (spelled xs h answer) (spelled ys k other) =
@@ -107,5 +116,13 @@ module _ (tells : List ℕ → Status → List ℕ → List Place → Type 0) (t
   word_settled = record { some = word_some (spelled_or_foreign t table word); one = word_one; status = word_status }
 
 -- what the opening of a word answers
-pub foreign_replies : (tells : List ℕ → Status → List ℕ → List Place → Type 0) (t : Named) (word : List ℕ) (reply : Reply) → IsForeign t word reply → WordReplies tells t word reply.status reply.text.items []
+pub foreign_replies : (tells : List ℕ → Status → List ℕ → List Place → Type 0) (t : Named) (word : List ℕ) (reply : Reply) → IsForeign t word reply →
+    WordReplies tells t word reply.status reply.text.items []
 foreign_replies tells t word reply h = foreign h.place h.first h.told h.refused refl
+
+-- what is answered to a word that these symbols spell is what is answered to them
+pub word_tells : (tells : List ℕ → Status → List ℕ → List Place → Type 0) (t : Named) → IsTable t → (word symbols : List ℕ) (s : Status) (text : List ℕ)
+    (told : List Place) → IsSpelledBy t word symbols → WordReplies tells t word s text told → tells symbols s text told
+word_tells tells t table word symbols s text told is (foreign p h told_is e n) = absurd (not_foreign t table word symbols p is h)
+word_tells tells t table word symbols s text told is (spelled ys k answer) =
+    subst (λ (zs : List ℕ). tells zs s text told) (spelled_once t table word ys symbols k is) answer

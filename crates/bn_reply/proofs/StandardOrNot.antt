@@ -6,9 +6,12 @@ use Rattle.bn_machine.specs.Machine.{nth, nth-get_or, start_of, final_of}
 use Rattle.bn_machine.specs.declared.quint.Quint.{Quint}
 use Rattle.bn_machine.specs.declared.quint.Shift.{Shift}
 use Rattle.bn_machine.specs.declared.quint.Shift.TheVariants.{Left, Stay, Right}
-use Rattle.bn_standard.specs.Standard.{BeginsWell, Clashes, EndsWell, HasLoneFinal, HasLoneStart, IsBeginning, IsEnding, IsStandard, IsUnambiguous, NamesFinal, NamesStart}
+use Rattle.bn_standard.specs.Standard.{BeginsWell, Clashes, EndsWell, HasLoneFinal, HasLoneStart, IsBeginning, IsEnding, IsStandard, IsUnambiguous, NamesFinal}
+use Rattle.bn_standard.specs.Standard.{NamesStart}
 use Rattle.bn_standard.specs.Verdict.{IsLeastFinal, IsLeastRepeat, IsLeastStart, IsRefusal}
-use Rattle.bn_standard.specs.Search.{NoneBefore, NoneRepeated, beginning_of, begins_well, ending_of, ends_well, least_final, least_repeat, least_second, least_start, lone_final, lone_start, no_repeat, none_before_more, none_before_one, none_repeated_more, none_repeated_one, unambiguous}
+use Rattle.bn_standard.specs.Search.{NoneBefore, NoneRepeated, beginning_of, begins_well, ending_of, ends_well, least_final, least_repeat, least_second}
+use Rattle.bn_standard.specs.Search.{least_start, lone_final, lone_start, no_repeat, none_before_more, none_before_one, none_repeated_more, none_repeated_one}
+use Rattle.bn_standard.specs.Search.{unambiguous}
 use Rattle.bn_standard.specs.declared.why.Why.{Why}
 use Rattle.bn_standard.specs.declared.why.Why.TheVariants as whys
 
@@ -34,7 +37,8 @@ below a b = elim (cases_lt a b) [ inl h ↦ inl h | inr h ↦ inr (λ k. absurd 
 clashes : (i : ℕ) (first : Quint) (j : ℕ) (second : Quint) → Clashes i first j second ⊎ (Clashes i first j second → ⊥)
 clashes i first j second = by_parts (below i j) (same first.state second.state) (same first.read second.read)
   where
-    by_parts : (i < j) ⊎ (i < j → ⊥) → (first.state ≡ second.state) ⊎ (first.state ≢ second.state) → (first.read ≡ second.read) ⊎ (first.read ≢ second.read) → Clashes i first j second ⊎ (Clashes i first j second → ⊥)
+    by_parts : (i < j) ⊎ (i < j → ⊥) → (first.state ≡ second.state) ⊎ (first.state ≢ second.state) → (first.read ≡ second.read) ⊎ (first.read ≢ second.read) →
+        Clashes i first j second ⊎ (Clashes i first j second → ⊥)
     by_parts (inr never) s r = inr (λ c. never c.before)
     by_parts (inl b) (inr never) r = inr (λ c. never c.state)
     by_parts (inl b) (inl s) (inr never) = inr (λ c. never c.read)
@@ -52,7 +56,8 @@ beginning q = by_parts (same q.read 0) (same q.write 0) (same_shift q.shift Righ
 ending : (start : ℕ) (q : Quint) → IsEnding start q ⊎ (IsEnding start q → ⊥)
 ending start q = by_parts (same q.read 0) (same q.write 0) (same_shift q.shift Stay) (same q.state start)
   where
-    by_parts : (q.read ≡ 0) ⊎ (q.read ≢ 0) → (q.write ≡ 0) ⊎ (q.write ≢ 0) → (q.shift ≡ Stay) ⊎ (q.shift ≢ Stay) → (q.state ≡ start) ⊎ (q.state ≢ start) → IsEnding start q ⊎ (IsEnding start q → ⊥)
+    by_parts : (q.read ≡ 0) ⊎ (q.read ≢ 0) → (q.write ≡ 0) ⊎ (q.write ≢ 0) → (q.shift ≡ Stay) ⊎ (q.shift ≢ Stay) → (q.state ≡ start) ⊎ (q.state ≢ start) →
+        IsEnding start q ⊎ (IsEnding start q → ⊥)
     by_parts (inr never) w s a = inr (λ b. never b.reads)
     by_parts (inl r) (inr never) s a = inr (λ b. never b.writes)
     by_parts (inl r) (inl w) (inr never) a = inr (λ b. never b.shifts)
@@ -86,7 +91,8 @@ record First (P : ℕ → Quint → Type 0) (qs : List Quint) : Type 0 where
   stands : nth qs number ≡ Some quint
   holds : P number quint
 
-search_from : (P : ℕ → Quint → Type 0) → ((i : ℕ) (q : Quint) → P i q ⊎ (P i q → ⊥)) → (qs : List Quint) (fuel n : ℕ) → n + fuel ≡ length qs → NoneBefore P qs (suc n) → First P qs ⊎ NoneBefore P qs (suc (length qs))
+search_from : (P : ℕ → Quint → Type 0) → ((i : ℕ) (q : Quint) → P i q ⊎ (P i q → ⊥)) → (qs : List Quint) (fuel n : ℕ) → n + fuel ≡ length qs →
+    NoneBefore P qs (suc n) → First P qs ⊎ NoneBefore P qs (suc (length qs))
 search_from P test qs zero n sum before = let all : suc n ≡ suc (length qs) = omega arith in inr (subst (NoneBefore P qs) all before)
 search_from P test qs (suc fuel) n sum before =
     let inside : n < length qs = omega arith in
@@ -109,8 +115,14 @@ repeats_from qs (suc fuel) n sum before =
     let next : suc n + fuel ≡ length qs = omega arith in
     let here = nth-get_or qs n nought inside in
     elim (first_or_none (Clashes (suc n) (get_or qs n nought)) (λ j q. clashes (suc n) (get_or qs n nought) j q) qs) [
-      | inl f ↦ inr (suc n, f.number, least_repeat qs (suc n) f.number before (least_second qs (suc n) (get_or qs n nought) f.number f.quint here f.before f.stands f.holds))
-      | inr none ↦ repeats_from qs fuel (suc n) next (none_repeated_more qs (suc n) before (no_repeat qs (suc n) (get_or qs n nought) (suc (length qs)) here (omega arith) none))
+      | inl f ↦ inr (
+        suc n,
+        f.number,
+        least_repeat qs (suc n) f.number before
+            (least_second qs (suc n) (get_or qs n nought) f.number f.quint here f.before f.stands f.holds),
+      )
+      | inr none ↦ repeats_from qs fuel (suc n) next (none_repeated_more qs (suc n) before
+          (no_repeat qs (suc n) (get_or qs n nought) (suc (length qs)) here (omega arith) none))
     ]
 
 repeats : (qs : List Quint) → IsUnambiguous qs ⊎ ((i : ℕ) × (j : ℕ) × IsLeastRepeat qs i j)
@@ -151,7 +163,9 @@ pub record Fails (qs : List Quint) : Type 0 where
 pub standard_or_not : (qs : List Quint) → IsStandard qs ⊎ Fails qs
 standard_or_not qs = by_parts (repeats qs) (begins qs) (starts qs) (ends qs) (finals qs)
   where
-    by_parts : IsUnambiguous qs ⊎ ((i : ℕ) × (j : ℕ) × IsLeastRepeat qs i j) → BeginsWell qs ⊎ (BeginsWell qs → ⊥) → HasLoneStart qs ⊎ ((i : ℕ) × IsLeastStart qs i) → EndsWell qs ⊎ (EndsWell qs → ⊥) → HasLoneFinal qs ⊎ ((i : ℕ) × IsLeastFinal qs i) → IsStandard qs ⊎ Fails qs
+    by_parts : IsUnambiguous qs ⊎ ((i : ℕ) × (j : ℕ) × IsLeastRepeat qs i j) → BeginsWell qs ⊎ (BeginsWell qs → ⊥) →
+        HasLoneStart qs ⊎ ((i : ℕ) × IsLeastStart qs i) → EndsWell qs ⊎ (EndsWell qs → ⊥) → HasLoneFinal qs ⊎ ((i : ℕ) × IsLeastFinal qs i) →
+        IsStandard qs ⊎ Fails qs
     by_parts (inr r) b s e f = inr (record { why = whys.Repeat r.0 r.1; first = r.2; said = λ h. cc h })
     by_parts (inl u) (inr never) s e f = inr (record { why = whys.First; first = (u, never); said = λ h. cc h })
     by_parts (inl u) (inl b) (inr s) e f = inr (record { why = whys.StartUsed s.0; first = (u, b, s.1); said = λ h. cc h })

@@ -18,7 +18,8 @@ use Rattle.bn_reply.proofs.StandardOrNot.{standard_or_not}
 -- ---- any table
 
 -- of one first fault one text tells
-pub first_once : {T F : Type 0} (R : T → Type 0) (found : Option F) (line_of : F → List ℕ) (a b : List ℕ) → TellsFirst R found line_of a → TellsFirst R found line_of b → a ≡ b
+pub first_once : {T F : Type 0} (R : T → Type 0) (found : Option F) (line_of : F → List ℕ) (a b : List ℕ) → TellsFirst R found line_of a →
+    TellsFirst R found line_of b → a ≡ b
 first_once R found line_of a b h k =
     let same : h.fault ≡ k.fault = cc (h.first, k.first) in
     h.told ∙ ap line_of same ∙ sym k.told
@@ -28,7 +29,8 @@ none_or_some None = inl refl
 none_or_some (Some f) = inr (f, refl)
 
 -- there is a reading, or the first fault is told
-pub read_or_told : {T F : Type 0} (R : T → Type 0) (found : Option F) (line_of : F → List ℕ) → (found ≡ None) ↔ ((t : T) × R t) → ((t : T) × R t) ⊎ ((text : List ℕ) × TellsFirst R found line_of text)
+pub read_or_told : {T F : Type 0} (R : T → Type 0) (found : Option F) (line_of : F → List ℕ) → (found ≡ None) ↔ ((t : T) × R t) →
+    ((t : T) × R t) ⊎ ((text : List ℕ) × TellsFirst R found line_of text)
 read_or_told R found line_of law = elim (none_or_some found) [
   | inl none ↦ inl (law.0 none)
   | inr some ↦ inr (
@@ -65,7 +67,14 @@ why_once t a b h k = h.told ∙ ap why_line (verdict_once t.machine.quints h.why
 
 -- a demand that isn't met, told in its line
 pub why_told : (t : Named) (why : Why) (text : List ℕ) → IsRefusal t.machine.quints why → why ≢ whys.NoMemory → text ≡ why_line why → TellsWhy t text
-why_told t why text first said told = record { unfit = λ s. said (standard_accepted t.machine.quints why s first); why = why; first = first; said = said; told = told }
+why_told t why text first said told = record {
+  unfit = λ s. said
+      (standard_accepted t.machine.quints why s first);
+  why = why;
+  first = first;
+  said = said;
+  told = told;
+}
 
 -- the machine is in standard form, or the first demand that it doesn't meet is told
 pub standard_or_told : (t : Named) → IsStandard t.machine.quints ⊎ ((text : List ℕ) × TellsWhy t text)

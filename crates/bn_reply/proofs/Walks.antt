@@ -35,20 +35,24 @@ walk_starts k c count told good =
     let e : count ≡ count - 0 = omega arith in
     record { reaches = refl; good = good; so_far = []; rest = ap (λ n. places k n c) e; heard = hears-nothing told }
 
-pub walk_goes : (k : Circuit) (c d e : Config) (count made : ℕ) (old mid new : Option (List Place)) → HasWalked k c d count made old mid → made < count → Goes k d e → IsConfig k e → Hears mid (e.place ∷ []) new → HasWalked k c e count (made + 1) old new
+pub walk_goes : (k : Circuit) (c d e : Config) (count made : ℕ) (old mid new : Option (List Place)) → HasWalked k c d count made old mid → made < count →
+    Goes k d e → IsConfig k e → Hears mid (e.place ∷ []) new → HasWalked k c e count (made + 1) old new
 walk_goes k c d e count made old mid new walked more goes good hears =
     let s : count - made ≡ suc (count - (made + 1)) = omega arith in
     record {
       reaches = runs_more (Goes k) made c d e walked.reaches goes;
       good = good;
       so_far = walked.so_far ++ e.place ∷ [];
-      rest = walked.rest ∙ ap (λ n. walked.so_far ++ places k n d) s ∙ ap (λ ts. walked.so_far ++ ts) (places-Goes k d e (count - (made + 1)) goes) ∙ sym (append_assoc walked.so_far (e.place ∷ []) (places k (count - (made + 1)) e));
+      rest = walked.rest ∙ ap (λ n. walked.so_far ++ places k n d) s ∙ ap (λ ts. walked.so_far ++ ts) (places-Goes k d e (count - (made + 1)) goes)
+          ∙ sym (append_assoc walked.so_far (e.place ∷ []) (places k (count - (made + 1)) e));
       heard = hears-joins old mid new walked.so_far (e.place ∷ []) walked.heard hears;
     }
 
 -- at the end all places were told
-pub walk_ends : (k : Circuit) (c d : Config) (count made : ℕ) (old new : Option (List Place)) → HasWalked k c d count made old new → (made < count → IsStuck k d) → Hears old (places k count c) new
-walk_ends k c d count made old new walked ended = subst (λ ts. Hears old ts new) (sym (walked.rest ∙ ap (λ ts. walked.so_far ++ ts) (nothing_left (count - made) (λ some. ended (omega arith))) ∙ append-nil walked.so_far)) walked.heard
+pub walk_ends : (k : Circuit) (c d : Config) (count made : ℕ) (old new : Option (List Place)) → HasWalked k c d count made old new →
+    (made < count → IsStuck k d) → Hears old (places k count c) new
+walk_ends k c d count made old new walked ended = subst (λ ts. Hears old ts new)
+    (sym (walked.rest ∙ ap (λ ts. walked.so_far ++ ts) (nothing_left (count - made) (λ some. ended (omega arith))) ∙ append-nil walked.so_far)) walked.heard
   where
     nothing_left : (n : ℕ) → (0 < n → IsStuck k d) → places k n d ≡ []
     nothing_left zero ended = places-zero k d
@@ -67,19 +71,25 @@ walk_back_starts k c count told good =
     let e : count ≡ count - 0 = omega arith in
     record { reaches = refl; good = good; so_far = []; rest = ap (λ n. places_back k n c) e; heard = hears-nothing told }
 
-pub walk_goes_back : (k : Circuit) → IsCircuit k → (c d e : Config) (count made : ℕ) (old mid new : Option (List Place)) → HasWalkedBack k c d count made old mid → made < count → Goes k e d → IsConfig k e → Hears mid (e.place ∷ []) new → HasWalkedBack k c e count (made + 1) old new
+pub walk_goes_back : (k : Circuit) → IsCircuit k → (c d e : Config) (count made : ℕ) (old mid new : Option (List Place)) →
+    HasWalkedBack k c d count made old mid → made < count → Goes k e d → IsConfig k e → Hears mid (e.place ∷ []) new →
+    HasWalkedBack k c e count (made + 1) old new
 walk_goes_back k circuit c d e count made old mid new walked more goes good hears =
     let s : count - made ≡ suc (count - (made + 1)) = omega arith in
     record {
       reaches = runs_join (Goes k) (made + 1) 1 made e d c (omega arith) (d, goes, refl) walked.reaches;
       good = good;
       so_far = walked.so_far ++ e.place ∷ [];
-      rest = walked.rest ∙ ap (λ n. walked.so_far ++ places_back k n d) s ∙ ap (λ ts. walked.so_far ++ ts) (places_back-Goes k circuit e d (count - (made + 1)) goes) ∙ sym (append_assoc walked.so_far (e.place ∷ []) (places_back k (count - (made + 1)) e));
+      rest = walked.rest ∙ ap (λ n. walked.so_far ++ places_back k n d) s
+          ∙ ap (λ ts. walked.so_far ++ ts) (places_back-Goes k circuit e d (count - (made + 1)) goes)
+          ∙ sym (append_assoc walked.so_far (e.place ∷ []) (places_back k (count - (made + 1)) e));
       heard = hears-joins old mid new walked.so_far (e.place ∷ []) walked.heard hears;
     }
 
-pub walk_back_ends : (k : Circuit) → IsCircuit k → (c d : Config) (count made : ℕ) (old new : Option (List Place)) → HasWalkedBack k c d count made old new → (made < count → IsFirst k d) → Hears old (places_back k count c) new
-walk_back_ends k circuit c d count made old new walked ended = subst (λ ts. Hears old ts new) (sym (walked.rest ∙ ap (λ ts. walked.so_far ++ ts) (nothing_left (count - made) (λ some. ended (omega arith))) ∙ append-nil walked.so_far)) walked.heard
+pub walk_back_ends : (k : Circuit) → IsCircuit k → (c d : Config) (count made : ℕ) (old new : Option (List Place)) → HasWalkedBack k c d count made old new →
+    (made < count → IsFirst k d) → Hears old (places_back k count c) new
+walk_back_ends k circuit c d count made old new walked ended = subst (λ ts. Hears old ts new)
+    (sym (walked.rest ∙ ap (λ ts. walked.so_far ++ ts) (nothing_left (count - made) (λ some. ended (omega arith))) ∙ append-nil walked.so_far)) walked.heard
   where
     nothing_left : (n : ℕ) → (0 < n → IsFirst k d) → places_back k n d ≡ []
     nothing_left zero ended = places_back-zero k d

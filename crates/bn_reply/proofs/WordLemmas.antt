@@ -26,14 +26,16 @@ symbol_letter t h symbol nonblank known =
     }
 
 -- the byte at a place of a word that is spelled
-pub byte_at : (t : Named) (word symbols : List ℕ) (k : ℕ) → IsSpelledBy t word symbols → k < length symbols → slice_index word k ≡ slice_index t.letters (slice_index symbols k)
+pub byte_at : (t : Named) (word symbols : List ℕ) (k : ℕ) → IsSpelledBy t word symbols → k < length symbols →
+    slice_index word k ≡ slice_index t.letters (slice_index symbols k)
 byte_at t word symbols k h inside = ap (λ (w : List ℕ). slice_index w k) h.letters ∙ get_or-map (λ symbol. get_or t.letters symbol 0) symbols k 0 0 inside
 
 pub same_length : (t : Named) (word symbols : List ℕ) → IsSpelledBy t word symbols → length word ≡ length symbols
 same_length t word symbols h = ap length h.letters ∙ simp length-map
 
 -- each byte of a word that is spelled is a letter other than the blank's
-pub spelled_letter : (t : Named) → IsTable t → (word symbols : List ℕ) (k : ℕ) → IsSpelledBy t word symbols → k < length word → IsLetterOf t (slice_index word k)
+pub spelled_letter : (t : Named) → IsTable t → (word symbols : List ℕ) (k : ℕ) → IsSpelledBy t word symbols → k < length word →
+    IsLetterOf t (slice_index word k)
 spelled_letter t h word symbols k s inside =
     let count = same_length t word symbols s in
     let low : k < length symbols = omega arith in
@@ -69,7 +71,8 @@ spelled_once t h word xs ys a b =
         let also : k < length ys = omega arith in
         let first = slice_get-get_or t.letters (slice_index xs k) 0 (a.symbols_known k 0 low).known in
         let second = slice_get-get_or t.letters (slice_index ys k) 0 (b.symbols_known k 0 also).known in
-        let letters : slice_index t.letters (slice_index xs k) ≡ slice_index t.letters (slice_index ys k) = sym (byte_at t word xs k a low) ∙ byte_at t word ys k b also in
+        let letters : slice_index t.letters (slice_index xs k) ≡ slice_index t.letters (slice_index ys k) = sym (byte_at t word xs k a low)
+        ∙ byte_at t word ys k b also in
         one_symbol t h (slice_index xs k) (slice_index ys k) (slice_index t.letters (slice_index ys k)) (first ∙ ap (λ (x : ℕ). Some x) letters) second
 
 -- ---- one of the two
@@ -97,7 +100,8 @@ symbol_or_none t h byte = elim (eqb_tells byte blank) [
   ]
 ]
 
-word_from : (t : Named) → IsTable t → (word : List ℕ) (fuel n : ℕ) (symbols : List ℕ) → n + fuel ≡ length word → SpelledSoFar t word n symbols → ((xs : List ℕ) × IsSpelledBy t word xs) ⊎ ((p : ℕ) × IsFirstForeign t word p)
+word_from : (t : Named) → IsTable t → (word : List ℕ) (fuel n : ℕ) (symbols : List ℕ) → n + fuel ≡ length word → SpelledSoFar t word n symbols →
+    ((xs : List ℕ) × IsSpelledBy t word xs) ⊎ ((p : ℕ) × IsFirstForeign t word p)
 word_from t h word zero n symbols sum so_far =
     let all : n ≡ length word = omega arith in
     inl (symbols, subst (λ (w : List ℕ). IsSpelledBy t w symbols) (ap (λ (k : ℕ). take k word) all ∙ take-length word) so_far.spelled)

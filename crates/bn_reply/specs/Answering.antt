@@ -1,4 +1,5 @@
--- What is asked of the answers of a command. A command's answers are a relation of a status, a text, and the places that a watch is told.
+-- What is asked of the answers of a command. A command's answers are a relation of a status, a text, and the places
+-- that a watch is told.
 use Rattle.std.specs.Prelude.{◌≡◌, ℕ, List, []}
 use Rattle.bn_theory.specs.declared.place.Place.{Place}
 use Rattle.bn_reply.specs.Codes.{IsReplyStatus}
@@ -13,13 +14,15 @@ pub record AgreeInAll (status other : Status) (text second : List ℕ) (told hea
 
 -- there is at most one answer
 abbrev pub IsOneAnswer : (Status → List ℕ → List Place → Type 0) → Type 0
-IsOneAnswer answers = (status other : Status) (text second : List ℕ) (told heard : List Place) → answers status text told → answers other second heard → AgreeInAll status other text second told heard
+IsOneAnswer answers = (status other : Status) (text second : List ℕ) (told heard : List Place) →
+    answers status text told → answers other second heard → AgreeInAll status other text second told heard
 
 -- there is an answer
 abbrev pub HasAnswer : (Status → List ℕ → List Place → Type 0) → Type 0
 HasAnswer answers = (status : Status) × (text : List ℕ) × (told : List Place) × answers status text told
 
--- There is one answer and only one, and its status is that of a reply: none of usage, of a fault of the outside, or of want of memory.
+-- There is one answer and only one, and its status is that of a reply: none of usage, of a fault of the outside, or of
+-- want of memory.
 pub record IsSettled (answers : Status → List ℕ → List Place → Type 0) : Type 0 where
   pub some : HasAnswer answers
   pub one : IsOneAnswer answers

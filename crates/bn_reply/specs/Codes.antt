@@ -1,7 +1,8 @@
 -- The exit codes (this project's own profile).
 use Rattle.std.specs.Prelude.{ℕ}
 use Rattle.bn_reply.specs.declared.status.Status.{Status}
-use Rattle.bn_reply.specs.declared.status.Status.TheVariants.{Done, Usage, Text, Machine, Word, Size, ReadFault, WriteFault, NoMemory, Stuck, Window, Inside}
+use Rattle.bn_reply.specs.declared.status.Status.TheVariants.{Done, Usage, Text, Machine, Word, Size, ReadFault}
+use Rattle.bn_reply.specs.declared.status.Status.TheVariants.{WriteFault, NoMemory, Stuck, Window, Inside}
 
 abbrev pub code_of : Status → ℕ
 code_of Done = 0

@@ -10,7 +10,8 @@ abbrev pub line : List (List ℕ) → List ℕ
 line [] = 10 ∷ []
 line (piece ∷ pieces) = piece ++ line pieces
 
--- the lines of faults of any table: of record i as a whole, of its field j, both counted from 1, and of a table with no record
+-- the lines of faults of any table: of record i as a whole, of its field j, both counted from 1, and of a table with no
+-- record
 abbrev pub record_line : ℕ → List ℕ → List ℕ
 record_line i what = line (codes "text: record " ∷ decimal i ∷ codes " " ∷ what ∷ [])
 
@@ -30,7 +31,8 @@ fault_line (faults.TooMany i) = record_line i (codes "too many")
 fault_line faults.Empty = empty_line
 fault_line faults.NoMemory = []
 
--- the line of a demand of standard form that isn't met: S1 to S5 in their order, with the numbers of the quintuples that show it, counted from 1
+-- the line of a demand of standard form that isn't met: S1 to S5 in their order, with the numbers of the quintuples
+-- that show it, counted from 1
 abbrev pub why_line : Why → List ℕ
 why_line (whys.Repeat i j) = line (codes "machine: S1 " ∷ decimal i ∷ codes " " ∷ decimal j ∷ [])
 why_line whys.First = line (codes "machine: S2" ∷ [])

@@ -8,7 +8,8 @@ use bn_io::{Sink, write_all};
 
 /// Writes a text and answers the status, or `WriteFault` where the sink failed.
 pub fn finish<K: Sink>(sink: &mut K, text: &[u8], status: Status) -> Status
-    ensures ends { Finishes status result (K.taken sink.old) (K.taken sink.new) (K.faults sink.old) (K.faults sink.new) text.now }
+    ensures ends { Finishes status result (K.taken sink.old) (K.taken sink.new) (K.faults sink.old)
+        (K.faults sink.new) text.now }
     ensures later { K.faults sink.old ≤ K.faults sink.new }
 {
     match write_all(sink, text) {

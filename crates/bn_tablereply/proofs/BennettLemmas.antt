@@ -20,7 +20,8 @@ use Rattle.bn_reply.proofs.SettledLemmas.{done_settled, standard_settled}
 state_at : (tr : Translation) (n : ℕ) → n < length tr.names → slice_index_or (map state_text tr.names) n [] ≡ state_text (name_of tr n)
 state_at tr n inside = get_or-map state_text tr.names n GoRight [] inside
 
-row_at : (t : Named) (tr : Translation) (r : Rule ℕ) → r.from < length tr.names → r.to < length tr.names → entry_of (said_of (names_of t tr) r) ≡ printed_entry t (renamed (name_of tr) r)
+row_at : (t : Named) (tr : Translation) (r : Rule ℕ) → r.from < length tr.names → r.to < length tr.names →
+    entry_of (said_of (names_of t tr) r) ≡ printed_entry t (renamed (name_of tr) r)
 row_at t tr r from to =
     let first = state_at tr r.from from in
     let last = state_at tr r.to to in
@@ -32,7 +33,8 @@ row_at t tr r from to =
       next = last i;
     })
 
-rows_at : (t : Named) (tr : Translation) (states : ℕ) (symbols : List ℕ) → states ≡ length tr.names → (rules : List (Rule ℕ)) → All (IsRuleInRange states symbols) rules → rows_by (names_of t tr) rules ≡ map (printed_entry t) (rename (name_of tr) rules)
+rows_at : (t : Named) (tr : Translation) (states : ℕ) (symbols : List ℕ) → states ≡ length tr.names → (rules : List (Rule ℕ)) →
+    All (IsRuleInRange states symbols) rules → rows_by (names_of t tr) rules ≡ map (printed_entry t) (rename (name_of tr) rules)
 rows_at t tr states symbols count [] h = refl
 rows_at t tr states symbols count (r ∷ rs) h =
     let InRange : Rule ℕ → Type 0 = IsRuleInRange states symbols in

@@ -6,7 +6,8 @@ use Rattle.bn_machine.specs.declared.quint.Shift.TheVariants.{Stay}
 use Rattle.std.specs.Prelude.{Some}
 use Rattle.bn_quad.specs.Quadruples.{Deed, Rewrite, Move, Rule, deeds_of}
 use Rattle.bn_quad.specs.Overlap.{MeetsInDomain, MeetsInRange, OnEachTape, OverlapsInDomain, OverlapsInRange, Clashes, HasNoClash, IsLeastClash}
-use Rattle.bn_quad.specs.Search.{HasNoPartner, HasNoPartnerBefore, IsLeastPartner, HasNoClashBefore, least_clash, least_partner, no_clash, no_clash_before_one, no_clash_more, no_partner, no_partner_at_start, no_partner_more}
+use Rattle.bn_quad.specs.Search.{HasNoPartner, HasNoPartnerBefore, IsLeastPartner, HasNoClashBefore, least_clash, least_partner, no_clash, no_clash_before_one}
+use Rattle.bn_quad.specs.Search.{no_clash_more, no_partner, no_partner_at_start, no_partner_more}
 use Rattle.bn_quad.specs.declared.clash.Clash.{Clash}
 
 -- ---- two quadruples
@@ -31,7 +32,8 @@ meets_in_range (Rewrite r w) (Move s) = inl tt
 meets_in_range (Move s) (Rewrite r w) = inl tt
 meets_in_range (Move s) (Move t) = inl tt
 
-on_each_tape : (R : Deed → Deed → Type 0) → ((d e : Deed) → R d e ⊎ (R d e → ⊥)) → (r s : Rule ℕ) → OnEachTape R (deeds_of r) (deeds_of s) ⊎ (OnEachTape R (deeds_of r) (deeds_of s) → ⊥)
+on_each_tape : (R : Deed → Deed → Type 0) → ((d e : Deed) → R d e ⊎ (R d e → ⊥)) → (r s : Rule ℕ) →
+    OnEachTape R (deeds_of r) (deeds_of s) ⊎ (OnEachTape R (deeds_of r) (deeds_of s) → ⊥)
 on_each_tape R test r s = both _ _ (test r.one s.one) (both _ _ (test r.two s.two) (both _ _ (test r.three s.three) (inl tt)))
 
 pub overlap_in_domain : (r s : Rule ℕ) → OverlapsInDomain r s ⊎ (OverlapsInDomain r s → ⊥)
@@ -53,7 +55,8 @@ nought : Rule ℕ
 nought = record { from = 0; one = Move Stay; two = Move Stay; three = Move Stay; to = 0 }
 
 module _ (clash : Clash) (test : (r s : Rule ℕ) → Clashes clash r s ⊎ (Clashes clash r s → ⊥)) (rs : List (Rule ℕ)) where
-  partner_from : (i : ℕ) (r : Rule ℕ) → nth rs i ≡ Some r → (fuel n : ℕ) → n + fuel ≡ length rs → i ≤ n → HasNoPartnerBefore clash rs i (suc n) → HasNoPartner clash rs i ⊎ ((j : ℕ) × IsLeastPartner clash rs i j)
+  partner_from : (i : ℕ) (r : Rule ℕ) → nth rs i ≡ Some r → (fuel n : ℕ) → n + fuel ≡ length rs → i ≤ n → HasNoPartnerBefore clash rs i (suc n) →
+      HasNoPartner clash rs i ⊎ ((j : ℕ) × IsLeastPartner clash rs i j)
   partner_from i r here zero n sum behind before = inl (no_partner clash rs i (suc n) (omega arith) before)
   partner_from i r here (suc fuel) n sum behind before =
       let inside : n < length rs = omega arith in

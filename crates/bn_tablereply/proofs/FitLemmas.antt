@@ -1,5 +1,6 @@
 -- The states and symbols that a run comes upon are the machine's.
-use Rattle.std.proofs.Common.{◌≡◌, ℕ, ◌<◌, ◌≤◌, ◌∷◌, List, [], length, ◌⊎◌, inl, inr, sym, subst, ap, ◌∙◌, arith, suc, zero, Some, Bool, true, false, cond, get_or}
+use Rattle.std.proofs.Common.{◌≡◌, ℕ, ◌<◌, ◌≤◌, ◌∷◌, List, [], length, ◌⊎◌, inl, inr, sym, subst, ap, ◌∙◌, arith, suc, zero, Some, Bool, true, false, cond}
+use Rattle.std.proofs.Common.{get_or}
 use Rattle.std.specs.Prelude.{ℤ, pos, negsuc, ◌+ℤ◌, All, slice_index}
 use Rattle.std.specs.Ordering.{int_eq}
 use Rattle.std.proofs.lemmas.Bool.{cases_lt}
@@ -61,8 +62,10 @@ step_fits room p c d m h goes =
     record {
       state = subst (λ (s : ℕ). s < p.states) (sym by.applies.to) inside.next;
       symbols = λ q.
-          let there : cell d.tape q ≡ cond (int_eq q c.tape.head) by.quint.write (cell c.tape q) = ap (λ t. cell t q) by.applies.writes ∙ cell-write c.tape by.quint.write q in
-          subst (λ (s : ℕ). s < p.symbols) (sym there) (written_fits p.symbols (int_eq q c.tape.head) by.quint.write (cell c.tape q) inside.write (h.symbols q));
+          let there : cell d.tape q ≡ cond (int_eq q c.tape.head) by.quint.write (cell c.tape q) = ap (λ t. cell t q) by.applies.writes
+          ∙ cell-write c.tape by.quint.write q in
+          subst (λ (s : ℕ). s < p.symbols) (sym there) (written_fits p.symbols (int_eq q c.tape.head) by.quint.write (cell c.tape q) inside.write
+          (h.symbols q));
     }
 
 run_fits : (room : Room) (p : Program) (i : ℕ) (c d : Moment) → IsMachine p → Fits p c → Reaches (Goes room p) i c d → Fits p d
@@ -74,12 +77,14 @@ table_machine : (t : Named) → IsTable t → IsMachine t.machine
 table_machine t h = record {
   some = let rows : length (rows_of t) ≡ length t.machine.quints = simp length-map in omega (arith, h.some);
   few = let rows : length (rows_of t) ≡ length t.machine.quints = simp length-map in omega (arith, h.few);
-  in_range = λ k d inside. subst (λ (f : ℕ). IsInRange f t.machine.symbols (get_or t.machine.quints k d)) (sym h.states) (subst (λ (z : ℕ). IsInRange (length t.names) z (get_or t.machine.quints k d)) (sym h.symbols) (h.spelled.in_range k d inside));
+  in_range = λ k d inside. subst (λ (f : ℕ). IsInRange f t.machine.symbols (get_or t.machine.quints k d)) (sym h.states)
+      (subst (λ (z : ℕ). IsInRange (length t.names) z (get_or t.machine.quints k d)) (sym h.symbols) (h.spelled.in_range k d inside));
 }
 
 spelled_symbols : (t : Named) (word symbols : List ℕ) → IsTable t → IsSpelledBy t word symbols → AreSymbols t.machine symbols
 spelled_symbols t word symbols h s = record {
-  each = λ k inside. let known : slice_index symbols k < length t.letters = (s.symbols_known k 0 inside).known in let count : t.machine.symbols ≡ length t.letters = h.symbols in omega arith;
+  each = λ k inside. let known : slice_index symbols k < length t.letters = (s.symbols_known k 0 inside).known in
+      let count : t.machine.symbols ≡ length t.letters = h.symbols in omega arith;
 }
 
 output_fits : (t : Named) (c : Moment) (y : List ℕ) → Fits t.machine c → free.IsOutput c.tape y → All (λ s. s < t.machine.symbols) y
@@ -103,8 +108,10 @@ end_fits t n i c (Stuck state symbol) h (free.runs d goes all same) = absurd (cc
 end_fits t n i c Running h ends = tt
 
 -- the ending of a run of a table's machine has the table's states and symbols
-pub ending_fits : (t : Named) (word symbols : List ℕ) (n i : ℕ) (e : Ending) → IsTable t → IsSpelledBy t word symbols → HasEnding t.machine symbols n i (ending_of e) → FitsTable t e
+pub ending_fits : (t : Named) (word symbols : List ℕ) (n i : ℕ) (e : Ending) → IsTable t → IsSpelledBy t word symbols →
+    HasEnding t.machine symbols n i (ending_of e) → FitsTable t e
 ending_fits t word symbols n i e h spelled ending =
     let m = table_machine t h in
-    let fits = run_fits anywhere t.machine i (start t.machine symbols) ending.moment m (start_fits t.machine symbols m (spelled_symbols t word symbols h spelled)) ending.run in
+    let fits = run_fits anywhere t.machine i (start t.machine symbols) ending.moment m
+    (start_fits t.machine symbols m (spelled_symbols t word symbols h spelled)) ending.run in
     end_fits t n i ending.moment e fits ending.ends

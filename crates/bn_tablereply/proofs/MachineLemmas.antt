@@ -16,8 +16,13 @@ use Rattle.bn_tablereply.specs.MachineReply.{MachineIsSettled, TellsRun, ending_
 module _ (t : Named) (n : ℕ) (symbols : List ℕ) where
   run_some : HasAnswer (TellsRun t n symbols)
   run_some =
-      let found = ending_exists t.machine symbols n in
-      (status_of found.1, ending_text t found.0 found.1, [], record { steps = found.0; ending = found.1; comes_out = found.2; status_is = refl; text_is = refl; silent = refl })
+      let found = ending_exists t.machine symbols n in (
+        status_of found.1,
+        ending_text t found.0 found.1,
+        [],
+        record
+            { steps = found.0; ending = found.1; comes_out = found.2; status_is = refl; text_is = refl; silent = refl },
+      )
 
   run_one : IsOneAnswer (TellsRun t n symbols)
   run_one s u a b x y h k =
@@ -42,6 +47,8 @@ machine_settled word n bytes =
     (λ t h. word_settled (TellsRun t n) t (reads_table bytes t h.reads) word (λ symbols spelled. run_settled t n symbols))
 
 -- the reply that tells an ending
-pub ended_tells : (t : Named) (n : ℕ) (symbols : List ℕ) (i : ℕ) (e : Ending) (result : Result Reply WantOfMemory) → HasEnding t.machine symbols n i e → IfOk result (λ r. r.status ≡ status_of e) → IfOk result (λ r. r.text.items ≡ ending_text t i e) → IfOk result (λ r. TellsRun t n symbols r.status r.text.items [])
+pub ended_tells : (t : Named) (n : ℕ) (symbols : List ℕ) (i : ℕ) (e : Ending) (result : Result Reply WantOfMemory) → HasEnding t.machine symbols n i e →
+    IfOk result (λ r. r.status ≡ status_of e) → IfOk result (λ r. r.text.items ≡ ending_text t i e) →
+    IfOk result (λ r. TellsRun t n symbols r.status r.text.items [])
 ended_tells t n symbols i e (Ok r) ending status text = record { steps = i; ending = e; comes_out = ending; status_is = status; text_is = text; silent = refl }
 ended_tells t n symbols i e (Err _) ending status text = tt

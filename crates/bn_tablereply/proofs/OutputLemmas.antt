@@ -12,7 +12,11 @@ use Rattle.bn_tablereply.specs.MachineRun.{IsLetterAt}
 
 -- outside of the window all is blank
 pub blank_outside : (w : Windowed) → IsWindowed w → (position : ℤ) → (IsInside w position → ⊥) → cell w.tape position ≡ 0
-blank_outside w h position outside = elim (eqb_tells (cell w.tape position) 0) [ inl blank ↦ blank.1 | inr letter ↦ absurd (outside (h.outside position letter.1)) ]
+blank_outside w h position outside = elim (eqb_tells (cell w.tape position) 0) [
+  | inl blank ↦ blank.1
+  | inr letter ↦ absurd
+      (outside (h.outside position letter.1))
+]
 
 -- The letters y stand right of the head of a tape in a window, and the position is the one behind them.
 pub record HasRead (w : Windowed) (position : ℤ) (y : List ℕ) : Type 0 where
@@ -40,7 +44,8 @@ few_read w position y h =
     let inside = h.inside in
     omega (arith, ints, above, inside)
 
-pub one_letter_more : (w : Windowed) (position next : ℤ) (y : List ℕ) (symbol : ℕ) → next ≡ position +ℤ pos 1 → HasRead w position y → IsLetterAt w position symbol → HasRead w next (y ++ symbol ∷ [])
+pub one_letter_more : (w : Windowed) (position next : ℤ) (y : List ℕ) (symbol : ℕ) → next ≡ position +ℤ pos 1 → HasRead w position y →
+    IsLetterAt w position symbol → HasRead w next (y ++ symbol ∷ [])
 one_letter_more w position next y symbol e h letter = record {
   windowed = h.windowed;
   at = let here = h.at in omega (arith, ints, longer);

@@ -16,7 +16,8 @@ use Rattle.bn_reply.specs.Answering.{HasAnswer, IsOneAnswer}
 use Rattle.bn_reply.specs.Codes.{IsReplyStatus}
 use Rattle.bn_reply.proofs.SettledLemmas.{agree}
 use Rattle.bn_reply.proofs.TableLemmas.{first_once, read_or_told}
-use Rattle.bn_tablereply.specs.ReversibleReply.{IsVerdict, TellsVerdicts, TellsQuadFault, ReversibleReplies, faulty, judged, ReversibleIsSettled, quad_fault_line, verdict_line}
+use Rattle.bn_tablereply.specs.ReversibleReply.{IsVerdict, TellsVerdicts, TellsQuadFault, ReversibleReplies, faulty, judged, ReversibleIsSettled}
+use Rattle.bn_tablereply.specs.ReversibleReply.{quad_fault_line, verdict_line}
 use Rattle.bn_reply.specs.declared.status.Status.{Status}
 use Rattle.bn_reply.specs.declared.status.Status.TheVariants as statuses
 use Rattle.bn_tablereply.proofs.ClashOrNot.{clash_or_none, overlap_in_domain, overlap_in_range}
@@ -53,7 +54,8 @@ verdicts_once rs a b h k =
 
 -- ---- an answer
 
-verdict_of : (clash : Clash) → ((r s : Rule ℕ) → Clashes clash r s ⊎ (Clashes clash r s → ⊥)) → (rs : List (Rule ℕ)) → (found : Option (ℕ × ℕ)) × IsVerdict clash rs found
+verdict_of : (clash : Clash) → ((r s : Rule ℕ) → Clashes clash r s ⊎ (Clashes clash r s → ⊥)) → (rs : List (Rule ℕ)) →
+    (found : Option (ℕ × ℕ)) × IsVerdict clash rs found
 verdict_of clash test rs = elim (clash_or_none clash test rs) [
   | inl none ↦ (None, none)
   | inr some ↦ (Some (some.0, some.1), some.2)
@@ -71,7 +73,8 @@ module _ (bytes : List ℕ) where
   reversible_some (inr f) = (statuses.Text, f.0, [], faulty f.1 refl refl)
 
   reversible_one : IsOneAnswer (ReversibleReplies bytes)
-  reversible_one s u a b x y (faulty h e n) (faulty k f m) = agree statuses.Text s u a b x y e f (first_once (Reads bytes) (fault_of (entries_of bytes)) quad_fault_line a b h k) n m
+  reversible_one s u a b x y (faulty h e n) (faulty k f m) = agree statuses.Text s u a b x y e f
+      (first_once (Reads bytes) (fault_of (entries_of bytes)) quad_fault_line a b h k) n m
   reversible_one s u a b x y (faulty h e n) (judged t reads k f m) = absurd (h.unread t reads)
   reversible_one s u a b x y (judged t reads h e n) (faulty k f m) = absurd (k.unread t reads)
   reversible_one s u a b x y (judged t reads h e n) (judged v also k f m) =
@@ -84,7 +87,8 @@ module _ (bytes : List ℕ) where
 
 pub reversible_settled : ReversibleIsSettled
 reversible_settled bytes = record {
-  some = reversible_some bytes (read_or_told (Reads bytes) (fault_of (entries_of bytes)) quad_fault_line (λ none. reading_of (entries_of bytes) none, λ r. no_fault_of (entries_of bytes) r.0 r.1));
+  some = reversible_some bytes (read_or_told (Reads bytes) (fault_of (entries_of bytes)) quad_fault_line
+      (λ none. reading_of (entries_of bytes) none, λ r. no_fault_of (entries_of bytes) r.0 r.1));
   one = reversible_one bytes;
   status = reversible_status bytes;
 }

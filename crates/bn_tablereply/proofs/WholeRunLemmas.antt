@@ -11,7 +11,8 @@ use Rattle.bn_machine.specs.MachineCalls.{IsTurn}
 use Rattle.bn_machine.specs.Run.{After, AfterWithin, HasEnding, IsOutput}
 use Rattle.bn_machine.specs.Run as free
 use Rattle.bn_machine.specs.Window.{Windowed, IsBetween, within, anywhere, new_window}
-use Rattle.bn_machine.specs.Steps.{AgreesUpTo, agrees_turned, agrees_final, agrees_stuck, agrees_step, agrees_scanned, cut_run, goes_anywhere, head_after, run_anywhere}
+use Rattle.bn_machine.specs.Steps.{AgreesUpTo, agrees_turned, agrees_final, agrees_stuck, agrees_step, agrees_scanned, cut_run, goes_anywhere, head_after}
+use Rattle.bn_machine.specs.Steps.{run_anywhere}
 use Rattle.bn_machine.specs.Cut.{near_not_leaving, output_before, output_beyond}
 use Rattle.bn_machine.specs.declared.machine.Turn.{Turn}
 use Rattle.bn_machine.specs.declared.machine.Turn.TheVariants as turns
@@ -23,7 +24,8 @@ use Rattle.bn_tablereply.specs.declared.machine_run.Ending.TheVariants.{Halted, 
 abbrev most : ℕ
 most = 2097152
 
--- A run of made steps, n at most, on the front of a word in a window that is wider than n on both sides, and the moment at which the run of the whole word then is.
+-- A run of made steps, n at most, on the front of a word in a window that is wider than n on both sides, and the moment at which the run of the whole word then
+-- is.
 record Cuts (p : Program) (word : List ℕ) (made : ℕ) (c : Moment) (v : Windowed) : Type 0 where
   whole : Moment
   run : After p word made whole
@@ -34,7 +36,8 @@ record Cuts (p : Program) (word : List ℕ) (made : ℕ) (c : Moment) (v : Windo
   right_room : made < v.right
   right_side : v.right ≤ most
 
-cuts : (p : Program) (word : List ℕ) (n left right made at : ℕ) (v : Windowed) → n ≤ 1048576 → n < left → n < right → right ≤ most → made ≤ n → Reached p made (start_of p.quints) (new_window left right (take (min most (length word)) word)) at v → Cuts p word made (moment at v) v
+cuts : (p : Program) (word : List ℕ) (n left right made at : ℕ) (v : Windowed) → n ≤ 1048576 → n < left → n < right → right ≤ most → made ≤ n →
+    Reached p made (start_of p.quints) (new_window left right (take (min most (length word)) word)) at v → Cuts p word made (moment at v) v
 cuts p word n left right made at v few low high side early r =
     let front : After p (take (min most (length word)) word) made (moment at v) = run_anywhere (within left right) p made _ (moment at v) r.run in
     let front' : After p (take most word) made (moment at v) = subst (λ (xs : List ℕ). After p xs made (moment at v)) (take_min most word) front in
@@ -55,7 +58,9 @@ seen : (p : Program) (word : List ℕ) (made : ℕ) (c : Moment) (v : Windowed) 
 seen p word made c v h = let high = h.near.below in let early = h.early in omega (arith, ints)
 
 -- the turn behind the run stays inside the window
-pub turn_inside : (p : Program) (word : List ℕ) (n left right made at : ℕ) (v : Windowed) (turn : Turn) (after : ℕ) (u : Windowed) → n ≤ 1048576 → n < left → n < right → right ≤ most → made ≤ n → Reached p made (start_of p.quints) (new_window left right (take (min most (length word)) word)) at v → IsTurn p turn at v after u → StaysInside turn
+pub turn_inside : (p : Program) (word : List ℕ) (n left right made at : ℕ) (v : Windowed) (turn : Turn) (after : ℕ) (u : Windowed) → n ≤ 1048576 → n < left →
+    n < right → right ≤ most → made ≤ n → Reached p made (start_of p.quints) (new_window left right (take (min most (length word)) word)) at v →
+    IsTurn p turn at v after u → StaysInside turn
 turn_inside p word n left right made at v turns.Final after u few low high side early r turn = tt
 turn_inside p word n left right made at v (turns.Stuck s a) after u few low high side early r turn = tt
 turn_inside p word n left right made at v turns.Moved after u few low high side early r turn = tt
@@ -64,7 +69,8 @@ turn_inside p word n left right made at v (turns.Left s) after u few low high si
     near_not_leaving p at v s made h.near h.left_room h.right_room turn.0
 
 -- the output near the head, or with the rest of the word behind it, is the output of the whole run
-whole_output : (p : Program) (word : List ℕ) (made : ℕ) (c : Moment) (v : Windowed) (y : List ℕ) → ((k : ℕ) → k < length word → slice_index word k ≢ 0) → c.tape ≡ v.tape → (h : Cuts p word made c v) → IsWholeOutput v (drop (min most (length word)) word) y → IsOutput h.whole.tape y
+whole_output : (p : Program) (word : List ℕ) (made : ℕ) (c : Moment) (v : Windowed) (y : List ℕ) → ((k : ℕ) → k < length word → slice_index word k ≢ 0) →
+    c.tape ≡ v.tape → (h : Cuts p word made c v) → IsWholeOutput v (drop (min most (length word)) word) y → IsOutput h.whole.tape y
 whole_output p word made c v y letters same h out = by_end out.whole
   where
     near : IsOutput c.tape out.near
@@ -73,7 +79,8 @@ whole_output p word made c v y letters same h out = by_end out.whole
     head : c.tape.head ≡ v.tape.head
     head = ap (λ (t : Tape). t.head) same
 
-    by_end : ((v.tape.head +ℤ pos (length out.near) ≢ pos most) × (y ≡ out.near)) ⊎ ((v.tape.head +ℤ pos (length out.near) ≡ pos most) × (y ≡ out.near ++ drop (min most (length word)) word)) → IsOutput h.whole.tape y
+    by_end : ((v.tape.head +ℤ pos (length out.near) ≢ pos most) × (y ≡ out.near))
+        ⊎ ((v.tape.head +ℤ pos (length out.near) ≡ pos most) × (y ≡ out.near ++ drop (min most (length word)) word)) → IsOutput h.whole.tape y
     by_end (inl short) =
         let reach : (v.tape.head +ℤ pos (length out.near)) ≤ℤ pos v.right = out.inside in
         let side : v.right ≤ most = h.right_side in
@@ -86,11 +93,15 @@ whole_output p word made c v y letters same h out = by_end out.whole
         subst (IsOutput h.whole.tape) (sym (long.1 ∙ rest)) (output_beyond p word most made c h.whole out.near h.early letters h.run h.agrees reach near)
 
 -- how the run of the whole word comes out
-pub whole_ending : (p : Program) (word : List ℕ) (n left right made at : ℕ) (v : Windowed) (turn : Turn) (after : ℕ) (u : Windowed) (e : Ending) → n ≤ 1048576 → n < left → n < right → right ≤ most → All (λ s. s ≢ 0) word → made ≤ n → (made < n → turn ≢ turns.Moved) → Reached p made (start_of p.quints) (new_window left right (take (min most (length word)) word)) at v → IsTurn p turn at v after u → IsEndingOf turn u (drop (min most (length word)) word) e → HasEnding p word n made (ending_of e)
+pub whole_ending : (p : Program) (word : List ℕ) (n left right made at : ℕ) (v : Windowed) (turn : Turn) (after : ℕ) (u : Windowed) (e : Ending) → n ≤ 1048576 →
+    n < left → n < right → right ≤ most → All (λ s. s ≢ 0) word → made ≤ n → (made < n → turn ≢ turns.Moved) →
+    Reached p made (start_of p.quints) (new_window left right (take (min most (length word)) word)) at v → IsTurn p turn at v after u →
+    IsEndingOf turn u (drop (min most (length word)) word) e → HasEnding p word n made (ending_of e)
 whole_ending p word n left right made at v turns.Final after u (Halted output) few low high side letters early stopped r turn out =
     let h = cuts p word n left right made at v few low high side early r in
     let final : IsFinal p h.whole = agrees_final (pos most) p (moment at v) h.whole (agrees_turned (pos most) h.whole (moment at v) h.agrees) turn.0 in
-    let here : IsWholeOutput v (drop (min most (length word)) word) output.items = subst (λ (x : Windowed). IsWholeOutput x (drop (min most (length word)) word) output.items) turn.2 out in
+    let here : IsWholeOutput v (drop (min most (length word)) word) output.items = subst
+    (λ (x : Windowed). IsWholeOutput x (drop (min most (length word)) word) output.items) turn.2 out in
     record {
       moment = h.whole;
       run = h.run;
@@ -136,20 +147,26 @@ pub record Starts (p : Program) (word : List ℕ) (n held right state : ℕ) (w 
   pub state_is : state ≡ start_of p.quints
   pub tape_is : w ≡ new_window (n + 1) right (take held word)
 
-reached_from : (p : Program) (word : List ℕ) (n held right state : ℕ) (w : Windowed) (made at : ℕ) (v : Windowed) → Starts p word n held right state w → Reached p made state w at v → Reached p made (start_of p.quints) (new_window (n + 1) right (take (min most (length word)) word)) at v
+reached_from : (p : Program) (word : List ℕ) (n held right state : ℕ) (w : Windowed) (made at : ℕ) (v : Windowed) → Starts p word n held right state w →
+    Reached p made state w at v → Reached p made (start_of p.quints) (new_window (n + 1) right (take (min most (length word)) word)) at v
 reached_from p word n held right state w made at v s r =
     let tape : w ≡ new_window (n + 1) right (take (min most (length word)) word) = s.tape_is ∙ ap (λ (k : ℕ). new_window (n + 1) right (take k word)) s.front in
     subst (λ (x : Windowed). Reached p made (start_of p.quints) x at v) tape (subst (λ (k : ℕ). Reached p made k w at v) s.state_is r)
 
-pub ran_inside : (p : Program) (word : List ℕ) (n held right state : ℕ) (w : Windowed) (made : ℕ) (turn : Turn) (after : ℕ) (u : Windowed) → Starts p word n held right state w → IsRun p n state w made turn after u → StaysInside turn
+pub ran_inside : (p : Program) (word : List ℕ) (n held right state : ℕ) (w : Windowed) (made : ℕ) (turn : Turn) (after : ℕ) (u : Windowed) →
+    Starts p word n held right state w → IsRun p n state w made turn after u → StaysInside turn
 ran_inside p word n held right state w made turn after u s r =
-    turn_inside p word n (n + 1) right made r.at r.tape turn after u s.few (omega arith) (omega arith) (omega arith) r.in_time (reached_from p word n held right state w made r.at r.tape s r.reached) r.last
+    turn_inside p word n (n + 1) right made r.at r.tape turn after u s.few (omega arith) (omega arith) (omega arith) r.in_time
+    (reached_from p word n held right state w made r.at r.tape s r.reached) r.last
 
 -- the slice behind the front is the rest of the word
 rest_of : (word : List ℕ) (held : ℕ) → take (length word - held) (drop held word) ≡ drop held word
 rest_of word held = ap (λ (k : ℕ). take k (drop held word)) (sym (length-drop held word)) ∙ take-length (drop held word)
 
-pub ran_whole : (p : Program) (word : List ℕ) (n held right state : ℕ) (w : Windowed) (made : ℕ) (turn : Turn) (after : ℕ) (u : Windowed) (e : Ending) → Starts p word n held right state w → All (λ s. s ≢ 0) word → IsRun p n state w made turn after u → IsEndingOf turn u (take (length word - held) (drop held word)) e → HasEnding p word n made (ending_of e)
+pub ran_whole : (p : Program) (word : List ℕ) (n held right state : ℕ) (w : Windowed) (made : ℕ) (turn : Turn) (after : ℕ) (u : Windowed) (e : Ending) →
+    Starts p word n held right state w → All (λ s. s ≢ 0) word → IsRun p n state w made turn after u →
+    IsEndingOf turn u (take (length word - held) (drop held word)) e → HasEnding p word n made (ending_of e)
 ran_whole p word n held right state w made turn after u e s letters r out =
-    whole_ending p word n (n + 1) right made r.at r.tape turn after u e s.few (omega arith) (omega arith) (omega arith) letters r.in_time r.early (reached_from p word n held right state w made r.at r.tape s r.reached) r.last
+    whole_ending p word n (n + 1) right made r.at r.tape turn after u e s.few (omega arith) (omega arith) (omega arith) letters r.in_time r.early
+    (reached_from p word n held right state w made r.at r.tape s r.reached) r.last
     (subst (λ (rest : List ℕ). IsEndingOf turn u rest e) (rest_of word held ∙ ap (λ (k : ℕ). drop k word) s.front) out)

@@ -1,4 +1,5 @@
--- What the command `bennett` answers: the table of Bennett's reversible machine (Bennett 1973; the printed names are this project's own profile).
+-- What the command `bennett` answers: the table of Bennett's reversible machine (Bennett 1973; the printed names are
+-- this project's own profile).
 use Rattle.std.specs.Prelude.{ℕ, List, length, map}
 use Rattle.bn_entries.specs.Lines.{lines_of}
 use Rattle.bn_quad.specs.Quadruples.{Rule}
@@ -13,7 +14,8 @@ use Rattle.bn_reply.specs.Answering.{IsDone, IsSettled}
 use Rattle.bn_reply.specs.TableReply.{StandardReplies}
 use Rattle.bn_reply.specs.declared.status.Status.{Status}
 
--- the entry of a quadruple of Bennett's list: the names of its states, the table's letters on tapes 1 and 3, and the history's symbols on tape 2
+-- the entry of a quadruple of Bennett's list: the names of its states, the table's letters on tapes 1 and 3, and the
+-- history's symbols on tape 2
 abbrev pub printed_entry : Named → Rule Name → List (List ℕ)
 printed_entry t r = entry_of (record {
   state = state_text r.from;
@@ -27,7 +29,8 @@ printed_entry t r = entry_of (record {
 abbrev pub bennett_text : Named → List ℕ
 bennett_text t = lines_of (map (printed_entry t) (bennett t.machine))
 
--- what `bennett` answers to these bytes: to a table with a machine in standard form, the table of its reversible machine
+-- what `bennett` answers to these bytes: to a table with a machine in standard form, the table of its reversible
+-- machine
 abbrev pub BennettReplies : List ℕ → Status → List ℕ → List Place → Type 0
 BennettReplies = StandardReplies (λ t. IsDone (bennett_text t))
 

@@ -9,7 +9,8 @@ use Rattle.bn_reply.specs.declared.status.Status.{Status}
 
 -- the line of a machine in standard form: how many states, symbols with the blank, and quintuples it has
 abbrev pub standard_line : Program → List ℕ
-standard_line p = line (codes "standard states " ∷ decimal p.states ∷ codes " symbols " ∷ decimal p.symbols ∷ codes " quintuples " ∷ decimal (length p.quints) ∷ [])
+standard_line p = line (codes "standard states " ∷ decimal p.states ∷ codes " symbols " ∷ decimal p.symbols ∷ codes
+    " quintuples " ∷ decimal (length p.quints) ∷ [])
 
 -- what `check` answers to these bytes: to a table with a machine in standard form, its size
 abbrev pub CheckReplies : List ℕ → Status → List ℕ → List Place → Type 0

@@ -18,8 +18,10 @@ pub record Reached (p : Program) (made state : ℕ) (w : Windowed) (at : ℕ) (v
   pub same : v ≡ with_tape w v.tape
   pub run : Reaches (Goes (within w.left w.right) p) made (moment state w) (moment at v)
 
--- From a state and a tape, so many steps, n at most, lead to where the machine answers this turn and leaves this state and tape. Where it makes fewer steps than n, the turn is no further step.
-pub record IsRun (p : Program) (n state : ℕ) (w : Windowed) (made : ℕ) (turn : Turn) (after : ℕ) (v : Windowed) : Type 0 where
+-- From a state and a tape, so many steps, n at most, lead to where the machine answers this turn and leaves this state
+-- and tape. Where it makes fewer steps than n, the turn is no further step.
+pub record IsRun (p : Program) (n state : ℕ) (w : Windowed) (made : ℕ) (turn : Turn) (after : ℕ)
+    (v : Windowed) : Type 0 where
   pub at : ℕ
   pub tape : Windowed
   pub reached : Reached p made state w at tape
@@ -33,19 +35,22 @@ pub record IsLetterAt (w : Windowed) (position : ℤ) (symbol : ℕ) : Type 0 wh
   pub stands : cell w.tape position ≡ symbol
   pub letter : symbol ≢ 0
 
--- The output on a tape in a window; where it reaches position 2,097,152, the last that a tape can have, the rest of the word goes on with it.
+-- The output on a tape in a window; where it reaches position 2,097,152, the last that a tape can have, the rest of the
+-- word goes on with it.
 pub record IsWholeOutput (w : Windowed) (rest y : List ℕ) : Type 0 where
   pub near : List ℕ
   pub output : IsOutput w.tape near
   pub inside : (w.tape.head +ℤ pos (length near)) ≤ℤ pos w.right
-  pub whole : ((w.tape.head +ℤ pos (length near) ≢ pos 2097152) × (y ≡ near)) ⊎ ((w.tape.head +ℤ pos (length near) ≡ pos 2097152) × (y ≡ near ++ rest))
+  pub whole : ((w.tape.head +ℤ pos (length near) ≢ pos 2097152) × (y ≡ near))
+      ⊎ ((w.tape.head +ℤ pos (length near) ≡ pos 2097152) × (y ≡ near ++ rest))
 
 -- the turn doesn't say that the head would leave the window
 abbrev pub StaysInside : Turn → Type 0
 StaysInside (turns.Left side) = ⊥
 StaysInside _ = Unit {0}
 
--- how a run comes out that is followed by this turn and leaves this tape, where this is the rest of the word that isn't on it
+-- how a run comes out that is followed by this turn and leaves this tape, where this is the rest of the word that isn't
+-- on it
 abbrev pub IsEndingOf : Turn → Windowed → List ℕ → Ending → Type 0
 IsEndingOf turns.Final w rest (Halted output) = IsWholeOutput w rest output.items
 IsEndingOf (turns.Stuck state symbol) w rest (Stuck at seen) = (at ≡ state) × (seen ≡ symbol)

@@ -1,4 +1,6 @@
--- What the command `reversible` answers: whether the quadruples of a table are deterministic and whether they are reversible, which is that no two overlap in domain and that no two overlap in range (Bennett 1973; the texts are this project's own profile).
+-- What the command `reversible` answers: whether the quadruples of a table are deterministic and whether they are
+-- reversible, which is that no two overlap in domain and that no two overlap in range (Bennett 1973; the texts are this
+-- project's own profile).
 use Rattle.std.specs.Prelude.{◌≡◌, ℕ, List, [], ◌∷◌, ◌++◌, Option, Some, None, codes, decimal}
 use Rattle.bn_entries.specs.Entries.{entries_of}
 use Rattle.bn_quad.specs.Quadruples.{Rule}
@@ -49,10 +51,12 @@ pub record TellsVerdicts (rs : List (Rule ℕ)) (text : List ℕ) : Type 0 where
   pub reversible : IsVerdict Range rs range
   pub told : text ≡ verdict_line (codes "deterministic") domain ++ verdict_line (codes "reversible") range
 
--- What `reversible` answers to these bytes: the fault of bytes that are no table of quadruples, or the verdicts on the quadruples of a table.
+-- What `reversible` answers to these bytes: the fault of bytes that are no table of quadruples, or the verdicts on the
+-- quadruples of a table.
 pub data ReversibleReplies (bytes : List ℕ) (status : Status) (text : List ℕ) (told : List Place) : Type 0 where
   faulty : TellsQuadFault bytes text → status ≡ statuses.Text → told ≡ [] → ReversibleReplies bytes status text told
-  judged : (t : QuadTable) → Reads bytes t → TellsVerdicts t.machine.rules text → status ≡ statuses.Done → told ≡ [] → ReversibleReplies bytes status text told
+  judged : (t : QuadTable) → Reads bytes t → TellsVerdicts t.machine.rules text → status ≡ statuses.Done → told ≡ [] →
+      ReversibleReplies bytes status text told
 
 -- it has one answer to all bytes
 abbrev pub ReversibleIsSettled : Type 0

@@ -22,7 +22,8 @@ pub fn reply_check(alloc: Global, bytes: &[u8]) -> Result<Reply, NoMemory>
 
 // What `check` answers to a table.
 fn check_table(alloc: Global, table: &Table) -> Result<Reply, NoMemory>
-    ensures { IfOk result (λ r. JudgedReplies (IsDone (standard_line table.now.machine)) table.now r.status r.text.items []) }
+    ensures { IfOk result (λ r. JudgedReplies
+        (IsDone (standard_line table.now.machine)) table.now r.status r.text.items []) }
 {
     match judge_table(alloc, table)? {
         Judged::Refused(reply) => Ok(reply),

@@ -2,7 +2,8 @@
 
 ghost use Rattle.std.specs.Prelude.{◌≡◌, ◌<◌, ◌≤◌, [], All, IfOk};
 ghost use Rattle.bn_reply.specs.TableReply.{JudgedReplies, WordReplies};
-ghost use Rattle.bn_tablereply.specs.MachineReply.{MachineIsSettled, MachineReplies, TellsRun, ending_text, halted_lines, running_line, status_of, stuck_line};
+ghost use Rattle.bn_tablereply.specs.MachineReply.{MachineIsSettled, MachineReplies, TellsRun, ending_text};
+ghost use Rattle.bn_tablereply.specs.MachineReply.{halted_lines, running_line, status_of, stuck_line};
 ghost use Rattle.bn_tablereply.specs.MachineRun.{FitsTable, ending_of};
 
 use crate::machine_run::{Ended, Ending, run_word};
@@ -33,7 +34,8 @@ pub fn reply_machine(
 // What `machine` answers to a table.
 fn run_table(alloc: Global, table: &Table, word: &[u8], steps: u32) -> Result<Reply, NoMemory>
     requires { steps ≤ 1048576 }
-    ensures { IfOk result (λ r. JudgedReplies (WordReplies (TellsRun table.now steps) table.now word.now) table.now r.status r.text.items []) }
+    ensures { IfOk result (λ r. JudgedReplies
+        (WordReplies (TellsRun table.now steps) table.now word.now) table.now r.status r.text.items []) }
 {
     match judge_table(alloc, table)? {
         Judged::Refused(reply) => Ok(reply),

@@ -3,7 +3,8 @@
 ghost use Rattle.std.specs.Prelude.{◌≡◌, ◌≢◌, [], IfOk};
 ghost use Rattle.bn_quad.specs.declared.clash.Clash.TheVariants.{Domain, Range};
 ghost use Rattle.bn_qtable.specs.declared.refusal.QuadTableRefusal.TheVariants as faults;
-ghost use Rattle.bn_tablereply.specs.ReversibleReply.{IsVerdict, ReversibleIsSettled, ReversibleReplies, TellsVerdicts, quad_fault_line, verdict_line};
+ghost use Rattle.bn_tablereply.specs.ReversibleReply.{IsVerdict, ReversibleIsSettled, ReversibleReplies, TellsVerdicts};
+ghost use Rattle.bn_tablereply.specs.ReversibleReply.{quad_fault_line, verdict_line};
 
 use bn_qtable::{QuadTableRefusal, bytes_have_a_reading_or_a_fault, read_quads};
 use bn_quad::QuadMachine;

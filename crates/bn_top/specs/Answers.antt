@@ -1,4 +1,5 @@
--- The answer of the workbench to words and bytes: a text, a status, and the places that a watch is told (this project's own profile). It rests on the definitions of texts, tables and circuits alone.
+-- The answer of the workbench to words and bytes: a text, a status, and the places that a watch is told (this project's
+-- own profile). It rests on the definitions of texts, tables and circuits alone.
 use Rattle.std.specs.Prelude.{◌≡◌, ℕ, ◌<◌, ◌≤◌, List, [], ◌∷◌, ◌++◌, length, codes}
 use Rattle.bn_theory.specs.declared.place.Place.{Place}
 use Rattle.bn_words.specs.Requests.{Request, HasForm, HasNoForm, letters_at, number_at}
@@ -27,7 +28,8 @@ size_text = codes "size: input" ++ 10 ∷ []
 abbrev pub read_fault_text : List ℕ
 read_fault_text = codes "read fault" ++ 10 ∷ []
 
--- what is answered to a request of this form and an input within the limit; the words behind the name are counted from 0
+-- what is answered to a request of this form and an input within the limit; the words behind the name are counted
+-- from 0
 abbrev pub RepliesBy : Form → Request → List ℕ → Status → List ℕ → List Place → Type 0
 RepliesBy Step request = StepReplies (number_at request 0)
 RepliesBy Back request = BackReplies (number_at request 0)
@@ -47,9 +49,14 @@ ReadsNothing form = ⊥
 abbrev pub ReadsInput : Form → Type 0
 ReadsInput form = ReadsNothing form → ⊥
 
--- The answer, by the first cause that applies: the words ask for nothing; they ask for what needs no input; the input is too long; else what is answered to the request and the input.
-pub data Answers (words : List (List ℕ)) (bytes : List ℕ) (status : Status) (text : List ℕ) (told : List Place) : Type 0 where
+-- The answer, by the first cause that applies: the words ask for nothing; they ask for what needs no input; the input
+-- is too long; else what is answered to the request and the input.
+pub data Answers (words : List (List ℕ)) (bytes : List ℕ) (status : Status) (text : List ℕ)
+    (told : List Place) : Type 0 where
   no_form : HasNoForm words → status ≡ Usage → text ≡ usage_text → told ≡ [] → Answers words bytes status text told
-  unread : (request : Request) → HasForm words request → ReadsNothing request.form → Replies request [] status text told → Answers words bytes status text told
-  too_long : (request : Request) → HasForm words request → ReadsInput request.form → input_limit < length bytes → status ≡ Size → text ≡ size_text → told ≡ [] → Answers words bytes status text told
-  replied : (request : Request) → HasForm words request → ReadsInput request.form → length bytes ≤ input_limit → Replies request bytes status text told → Answers words bytes status text told
+  unread : (request : Request) → HasForm words request → ReadsNothing request.form →
+      Replies request [] status text told → Answers words bytes status text told
+  too_long : (request : Request) → HasForm words request → ReadsInput request.form → input_limit < length bytes →
+      status ≡ Size → text ≡ size_text → told ≡ [] → Answers words bytes status text told
+  replied : (request : Request) → HasForm words request → ReadsInput request.form → length bytes ≤ input_limit →
+      Replies request bytes status text told → Answers words bytes status text told

@@ -8,4 +8,5 @@ abbrev pub AnswersAreOne : Type 0
 AnswersAreOne = (words : List (List ℕ)) (bytes : List ℕ) → IsOneAnswer (Answers words bytes)
 
 abbrev pub RequestsAreAnswered : Type 0
-RequestsAreAnswered = (words : List (List ℕ)) (request : Request) (bytes : List ℕ) → HasForm words request → HasAnswer (Answers words bytes)
+RequestsAreAnswered = (words : List (List ℕ)) (request : Request) (bytes : List ℕ) → HasForm words request →
+    HasAnswer (Answers words bytes)

@@ -9,7 +9,8 @@ use Rattle.bn_reply.specs.declared.status.Status.{Status}
 use Rattle.bn_reply.specs.declared.status.Status.TheVariants.{Usage, WriteFault}
 
 -- The answer was given whole: the sink took its text, and the watch heard its places.
-pub record IsAnswered (words : List (List ℕ)) (bytes : List ℕ) (status : Status) (taken took : Option (List ℕ)) (told heard : Option (List Place)) : Type 0 where
+pub record IsAnswered (words : List (List ℕ)) (bytes : List ℕ) (status : Status) (taken took : Option (List ℕ))
+    (told heard : Option (List Place)) : Type 0 where
   pub text : List ℕ
   pub places : List Place
   pub answers : Answers words bytes status text places
@@ -17,7 +18,8 @@ pub record IsAnswered (words : List (List ℕ)) (bytes : List ℕ) (status : Sta
   pub hears : Hears told places heard
 
 -- The answer was begun: the sink took a front of its text, and the watch heard a front of its places.
-pub record IsBegun (words : List (List ℕ)) (bytes : List ℕ) (taken took : Option (List ℕ)) (told heard : Option (List Place)) : Type 0 where
+pub record IsBegun (words : List (List ℕ)) (bytes : List ℕ) (taken took : Option (List ℕ))
+    (told heard : Option (List Place)) : Type 0 where
   pub status : Status
   pub text : List ℕ
   pub places : List Place
@@ -29,7 +31,8 @@ pub record IsBegun (words : List (List ℕ)) (bytes : List ℕ) (taken took : Op
   pub hears : Hears told front heard
 
 -- Nothing was given yet, or the answer was begun.
-pub data IsBroken (words : List (List ℕ)) (bytes : List ℕ) (taken took : Option (List ℕ)) (told heard : Option (List Place)) : Type 0 where
+pub data IsBroken (words : List (List ℕ)) (bytes : List ℕ) (taken took : Option (List ℕ))
+    (told heard : Option (List Place)) : Type 0 where
   unbegun : Grows taken took [] → Hears told [] heard → IsBroken words bytes taken took told heard
   begun : IsBegun words bytes taken took told heard → IsBroken words bytes taken took told heard
 
@@ -40,7 +43,8 @@ UsageEnds WriteFault taken took = GrowsByFront taken took usage_text
 UsageEnds _ taken took = ⊥
 
 -- The sink took a front of the line that says that reading failed, after the source failed.
-pub record IsReadFaultCut (before now : ℕ) (taken took : Option (List ℕ)) (told heard : Option (List Place)) : Type 0 where
+pub record IsReadFaultCut (before now : ℕ) (taken took : Option (List ℕ))
+    (told heard : Option (List Place)) : Type 0 where
   pub source : Rose before now
   pub grows : GrowsByFront taken took read_fault_text
   pub hears : Hears told [] heard

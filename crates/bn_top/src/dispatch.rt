@@ -19,8 +19,10 @@ pub(crate) fn reply_to<W: Watch>(
     bytes: &[u8],
     watch: &mut W,
 ) -> Result<Reply, NoMemory>
-    ensures replied { IfOk result (λ r. IsReplied (Replies request.now bytes.now) r (W.told watch.old) (W.told watch.new)) }
-    ensures interrupted { OnErr result (IsUnfinished (Replies request.now bytes.now) (W.told watch.old) (W.told watch.new)) }
+    ensures replied { IfOk result (λ r. IsReplied (Replies request.now bytes.now) r (W.told watch.old)
+        (W.told watch.new)) }
+    ensures interrupted { OnErr result (IsUnfinished (Replies request.now bytes.now) (W.told watch.old)
+        (W.told watch.new)) }
 {
     match request.form() {
         Form::Step => reply_step(alloc, request.number(0), bytes, watch),

@@ -32,28 +32,41 @@ pub fn workbench<S: Source, K: Sink, W: Watch>(
     watch: &mut W,
 ) -> Status
     // The answer, where the source tells its bytes.
-    ensures answered { IsAnswer result → IfSome (S.left source.old) (λ bytes. IsAnswered (map string_bytes words.now.items) bytes result (K.taken sink.old) (K.taken sink.new) (W.told watch.old) (W.told watch.new)) }
+    ensures answered { IsAnswer result → IfSome (S.left source.old)
+        (λ bytes. IsAnswered (map string_bytes words.now.items) bytes result (K.taken sink.old) (K.taken sink.new)
+        (W.told watch.old) (W.told watch.new)) }
 
     // Without a fault of the outside there is an answer, unless memory is wanting.
-    ensures complete { (Rose (S.faults source.old) (S.faults source.new) → ⊥) → (Rose (K.faults sink.old) (K.faults sink.new) → ⊥) → IsAnswer result ⊎ (result ≡ Status.NoMemory) }
+    ensures complete { (Rose (S.faults source.old) (S.faults source.new) → ⊥) →
+        (Rose (K.faults sink.old) (K.faults sink.new) → ⊥) → IsAnswer result ⊎ (result ≡ Status.NoMemory) }
 
     // The words that have no form: nothing is read, and memory isn't wanting.
     ensures usage_only { result ≡ Status.Usage → HasNoForm (map string_bytes words.now.items) }
-    ensures usage { HasNoForm (map string_bytes words.now.items) → UsageEnds result (K.taken sink.old) (K.taken sink.new) }
+    ensures usage { HasNoForm (map string_bytes words.now.items) →
+        UsageEnds result (K.taken sink.old) (K.taken sink.new) }
     ensures unread { HasNoForm (map string_bytes words.now.items) → source.new ≡ source.old }
     ensures untold { HasNoForm (map string_bytes words.now.items) → Hears (W.told watch.old) [] (W.told watch.new) }
 
     // How much is read otherwise.
-    ensures read { IsAnswer result → result ≢ Status.Usage → IfSome (S.left source.old) (λ bytes. length bytes ≤ input_limit → S.left source.new ≡ Some []) }
-    ensures size { IfSome (S.left source.old) (λ bytes. result ≡ Status.Size → input_limit < length bytes → GaveMore (S.left source.old) (S.left source.new) input_limit) }
+    ensures read { IsAnswer result → result ≢ Status.Usage →
+        IfSome (S.left source.old) (λ bytes. length bytes ≤ input_limit → S.left source.new ≡ Some []) }
+    ensures size { IfSome (S.left source.old)
+        (λ bytes. result ≡ Status.Size → input_limit < length bytes →
+        GaveMore (S.left source.old) (S.left source.new) input_limit) }
 
     // What stands after a fault, and its cause.
     ensures read_cause { result ≡ Status.ReadFault → Rose (S.faults source.old) (S.faults source.new) }
     ensures read_fault { result ≡ Status.ReadFault → Grows (K.taken sink.old) (K.taken sink.new) read_fault_text }
     ensures read_fault_told { result ≡ Status.ReadFault → Hears (W.told watch.old) [] (W.told watch.new) }
     ensures write_cause { result ≡ Status.WriteFault → Rose (K.faults sink.old) (K.faults sink.new) }
-    ensures write_fault { result ≡ Status.WriteFault → IsReadFaultCut (S.faults source.old) (S.faults source.new) (K.taken sink.old) (K.taken sink.new) (W.told watch.old) (W.told watch.new) ⊎ IfSome (S.left source.old) (λ bytes. IsBegun (map string_bytes words.now.items) bytes (K.taken sink.old) (K.taken sink.new) (W.told watch.old) (W.told watch.new)) }
-    ensures no_memory { result ≡ Status.NoMemory → IfSome (S.left source.old) (λ bytes. IsBroken (map string_bytes words.now.items) bytes (K.taken sink.old) (K.taken sink.new) (W.told watch.old) (W.told watch.new)) }
+    ensures write_fault { result ≡ Status.WriteFault →
+        IsReadFaultCut (S.faults source.old) (S.faults source.new) (K.taken sink.old) (K.taken sink.new)
+        (W.told watch.old) (W.told watch.new)
+        ⊎ IfSome (S.left source.old) (λ bytes. IsBegun (map string_bytes words.now.items) bytes (K.taken sink.old)
+        (K.taken sink.new) (W.told watch.old) (W.told watch.new)) }
+    ensures no_memory { result ≡ Status.NoMemory →
+        IfSome (S.left source.old) (λ bytes. IsBroken (map string_bytes words.now.items) bytes (K.taken sink.old)
+        (K.taken sink.new) (W.told watch.old) (W.told watch.new)) }
     ensures later_source { S.faults source.old ≤ S.faults source.new }
     ensures later_sink { K.faults sink.old ≤ K.faults sink.new }
 {
@@ -76,7 +89,8 @@ fn answer<K: Sink, W: Watch>(
     sink: &mut K,
     watch: &mut W,
 ) -> Status
-    ensures ends { AnswerEnds (Replies request.now bytes.now) result (K.taken sink.old) (K.taken sink.new) (K.faults sink.old) (K.faults sink.new) (W.told watch.old) (W.told watch.new) }
+    ensures ends { AnswerEnds (Replies request.now bytes.now) result (K.taken sink.old) (K.taken sink.new)
+        (K.faults sink.old) (K.faults sink.new) (W.told watch.old) (W.told watch.new) }
     ensures later { K.faults sink.old ≤ K.faults sink.new }
 {
     match reply_to(alloc, request, bytes, watch) {

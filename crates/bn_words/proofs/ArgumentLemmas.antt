@@ -1,5 +1,6 @@
 -- A word says one thing of a kind, and words of kinds that differ aren't there.
-use Rattle.std.specs.Prelude.{◌≡◌, ℕ, ◌<◌, ◌≤◌, List, [], ◌∷◌, ◌++◌, ◌≢◌, ◌+◌, length, map, take, slice_get, slice_set, Some, Bool, true, false, ◌||◌, decimal, Ok, Err, refl, ◌⊎◌}
+use Rattle.std.specs.Prelude.{◌≡◌, ℕ, ◌<◌, ◌≤◌, List, [], ◌∷◌, ◌++◌, ◌≢◌, ◌+◌, length, map, take, slice_get, slice_set, Some, Bool, true, false, ◌||◌, decimal}
+use Rattle.std.specs.Prelude.{Ok, Err, refl, ◌⊎◌}
 use Rattle.std.proofs.Common.{zero, suc, get_or, arith, sym, ap, subst, ◌∙◌, inl, inr}
 use Rattle.bn_base.specs.Number.{read_number}
 use Rattle.bn_base.specs.NumberLaws.{decimal-once, read_number-no_digit}
@@ -46,7 +47,8 @@ no_ordinal word most n is out (Word w) h = absurd h
 no_letters : (letters : List ℕ) (n : ℕ) → IsNumber (61 ∷ letters) n → ⊥
 no_letters letters n h =
     let none : read_number (61 ∷ letters) 0 ≡ Err NoDigit = (read_number-no_digit (61 ∷ letters) 0).1 refl in
-    let read : read_number (61 ∷ letters) 0 ≡ Ok (n, length (decimal n)) = subst (λ w. read_number w 0 ≡ Ok (n, length (decimal n))) (sym h.spelled) (read-whole n h.bound) in
+    let read : read_number (61 ∷ letters) 0 ≡ Ok (n, length (decimal n)) = subst (λ w. read_number w 0 ≡ Ok (n, length (decimal n))) (sym h.spelled)
+    (read-whole n h.bound) in
     cc (none, read)
 
 -- ---- kinds that no word has both of
@@ -87,7 +89,8 @@ either true b e = inl refl
 either false b e = inr e
 
 -- no words are of both lists of kinds
-pub not_both_lists : (ks js : List Kind) → lists_differ ks js ≡ true → (words : List (List ℕ)) (xs ys : List Argument) → AreArguments ks words xs → AreArguments js words ys → ⊥
+pub not_both_lists : (ks js : List Kind) → lists_differ ks js ≡ true → (words : List (List ℕ)) (xs ys : List Argument) → AreArguments ks words xs →
+    AreArguments js words ys → ⊥
 not_both_lists [] [] e words xs ys h k = cc
 not_both_lists [] (j ∷ js) e [] xs ys h k = absurd k
 not_both_lists [] (j ∷ js) e (w ∷ ws) xs ys h k = absurd h
@@ -113,12 +116,14 @@ arguments_once kinds words xs ys h k = absurd h
 
 -- ---- words, one after another
 
-pub one_argument_more : (kinds : List Kind) (words : List (List ℕ)) (xs : List Argument) (kind : Kind) (word : List ℕ) (x : Argument) → AreArguments kinds words xs → IsArgument kind word x → AreArguments (kinds ++ kind ∷ []) (words ++ word ∷ []) (xs ++ x ∷ [])
+pub one_argument_more : (kinds : List Kind) (words : List (List ℕ)) (xs : List Argument) (kind : Kind) (word : List ℕ) (x : Argument) →
+    AreArguments kinds words xs → IsArgument kind word x → AreArguments (kinds ++ kind ∷ []) (words ++ word ∷ []) (xs ++ x ∷ [])
 one_argument_more [] [] [] kind word x h k = (k, tt)
 one_argument_more (i ∷ is) (w ∷ ws) (y ∷ ys) kind word x h k = (h.0, one_argument_more is ws ys kind word x h.1 k)
 one_argument_more kinds words xs kind word x h k = absurd h
 
-pub no_argument_at : (kinds : List Kind) (words : List (List ℕ)) (n : ℕ) (kind : Kind) (word : List ℕ) → slice_get kinds n ≡ Some kind → slice_get words n ≡ Some word → IsNoArgument kind word → HaveNoArguments kinds words
+pub no_argument_at : (kinds : List Kind) (words : List (List ℕ)) (n : ℕ) (kind : Kind) (word : List ℕ) → slice_get kinds n ≡ Some kind →
+    slice_get words n ≡ Some word → IsNoArgument kind word → HaveNoArguments kinds words
 no_argument_at [] words n kind word here there none xs h = cc
 no_argument_at (i ∷ is) [] n kind word here there none xs h = cc
 no_argument_at (i ∷ is) (w ∷ ws) zero kind word here there none (x ∷ xs) h =
@@ -153,7 +158,10 @@ pub record HasRead {S : Type 0} (text : S → List ℕ) (kinds : List Kind) (str
   pub room : length values ≡ 6
   pub says : AreArguments (take n kinds) (take n (map text strings)) (map argument_of (take n values))
 
-pub has_read_one : {S : Type 0} (text : S → List ℕ) (kinds : List Kind) (strings : List S) (values : List Value) (n : ℕ) (string : S) (word : List ℕ) (value : Value) → n < length kinds → length kinds ≤ 6 → length strings ≡ length kinds → string ≡ get_or strings n string → word ≡ text string → HasRead text kinds strings values n → IsArgument (get_or kinds n (Count 0)) word (argument_of value) → HasRead text kinds strings (slice_set values n value) (n + 1)
+pub has_read_one : {S : Type 0} (text : S → List ℕ) (kinds : List Kind) (strings : List S) (values : List Value) (n : ℕ) (string : S) (word : List ℕ)
+    (value : Value) → n < length kinds → length kinds ≤ 6 → length strings ≡ length kinds → string ≡ get_or strings n string → word ≡ text string →
+    HasRead text kinds strings values n → IsArgument (get_or kinds n (Count 0)) word (argument_of value) →
+    HasRead text kinds strings (slice_set values n value) (n + 1)
 has_read_one text kinds strings values n string word value inside few count stands text_is h k =
     let kind = get_or kinds n (Count 0) in
     let within : n < length strings = omega arith in
@@ -171,24 +179,31 @@ has_read_one text kinds strings values n string word value inside few count stan
       says =
           subst (λ xs. AreArguments (take (n + 1) kinds) (take (n + 1) (map text strings)) xs) (sym values_are)
           (subst (λ ws. AreArguments (take (n + 1) kinds) ws (map argument_of (take n values) ++ argument_of value ∷ [])) (sym words)
-          (subst (λ ks. AreArguments ks (take n (map text strings) ++ word ∷ []) (map argument_of (take n values) ++ argument_of value ∷ [])) (sym kinds_are) more));
+          (subst (λ ks. AreArguments ks (take n (map text strings) ++ word ∷ []) (map argument_of (take n values) ++ argument_of value ∷ []))
+          (sym kinds_are) more));
     }
 
 -- a word that isn't of its kind
-pub none_at : {S : Type 0} (text : S → List ℕ) (kinds : List Kind) (strings : List S) (n : ℕ) (string : S) (word : List ℕ) → n < length kinds → length strings ≡ length kinds → string ≡ get_or strings n string → word ≡ text string → IsNoArgument (get_or kinds n (Count 0)) word → HaveNoArguments kinds (map text strings)
+pub none_at : {S : Type 0} (text : S → List ℕ) (kinds : List Kind) (strings : List S) (n : ℕ) (string : S) (word : List ℕ) → n < length kinds →
+    length strings ≡ length kinds → string ≡ get_or strings n string → word ≡ text string → IsNoArgument (get_or kinds n (Count 0)) word →
+    HaveNoArguments kinds (map text strings)
 none_at text kinds strings n string word inside count stands text_is none =
     let within : n < length strings = omega arith in
     let all : length (map text strings) ≡ length strings = simp length-map in
     let there : slice_get (map text strings) n ≡ Some word =
-    slice_get-get_or (map text strings) n word (omega arith) ∙ ap (λ w. Some w) (get_or-map text strings n string word within ∙ ap text (sym stands) ∙ sym text_is) in
+    slice_get-get_or (map text strings) n word (omega arith)
+    ∙ ap (λ w. Some w) (get_or-map text strings n string word within ∙ ap text (sym stands) ∙ sym text_is) in
     no_argument_at kinds (map text strings) n (get_or kinds n (Count 0)) word (slice_get-get_or kinds n (Count 0) inside) there none
 
 -- all words
-pub has_read_all : {S : Type 0} (text : S → List ℕ) (kinds of_row : List Kind) (strings : List S) (values : List Value) (n : ℕ) → kinds ≡ of_row → length kinds ≤ n → length strings ≡ length kinds → HasRead text kinds strings values n → n ≤ length kinds → AreArguments of_row (map text strings) (map argument_of (take (length of_row) values))
+pub has_read_all : {S : Type 0} (text : S → List ℕ) (kinds of_row : List Kind) (strings : List S) (values : List Value) (n : ℕ) → kinds ≡ of_row →
+    length kinds ≤ n → length strings ≡ length kinds → HasRead text kinds strings values n → n ≤ length kinds →
+    AreArguments of_row (map text strings) (map argument_of (take (length of_row) values))
 has_read_all text kinds of_row strings values n same all count h end =
     let n_is : n ≡ length kinds = omega arith in
     let words : length (map text strings) ≡ length strings = simp length-map in
-    let behind : take n (map text strings) ≡ map text strings = ap (λ k. take k (map text strings)) (n_is ∙ sym (words ∙ count)) ∙ take-length (map text strings) in
+    let behind : take n (map text strings) ≡ map text strings = ap (λ k. take k (map text strings)) (n_is ∙ sym (words ∙ count))
+    ∙ take-length (map text strings) in
     let row : take n kinds ≡ kinds = ap (λ k. take k kinds) n_is ∙ take-length kinds in
     let here = subst (λ ks. AreArguments ks (take n (map text strings)) (map argument_of (take n values))) row h.says in
     let there = subst (λ ws. AreArguments kinds ws (map argument_of (take n values))) behind here in
@@ -196,7 +211,8 @@ has_read_all text kinds of_row strings values n same all count h end =
     subst (λ ks. AreArguments ks (map text strings) (map argument_of (take (length ks) values))) same sized
 
 -- what is said of an ordinal is at least 1
-pub ordinal_least : (kinds : List Kind) (xs : List Argument) (n most : ℕ) → AreWithin kinds xs → slice_get kinds n ≡ Some (Ordinal most) → 1 ≤ number_of (slice_get xs n)
+pub ordinal_least : (kinds : List Kind) (xs : List Argument) (n most : ℕ) → AreWithin kinds xs → slice_get kinds n ≡ Some (Ordinal most) →
+    1 ≤ number_of (slice_get xs n)
 ordinal_least [] xs n most h here = cc
 ordinal_least (k ∷ ks) [] n most h here = absurd h
 ordinal_least (k ∷ ks) (x ∷ xs) zero most h here = of_kind (subst (λ j. IsWithin j x) (let e : k ≡ Ordinal most = cc in e) h.0)

@@ -1,5 +1,6 @@
 -- Words have at most one form: the table's rows differ, two by two.
-use Rattle.std.specs.Prelude.{◌≡◌, ◌≢◌, ℕ, ◌+◌, ◌<◌, ◌≤◌, List, [], ◌∷◌, length, Bool, true, false, ◌||◌, ◌&&◌, not, Option, Some, None, slice_get, map, if◌then◌else◌, refl, ◌⊎◌}
+use Rattle.std.specs.Prelude.{◌≡◌, ◌≢◌, ℕ, ◌+◌, ◌<◌, ◌≤◌, List, [], ◌∷◌, length, Bool, true, false, ◌||◌, ◌&&◌, not, Option, Some, None, slice_get, map}
+use Rattle.std.specs.Prelude.{if◌then◌else◌, refl, ◌⊎◌}
 use Rattle.std.proofs.Common.{zero, suc, eqb, arith, sym, ap, subst, ◌∙◌, inl, inr}
 use Rattle.std.proofs.lemmas.Bool.{cases_lt, and_parts, eq-eqb}
 use Rattle.std.proofs.lemmas.Option.{slice_get-map, slice_get_within}
@@ -32,7 +33,8 @@ record AreOf (r : Row) (words : List (List ℕ)) : Type 0 where
   behind : List (List ℕ)
   words_are : words ≡ r.name ∷ behind
 
-not_both_rows : (r s : Row) → rows_differ r s ≡ true → (words : List (List ℕ)) (a b : Request) → row_of a.form ≡ r → row_of b.form ≡ s → HasForm words a → HasForm words b → ⊥
+not_both_rows : (r s : Row) → rows_differ r s ≡ true → (words : List (List ℕ)) (a b : Request) → row_of a.form ≡ r → row_of b.form ≡ s → HasForm words a →
+    HasForm words b → ⊥
 not_both_rows r s e words a b first second h k =
     let one : (row_of a.form).name ∷ h.behind ≡ (row_of b.form).name ∷ k.behind = sym h.words_are ∙ k.words_are in
     let names : (row_of a.form).name ≡ (row_of b.form).name = cc in
@@ -64,7 +66,8 @@ from_each r (q ∷ rows) e zero s there =
     subst (λ x. rows_differ r x ≡ true) same (and_parts (rows_differ r q) (differs_from_all r rows) e).0
 from_each r (q ∷ rows) e (suc j) s there = from_each r rows (and_parts (rows_differ r q) (differs_from_all r rows) e).1 j s there
 
-two_differ : (rows : List Row) → all_differ rows ≡ true → (i j : ℕ) (r s : Row) → i < j → slice_get rows i ≡ Some r → slice_get rows j ≡ Some s → rows_differ r s ≡ true
+two_differ : (rows : List Row) → all_differ rows ≡ true → (i j : ℕ) (r s : Row) → i < j → slice_get rows i ≡ Some r → slice_get rows j ≡ Some s →
+    rows_differ r s ≡ true
 two_differ [] e i j r s less here there = cc
 two_differ (q ∷ rows) e i zero r s less here there = absurd (omega arith)
 two_differ (q ∷ rows) e zero (suc j) r s less here there =
@@ -95,9 +98,11 @@ place_of f = (rows_before (row_of f) (map row_of forms), refl)
 row_at : (i : ℕ) (f : Form) → slice_get forms i ≡ Some f → slice_get (map row_of forms) i ≡ Some (row_of f)
 row_at i f e = slice_get-map row_of forms i ∙ ap (λ (o : Option Form). elim o [ None ↦ None | Some g ↦ Some (row_of g) ]) e
 
-apart : (words : List (List ℕ)) (a b : Request) (i j : ℕ) → slice_get forms i ≡ Some a.form → slice_get forms j ≡ Some b.form → i < j → HasForm words a → HasForm words b → ⊥
+apart : (words : List (List ℕ)) (a b : Request) (i j : ℕ) → slice_get forms i ≡ Some a.form → slice_get forms j ≡ Some b.form → i < j → HasForm words a →
+    HasForm words b → ⊥
 apart words a b i j here there less h k =
-    not_both_rows (row_of a.form) (row_of b.form) (two_differ (map row_of forms) table_differs i j (row_of a.form) (row_of b.form) less (row_at i a.form here) (row_at j b.form there)) words a b refl refl h k
+    not_both_rows (row_of a.form) (row_of b.form) (two_differ (map row_of forms) table_differs i j (row_of a.form) (row_of b.form) less (row_at i a.form here)
+    (row_at j b.form there)) words a b refl refl h k
 
 one_row : (words : List (List ℕ)) (a b : Request) → HasForm words a → HasForm words b → a.form ≡ b.form
 one_row words a b h k = by_order (place_of a.form) (place_of b.form)
@@ -120,7 +125,8 @@ one_form words a b h k =
     let one : (row_of a.form).name ∷ h.behind ≡ (row_of b.form).name ∷ k.behind = sym h.words_are ∙ k.words_are in
     let behind : h.behind ≡ k.behind = cc in
     let left = subst (λ f. AreArguments (row_of f).kinds h.behind a.arguments) forms_are h.arguments in
-    let arguments = arguments_once (row_of b.form).kinds k.behind a.arguments b.arguments (subst (λ ws. AreArguments (row_of b.form).kinds ws a.arguments) behind left) k.arguments in
+    let arguments = arguments_once (row_of b.form).kinds k.behind a.arguments b.arguments
+    (subst (λ ws. AreArguments (row_of b.form).kinds ws a.arguments) behind left) k.arguments in
     λ t. record { form = forms_are t; arguments = arguments t }
 
 -- no form has more words behind its name than this
@@ -137,7 +143,8 @@ unfolding NoneBefore
 none_at_first words k low = absurd (omega arith)
 
 -- a form whose name it isn't, or whose kinds they aren't
-pub not_of_form : (words : List (List ℕ)) (name : List ℕ) (behind : List (List ℕ)) (f : Form) → words ≡ name ∷ behind → ((row_of f).name ≢ name) ⊎ HaveNoArguments (row_of f).kinds behind → (request : Request) → request.form ≡ f → HasForm words request → ⊥
+pub not_of_form : (words : List (List ℕ)) (name : List ℕ) (behind : List (List ℕ)) (f : Form) → words ≡ name ∷ behind →
+    ((row_of f).name ≢ name) ⊎ HaveNoArguments (row_of f).kinds behind → (request : Request) → request.form ≡ f → HasForm words request → ⊥
 not_of_form words name behind f words_are why request of h = by_cause why
   where
     one : (row_of request.form).name ∷ h.behind ≡ name ∷ behind
@@ -149,9 +156,11 @@ not_of_form words name behind f words_are why request of h = by_cause why
         other (ap (λ g. (row_of g).name) (sym of) ∙ names)
     by_cause (inr none) =
         let rest : h.behind ≡ behind = let e = one in cc in
-        none request.arguments (subst (λ ws. AreArguments (row_of f).kinds ws request.arguments) rest (subst (λ g. AreArguments (row_of g).kinds h.behind request.arguments) of h.arguments))
+        none request.arguments (subst (λ ws. AreArguments (row_of f).kinds ws request.arguments) rest
+        (subst (λ g. AreArguments (row_of g).kinds h.behind request.arguments) of h.arguments))
 
-pub none_more : (words : List (List ℕ)) (n : ℕ) (f : Form) → NoneBefore words n → slice_get forms n ≡ Some f → ((request : Request) → request.form ≡ f → HasForm words request → ⊥) → NoneBefore words (n + 1)
+pub none_more : (words : List (List ℕ)) (n : ℕ) (f : Form) → NoneBefore words n → slice_get forms n ≡ Some f →
+    ((request : Request) → request.form ≡ f → HasForm words request → ⊥) → NoneBefore words (n + 1)
 unfolding NoneBefore
 none_more words n f before here none k low request there h = by_order (cases_lt k n)
   where

@@ -24,7 +24,8 @@ pub record IsNumber (word : List ℕ) (number : ℕ) : Type 0 where
 abbrev pub IsNoNumber : List ℕ → Type 0
 IsNoNumber word = (number : ℕ) → IsNumber word number → ⊥
 
--- the word is of this kind and says this: a count up to a limit, an ordinal from 1 up to a limit, or the letters behind the byte `=`
+-- the word is of this kind and says this: a count up to a limit, an ordinal from 1 up to a limit, or the letters behind
+-- the byte `=`
 abbrev pub IsArgument : Kind → List ℕ → Argument → Type 0
 IsArgument (Count most) word (Number n) = IsNumber word n × (n ≤ most)
 IsArgument (Ordinal most) word (Number n) = IsNumber word n × (1 ≤ n) × (n ≤ most)
@@ -37,7 +38,8 @@ IsNoArgument kind word = (argument : Argument) → IsArgument kind word argument
 -- the words, one after another, are of these kinds and say this
 abbrev pub AreArguments : List Kind → List (List ℕ) → List Argument → Type 0
 AreArguments [] [] [] = Unit {0}
-AreArguments (kind ∷ kinds) (word ∷ words) (argument ∷ arguments) = IsArgument kind word argument × AreArguments kinds words arguments
+AreArguments (kind ∷ kinds) (word ∷ words) (argument ∷ arguments) = IsArgument kind word argument
+    × AreArguments kinds words arguments
 AreArguments _ _ _ = ⊥
 
 abbrev pub HaveNoArguments : List Kind → List (List ℕ) → Type 0

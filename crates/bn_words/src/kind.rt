@@ -20,7 +20,8 @@ pub enum Kind {
 impl Kind {
     // What a word of this kind says, `None` exactly where it isn't of this kind.
     pub(crate) fn value_of(self, word: &str) -> Option<Value<'_>>
-        ensures { MatchOption result (IsNoArgument self word.now) (λ value. IsArgument self word.now (argument_of value)) }
+        ensures { MatchOption result (IsNoArgument self word.now)
+            (λ value. IsArgument self word.now (argument_of value)) }
     {
         match self {
             Kind::Count(most) => count_of(word, most),
@@ -32,7 +33,8 @@ impl Kind {
 
 // The number that fills a word, `None` exactly where none of at most this does.
 fn count_of(word: &str, most: u64) -> Option<Value<'_>>
-    ensures { MatchOption result (IsNoArgument (Kind.Count most) word.now) (λ value. IsArgument (Kind.Count most) word.now (argument_of value)) }
+    ensures { MatchOption result (IsNoArgument (Kind.Count most) word.now)
+        (λ value. IsArgument (Kind.Count most) word.now (argument_of value)) }
 {
     let number = number_of(word)?;
     if number > most {
@@ -43,7 +45,8 @@ fn count_of(word: &str, most: u64) -> Option<Value<'_>>
 
 // The number that fills a word, `None` exactly where none from 1 to this does.
 fn ordinal_of(word: &str, most: u64) -> Option<Value<'_>>
-    ensures { MatchOption result (IsNoArgument (Kind.Ordinal most) word.now) (λ value. IsArgument (Kind.Ordinal most) word.now (argument_of value)) }
+    ensures { MatchOption result (IsNoArgument (Kind.Ordinal most) word.now)
+        (λ value. IsArgument (Kind.Ordinal most) word.now (argument_of value)) }
 {
     let number = number_of(word)?;
     if number < 1 || number > most {
@@ -54,7 +57,8 @@ fn ordinal_of(word: &str, most: u64) -> Option<Value<'_>>
 
 // The letters behind the byte `=`, `None` exactly where the word doesn't begin with it.
 fn letters_of(word: &str) -> Option<Value<'_>>
-    ensures { MatchOption result (IsNoArgument Kind.Letters word.now) (λ value. IsArgument Kind.Letters word.now (argument_of value)) }
+    ensures { MatchOption result (IsNoArgument Kind.Letters word.now)
+        (λ value. IsArgument Kind.Letters word.now (argument_of value)) }
 {
     match word.as_bytes() {
         [b'=', letters @ ..] => Some(Value::Letters(letters)),

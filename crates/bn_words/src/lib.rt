@@ -11,4 +11,3 @@ pub use form::Form;
 pub use kind::Kind;
 pub use laws::words_have_one_reading;
 pub use request::{Request, read_words};
-pub use value::Value;

@@ -29,9 +29,17 @@ impl<'a> Model for Request<'a> {
 
     ghost Value = { Request };
 
-    ghost view = { λ r. record { form = r.form; arguments = map argument_of (take (length (row_of r.form).kinds) r.values) } };
+    ghost view = { λ r. record {
+      form = r.form;
+      arguments = map argument_of
+          (take (length (row_of r.form).kinds) r.values);
+    } };
 
-    ghost invariant = { λ r. IsRequest (record { form = r.form; arguments = map argument_of (take (length (row_of r.form).kinds) r.values) }) };
+    ghost invariant = { λ r. IsRequest (record {
+      form = r.form;
+      arguments = map argument_of
+          (take (length (row_of r.form).kinds) r.values);
+    }) };
 }
 
 impl<'a> Request<'a> {
@@ -88,7 +96,8 @@ pub fn read_words(words: &[String]) -> Option<Request<'_>>
 
 // What the words behind the name of a form say, `None` exactly where they aren't of its kinds.
 fn request_of(form: Form, words: &[String]) -> Option<Request<'_>>
-    ensures { MatchOption result (HaveNoArguments (row_of form).kinds (map string_bytes words.now)) (IsOfForm form (map string_bytes words.now)) }
+    ensures { MatchOption result (HaveNoArguments (row_of form).kinds (map string_bytes words.now))
+        (IsOfForm form (map string_bytes words.now)) }
 {
     let kinds = form.row().kinds;
     if words.len() != kinds.len() {

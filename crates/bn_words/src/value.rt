@@ -2,7 +2,7 @@
 
 /// What such a word says: the number that it is, or its letters behind the byte `=`.
 #[derive(Clone, Copy, Debug)]
-pub enum Value<'a> {
+pub(crate) enum Value<'a> {
     /// A number.
     Number(u64),
     /// Letters.

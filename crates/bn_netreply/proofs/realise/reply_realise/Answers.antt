@@ -10,5 +10,6 @@ returns-in-Ok c = machine_replies c.args.state c.args.line c.args.bytes.now c.in
 
 pub returns-in-Err : goal.returns-in-Err
 returns-in-Err c =
-    IfOk-weaker c.refuse.result (λ r. IsRsmRefused c.in-Err.refusal r.status r.text.items) (λ r. RealiseReplies c.args.state c.args.line c.args.bytes.now r.status r.text.items [])
+    IfOk-weaker c.refuse.result (λ r. IsRsmRefused c.in-Err.refusal r.status r.text.items)
+    (λ r. RealiseReplies c.args.state c.args.line c.args.bytes.now r.status r.text.items [])
     (λ r h. refused_replies c.args.state c.args.line c.args.bytes.now c.in-Err.refusal r.status r.text.items c.in-Err.ensures.refused h) c.refuse.ensures

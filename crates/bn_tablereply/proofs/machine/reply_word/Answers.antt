@@ -20,8 +20,10 @@ reply_ended-requires c =
     let symbols = c.in-Symbols.symbols.items in
     let spelled = subst (IsOpenedWord c.args.table.now c.args.word.now) c.in-Symbols.is c.in_ok-reply.ensures in
     let e = c.in_ok-ended-in-Symbols.ended in
-    let run = subst (λ xs. HasEnding c.machine.result.now xs c.args.steps e.steps (ending_of e.ending)) c.as_slice.ensures.value c.in_ok-ended-in-Symbols.ensures in
-    let ending : HasEnding c.args.table.now.machine symbols c.args.steps e.steps (ending_of e.ending) = subst (λ (p : Program). HasEnding p symbols c.args.steps e.steps (ending_of e.ending)) c.machine.ensures.value run in
+    let run = subst (λ xs. HasEnding c.machine.result.now xs c.args.steps e.steps
+    (ending_of e.ending)) c.as_slice.ensures.value c.in_ok-ended-in-Symbols.ensures in
+    let ending : HasEnding c.args.table.now.machine symbols c.args.steps e.steps (ending_of e.ending) = subst
+    (λ (p : Program). HasEnding p symbols c.args.steps e.steps (ending_of e.ending)) c.machine.ensures.value run in
     ending_fits c.args.table.now c.args.word.now symbols c.args.steps e.steps e.ending c.machine.ensures.valid spelled ending
 
 pub returns-in_ok-ended-in-Symbols : goal.returns-in_ok-ended-in-Symbols
@@ -30,7 +32,8 @@ returns-in_ok-ended-in-Symbols c =
     let symbols = c.in-Symbols.symbols.items in
     let spelled = subst (IsOpenedWord t c.args.word.now) c.in-Symbols.is c.in_ok-reply.ensures in
     let e = c.in_ok-ended-in-Symbols.ended in
-    let run = subst (λ xs. HasEnding c.machine.result.now xs c.args.steps e.steps (ending_of e.ending)) c.as_slice.ensures.value c.in_ok-ended-in-Symbols.ensures in
+    let run = subst (λ xs. HasEnding c.machine.result.now xs c.args.steps e.steps
+    (ending_of e.ending)) c.as_slice.ensures.value c.in_ok-ended-in-Symbols.ensures in
     let ending = subst (λ (p : Program). HasEnding p symbols c.args.steps e.steps (ending_of e.ending)) c.machine.ensures.value run in
     spelled_replies (TellsRun t c.args.steps) t c.args.word.now symbols c.reply_ended.result spelled
     (ended_tells t c.args.steps symbols e.steps (ending_of e.ending) c.reply_ended.result ending c.reply_ended.ensures.status c.reply_ended.ensures.text)

@@ -10,7 +10,8 @@ ending_after-requires c =
       state_is = c.start_state-state.ensures;
       tape_is = c.in-Ok.ensures.made;
     } in
-    ran_inside c.args.machine.now c.args.word.now c.args.steps c.min-held.result c.max-right.result c.start_state-state.result c.in-Ok.tape c.run-made.result.0 c.run-made.result.1 c.run-made.new.state c.run-made.new.tape
+    ran_inside c.args.machine.now c.args.word.now c.args.steps c.min-held.result c.max-right.result c.start_state-state.result c.in-Ok.tape c.run-made.result.0
+    c.run-made.result.1 c.run-made.new.state c.run-made.new.tape
     starts c.run-made.ensures
 
 pub returns : goal.returns
@@ -22,5 +23,6 @@ returns c =
       state_is = c.start_state-state.ensures;
       tape_is = c.in-Ok.ensures.made;
     } in
-    ran_whole c.args.machine.now c.args.word.now c.args.steps c.min-held.result c.max-right.result c.start_state-state.result c.in-Ok.tape c.run-made.result.0 c.run-made.result.1 c.run-made.new.state c.run-made.new.tape c.in_ok-ending_after.field-0
+    ran_whole c.args.machine.now c.args.word.now c.args.steps c.min-held.result c.max-right.result c.start_state-state.result c.in-Ok.tape c.run-made.result.0
+    c.run-made.result.1 c.run-made.new.state c.run-made.new.tape c.in_ok-ending_after.field-0
     starts c.requires.letters c.run-made.ensures c.in_ok-ending_after.ensures

@@ -17,7 +17,8 @@ loop-form-preserved c =
     let inside : c.loop-form.form-index < length forms = omega (arith, c.loop-form-test.true) in
     let parts = ap (map (string_bytes {Z = Global})) c.in_ok-name.ensures.cases.0 in
     none_more words c.loop-form.form-index form c.loop-form.invariant (slice_get-get_or forms c.loop-form.form-index Step inside)
-    (not_of_form words (string_bytes {Z = Global} c.in_ok-name.name.now) (map (string_bytes {Z = Global}) c.in_ok-name.behind.now) form parts (elim c.if-eq.branch [
+    (not_of_form words (string_bytes {Z = Global} c.in_ok-name.name.now) (map (string_bytes {Z = Global}) c.in_ok-name.behind.now) form parts
+    (elim c.if-eq.branch [
       | then-eq+in_default w ↦ inr w.in_default.ensures
       | else-eq w ↦
           let other = other_text c.row.result.name.now c.as_str.result.now w.if-eq.ensures in

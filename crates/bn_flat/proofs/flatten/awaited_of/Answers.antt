@@ -1,0 +1,15 @@
+use Rattle.std.proofs.Common.{◌≡◌, All, arith, subst, sym, take, ◌∙◌, ap, length}
+use Rattle.std.proofs.lemmas.List.{take_all}
+use Rattle.std.proofs.lemmas.List.Elements.{All-push}
+use Rattle.bn_control.specs.Controlled.{IsTapeAwaited}
+use Rattle.bn_flat.proofs.KeptLemmas.{copy_more}
+use Rattle.bn_flat.proofs.flatten.awaited_of.Goals as goal
+
+pub loop-state-preserved : goal.loop-state-preserved
+loop-state-preserved c = record {
+  copied = copy_more c.args.control.now.awaited c.loop-state.awaited.items c.push.new.items.items c.loop-state.state c.awaited.result c.awaited.ensures.kept c.loop-state.invariant.copied c.in_ok-push.ensures;
+  tapes = subst (All IsTapeAwaited) (sym c.in_ok-push.ensures) (All-push IsTapeAwaited c.loop-state.awaited.items c.awaited.result c.loop-state.invariant.tapes c.awaited.ensures.tape);
+}
+
+pub returns-clause-awaited : goal.returns-clause-awaited
+returns-clause-awaited c = ?
