@@ -4,7 +4,7 @@ ghost use Rattle.std.specs.Prelude.{◌≡◌, ◌+◌, ◌*◌, ◌^◌, ◌<�
 ghost use Rattle.bn_theory.specs.Circuits.{IsCircuit, IsInput, IsOutput, target, source};
 ghost use Rattle.bn_theory.specs.declared.line.Line.{Line};
 ghost use Rattle.bn_column.specs.Nets.{rotary_circuit};
-ghost use Rattle.bn_packed.specs.Ends.{AreEndsOf};
+ghost use Rattle.bn_packed.specs.Ends.{AreEnds, AreEndsOf};
 
 use crate::cells::{Cell, LINES, line_of};
 use crate::ends::Ends;
@@ -72,6 +72,20 @@ impl<C: Cell> Wiring<C> {
     {
         let _elements = self.len();
         self.sources.get(to)
+    }
+
+    /// Where each output line leads, in the order of the lines' numbers.
+    pub(crate) fn targets(&self) -> &[C]
+        ensures { AreEnds (target self.now.wires) (4 * length self.now.elements) (map C.tells result.now) }
+    {
+        self.targets.as_slice()
+    }
+
+    /// Where each input line comes from, in the order of the lines' numbers.
+    pub(crate) fn sources(&self) -> &[C]
+        ensures { AreEnds (source self.now.wires) (4 * length self.now.elements) (map C.tells result.now) }
+    {
+        self.sources.as_slice()
     }
 
     /// The same wires once more.
