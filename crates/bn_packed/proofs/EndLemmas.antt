@@ -150,13 +150,6 @@ target_there targets sources now from wiring is there =
     end_there targets.elements targets.ends from wiring.all_targets (subst (λ n. IsLineBelow n from) (length-net targets now is)
     (output_below now.elements from there))
 
-pub source_there : (targets sources : EndList) (now : Parts Rotary) (to : Line) → IsWiring targets sources → net_of targets ≡ now
-    → IsInput (map (λ _. rotary) now.elements) to
-    → 4 * to.element + to.line < length sources.ends
-source_there targets sources now to wiring is there =
-    end_there targets.elements sources.ends to wiring.all_sources (subst (λ n. IsLineBelow n to) (length-net targets now is)
-    (input_below now.elements to there))
-
 entry_read : (ends : Ends) (n : ℕ) (l : Line) (o : Option Line) → length ends ≡ 4 * n → l.line < 4 → slice_get ends (4 * l.element + l.line) ≡ Some o
     → entry (rows_of ends) l ≡ o
 entry_read ends n l o whole low read = row_entry ends n l.element l.line (4 * l.element + l.line) whole low refl ∙ rw read refl
@@ -251,13 +244,7 @@ pub source_within : (net : Parts Rotary) → IsCircuit (rotary_circuit net) → 
 source_within net circuit to None is = tt
 source_within net circuit to (Some from) is = output_below net.elements from (circuit.wired from to ((circuit.one_to_one from to).1 (sym is))).0
 
--- what a line leads to is an input line
-pub target_input : (net : Parts Rotary) → IsCircuit (rotary_circuit net) → (from : Line) (o : Option Line) → o ≡ target net.wires from
-    → IfSome o (IsInput (map (λ _. rotary) net.elements))
-target_input net circuit from None is = tt
-target_input net circuit from (Some to) is = (circuit.wired from to (sym is)).1
-
--- and what feeds a line is an output line
+-- what feeds a line is an output line
 pub source_output : (net : Parts Rotary) → IsCircuit (rotary_circuit net) → (to : Line) (o : Option Line) → o ≡ source net.wires to
     → IfSome o (IsOutput (map (λ _. rotary) net.elements))
 source_output net circuit to None is = tt

@@ -57,21 +57,9 @@ impl<C: Cell> Wiring<C> {
     /// The input line to which the wire of this output line leads.
     pub(crate) fn target(&self, from: Line) -> Option<Line>
         requires { IsOutput (rotary_circuit self.now).tables from }
-        ensures line { result ≡ target self.now.wires from }
-        ensures input { IfSome result (IsInput (rotary_circuit self.now).tables) }
+        ensures { result ≡ target self.now.wires from }
     {
-        let _elements = self.len();
         self.targets.get(from)
-    }
-
-    /// The output line from which the wire of this input line comes.
-    pub(crate) fn source(&self, to: Line) -> Option<Line>
-        requires { IsInput (rotary_circuit self.now).tables to }
-        ensures line { result ≡ source self.now.wires to }
-        ensures output { IfSome result (IsOutput (rotary_circuit self.now).tables) }
-    {
-        let _elements = self.len();
-        self.sources.get(to)
     }
 
     /// Where each output line leads, in the order of the lines' numbers.
