@@ -1,8 +1,7 @@
 //! The wires of a net of rotary elements, kept both ways.
 
-ghost use Rattle.std.specs.Prelude.{◌≡◌, ◌+◌, ◌*◌, ◌^◌, ◌<◌, ◌≤◌, List, [], length, map, Some, IfOk, IfSome, slice_get};
-ghost use Rattle.bn_theory.specs.Circuits.{IsCircuit, IsInput, IsOutput, target, source};
-ghost use Rattle.bn_theory.specs.declared.line.Line.{Line};
+ghost use Rattle.std.specs.Prelude.{◌≡◌, ◌*◌, ◌≤◌, length, map, IfOk};
+ghost use Rattle.bn_theory.specs.Circuits.{IsCircuit, IsOutput, target, source};
 ghost use Rattle.bn_column.specs.Nets.{rotary_circuit};
 ghost use Rattle.bn_packed.specs.Ends.{AreEnds, AreEndsOf};
 

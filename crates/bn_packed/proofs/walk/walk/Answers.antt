@@ -1,6 +1,5 @@
-use Rattle.std.proofs.Common.{length, map, ◌≡◌, ◌+◌, ◌∷◌, [], Some, None, refl, sym, ap, subst, ◌∙◌, arith}
+use Rattle.std.proofs.Common.{length, map, ◌+◌, ◌∷◌, [], refl, sym, ap, subst, ◌∙◌, arith}
 use Rattle.bn_theory.specs.Circuits.{place_at, target}
-use Rattle.bn_theory.specs.declared.line.Line.{Line}
 use Rattle.bn_theory.specs.declared.place.Place.TheVariants.{Enter}
 use Rattle.bn_net.specs.Watching.{Hears}
 use Rattle.bn_column.specs.Nets.{rotary_circuit}
@@ -38,7 +37,8 @@ end_of-requires g c =
     (output_below c.args.wiring.now.elements (record { element = c.loop-made.at_line.element; line = c.cross.result })
     (crossed-output c.args.wiring.now c.len-elements.ensures.circuit c.loop-made.bars c.cross.new.self
     (Enter c.loop-made.at_line.element c.loop-made.at_line.line)
-    c.loop-made.at_line.element c.loop-made.at_line.line c.cross.result (c.args.signal.steps + c.loop-made.made) c.loop-made.invariant.good refl c.cross.ensures))
+    c.loop-made.at_line.element c.loop-made.at_line.line c.cross.result (c.args.signal.steps + c.loop-made.made) c.loop-made.invariant.good refl
+    c.cross.ensures))
 
 pub returns-in_default-end_of-clause-walked : goal.returns-in_default-end_of-clause-walked
 returns-in_default-end_of-clause-walked g c =
@@ -53,7 +53,8 @@ returns-in_default-end_of-clause-walked g c =
     (output_below c.args.wiring.now.elements (record { element = c.loop-made.at_line.element; line = c.cross.result })
     (crossed-output c.args.wiring.now c.len-elements.ensures.circuit c.loop-made.bars c.cross.new.self
     (Enter c.loop-made.at_line.element c.loop-made.at_line.line)
-    c.loop-made.at_line.element c.loop-made.at_line.line c.cross.result (c.args.signal.steps + c.loop-made.made) c.loop-made.invariant.good refl c.cross.ensures)) c.end_of.ensures))
+    c.loop-made.at_line.element c.loop-made.at_line.line c.cross.result (c.args.signal.steps + c.loop-made.made) c.loop-made.invariant.good refl
+    c.cross.ensures)) c.end_of.ensures))
     (omega (arith, c.requires.room, c.loop-made-test.true)) (omega arith) (omega arith) c.enter.ensures
 
 pub loop-made-preserved : goal.loop-made-preserved
@@ -70,7 +71,8 @@ loop-made-preserved g c =
     (output_below c.args.wiring.now.elements (record { element = c.loop-made.at_line.element; line = c.cross.result })
     (crossed-output c.args.wiring.now c.len-elements.ensures.circuit c.loop-made.bars c.cross.new.self
     (Enter c.loop-made.at_line.element c.loop-made.at_line.line)
-    c.loop-made.at_line.element c.loop-made.at_line.line c.cross.result (c.args.signal.steps + c.loop-made.made) c.loop-made.invariant.good refl c.cross.ensures)) c.end_of.ensures))
+    c.loop-made.at_line.element c.loop-made.at_line.line c.cross.result (c.args.signal.steps + c.loop-made.made) c.loop-made.invariant.good refl
+    c.cross.ensures)) c.end_of.ensures))
     (omega (arith, c.requires.room, c.loop-made-test.true)) (omega arith) refl
     (subst (λ p. Hears (g.W.Watch.told c.loop-made.watch) (p ∷ []) (g.W.Watch.told c.enter-in-loop-made.new.self)) c.entering.ensures
     c.enter-in-loop-made.ensures)
