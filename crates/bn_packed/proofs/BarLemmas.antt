@@ -1,8 +1,7 @@
 -- Bars as bits: how they are read and turned, and the rows of the rotary element.
-use Rattle.std.specs.Prelude.{◌≡◌, ◌≢◌, ◌==◌, true, false, option_and_then, ℕ, ◌+◌, ◌-◌, ◌*◌, ◌/◌, ◌%◌, ◌^◌, ◌<◌, ◌≤◌, List, [], ◌∷◌, ◌++◌, length, take, map, replicate, Option, Some, slice_get, slice_set, bit_and, bit_xor, refl, ◌⊎◌}
-use Rattle.std.specs.List.{range_with_len}
+use Rattle.std.specs.Prelude.{◌≡◌, ◌≢◌, ◌==◌, true, false, ℕ, ◌+◌, ◌-◌, ◌*◌, ◌/◌, ◌%◌, ◌^◌, ◌<◌, ◌≤◌, List, [], ◌∷◌, ◌++◌, length, take, replicate, Some, slice_get, bit_and, bit_xor, refl, ◌⊎◌}
 use Rattle.std.specs.Int.{bit_at}
-use Rattle.std.proofs.Common.{arith, sym, ap, subst, ◌∙◌, inl, inr, get_or, set, length-set}
+use Rattle.std.proofs.Common.{arith, sym, ap, ◌∙◌, inl, inr, get_or, set, length-set}
 use Rattle.std.proofs.lemmas.Bool.Decides.{nat_tests, eqb_tells}
 use Rattle.std.proofs.lemmas.List.{take_more, get_or-set_same, get_or-set_other, get_or-replicate, get_or_past, length-replicate}
 use Rattle.std.proofs.lemmas.Grind.{get_or_default_zero}
@@ -10,9 +9,7 @@ use Rattle.std.proofs.lemmas.List.FromFn.{length-map-range_with_len, get_or-map-
 use Rattle.std.proofs.lemmas.Nat.{one_shl}
 use Rattle.std.proofs.lemmas.Nat.Bits.{bit_at_xor, bit_at-pow_same, bit_at-pow_other, bit_at-zero, bit_at-lt, shr_and_one}
 use Rattle.std.proofs.lemmas.Option.{slice_get-get_or, get_or_from_slice_get, slice_get_within}
-use Rattle.bn_column.specs.Crossing.{set_same}
-use Rattle.bn_element.specs.Rotary.{rotary}
-use Rattle.bn_packed.specs.Bars.{bar_in, bars_of, turned, crossed, crossed_back}
+use Rattle.bn_packed.specs.Bars.{bar_in, bars_of, turned}
 
 pub length-bars : (words : List ℕ) (n : ℕ) → length (bars_of words n) ≡ n
 length-bars words n = length-map-range_with_len (bar_in words) 0 n

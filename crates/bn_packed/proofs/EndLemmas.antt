@@ -1,20 +1,19 @@
 -- Ends of wires in rows of four: how a line's end is read, and the wires of a net by them.
-use Rattle.std.specs.Prelude.{◌≡◌, ℕ, ◌+◌, ◌-◌, ◌*◌, ◌/◌, ◌%◌, ◌^◌, ◌<◌, ◌≤◌, ◌↔◌, List, [], ◌∷◌, ◌++◌, length, map, replicate, Option, Some, None, IfSome, slice_get, option_and_then, refl, ◌⊎◌}
-use Rattle.std.specs.Option.{option_map_or}
-use Rattle.std.proofs.Common.{zero, suc, arith, sym, ap, subst, ◌∙◌, inl, inr}
+use Rattle.std.specs.Prelude.{◌≡◌, ℕ, ◌+◌, ◌*◌, ◌/◌, ◌%◌, ◌^◌, ◌<◌, ◌≤◌, List, [], ◌∷◌, ◌++◌, length, map, Option, Some, None, IfSome, slice_get, option_and_then, refl, ◌⊎◌}
+use Rattle.std.proofs.Common.{zero, suc, get_or, arith, sym, ap, subst, ◌∙◌, inl, inr}
 use Rattle.std.proofs.lemmas.Bool.Decides.{nat_tests}
-use Rattle.std.proofs.lemmas.List.{length-replicate, length-append}
-use Rattle.std.proofs.lemmas.Option.{option_and_then_some, slice_get_within, slice_get_past}
-use Rattle.bn_theory.specs.Tables.{Table, IsReversible}
-use Rattle.bn_theory.specs.Circuits.{IsCircuit, IsInput, IsOutput, target, source, inputs_of, outputs_of, states_of}
+use Rattle.std.proofs.lemmas.List.{length-replicate, length-append, length-map}
+use Rattle.std.proofs.lemmas.Option.{slice_get-get_or, slice_get_past}
+use Rattle.bn_theory.specs.Tables.{Table}
+use Rattle.bn_theory.specs.Circuits.{IsCircuit, IsInput, IsOutput, target, source, inputs_of, outputs_of}
 use Rattle.bn_theory.specs.Laws.{same_lines}
 use Rattle.bn_theory.specs.declared.line.Line.{Line}
 use Rattle.bn_element.specs.Rotary.{rotary, rotary-IsReversible}
 use Rattle.bn_element.specs.declared.rotary.Rotary.{Rotary}
-use Rattle.bn_net.specs.Rows.{Rows, entry, width, wires_of, IsWired}
+use Rattle.bn_net.specs.Rows.{entry, width, wires_of, IsWired}
 use Rattle.bn_net.specs.Parts.{Parts}
 use Rattle.bn_net.specs.Order.{AreInOrder}
-use Rattle.bn_net.proofs.WireLemmas.{target-wires, source-wires, wired-IsCircuit, tables-reversible, input-within, output-within}
+use Rattle.bn_net.proofs.WireLemmas.{target-wires, source-wires, wired-IsCircuit, tables-reversible, output-within}
 use Rattle.bn_net.proofs.OrderLemmas.{in_order-same, rows_in_order}
 use Rattle.bn_column.specs.Nets.{rotary_circuit}
 use Rattle.bn_packed.specs.Ends.{line_of, IsLineBelow, EndList, AreEnds, AreEndsOf, rows_of, rotaries, net_of, IsWiring}
@@ -150,13 +149,6 @@ target_there targets sources now from wiring is there =
     end_there targets.elements targets.ends from wiring.all_targets (subst (λ n. IsLineBelow n from) (length-net targets now is)
     (output_below now.elements from there))
 
-pub source_there : (targets sources : EndList) (now : Parts Rotary) (to : Line) → IsWiring targets sources → net_of targets ≡ now
-    → IsInput (map (λ _. rotary) now.elements) to
-    → 4 * to.element + to.line < length sources.ends
-source_there targets sources now to wiring is there =
-    end_there targets.elements sources.ends to wiring.all_sources (subst (λ n. IsLineBelow n to) (length-net targets now is)
-    (input_below now.elements to there))
-
 entry_read : (ends : Ends) (n : ℕ) (l : Line) (o : Option Line) → length ends ≡ 4 * n → l.line < 4 → slice_get ends (4 * l.element + l.line) ≡ Some o
     → entry (rows_of ends) l ≡ o
 entry_read ends n l o whole low read = row_entry ends n l.element l.line (4 * l.element + l.line) whole low refl ∙ rw read refl
@@ -251,13 +243,7 @@ pub source_within : (net : Parts Rotary) → IsCircuit (rotary_circuit net) → 
 source_within net circuit to None is = tt
 source_within net circuit to (Some from) is = output_below net.elements from (circuit.wired from to ((circuit.one_to_one from to).1 (sym is))).0
 
--- what a line leads to is an input line
-pub target_input : (net : Parts Rotary) → IsCircuit (rotary_circuit net) → (from : Line) (o : Option Line) → o ≡ target net.wires from
-    → IfSome o (IsInput (map (λ _. rotary) net.elements))
-target_input net circuit from None is = tt
-target_input net circuit from (Some to) is = (circuit.wired from to (sym is)).1
-
--- and what feeds a line is an output line
+-- what feeds a line is an output line
 pub source_output : (net : Parts Rotary) → IsCircuit (rotary_circuit net) → (to : Line) (o : Option Line) → o ≡ source net.wires to
     → IfSome o (IsOutput (map (λ _. rotary) net.elements))
 source_output net circuit to None is = tt
@@ -293,3 +279,56 @@ net_again net targets circuit order forth =
     same_parts (net_of targets) net (ap rotaries forth.elements ∙ rotaries_all net.elements)
     (in_order-same (wires_of 0 (rows_of targets.ends)) net.wires (rows_in_order 0 (rows_of targets.ends)) order
     (λ from. target-wires (rows_of targets.ends) from ∙ t from))
+
+-- ---- ends in a row of numbers
+
+-- the ends that a wiring keeps are what its wires tell
+pub targets-AreEnds : (targets sources : EndList) (now : Parts Rotary) (ends : Ends) → IsWiring targets sources → net_of targets ≡ now → ends ≡ targets.ends
+    → AreEnds (target now.wires) (4 * length now.elements) ends
+targets-AreEnds targets sources now ends wiring is same =
+    let count : length now.elements ≡ targets.elements = length-net targets now is in
+    let whole = wiring.all_targets in
+    record {
+      count = ap length same ∙ wiring.all_targets ∙ ap (λ n. 4 * n) (sym count);
+      each = λ i low.
+          let there : i < length targets.ends = omega arith in
+          let number : i ≡ 4 * (i / 4) + i % 4 = omega arith in
+          let read : slice_get targets.ends i ≡ Some (get_or targets.ends i None) = slice_get-get_or targets.ends i None there in
+          let output = below_output now.elements (line_of i) (line_below (length now.elements) i low) in
+          ap (λ xs. slice_get xs i) same ∙ read
+          ∙ ap Some (target_read targets sources now (line_of i) (get_or targets.ends i None) wiring is output
+          (ap (slice_get targets.ends) (sym number) ∙ read));
+    }
+
+pub sources-AreEnds : (targets sources : EndList) (now : Parts Rotary) (ends : Ends) → IsWiring targets sources → net_of targets ≡ now → ends ≡ sources.ends
+    → AreEnds (source now.wires) (4 * length now.elements) ends
+sources-AreEnds targets sources now ends wiring is same =
+    let count : length now.elements ≡ targets.elements = length-net targets now is in
+    let whole = wiring.all_sources in
+    record {
+      count = ap length same ∙ wiring.all_sources ∙ ap (λ n. 4 * n) (sym count);
+      each = λ i low.
+          let there : i < length sources.ends = omega arith in
+          let number : i ≡ 4 * (i / 4) + i % 4 = omega arith in
+          let read : slice_get sources.ends i ≡ Some (get_or sources.ends i None) = slice_get-get_or sources.ends i None there in
+          let input = below_input now.elements (line_of i) (line_below (length now.elements) i low) in
+          ap (λ xs. slice_get xs i) same ∙ read
+          ∙ ap Some (source_read targets sources now (line_of i) (get_or sources.ends i None) wiring is input
+          (ap (slice_get sources.ends) (sym number) ∙ read));
+    }
+
+-- what is read of them
+pub ends_there : {X : Type 0} (f : Line → Option Line) (tells : X → Option Line) (n : ℕ) (cells : List X) (l : Line) → AreEnds f (4 * n) (map tells cells)
+    → IsLineBelow n l → 4 * l.element + l.line < length cells
+ends_there f tells n cells l are below =
+    let e = below.element in let low = below.line in let count = are.count in let same : length (map tells cells) ≡ length cells = length-map cells tells in
+    omega arith
+
+pub ends_read : (f : Line → Option Line) (n : ℕ) (ends : Ends) (l : Line) (o : Option Line) → AreEnds f (4 * n) ends → IsLineBelow n l
+    → slice_get ends (4 * l.element + l.line) ≡ Some o → o ≡ f l
+ends_read f n ends l o are below read =
+    let i : 4 * l.element + l.line < 4 * n = let a = below.element in let b = below.line in omega arith in
+    let told : slice_get ends (4 * l.element + l.line) ≡ Some (f l) = are.each (4 * l.element + l.line) i ∙ ap (λ x. Some (f x))
+    (line_by_number l (4 * l.element + l.line) below.line refl) in
+    let same : Some o ≡ Some (f l) = sym read ∙ told in
+    cc

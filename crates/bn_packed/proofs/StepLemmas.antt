@@ -1,12 +1,12 @@
 -- A crossing of an element is a step of the circuit, forward and backward.
-use Rattle.std.specs.Prelude.{◌≡◌, ℕ, ◌+◌, ◌-◌, ◌<◌, ◌≤◌, ◌==◌, List, [], ◌∷◌, length, map, Option, Some, None, slice_get, slice_set, option_and_then, min, refl, ◌⊎◌}
+use Rattle.std.specs.Prelude.{◌≡◌, ℕ, ◌+◌, ◌-◌, ◌<◌, ◌≤◌, ◌==◌, List, [], ◌∷◌, length, map, Option, Some, slice_get, slice_set, option_and_then, min, refl, ◌⊎◌}
 use Rattle.std.proofs.Common.{zero, suc, arith, sym, ap, subst, ◌∙◌, inl, inr}
 use Rattle.std.proofs.lemmas.Bool.Decides.{nat_tests, eqb_tells}
 use Rattle.std.proofs.lemmas.Option.{option_and_then_some, slice_get_within}
 use Rattle.std.specs.Bool.{OnFalse}
 use Rattle.bn_theory.specs.Tables.{Table}
 use Rattle.bn_theory.specs.Runs.{Reaches}
-use Rattle.bn_theory.specs.Circuits.{Circuit, IsCircuit, IsConfig, IsPlace, IsOutput, Goes, IsStuck, IsFirst, clock, target, go_of, back_of, states_of, place_after}
+use Rattle.bn_theory.specs.Circuits.{Circuit, IsCircuit, IsConfig, IsPlace, IsOutput, Goes, IsStuck, IsFirst, clock, go_of, back_of, states_of, place_after}
 use Rattle.bn_theory.specs.Stepping.{run, back, places, places_back, line_before}
 use Rattle.bn_theory.specs.RunLaws.{run_stops, back_stops, Reaches-run, Reaches-back}
 use Rattle.bn_theory.specs.Laws.{same_config, go_arrives, next-IsConfig, previous-IsConfig}
@@ -20,7 +20,7 @@ use Rattle.bn_net.specs.Parts.{Parts}
 use Rattle.bn_net.specs.Watching.{Hears}
 use Rattle.bn_net.specs.Walking.{HasWalked, HasWalkedBack}
 use Rattle.bn_net.proofs.WalkLemmas.{walk_starts, walk_goes, walk_ends, walk_back_starts, walk_goes_back, walk_back_then, walk_back_ends}
-use Rattle.bn_net.proofs.NetSteps.{enter-within, output-state, back-Goes, first_by_steps, first_by_line}
+use Rattle.bn_net.proofs.NetSteps.{enter-within, output-state, back-Goes, first_by_steps}
 use Rattle.bn_column.specs.Nets.{rotary_circuit}
 use Rattle.bn_packed.specs.Bars.{AreBars, crossed, crossed_back}
 use Rattle.bn_packed.specs.PackedNets.{PackedNet, config_at}

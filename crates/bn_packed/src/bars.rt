@@ -1,6 +1,6 @@
 //! The bars of rotary elements, one bit each.
 
-ghost use Rattle.std.specs.Prelude.{◌≡◌, ℕ, ◌<◌, ◌≤◌, List, length, map, replicate, Some, IfOk, slice_get, slice_set};
+ghost use Rattle.std.specs.Prelude.{◌≡◌, ℕ, ◌<◌, ◌≤◌, List, length, replicate, Some, IfOk, slice_get, slice_set};
 ghost use Rattle.bn_packed.specs.Bars.{AreBars, turned, crossed, crossed_back};
 
 use bn_element::{EAST, HORIZONTAL, NORTH, SOUTH, VERTICAL, WEST};

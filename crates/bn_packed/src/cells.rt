@@ -1,6 +1,6 @@
 //! The other end of a line's wire as one number.
 
-ghost use Rattle.std.specs.Prelude.{◌≡◌, ◌+◌, ◌*◌, ◌/◌, ◌^◌, ◌<◌, IfSome};
+ghost use Rattle.std.specs.Prelude.{◌≡◌, ◌+◌, ◌*◌, ◌/◌, ◌^◌, ◌<◌, length, map, Some, IfSome, slice_get};
 ghost use Rattle.bn_packed.specs.Ends.{line_of, narrow_end, wide_end, IsLineBelow};
 
 use bn_net::Line;
@@ -95,6 +95,14 @@ pub(crate) fn line_number(line: Line) -> usize
     ensures { result ≡ 4 * line.element + line.line }
 {
     LINES as usize * line.element as usize + line.line as usize
+}
+
+/// The end that the cell of this line tells.
+pub(crate) fn end_of<C: Cell>(cells: &[C], line: Line) -> Option<Line>
+    requires { 4 * line.element + line.line < length cells.now }
+    ensures { slice_get (map C.tells cells.now) (4 * line.element + line.line) ≡ Some result }
+{
+    cells[line_number(line)].end()
 }
 
 /// The line with this number.

@@ -1,6 +1,6 @@
 //! The other ends of the wires of all lines, in one array.
 
-ghost use Rattle.std.specs.Prelude.{◌≡◌, ℕ, ◌+◌, ◌*◌, ◌<◌, ◌≤◌, List, [], ◌∷◌, ◌++◌, length, Some, IfOk, IfSome, OnOk, slice_get};
+ghost use Rattle.std.specs.Prelude.{◌≡◌, ◌+◌, ◌*◌, ◌<◌, ◌≤◌, [], ◌∷◌, ◌++◌, length, map, Some, IfOk, IfSome, OnOk, slice_get};
 
 use crate::cells::{Cell, LINES, line_number};
 use bn_net::{Line, NoMemory};
@@ -55,6 +55,13 @@ impl<C: Cell> Ends<C> {
         ensures { slice_get self.now.ends (4 * line.element + line.line) ≡ Some result }
     {
         self.cells[line_number(line)].end()
+    }
+
+    /// The ends as numbers.
+    pub(crate) fn as_slice(&self) -> &[C]
+        ensures { map C.tells result.now ≡ self.now.ends }
+    {
+        self.cells.as_slice()
     }
 
     /// Adds the end of the next line's wire.

@@ -1,6 +1,6 @@
 //! Packed netlists.
 
-ghost use Rattle.std.specs.Prelude.{◌≡◌, ◌+◌, ◌<◌, ◌≤◌, length, Some, IfOk, slice_get};
+ghost use Rattle.std.specs.Prelude.{◌≡◌, ◌<◌, ◌≤◌, length, Some, IfOk, slice_get};
 ghost use Rattle.std.specs.Bool.{OnTrue, OnFalse};
 ghost use Rattle.bn_theory.specs.Runs.{Reaches};
 ghost use Rattle.bn_theory.specs.Circuits.{IsCircuit, IsConfig, IsOutput, Goes, IsStuck, IsFirst, target};

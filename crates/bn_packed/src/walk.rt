@@ -8,7 +8,7 @@ ghost use Rattle.bn_column.specs.Nets.{rotary_circuit};
 ghost use Rattle.bn_packed.specs.PackedNets.{config_at};
 
 use crate::bars::Bars;
-use crate::cells::Cell;
+use crate::cells::{Cell, end_of};
 use crate::signal::Signal;
 use crate::wiring::Wiring;
 use bn_net::{Line, Place, Watch};
@@ -33,13 +33,14 @@ pub(crate) fn walk<C: Cell, W: Watch>(
     let Place::Enter { element, line } = signal.place else {
         return signal;
     };
+    let targets = wiring.targets();
     let mut at_line = Line { element, line };
     for made in 0..count {
         let from = Line {
             element: at_line.element,
             line: bars.cross(at_line.element as usize, at_line.line),
         };
-        let Some(to) = wiring.target(from) else {
+        let Some(to) = end_of(targets, from) else {
             let place = left_by(from);
             watch.enter(&place);
             return Signal {
@@ -109,9 +110,10 @@ fn walk_back_from<C: Cell, W: Watch>(
     ensures ended { steps < result.steps + count → IsFirst (rotary_circuit wiring.now) (config_at bars.new result.place result.steps) }
 {
     let _elements = wiring.len();
+    let sources = wiring.sources();
     let mut at_line = to;
     for made in 0..count {
-        let Some(from) = wiring.source(at_line) else {
+        let Some(from) = end_of(sources, at_line) else {
             return Signal {
                 place: entering(at_line),
                 steps: steps - made,

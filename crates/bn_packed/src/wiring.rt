@@ -1,10 +1,9 @@
 //! The wires of a net of rotary elements, kept both ways.
 
-ghost use Rattle.std.specs.Prelude.{◌≡◌, ◌+◌, ◌*◌, ◌^◌, ◌<◌, ◌≤◌, List, [], length, map, Some, IfOk, IfSome, slice_get};
-ghost use Rattle.bn_theory.specs.Circuits.{IsCircuit, IsInput, IsOutput, target, source};
-ghost use Rattle.bn_theory.specs.declared.line.Line.{Line};
+ghost use Rattle.std.specs.Prelude.{◌≡◌, ◌*◌, ◌≤◌, length, map, IfOk};
+ghost use Rattle.bn_theory.specs.Circuits.{IsCircuit, IsOutput, target, source};
 ghost use Rattle.bn_column.specs.Nets.{rotary_circuit};
-ghost use Rattle.bn_packed.specs.Ends.{AreEndsOf};
+ghost use Rattle.bn_packed.specs.Ends.{AreEnds, AreEndsOf};
 
 use crate::cells::{Cell, LINES, line_of};
 use crate::ends::Ends;
@@ -57,21 +56,23 @@ impl<C: Cell> Wiring<C> {
     /// The input line to which the wire of this output line leads.
     pub(crate) fn target(&self, from: Line) -> Option<Line>
         requires { IsOutput (rotary_circuit self.now).tables from }
-        ensures line { result ≡ target self.now.wires from }
-        ensures input { IfSome result (IsInput (rotary_circuit self.now).tables) }
+        ensures { result ≡ target self.now.wires from }
     {
-        let _elements = self.len();
         self.targets.get(from)
     }
 
-    /// The output line from which the wire of this input line comes.
-    pub(crate) fn source(&self, to: Line) -> Option<Line>
-        requires { IsInput (rotary_circuit self.now).tables to }
-        ensures line { result ≡ source self.now.wires to }
-        ensures output { IfSome result (IsOutput (rotary_circuit self.now).tables) }
+    /// Where each output line leads, in the order of the lines' numbers.
+    pub(crate) fn targets(&self) -> &[C]
+        ensures { AreEnds (target self.now.wires) (4 * length self.now.elements) (map C.tells result.now) }
     {
-        let _elements = self.len();
-        self.sources.get(to)
+        self.targets.as_slice()
+    }
+
+    /// Where each input line comes from, in the order of the lines' numbers.
+    pub(crate) fn sources(&self) -> &[C]
+        ensures { AreEnds (source self.now.wires) (4 * length self.now.elements) (map C.tells result.now) }
+    {
+        self.sources.as_slice()
     }
 
     /// The same wires once more.

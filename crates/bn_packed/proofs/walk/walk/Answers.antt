@@ -1,10 +1,10 @@
-use Rattle.std.proofs.Common.{◌≡◌, ◌+◌, ◌∷◌, [], Some, None, refl, sym, ap, subst, ◌∙◌, arith}
-use Rattle.bn_theory.specs.Circuits.{place_at}
-use Rattle.bn_theory.specs.declared.line.Line.{Line}
+use Rattle.std.proofs.Common.{length, map, ◌+◌, ◌∷◌, [], refl, sym, ap, subst, ◌∙◌, arith}
+use Rattle.bn_theory.specs.Circuits.{place_at, target}
 use Rattle.bn_theory.specs.declared.place.Place.TheVariants.{Enter}
 use Rattle.bn_net.specs.Watching.{Hears}
 use Rattle.bn_column.specs.Nets.{rotary_circuit}
 use Rattle.bn_packed.specs.PackedNets.{config_at}
+use Rattle.bn_packed.proofs.EndLemmas.{output_below, ends_there, ends_read}
 use Rattle.bn_packed.proofs.StepLemmas.{walked_none, entering_below, crossed-output, walked_more}
 use Rattle.bn_packed.proofs.walk.walk.Goals as goal
 
@@ -30,20 +30,31 @@ cross-requires-clause-line g c =
     (entering_below c.args.wiring.now (config_at c.loop-made.bars (Enter c.loop-made.at_line.element c.loop-made.at_line.line)
     (c.args.signal.steps + c.loop-made.made)) c.loop-made.at_line.element c.loop-made.at_line.line c.loop-made.invariant.good refl).1
 
-pub target-requires : goal.target-requires
-target-requires g c =
-    crossed-output c.args.wiring.now c.len-elements.ensures.circuit c.loop-made.bars c.cross.new.self
+pub end_of-requires : goal.end_of-requires
+end_of-requires g c =
+    ends_there (target c.args.wiring.now.wires) g.C.Cell.tells (length c.args.wiring.now.elements) c.targets-targets.result.now
+    (record { element = c.loop-made.at_line.element; line = c.cross.result }) c.targets-targets.ensures
+    (output_below c.args.wiring.now.elements (record { element = c.loop-made.at_line.element; line = c.cross.result })
+    (crossed-output c.args.wiring.now c.len-elements.ensures.circuit c.loop-made.bars c.cross.new.self
     (Enter c.loop-made.at_line.element c.loop-made.at_line.line)
-    c.loop-made.at_line.element c.loop-made.at_line.line c.cross.result (c.args.signal.steps + c.loop-made.made) c.loop-made.invariant.good refl c.cross.ensures
+    c.loop-made.at_line.element c.loop-made.at_line.line c.cross.result (c.args.signal.steps + c.loop-made.made) c.loop-made.invariant.good refl
+    c.cross.ensures))
 
-pub returns-in_default-target-clause-walked : goal.returns-in_default-target-clause-walked
-returns-in_default-target-clause-walked g c =
+pub returns-in_default-end_of-clause-walked : goal.returns-in_default-end_of-clause-walked
+returns-in_default-end_of-clause-walked g c =
     walked_more c.args.wiring.now c.len-elements.ensures.circuit (config_at c.args.bars.now c.args.signal.place c.args.signal.steps) c.loop-made.bars
     c.cross.new.self
     (Enter c.loop-made.at_line.element c.loop-made.at_line.line) c.left_by-place.result c.loop-made.at_line.element c.loop-made.at_line.line c.cross.result
     c.args.signal.steps c.loop-made.made _ _ (g.W.Watch.told c.args.watch.now) (g.W.Watch.told c.loop-made.watch) (g.W.Watch.told c.enter.new.self)
     c.loop-made.invariant refl c.cross.ensures (c.left_by-place.ensures ∙ ap
-    (λ o. place_at o (record { element = c.loop-made.at_line.element; line = c.cross.result })) (sym c.in_default-target.is ∙ c.target.ensures.line))
+    (λ o. place_at o (record { element = c.loop-made.at_line.element; line = c.cross.result })) (sym c.in_default-end_of.is ∙
+    ends_read (target c.args.wiring.now.wires) (length c.args.wiring.now.elements) (map g.C.Cell.tells c.targets-targets.result.now)
+    (record { element = c.loop-made.at_line.element; line = c.cross.result }) c.end_of.result c.targets-targets.ensures
+    (output_below c.args.wiring.now.elements (record { element = c.loop-made.at_line.element; line = c.cross.result })
+    (crossed-output c.args.wiring.now c.len-elements.ensures.circuit c.loop-made.bars c.cross.new.self
+    (Enter c.loop-made.at_line.element c.loop-made.at_line.line)
+    c.loop-made.at_line.element c.loop-made.at_line.line c.cross.result (c.args.signal.steps + c.loop-made.made) c.loop-made.invariant.good refl
+    c.cross.ensures)) c.end_of.ensures))
     (omega (arith, c.requires.room, c.loop-made-test.true)) (omega arith) (omega arith) c.enter.ensures
 
 pub loop-made-preserved : goal.loop-made-preserved
@@ -54,7 +65,14 @@ loop-made-preserved g c =
     c.loop-made.at_line.line c.cross.result
     c.args.signal.steps c.loop-made.made _ _ (g.W.Watch.told c.args.watch.now) (g.W.Watch.told c.loop-made.watch) (g.W.Watch.told c.enter-in-loop-made.new.self)
     c.loop-made.invariant refl c.cross.ensures (ap (λ o. place_at o (record { element = c.loop-made.at_line.element; line = c.cross.result }))
-    (sym c.in-Some.is ∙ c.target.ensures.line))
+    (sym c.in-Some.is ∙
+    ends_read (target c.args.wiring.now.wires) (length c.args.wiring.now.elements) (map g.C.Cell.tells c.targets-targets.result.now)
+    (record { element = c.loop-made.at_line.element; line = c.cross.result }) c.end_of.result c.targets-targets.ensures
+    (output_below c.args.wiring.now.elements (record { element = c.loop-made.at_line.element; line = c.cross.result })
+    (crossed-output c.args.wiring.now c.len-elements.ensures.circuit c.loop-made.bars c.cross.new.self
+    (Enter c.loop-made.at_line.element c.loop-made.at_line.line)
+    c.loop-made.at_line.element c.loop-made.at_line.line c.cross.result (c.args.signal.steps + c.loop-made.made) c.loop-made.invariant.good refl
+    c.cross.ensures)) c.end_of.ensures))
     (omega (arith, c.requires.room, c.loop-made-test.true)) (omega arith) refl
     (subst (λ p. Hears (g.W.Watch.told c.loop-made.watch) (p ∷ []) (g.W.Watch.told c.enter-in-loop-made.new.self)) c.entering.ensures
     c.enter-in-loop-made.ensures)

@@ -1,4 +1,4 @@
-use Rattle.std.proofs.Common.{◌≡◌, ◌<◌, ◌+◌, ◌-◌, refl, sym, arith}
+use Rattle.std.proofs.Common.{◌<◌, ◌+◌, ◌-◌, refl, arith}
 use Rattle.std.proofs.lemmas.Bool.Decides.{nat_tests}
 use Rattle.bn_column.specs.Nets.{rotary_circuit}
 use Rattle.bn_packed.specs.PackedNets.{config_at}

@@ -1,8 +1,7 @@
-use Rattle.std.proofs.Common.{◌≡◌, ◌<◌, ◌*◌, sym, subst, ◌∙◌, arith, length, IfSome, ap}
-use Rattle.bn_theory.specs.Circuits.{source, IsInput}
-use Rattle.bn_element.specs.Rotary.{rotary}
-use Rattle.bn_packed.specs.Ends.{IsLineBelow, line_of}
-use Rattle.bn_packed.proofs.EndLemmas.{below_input, line_below, source_within, no_ends, more_ends}
+use Rattle.std.proofs.Common.{◌<◌, ◌*◌, sym, subst, ◌∙◌, arith, length, IfSome, ap}
+use Rattle.bn_theory.specs.Circuits.{source}
+use Rattle.bn_packed.specs.Ends.{IsLineBelow}
+use Rattle.bn_packed.proofs.EndLemmas.{below_input, line_below, source_within, more_ends}
 use Rattle.bn_packed.proofs.wiring.sources_of.Goals as goal
 
 pub source-requires : goal.source-requires

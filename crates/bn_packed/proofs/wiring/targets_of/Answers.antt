@@ -1,8 +1,7 @@
-use Rattle.std.proofs.Common.{◌≡◌, ◌<◌, ◌*◌, sym, subst, ◌∙◌, arith, length, IfSome, ap}
-use Rattle.bn_theory.specs.Circuits.{target, IsOutput}
-use Rattle.bn_element.specs.Rotary.{rotary}
-use Rattle.bn_packed.specs.Ends.{IsLineBelow, line_of}
-use Rattle.bn_packed.proofs.EndLemmas.{below_output, line_below, target_within, no_ends, more_ends}
+use Rattle.std.proofs.Common.{◌<◌, ◌*◌, sym, subst, ◌∙◌, arith, length, IfSome, ap}
+use Rattle.bn_theory.specs.Circuits.{target}
+use Rattle.bn_packed.specs.Ends.{IsLineBelow}
+use Rattle.bn_packed.proofs.EndLemmas.{below_output, line_below, target_within, more_ends}
 use Rattle.bn_packed.proofs.wiring.targets_of.Goals as goal
 
 pub target-requires : goal.target-requires

@@ -1,14 +1,10 @@
-use Rattle.bn_packed.proofs.EndLemmas.{target_there, target_read, target_input}
+use Rattle.bn_packed.proofs.EndLemmas.{target_there, target_read}
 use Rattle.bn_packed.proofs.wiring.Wiring.target.Goals as goal
 
 pub get-requires : goal.get-requires
-get-requires g c = target_there c.self.inside.targets c.self.inside.sources c.args.self.now c.args.from c.self.invariant c.self.view_is c.requires
+get-requires g c =
+    target_there c.self.inside.targets c.self.inside.sources c.args.self.now c.args.from c.self.invariant c.self.view_is c.requires
 
-pub returns-clause-line : goal.returns-clause-line
-returns-clause-line g c =
+pub returns : goal.returns
+returns g c =
     target_read c.self.inside.targets c.self.inside.sources c.args.self.now c.args.from c.get.result c.self.invariant c.self.view_is c.requires c.get.ensures
-
-pub returns-clause-input : goal.returns-clause-input
-returns-clause-input g c =
-    target_input c.args.self.now c.len-elements.ensures.circuit c.args.from c.get.result
-    (target_read c.self.inside.targets c.self.inside.sources c.args.self.now c.args.from c.get.result c.self.invariant c.self.view_is c.requires c.get.ensures)
