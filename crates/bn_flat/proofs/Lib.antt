@@ -1,3 +1,0 @@
-mod LayoutLemmas
-mod WireLemmas
-mod KeptLemmas
