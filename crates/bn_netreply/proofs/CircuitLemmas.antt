@@ -6,6 +6,8 @@ use Rattle.bn_theory.specs.declared.place.Place.{Place}
 use Rattle.bn_theory.specs.declared.config.Config.{Config}
 use Rattle.bn_element.specs.Rotary.{rotary}
 use Rattle.bn_net.specs.Parts.{circuit}
+use Rattle.bn_column.specs.Nets.{rotary_circuit}
+use Rattle.bn_packed.specs.PackedNets.{PackedNet}
 use Rattle.bn_net.specs.Watching.{Hears}
 use Rattle.bn_theory.specs.Stepping.{run, back, places, places_back}
 use Rattle.bn_netlist.specs.Spelling.{Spelling, Spelled, AreSame, Admits, circuit_of, text_of, moved_to}
@@ -65,6 +67,17 @@ module _ (goes : Circuit → Config → Config) (tells : Circuit → Config → 
     pub gone : d ≡ goes (circuit (λ _. rotary) c.net) c.config
     pub hears : Hears told (tells (circuit (λ _. rotary) c.net) c.config) heard
 
+  -- what a packed netlist of it comes to
+  pub packed_gone : (c : NetConfig) (bytes : List ℕ) (p : PackedNet) (d e : Config) (told heard : Option (List Place)) → Spelled (spelling_of c) bytes →
+      p.net ≡ c.net → p.config ≡ c.config → e ≡ goes (rotary_circuit p.net) p.config → Hears told (tells (rotary_circuit p.net) p.config) heard → d ≡ e →
+      HasGone c bytes d told heard
+  packed_gone c bytes p d e told heard spelled net config gone hears same =
+      record {
+        spelled = spelled;
+        gone = same ∙ gone ∙ (λ i. goes (rotary_circuit (net i)) (config i));
+        hears = subst (λ ps. Hears told ps heard) (λ i. tells (rotary_circuit (net i)) (config i)) hears;
+      }
+
   gone_walk : (c : NetConfig) (bytes : List ℕ) (d : Config) (told heard : Option (List Place)) (text : List ℕ) → HasGone c bytes d told heard →
       text ≡ text_of (moved_to (spelling_of c) d) → Walked goes tells bytes text (tells (circuit (λ _. rotary) c.net) c.config)
   gone_walk c bytes d told heard text gone written =
@@ -97,6 +110,12 @@ module _ (goes : Circuit → Config → Config) (tells : Circuit → Config → 
 -- the configuration that was read is one of the net's circuit
 pub read-IsConfig : (c : NetConfig) (bytes : List ℕ) → Spelled (spelling_of c) bytes → IsConfig (circuit (λ _. rotary) c.net) c.config
 read-IsConfig c bytes spelled = subst (λ k. IsConfig k c.config) (sym (circuits-agree c)) spelled.admitted.config
+
+-- a configuration of a packed netlist is one of the net's circuit
+pub packed-IsConfig : (c : NetConfig) (p : PackedNet) (d e : Config) → p.net ≡ c.net → IsConfig (rotary_circuit p.net) e → d ≡ e →
+    IsConfig (circuit (λ _. rotary) c.net) d
+packed-IsConfig c p d e net good same =
+    subst (IsConfig (rotary_circuit c.net)) (sym same) (subst (λ n. IsConfig (rotary_circuit n) e) net good)
 
 -- what was read may be spelled in each configuration of the circuit
 pub read-Admits : (c : NetConfig) (bytes : List ℕ) (d : Config) → Spelled (spelling_of c) bytes → IsConfig (circuit (λ _. rotary) c.net) d →

@@ -5,10 +5,10 @@ ghost use Rattle.bn_reply.specs.Replying.{IsReplied, IsUnfinished};
 ghost use Rattle.bn_netreply.specs.CircuitReply.{BackReplies, CircuitIsSettled, StepReplies};
 ghost use Rattle.bn_netreply.specs.Refused.{IsRefused, line_text};
 
-use crate::walk::{back_watched, run_watched};
 use bn_base::push_u64;
 use bn_net::Watch;
 use bn_netlist::{NetlistRefusal, read_config, write_config};
+use bn_packed::Packed;
 use bn_reply::{NoMemory, Reply, Status};
 use std::alloc::{AllocError, Global};
 
@@ -29,7 +29,14 @@ pub fn reply_step<W: Watch>(
         Ok(read) => read,
         Err(refusal) => return refuse(alloc, refusal),
     };
-    run_watched(&read.net, &mut read.config, count, watch);
+    let Ok(mut packed) = Packed::from_net(alloc, &read.net, &read.config) else {
+        return Err(NoMemory);
+    };
+    packed.run_watched(count, watch);
+    let Ok(config) = packed.to_config(alloc) else {
+        return Err(NoMemory);
+    };
+    read.config = config;
     match write_config(alloc, &read) {
         Ok(text) => Ok(Reply {
             text,
@@ -56,7 +63,14 @@ pub fn reply_back<W: Watch>(
         Ok(read) => read,
         Err(refusal) => return refuse(alloc, refusal),
     };
-    back_watched(&read.net, &mut read.config, count, watch);
+    let Ok(mut packed) = Packed::from_net(alloc, &read.net, &read.config) else {
+        return Err(NoMemory);
+    };
+    packed.run_back_watched(count, watch);
+    let Ok(config) = packed.to_config(alloc) else {
+        return Err(NoMemory);
+    };
+    read.config = config;
     match write_config(alloc, &read) {
         Ok(text) => Ok(Reply {
             text,

@@ -3,7 +3,6 @@
 
 mod circuit;
 mod realise;
-mod walk;
 
 pub use circuit::{circuits_have_one_reply, reply_back, reply_step};
 pub use realise::{realise_has_one_reply, reply_realise};
