@@ -1,9 +1,8 @@
 -- Wires that are apart have no fault in a net of any tables.
-use Rattle.std.specs.Prelude.{◌≡◌, ◌≢◌, ℕ, ◌<◌, true, false, nat_lt, ◌&&◌, List, [], ◌∷◌, take, Option, Some, None, slice_get, refl, ◌⊎◌}
-use Rattle.std.proofs.Common.{zero, suc, arith, sym, ap, subst, ◌∙◌, inl, inr}
+use Rattle.std.specs.Prelude.{◌≡◌, ℕ, true, List, Some, slice_get, refl}
 use Rattle.std.proofs.lemmas.Bool.{lt-ltb}
 use Rattle.bn_theory.specs.Tables.{Table}
-use Rattle.bn_theory.specs.Circuits.{target, source, inputs_of, outputs_of, IsInput, IsOutput}
+use Rattle.bn_theory.specs.Circuits.{inputs_of, outputs_of, IsInput, IsOutput}
 use Rattle.bn_theory.specs.declared.line.Line.{Line}
 use Rattle.bn_theory.specs.declared.line.Wire.{Wire}
 use Rattle.bn_net.specs.Faults.{AreFaultless, is_within}

@@ -1,11 +1,9 @@
 -- Modules, wires and states that were made one by one are an assembled network.
-use Rattle.std.specs.Prelude.{◌≡◌, ℕ, ◌+◌, ◌-◌, ◌<◌, ◌≤◌, List, [], ◌∷◌, ◌++◌, All, length, map, replicate, Option, Some, None, slice_get, refl, ◌↔◌}
+use Rattle.std.specs.Prelude.{◌≡◌, ℕ, ◌+◌, ◌<◌, ◌≤◌, List, [], ◌∷◌, ◌++◌, All, length, map, replicate, Option, Some, slice_get, refl}
 use Rattle.std.proofs.Common.{zero, suc, arith, sym, ap, subst, ◌∙◌, length-append}
 use Rattle.std.proofs.lemmas.List.{map-append}
 use Rattle.std.proofs.lemmas.List.Elements.{All-head, All-tail}
-use Rattle.bn_theory.specs.Tables.{Table}
-use Rattle.bn_theory.specs.Circuits.{Circuit, target, IsCircuit}
-use Rattle.bn_theory.specs.Situations.{counted}
+use Rattle.bn_theory.specs.Circuits.{target, IsCircuit}
 use Rattle.bn_theory.specs.declared.line.Line.{Line}
 use Rattle.bn_theory.specs.declared.line.Wire.{Wire}
 use Rattle.bn_theory.specs.declared.config.Config.{Config}
@@ -17,14 +15,14 @@ use Rattle.bn_machine.specs.Outcome.{Limits}
 use Rattle.bn_quad.specs.Quadruples.{Quadruples}
 use Rattle.bn_modules.specs.Cells.{cell_table}
 use Rattle.bn_modules.specs.Controls.{ControlState, letters}
-use Rattle.bn_modules.specs.Networks.{IsTape, IsNetwork, IsNetWire, module_tables, cells_in, first_cell, network_start, elements_by}
+use Rattle.bn_modules.specs.Networks.{IsTape, IsNetWire, module_tables, cells_in, first_cell, network_start, elements_by}
 use Rattle.bn_cell.specs.declared.table.CellTable.{CellTable}
 use Rattle.bn_control.specs.Controlled.{Controlled, IsControlOf}
 use Rattle.bn_assembly.specs.WireLists.{network_wires}
 use Rattle.bn_assembly.proofs.WireLemmas.{network_wires-are}
 use Rattle.bn_assembly.specs.Modules.{module_table}
-use Rattle.bn_assembly.specs.Rows.{IsCellFor, IsRow, AreModules}
-use Rattle.bn_assembly.specs.Assembled.{Assembled, IsAssembled, network_of}
+use Rattle.bn_assembly.specs.Rows.{IsCellFor, AreModules}
+use Rattle.bn_assembly.specs.Assembled.{IsAssembled}
 use Rattle.bn_assembly.specs.declared.module.Module.{Module}
 use Rattle.bn_assembly.specs.declared.module.Module.TheVariants.{Control, Cell}
 use Rattle.bn_assembly.specs.declared.make.TheConstants.{MOST_ELEMENTS}

@@ -1,16 +1,16 @@
 -- The states in which the cells of a tape start.
-use Rattle.std.specs.Prelude.{◌≡◌, ◌≢◌, ℕ, ◌+◌, ◌-◌, ◌<◌, ◌≤◌, ℤ, pos, negsuc, ◌-ℤ◌, true, false, List, [], ◌∷◌, ◌++◌, length, map, slice_index, refl}
+use Rattle.std.specs.Prelude.{◌≡◌, ◌≢◌, ℕ, ◌+◌, ◌-◌, ◌<◌, ◌≤◌, ℤ, pos, negsuc, ◌-ℤ◌, List, [], ◌∷◌, ◌++◌, length, map, slice_index}
 use Rattle.std.specs.List.{range_with_len}
 use Rattle.std.specs.Ordering.{int_eq}
-use Rattle.std.proofs.Common.{zero, suc, arith, sym, ap, ◌∙◌, append_assoc, inl, inr}
+use Rattle.std.proofs.Common.{suc, arith, sym, ap, ◌∙◌, append_assoc, inl, inr}
 use Rattle.std.proofs.lemmas.Int.{ints}
 use Rattle.std.proofs.lemmas.Bool.{cases_Bool, cases_lt}
 use Rattle.std.proofs.lemmas.List.{get_or_past}
 use Rattle.std.proofs.lemmas.Bool.Decides.{Decides-int_eq}
 use Rattle.std.proofs.lemmas.List.FromFn.{map-range_with_len_more}
 use Rattle.bn_machine.specs.Tape.{word_tape, cell, letter_at, cell-word}
-use Rattle.bn_modules.specs.Cells.{CellState, Plain, Head, state_number}
-use Rattle.bn_modules.specs.Networks.{cell_of, start_cells}
+use Rattle.bn_modules.specs.Cells.{state_number}
+use Rattle.bn_modules.specs.Networks.{cell_of}
 use Rattle.bn_assembly.specs.Starting.{start_state}
 
 at_head : (z : ℕ) (word : List ℕ) (p : ℤ) → p ≡ pos 0 → state_number z (cell_of (word_tape word) p) ≡ z

@@ -11,7 +11,6 @@ use Rattle.bn_modules.specs.Controls.{ControlState, letters}
 use Rattle.bn_modules.specs.Networks.{IsTape, cells_in, first_cell}
 use Rattle.bn_cell.specs.declared.table.CellTable.{CellTable}
 use Rattle.bn_assembly.specs.Assembled.{Assembled, IsAssembled}
-use Rattle.bn_assembly.specs.declared.module.Module.{Module}
 use Rattle.bn_assembly.specs.declared.module.Module.TheVariants.{Control, Cell}
 
 some_cells : (l : Limits) (t : ℕ) → IsTape t → 0 < cells_in l t

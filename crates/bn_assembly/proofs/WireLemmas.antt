@@ -1,10 +1,9 @@
 -- The lists of wires make the network's relation of lines.
-use Rattle.std.specs.Prelude.{◌≡◌, ℕ, ◌+◌, ◌-◌, ◌*◌, ◌<◌, ◌≤◌, List, [], ◌∷◌, ◌++◌, length, slice_index, refl, ◌⊎◌}
+use Rattle.std.specs.Prelude.{◌≡◌, ℕ, ◌+◌, ◌-◌, ◌<◌, ◌≤◌, List, [], ◌∷◌, ◌++◌, length, slice_index, refl, ◌⊎◌}
 use Rattle.std.proofs.Common.{zero, suc, arith, sym, ap, subst, ◌∙◌, inl, inr}
 use Rattle.std.proofs.lemmas.Bool.{cases_lt}
 use Rattle.std.proofs.lemmas.Bool.Decides.{eqb_tells}
 use Rattle.bn_theory.specs.declared.line.Line.{Line}
-use Rattle.bn_theory.specs.declared.line.Wire.{Wire}
 use Rattle.bn_column.specs.Wirings.{AreWiresOf, IsWire, no_wires, more_wire, joined_wires, same_wires}
 use Rattle.bn_machine.specs.Outcome.{Limits}
 use Rattle.bn_quad.specs.Quadruples.{Quadruples}

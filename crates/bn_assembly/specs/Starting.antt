@@ -1,5 +1,5 @@
 -- The state in which one cell of a network starts.
-use Rattle.std.specs.Prelude.{ℕ, ℤ, pos, ◌-ℤ◌, List}
+use Rattle.std.specs.Prelude.{ℕ, pos, ◌-ℤ◌, List}
 use Rattle.bn_machine.specs.Tape.{word_tape}
 use Rattle.bn_modules.specs.Cells.{state_number}
 use Rattle.bn_modules.specs.Networks.{cell_of}

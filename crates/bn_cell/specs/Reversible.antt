@@ -136,13 +136,16 @@ module _ (z : ℕ) (go back_go : CellState → CellLine → Option (CellState ×
       none : (m : Option (ℕ × ℕ)) → m ≡ None → m ≡ Some (r, o) → ⊥
       none m d e = cc
 
-      found : (m : Option (CellState × CellLine)) → go (state_of z q) (line_of z i) ≡ m → numbered z m ≡ Some (r, o) → q < 2 * z → i < lines_of z → Both q i r o
+      found : (m : Option (CellState × CellLine)) → go (state_of z q) (line_of z i) ≡ m → numbered z m ≡ Some (r, o)
+          → q < 2 * z → i < lines_of z → Both q i r o
       found None f g qn inn = absurd (cc)
       found (Some m) f g qn inn =
-          let valid = whole (go (state_of z q) (line_of z i)) (λ m. IsStateOf z m.0 × IsLineOf z m.1) m (keeps (state_of z q) (line_of z i) (omega arith) (valid_state z q qn) (valid_line z i inn)) f in
+          let valid = whole (go (state_of z q) (line_of z i)) (λ m. IsStateOf z m.0 × IsLineOf z m.1) m
+          (keeps (state_of z q) (line_of z i) (omega arith) (valid_state z q qn) (valid_line z i inn)) f in
           let first = firsts (state_number z m.0, line_number z m.1) (r, o) g in
           let second = seconds (state_number z m.0, line_number z m.1) (r, o) g in
-          let there = whole (go (state_of z q) (line_of z i)) (λ m. back_go m.0 m.1 ≡ Some (state_of z q, line_of z i)) m (turns (state_of z q) (line_of z i)) f in
+          let there = whole (go (state_of z q) (line_of z i)) (λ m. back_go m.0 m.1 ≡ Some (state_of z q, line_of z i)) m
+          (turns (state_of z q) (line_of z i)) f in
           let rn = state_within z m.0 valid.0 in
           let on = line_within z m.1 valid.1 in
           record {
@@ -150,7 +153,17 @@ module _ (z : ℕ) (go back_go : CellState → CellLine → Option (CellState ×
             line = inn;
             next = rw (← first) rn;
             out = rw (← second) on;
-            turned = rw (← first, ← second, lt-ltb (state_number z m.0) (2 * z) rn, lt-ltb (line_number z m.1) (lines_of z) on, states z m.0 valid.0, lines z m.1 valid.1, there, state_numbers z q qn, numbers z i inn) refl;
+            turned = rw (
+              ← first,
+              ← second,
+              lt-ltb (state_number z m.0) (2 * z) rn,
+              lt-ltb (line_number z m.1) (lines_of z) on,
+              states z m.0 valid.0,
+              lines z m.1 valid.1,
+              there,
+              state_numbers z q qn,
+              numbers z i inn,
+            ) refl;
           }
 
 keeps_go : (z : ℕ) (q : CellState) (l : CellLine) → 0 < z → IsStateOf z q → IsLineOf z l → Whole (cell_go q l) (λ m. IsStateOf z m.0 × IsLineOf z m.1)

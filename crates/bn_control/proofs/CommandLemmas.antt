@@ -1,19 +1,18 @@
 -- The commands of a quadruple by names, and the moves from one to the next.
-use Rattle.std.proofs.Common.{◌≡◌, ◌⊎◌, inl, inr, ℕ, suc, ◌+◌, ◌<◌, ◌≤◌, List, [], ◌∷◌, ◌++◌, length, map, Option, Some, None, refl, sym, ap, subst, ◌∙◌, arith, append_assoc, append-nil}
+use Rattle.std.proofs.Common.{◌≡◌, inl, inr, ℕ, suc, List, [], ◌∷◌, ◌++◌, map, Some, refl, sym, ap, subst, ◌∙◌, append_assoc, append-nil}
 use Rattle.std.proofs.lemmas.List.{map-append}
 use Rattle.bn_machine.specs.Machine.{nth}
 use Rattle.bn_machine.specs.declared.quint.Shift.TheVariants as way
 use Rattle.bn_machine.specs.declared.quint.Side.{Side}
 use Rattle.bn_machine.specs.declared.quint.Side.TheVariants as side
-use Rattle.bn_quad.specs.Quadruples.{Deed, Rewrite, Move, Rule, Quadruples, deeds_of}
-use Rattle.bn_quad.specs.Kept.{read_of, act_of}
+use Rattle.bn_quad.specs.Quadruples.{Deed, Rewrite, Move, Rule, Quadruples}
+use Rattle.bn_quad.specs.Kept.{act_of}
 use Rattle.bn_modules.specs.declared.cell_line.CellLine.TheVariants.{Answer, DoneWrite}
-use Rattle.bn_modules.specs.Controls.{ControlState, ControlLine, ControlMove, Reads, Shifts, Writes, Tape, IsEntry, ControlGoes, begins, reads_on, shifts_on, writes_on, reads, shifts, shift_at, rising, reads_of, shifts_of, writes_of, symbols_in, to_read, to_shift, to_write, to_reads, to_shifts, to_writes, done_line}
-use Rattle.bn_cell.proofs.MemberLemmas.{IsMember, in_front, behind, of_two}
+use Rattle.bn_modules.specs.Controls.{ControlMove, Reads, Shifts, Writes, Tape, IsEntry, ControlGoes, reads_on, shifts_on, writes_on, reads, shifts, reads_of, shifts_of, writes_of, symbols_in, to_shift, to_reads, to_shifts, to_writes, done_line}
+use Rattle.bn_cell.proofs.MemberLemmas.{IsMember}
 use Rattle.bn_control.specs.declared.command.Command.{Command}
 use Rattle.bn_control.specs.declared.line.Sending.{Sending}
-use Rattle.bn_control.specs.declared.named.NamedMove.{NamedMove}
-use Rattle.bn_control.specs.Commands.{line_of, sending_of, commands_by, read_commands, shift_commands, shift_command, write_commands, next_of, moves_by}
+use Rattle.bn_control.specs.Commands.{line_of, sending_of, commands_by, read_commands, shift_commands, shift_command, write_commands, moves_by}
 use Rattle.bn_control.specs.Names.{NamedCommand, Going, command_of, going_of, read_names, shift_names, write_names, later_names, names_by, next_name, goings}
 use Rattle.bn_control.specs.States.{name_of}
 

@@ -1,11 +1,8 @@
 -- What a control keeps of first commands and of first reads.
 use Rattle.std.proofs.Common.{◌≡◌, ◌≢◌, ◌⊎◌, inl, inr, get_or, slice_get, ℕ, zero, suc, ◌+◌, ◌<◌, ◌≤◌, List, [], ◌∷◌, ◌++◌, length, map, take, Option, Some, None, refl, sym, ap, subst, ◌∙◌, arith, length-append}
 use Rattle.std.proofs.lemmas.List.{take_more}
-use Rattle.std.specs.Prelude.{◌↔◌}
-use Rattle.std.proofs.lemmas.Bool.Decides.{eqb_tells}
 use Rattle.std.proofs.lemmas.Option.{some_pair_parts, slice_get-get_or, slice_get_within}
-use Rattle.bn_machine.specs.Machine.{nth}
-use Rattle.bn_quad.specs.Quadruples.{Quadruples, Rule, IsQuadMachine, final_of}
+use Rattle.bn_quad.specs.Quadruples.{Quadruples, final_of}
 use Rattle.bn_modules.specs.declared.cell_line.CellLine.{CellLine}
 use Rattle.bn_modules.specs.declared.cell_line.CellLine.TheVariants.{Read}
 use Rattle.bn_modules.specs.Controls as control
@@ -14,7 +11,6 @@ use Rattle.bn_controllaws.proofs.EntryLemmas.{one_entry}
 use Rattle.bn_controllaws.proofs.GoingLemmas.{end_entry}
 use Rattle.bn_controllaws.proofs.RangeLemmas.{rule_in_range}
 use Rattle.bn_control.specs.declared.draft.Draft.{Draft}
-use Rattle.bn_control.specs.declared.line.Line.{Line}
 use Rattle.bn_control.specs.declared.line.Line.TheVariants.{Outside, Tape}
 use Rattle.bn_control.specs.declared.line.Sending.{Sending}
 use Rattle.bn_control.specs.declared.state.State.{State}
@@ -24,10 +20,10 @@ use Rattle.bn_control.specs.declared.state.Symbols.TheVariants.{Empty, Leading}
 use Rattle.bn_control.specs.States.{listed, name_of, IsProper}
 use Rattle.bn_control.specs.Commands.{line_of, sending_of}
 use Rattle.bn_control.specs.Controlled.{IsFirstKept, final_kept, sent_kept, IsAwaiting}
-use Rattle.bn_control.specs.Entries.{IsFirstSent, AreEntries}
+use Rattle.bn_control.specs.Entries.{IsFirstSent}
 use Rattle.bn_control.specs.Ordered.{HasNumber}
 use Rattle.bn_control.specs.Numbered.{IsWithin}
-use Rattle.bn_control.specs.Made.{IsDraft, IsSomeEntry, AreFirsts, TellsAwaited, AreAwaited}
+use Rattle.bn_control.specs.Made.{IsDraft, AreFirsts, TellsAwaited, AreAwaited}
 use Rattle.bn_control.proofs.SearchLemmas.{named_at}
 use Rattle.bn_control.proofs.WithinLemmas.{out_within}
 

@@ -1,17 +1,17 @@
 -- The first commands of a machine's states, quadruple by quadruple.
-use Rattle.std.proofs.Common.{◌≡◌, ◌⊎◌, inl, inr, get_or, slice_get, slice_set, ℕ, zero, suc, ◌+◌, ◌<◌, ◌≤◌, ◌==◌, List, [], ◌∷◌, length, map, Option, Some, None, refl, sym, ap, subst, ◌∙◌, arith, cond, true, false}
+use Rattle.std.proofs.Common.{◌≡◌, ◌⊎◌, inl, inr, get_or, slice_get, slice_set, ℕ, zero, suc, ◌+◌, ◌<◌, ◌≤◌, List, length, map, Some, refl, sym, ap, subst, ◌∙◌, arith}
 use Rattle.std.specs.List.{range_with_len}
 use Rattle.std.proofs.lemmas.Bool.Decides.{eqb_tells}
 use Rattle.std.proofs.lemmas.List.{length-map, length-set}
 use Rattle.std.proofs.lemmas.List.FromFn.{get_or-map-range_with_len, length-range_with_len}
-use Rattle.std.proofs.lemmas.Option.{slice_get_within, slice_get-get_or, get_or_from_slice_get}
+use Rattle.std.proofs.lemmas.Option.{slice_get_within, get_or_from_slice_get}
 use Rattle.bn_theory.specs.Laws.{slice_get-set_same, slice_get-set_other}
 use Rattle.bn_machine.specs.Machine.{nth, nth_within, nth_once}
 use Rattle.bn_quad.specs.Quadruples.{Rule, Quadruples, IsQuadMachine, final_of}
 use Rattle.bn_quad.specs.Calls.{IsUniformMachine}
 use Rattle.bn_quad.specs.Kept.{quad_of}
 use Rattle.bn_quad.specs.declared.quad.Quad.{Quad}
-use Rattle.bn_modules.specs.Controls.{IsEntry, finishes, waits}
+use Rattle.bn_modules.specs.Controls.{finishes, waits}
 use Rattle.bn_controllaws.proofs.RangeLemmas.{rule_in_range}
 use Rattle.bn_control.specs.declared.line.Sending.{Sending}
 use Rattle.bn_control.specs.declared.command.Command.{Command}

@@ -1,5 +1,3 @@
-pub mod NumberLemmas
-pub mod LineLemmas
 pub mod StuckLemmas
 pub mod OrderedLemmas
 pub mod CommandLemmas

@@ -1,8 +1,7 @@
 -- The parts of a control make it.
-use Rattle.std.proofs.Common.{◌≡◌, slice_get, ℕ, zero, suc, ◌<◌, ◌≤◌, ◌^◌, List, [], ◌∷◌, All, length, map, Option, Some, None, refl, sym, ap, subst, ◌∙◌, arith}
-use Rattle.std.specs.Prelude.{◌↔◌}
+use Rattle.std.proofs.Common.{◌≡◌, slice_get, ℕ, zero, suc, ◌<◌, List, [], ◌∷◌, All, length, map, Option, Some, None, refl, sym, ap, subst, ◌∙◌, arith}
 use Rattle.std.proofs.lemmas.List.{length-map}
-use Rattle.std.proofs.lemmas.Option.{slice_get-get_or, slice_get_within}
+use Rattle.std.proofs.lemmas.Option.{slice_get_within}
 use Rattle.bn_quad.specs.Quadruples.{Quadruples}
 use Rattle.bn_rsm.specs.Machines.{Machine, machine_table}
 use Rattle.bn_modules.specs.Controls.{ControlState, IsControlTable}
@@ -10,7 +9,7 @@ use Rattle.bn_control.specs.declared.draft.Draft.{Draft}
 use Rattle.bn_control.specs.declared.state.State.{State}
 use Rattle.bn_control.specs.States.{name_of}
 use Rattle.bn_control.specs.Controlled.{Controlled, IsControlOf, IsWithinLimits, IsKept, IsAwaiting, IsTapeAwaited}
-use Rattle.bn_control.specs.Made.{IsDraft, AreFirsts, AreAwaited, TellsAwaited}
+use Rattle.bn_control.specs.Made.{IsDraft, AreFirsts, AreAwaited}
 use Rattle.bn_control.proofs.SearchLemmas.{named_at, kept_at}
 
 module _ (m : Quadruples) (limits : IsWithinLimits m) (d : Draft) (draft : IsDraft m d) (rsm : Machine) (table : IsControlTable m (map name_of d.states.items) (machine_table rsm))
@@ -57,13 +56,15 @@ module _ (m : Quadruples) (limits : IsWithinLimits m) (d : Draft) (draft : IsDra
       by None f x g h low = absurd (let some = there os n low in let e = sym f ∙ some.1 in cc)
 
   pub parts_make : (v : Controlled) → v ≡ record { machine = rsm; symbols = d.symbols; firsts = fs; awaited = os } → (names : List ControlState) × IsControlOf m names v
-  parts_make v is =
-      (map name_of d.states.items, subst (IsControlOf m (map name_of d.states.items)) (sym is) (record {
-        numbering = draft.ordered.numbering;
-        table = table;
-        symbols = sym draft.symbols;
-        counted = firsts.counted;
-        firsts = firsts.each;
-        awaited_counted = awaited.counted ∙ sym (length-map d.states.items name_of);
-        awaiting = λ n a t. (forth n a t, λ h. back n a t h.0 h.1 h.2);
-      }))
+  parts_make v is = (
+    map name_of d.states.items,
+    subst (IsControlOf m (map name_of d.states.items)) (sym is) (record {
+      numbering = draft.ordered.numbering;
+      table = table;
+      symbols = sym draft.symbols;
+      counted = firsts.counted;
+      firsts = firsts.each;
+      awaited_counted = awaited.counted ∙ sym (length-map d.states.items name_of);
+      awaiting = λ n a t. (forth n a t, λ h. back n a t h.0 h.1 h.2);
+    }),
+  )

@@ -1,5 +1,5 @@
 -- The control's moves by names, quadruple by quadruple.
-use Rattle.std.proofs.Common.{◌≡◌, ◌⊎◌, inl, inr, get_or, slice_get, ℕ, zero, suc, ◌+◌, ◌*◌, ◌<◌, ◌≤◌, List, [], ◌∷◌, ◌++◌, length, map, Some, refl, sym, ap, subst, ◌∙◌, arith, length-append}
+use Rattle.std.proofs.Common.{◌≡◌, inl, inr, get_or, ℕ, zero, suc, ◌+◌, ◌*◌, ◌<◌, ◌≤◌, List, [], ◌∷◌, ◌++◌, length, map, Some, refl, sym, ap, subst, ◌∙◌, arith, length-append}
 use Rattle.std.proofs.lemmas.Bool.Decides.{eqb_tells}
 use Rattle.std.proofs.lemmas.Option.{slice_get-get_or}
 use Rattle.bn_machine.specs.Machine.{nth, nth_within, nth_once}
@@ -16,13 +16,13 @@ use Rattle.bn_control.specs.declared.line.Line.TheVariants.{Outside}
 use Rattle.bn_control.specs.declared.line.Sending.{Sending}
 use Rattle.bn_control.specs.declared.named.NamedMove.{NamedMove}
 use Rattle.bn_control.specs.declared.state.State.TheVariants.{Begin}
-use Rattle.bn_control.specs.States.{name_of, IsProper}
-use Rattle.bn_control.specs.Commands.{line_of, sending_of, commands_by, moves_by, next_of}
-use Rattle.bn_control.specs.Names.{Going, going_of, command_of, names_by, goings}
+use Rattle.bn_control.specs.States.{IsProper}
+use Rattle.bn_control.specs.Commands.{sending_of, commands_by, moves_by}
+use Rattle.bn_control.specs.Names.{Going, going_of, names_by, goings}
 use Rattle.bn_control.specs.Entries.{IsFirstSent, AreEntries}
 use Rattle.bn_control.specs.Named.{IsGoing, IsKeptAmong, AreMoves, AreMovesSoFar}
 use Rattle.bn_control.proofs.CommandLemmas.{commands_are, moves_are, each_goes, reads_stand, shifts_stand, writes_stand}
-use Rattle.bn_control.proofs.RuleLemmas.{AreProper, commands_proper, commands_few, IsRuleAt, rule_at}
+use Rattle.bn_control.proofs.RuleLemmas.{AreProper, commands_proper, commands_few, rule_at}
 
 -- ---- members by names
 

@@ -1,25 +1,24 @@
 -- The quadruples of a machine as the program keeps them, one by one, and their commands.
-use Rattle.std.proofs.Common.{◌≡◌, ◌⊎◌, inl, inr, get_or, slice_get, ℕ, zero, suc, ◌+◌, ◌<◌, ◌≤◌, List, [], ◌∷◌, ◌++◌, length, map, Option, Some, None, refl, sym, ap, subst, ◌∙◌, arith, length-append}
+use Rattle.std.proofs.Common.{◌≡◌, get_or, ℕ, suc, ◌+◌, ◌<◌, ◌≤◌, List, [], ◌∷◌, ◌++◌, length, map, Option, Some, None, refl, sym, ap, subst, ◌∙◌, arith, length-append}
 use Rattle.std.proofs.lemmas.List.{length-map, get_or-map}
 use Rattle.std.proofs.lemmas.Option.{slice_get-get_or}
 use Rattle.bn_machine.specs.Machine.{nth}
 use Rattle.bn_machine.specs.declared.quint.Shift.TheVariants as way
 use Rattle.bn_machine.specs.declared.quint.Side.{Side}
-use Rattle.bn_quad.specs.Quadruples.{Deed, Rewrite, Move, Rule, Quadruples}
+use Rattle.bn_quad.specs.Quadruples.{Move, Rule, Quadruples}
 use Rattle.bn_quad.specs.Calls.{IsUniformMachine}
 use Rattle.bn_quad.specs.Kept.{quad_of, read_of, act_of}
 use Rattle.bn_quad.specs.declared.quad.Quad.{Quad}
 use Rattle.bn_quad.specs.declared.quad.Act.{Act}
 use Rattle.bn_quad.specs.declared.quad.Act.TheVariants.{Write, Shift}
-use Rattle.bn_modules.specs.Controls.{ControlMove, IsEntry, leaves, IsFirstOf, to_read, to_shift, reads_of, shifts_of, writes_of}
+use Rattle.bn_modules.specs.Controls.{leaves, IsFirstOf, reads_of, shifts_of, writes_of}
 use Rattle.bn_controllaws.proofs.UniformLemmas.{silent}
 use Rattle.bn_control.specs.declared.command.Command.{Command}
-use Rattle.bn_control.specs.declared.line.Sending.{Sending}
 use Rattle.bn_control.specs.declared.state.Symbols.{Symbols}
 use Rattle.bn_control.specs.States.{IsProper, symbols_of}
-use Rattle.bn_control.specs.Commands.{sending_of, commands_by, read_command, read_commands, shift_by, shift_command, shift_commands, write_command, write_commands, written}
+use Rattle.bn_control.specs.Commands.{sending_of, commands_by, read_command, read_commands, shift_command, shift_commands, write_command, write_commands, written}
 use Rattle.bn_control.specs.Entries.{IsFirstSent}
-use Rattle.bn_control.specs.Names.{NamedCommand, command_of, names_by, read_names, later_names, shift_names, write_names}
+use Rattle.bn_control.specs.Names.{NamedCommand, command_of, read_names, shift_names, write_names}
 use Rattle.bn_control.proofs.CommandLemmas.{commands_are}
 
 -- the quadruple at a place

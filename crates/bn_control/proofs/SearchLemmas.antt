@@ -1,5 +1,5 @@
 -- Where a state of a control is found among them.
-use Rattle.std.proofs.Common.{◌≡◌, ◌⊎◌, inl, inr, get_or, slice_get, ℕ, ◌<◌, ◌≤◌, List, map, length, Option, Some, None, option_map, refl, sym, ap, subst, ◌∙◌, arith}
+use Rattle.std.proofs.Common.{◌≡◌, inl, inr, get_or, slice_get, ℕ, ◌<◌, ◌≤◌, List, map, length, Option, Some, None, option_map, refl, sym, ap, subst, ◌∙◌, arith}
 use Rattle.std.specs.List.{HoldsAt}
 use Rattle.std.specs.List.Sorted.{IsNonDecreasingBy, IsPartitionPoint}
 use Rattle.std.specs.Ordering.{ordering_index}
@@ -8,7 +8,7 @@ use Rattle.std.specs.declared.cmp.Ordering.TheVariants.{Less, Equal, Greater}
 use Rattle.std.proofs.lemmas.Bool.{cases_lt}
 use Rattle.std.proofs.lemmas.Cmp.{alike_right, tied_itself}
 use Rattle.std.proofs.lemmas.Option.{slice_get-map, slice_get-get_or, slice_get_within, get_or_from_slice_get}
-use Rattle.bn_modules.specs.Controls.{ControlState, Occurs, IsNumbering}
+use Rattle.bn_modules.specs.Controls.{ControlState, Occurs}
 use Rattle.bn_quad.specs.Quadruples.{Quadruples}
 use Rattle.bn_controllaws.proofs.KeyLemmas.{by_key, keys_ordered, ties_one}
 use Rattle.bn_control.specs.declared.state.State.{State}

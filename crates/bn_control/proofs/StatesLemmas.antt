@@ -1,15 +1,13 @@
 -- The states of a control, gathered from its first commands and its moves, and put in order.
-use Rattle.std.proofs.Common.{◌≡◌, ◌⊎◌, inl, inr, get_or, slice_get, ℕ, ◌+◌, ◌<◌, ◌≤◌, List, [], ◌∷◌, ◌++◌, map, length, Option, Some, None, option_map, refl, sym, ap, subst, ◌∙◌, arith, Contains}
+use Rattle.std.proofs.Common.{◌≡◌, inl, inr, get_or, slice_get, ℕ, ◌<◌, List, [], ◌∷◌, ◌++◌, map, length, Some, refl, sym, ap, subst, ◌∙◌, arith, Contains}
 use Rattle.std.specs.List.{Any}
 use Rattle.std.specs.List.Sorted.{IsStrictlySortedBy}
-use Rattle.std.specs.declared.cmp.Ordering.{Ordering}
 use Rattle.std.specs.declared.cmp.Ordering.TheVariants.{Less, Equal}
 use Rattle.std.proofs.lemmas.Map.Keys.{Less-from_sorted}
-use Rattle.std.proofs.lemmas.Option.{slice_get-map, slice_get-get_or, slice_get_within, get_or_from_slice_get}
-use Rattle.bn_machine.specs.Machine.{nth}
-use Rattle.bn_quad.specs.Quadruples.{Quadruples, Rule, IsQuadMachine, initial_of}
+use Rattle.std.proofs.lemmas.Option.{slice_get-get_or, slice_get_within, get_or_from_slice_get}
+use Rattle.bn_quad.specs.Quadruples.{Quadruples, IsQuadMachine, initial_of}
 use Rattle.bn_quad.specs.Calls.{IsUniformMachine}
-use Rattle.bn_modules.specs.Controls.{ControlState, ControlLine, ControlMove, Begin as begin_name, End as end_name, IsEntry, waits, ControlGoes, begins, reads_on, shifts_on, writes_on, Occurs, is_begin, is_end, is_open, is_read, is_shift, is_write, IsNumbering, to_read}
+use Rattle.bn_modules.specs.Controls.{ControlState, ControlLine, ControlMove, waits, ControlGoes, begins, reads_on, shifts_on, writes_on, Occurs, is_begin, is_end, is_open, is_read, is_shift, is_write, to_read}
 use Rattle.bn_controllaws.proofs.EntryLemmas.{one_entry}
 use Rattle.bn_controllaws.proofs.ExistingLemmas.{some_entry}
 use Rattle.bn_controllaws.proofs.GoingLemmas.{sound, end_entry}
@@ -23,7 +21,7 @@ use Rattle.bn_control.specs.declared.state.State.TheVariants.{End}
 use Rattle.bn_control.specs.States.{name_of, IsProper}
 use Rattle.bn_control.specs.Commands.{sending_of}
 use Rattle.bn_control.specs.Entries.{IsFirstSent, AreEntries}
-use Rattle.bn_control.specs.Named.{IsGoing, IsKeptAmong, AreMoves}
+use Rattle.bn_control.specs.Named.{IsGoing, AreMoves}
 use Rattle.bn_control.specs.Ordered.{AreStates, AreOrdered}
 use Rattle.bn_control.proofs.KeyLemmas.{cmp, same_order}
 use Rattle.bn_control.proofs.NamedLemmas.{mapped, from_mapped}
@@ -81,8 +79,7 @@ module _ (m : Quadruples) (u : IsUniformMachine m) (is : IsQuadMachine m) (es : 
       let d : Sending = at_least es few in
       let here = slice_get-get_or es a d few in
       let sent = entries.each a (get_or es a d) here in
-      let same = one_entry m u a (sending_of (get_or es a d)) (to_read a [] (1, 0)) sent.entry (waits other low none refl) in
-      (
+      let same = one_entry m u a (sending_of (get_or es a d)) (to_read a [] (1, 0)) sent.entry (waits other low none refl) in (
         (get_or es a d).state,
         in_front ((End ∷ []) ++ map awaiting es) (map moving xs) (get_or es a d).state (behind (End ∷ []) (map awaiting es) (get_or es a d).state (mapped awaiting es (get_or es a d) (member_at es a (get_or es a d) here))),
         ap (λ (k : ControlMove). k.0) same ∙ sym e,

@@ -1,5 +1,5 @@
 -- What a control answers to 'where is the machine stuck', where it awaits a first read.
-use Rattle.std.proofs.Common.{◌≡◌, ℕ, Option, Some, None, slice_get, refl, subst, ap, sym, ◌∙◌, unwrap_or}
+use Rattle.std.proofs.Common.{◌≡◌, ℕ, Option, Some, None, slice_get, subst, ap, sym, ◌∙◌, unwrap_or}
 use Rattle.std.specs.Prelude.{◌↔◌}
 use Rattle.std.proofs.lemmas.Option.{some_pair_parts}
 use Rattle.bn_rsm.specs.Machines.{machine_table}

@@ -1,22 +1,20 @@
 -- The moves of a control in numbers, in order and each once, make its table.
-use Rattle.std.proofs.Common.{◌≡◌, ◌⊎◌, inl, inr, get_or, slice_get, ℕ, zero, suc, ◌+◌, ◌<◌, List, [], ◌∷◌, length, map, Option, Some, None, refl, sym, ap, subst, ◌∙◌, arith, Contains}
-use Rattle.std.specs.Prelude.{◌↔◌}
+use Rattle.std.proofs.Common.{◌≡◌, get_or, slice_get, ℕ, suc, ◌<◌, List, [], ◌∷◌, length, map, Some, refl, sym, ap, subst, ◌∙◌, arith, Contains}
 use Rattle.std.specs.List.{Any}
 use Rattle.std.specs.List.Sorted.{IsStrictlySortedBy}
 use Rattle.std.specs.Ordering.{nat_cmp, ordering_then, MatchOrdering}
 use Rattle.std.specs.declared.cmp.Ordering.{Ordering}
 use Rattle.std.specs.declared.cmp.Ordering.TheVariants.{Less, Equal, Greater}
-use Rattle.std.proofs.lemmas.Bool.Decides.{nat_tests}
 use Rattle.std.proofs.lemmas.Cmp.{tied_itself, ranked}
 use Rattle.std.proofs.lemmas.List.{length-map}
 use Rattle.std.proofs.lemmas.Map.Keys.{Less-from_sorted}
 use Rattle.std.proofs.lemmas.Option.{some_pair_parts, slice_get-get_or, slice_get_within, get_or_from_slice_get}
-use Rattle.bn_theory.specs.Tables.{Table, IsReversible, go_by}
+use Rattle.bn_theory.specs.Tables.{Table, go_by}
 use Rattle.bn_quad.specs.Quadruples.{Quadruples, IsQuadMachine}
 use Rattle.bn_quad.specs.Calls.{IsUniformMachine}
 use Rattle.bn_rsm.specs.Machines.{Machine, move_of, machine_table, machine_table-IsReversible, AreSound, IsMadeOf}
 use Rattle.bn_rsm.specs.declared.rsm_move.RsmMove.{RsmMove}
-use Rattle.bn_modules.specs.Controls.{ControlState, IsNumbering, NumberedGoes, IsControlTable, control_lines, in_number, out_number}
+use Rattle.bn_modules.specs.Controls.{ControlState, NumberedGoes, IsControlTable, control_lines, in_number, out_number}
 use Rattle.bn_controllaws.proofs.KeyLemmas.{by_key, keys_ordered}
 use Rattle.bn_controllaws.proofs.SortedLemmas.{one_place}
 use Rattle.bn_controllaws.proofs.TabledLemmas.{table_there}
@@ -29,9 +27,9 @@ use Rattle.bn_control.specs.declared.numbered.Move.{Move}
 use Rattle.bn_control.specs.declared.state.State.{State}
 use Rattle.bn_control.specs.States.{name_of}
 use Rattle.bn_control.specs.Commands.{line_of, sending_of}
-use Rattle.bn_control.specs.Named.{IsGoing, AreMoves}
+use Rattle.bn_control.specs.Named.{AreMoves}
 use Rattle.bn_control.specs.Ordered.{AreOrdered}
-use Rattle.bn_control.specs.Numbered.{IsNumbered, AreNumbered, rsm_move}
+use Rattle.bn_control.specs.Numbered.{AreNumbered, rsm_move}
 use Rattle.bn_control.proofs.NamedLemmas.{mapped, from_mapped}
 use Rattle.bn_control.proofs.StatesLemmas.{from_contained, contained}
 

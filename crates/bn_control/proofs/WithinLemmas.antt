@@ -1,22 +1,20 @@
 -- The states and lines of a control's moves have numbers.
-use Rattle.std.proofs.Common.{◌≡◌, get_or, slice_get, ℕ, suc, ◌-◌, ◌<◌, ◌≤◌, List, length, Some, refl, sym, ap, subst, ◌∙◌, arith, slice_index}
+use Rattle.std.proofs.Common.{◌≡◌, get_or, slice_get, ℕ, suc, ◌-◌, List, length, Some, sym, subst, arith}
 use Rattle.bn_quad.specs.Quadruples.{Quadruples, IsQuadMachine}
 use Rattle.bn_modules.specs.declared.cell_line.CellLine.{CellLine}
-use Rattle.bn_modules.specs.declared.cell_line.CellLine.TheVariants.{Read, Write, ShiftRight, ShiftLeft, TakeRight, Answer, DoneWrite, DoneRight, DoneLeft, TakeLeft}
+use Rattle.bn_modules.specs.declared.cell_line.CellLine.TheVariants.{Read, Write, ShiftRight, ShiftLeft, Answer, DoneWrite, DoneRight, DoneLeft}
 use Rattle.bn_modules.specs.Cells.{IsLineOf}
-use Rattle.bn_modules.specs.Controls as control
 use Rattle.bn_controllaws.proofs.LineLemmas.{IsLine, outside, tape, IsReply, IsCommand, IsInLine, IsOutLine}
 use Rattle.bn_controllaws.proofs.GoingLemmas.{sound}
 use Rattle.bn_cell.proofs.MemberLemmas.{member_at}
 use Rattle.bn_control.specs.declared.line.Line.{Line}
 use Rattle.bn_control.specs.declared.line.Line.TheVariants.{Outside, Tape}
-use Rattle.bn_control.specs.declared.line.Sending.{Sending}
 use Rattle.bn_control.specs.declared.named.NamedMove.{NamedMove}
 use Rattle.bn_control.specs.declared.state.State.{State}
 use Rattle.bn_control.specs.States.{name_of}
 use Rattle.bn_control.specs.Commands.{line_of, sending_of}
-use Rattle.bn_control.specs.Named.{IsGoing, AreMoves}
-use Rattle.bn_control.specs.Ordered.{AreOrdered, HasNumber}
+use Rattle.bn_control.specs.Named.{AreMoves}
+use Rattle.bn_control.specs.Ordered.{AreOrdered}
 use Rattle.bn_control.specs.Numbered.{IsWithin, HasNumbers}
 
 reply_line : (z : ℕ) (l : CellLine) → IsReply z l → IsLineOf z l

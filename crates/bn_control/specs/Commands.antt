@@ -63,7 +63,9 @@ read_commands r =
     ++ read_command r.from (symbols_of (read_of r.one) (read_of r.two)) 3 (read_of r.three))
 
 abbrev pub shift_commands : ℕ → Rule ℕ → List Command
-shift_commands n r = shift_command n 1 (act_of r.one) ++ (shift_command n 2 (act_of r.two) ++ shift_command n 3 (act_of r.three))
+shift_commands n r =
+    shift_command n 1 (act_of r.one)
+    ++ (shift_command n 2 (act_of r.two) ++ shift_command n 3 (act_of r.three))
 
 abbrev pub write_commands : Rule ℕ → List Command
 write_commands r =

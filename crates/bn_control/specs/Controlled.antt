@@ -5,7 +5,8 @@ use Rattle.bn_quad.specs.Quadruples.{Quadruples, final_of}
 use Rattle.bn_rsm.specs.Machines.{Machine, machine_code, machine_table}
 use Rattle.bn_modules.specs.declared.cell_line.CellLine.TheVariants.{Read}
 use Rattle.bn_modules.specs.Controls.{ControlState, Reads, ControlMove, Tape, IsEntry, IsNumbering, IsControlTable, lines_before, out_number}
-use Rattle.bn_control.specs.declared.make.TheConstants.{MOST_QUADRUPLES, MOST_STATES, MOST_SYMBOLS}
+use Rattle.bn_cell.specs.declared.numbers.TheConstants.{MOST_SYMBOLS}
+use Rattle.bn_control.specs.declared.make.TheConstants.{MOST_QUADRUPLES, MOST_STATES}
 
 -- The control as a sequential machine; how many symbols each tape has, tape 1 first; for each state of the machine of quadruples the control's state that awaits the answer to its first command, and the output line by which that is given, nothing for the final state; and for each state of the control the state of the machine of quadruples and the tape whose first read it awaits, if it awaits one.
 pub record Controlled : Type 0 where
@@ -18,7 +19,12 @@ abbrev pub pairs_code : Coded (List (Option (ℕ × ℕ)))
 pairs_code = coded_list (coded_option (coded× coded_ℕ coded_ℕ))
 
 abbrev pub controlled_code : Coded Controlled
-controlled_code = code_by (Machine × (List ℕ × (List (Option (ℕ × ℕ)) × List (Option (ℕ × ℕ))))) (coded× machine_code (coded× (coded_list coded_ℕ) (coded× pairs_code pairs_code))) (λ c. (c.machine, (c.symbols, (c.firsts, c.awaited)))) (λ p. record { machine = p.0; symbols = p.1.0; firsts = p.1.1.0; awaited = p.1.1.1 }) (λ _. refl)
+controlled_code =
+    code_by (Machine × (List ℕ × (List (Option (ℕ × ℕ)) × List (Option (ℕ × ℕ)))))
+    (coded× machine_code (coded× (coded_list coded_ℕ) (coded× pairs_code pairs_code)))
+    (λ c. (c.machine, (c.symbols, (c.firsts, c.awaited))))
+    (λ p. record { machine = p.0; symbols = p.1.0; firsts = p.1.1.0; awaited = p.1.1.1 })
+    (λ _. refl)
 
 -- ---- which machines have a control
 
@@ -34,7 +40,8 @@ pub record IsWithinLimits (m : Quadruples) : Type 0 where
 -- what is kept of the first command of a state of the machine
 pub data IsFirstKept (m : Quadruples) (names : List ControlState) (a : ℕ) : Option (ℕ × ℕ) → Type 0 where
   final_kept : a ≡ final_of m.rules → IsFirstKept m names a None
-  sent_kept : a ≢ final_of m.rules → (k : ControlMove) (q : ℕ) → IsEntry m a k → slice_get names q ≡ Some k.0 → IsFirstKept m names a (Some (q, out_number m k.1))
+  sent_kept : a ≢ final_of m.rules → (k : ControlMove) (q : ℕ) → IsEntry m a k → slice_get names q ≡ Some k.0
+      → IsFirstKept m names a (Some (q, out_number m k.1))
 
 -- the state of the control is the one that awaits the first read of this state of the machine, on this tape
 pub record IsAwaiting (m : Quadruples) (q : ControlState) (a t : ℕ) : Type 0 where
@@ -49,7 +56,8 @@ pub record IsControlOf (m : Quadruples) (names : List ControlState) (v : Control
   pub counted : length v.firsts ≡ m.states
   pub firsts : (a : ℕ) (f : Option (ℕ × ℕ)) → slice_get v.firsts a ≡ Some f → IsFirstKept m names a f
   pub awaited_counted : length v.awaited ≡ length names
-  pub awaiting : (n a t : ℕ) → (slice_get v.awaited n ≡ Some (Some (a, t))) ↔ ((q : ControlState) × (slice_get names n ≡ Some q) × IsAwaiting m q a t)
+  pub awaiting : (n a t : ℕ)
+      → (slice_get v.awaited n ≡ Some (Some (a, t))) ↔ ((q : ControlState) × (slice_get names n ≡ Some q) × IsAwaiting m q a t)
 
 -- ---- where the machine is stuck
 

@@ -1,5 +1,5 @@
 -- The first commands of a machine's states as the program keeps them.
-use Rattle.std.specs.Prelude.{◌≡◌, ℕ, ◌≤◌, ◌==◌, List, [], ◌∷◌, length, Some, slice_get, if◌then◌else◌, ◌⊎◌}
+use Rattle.std.specs.Prelude.{◌≡◌, ℕ, ◌≤◌, ◌==◌, List, length, Some, slice_get, if◌then◌else◌}
 use Rattle.bn_machine.specs.Machine.{nth}
 use Rattle.bn_quad.specs.Quadruples.{Quadruples, Rule, final_of}
 use Rattle.bn_modules.specs.Controls.{IsEntry}
@@ -14,7 +14,8 @@ use Rattle.bn_control.specs.Commands.{sending_of}
 -- what is sent first in a state that no quadruple leaves
 abbrev pub waiting : ℕ → ℕ → Sending
 waiting last a =
-    if a == last then (record { state = End; line = Outside }) else (record { state = Reads a 0 Empty; line = Tape 1 line.Read })
+    if a == last then (record { state = End; line = Outside })
+    else (record { state = Reads a 0 Empty; line = Tape 1 line.Read })
 
 -- this is sent first in state a
 pub record IsFirstSent (m : Quadruples) (a : ℕ) (s : Sending) : Type 0 where
@@ -29,7 +30,8 @@ pub record AreEntries (m : Quadruples) (es : List Sending) : Type 0 where
 -- this is sent first in state a as far as the first k quadruples tell: one of them leaves the state, or none does
 pub data IsSoFar (m : Quadruples) (k a : ℕ) (s : Sending) : Type 0 where
   left : IsFirstSent m a s → IsSoFar m k a s
-  not_left : ((n : ℕ) (r : Rule ℕ) → n ≤ k → nth m.rules n ≡ Some r → r.from ≡ a → ⊥) → s ≡ waiting (final_of m.rules) a → IsSoFar m k a s
+  not_left : ((n : ℕ) (r : Rule ℕ) → n ≤ k → nth m.rules n ≡ Some r → r.from ≡ a → ⊥)
+      → s ≡ waiting (final_of m.rules) a → IsSoFar m k a s
 
 pub record AreSoFar (m : Quadruples) (k : ℕ) (es : List Sending) : Type 0 where
   pub counted : length es ≡ m.states

@@ -5,7 +5,7 @@ use Rattle.bn_quad.specs.Calls.{IsUniformMachine}
 use Rattle.bn_modules.specs.Controls.{ControlState, Occurs}
 use Rattle.bn_control.specs.declared.draft.Draft.{Draft}
 use Rattle.bn_control.specs.declared.line.Sending.{Sending}
-use Rattle.bn_control.specs.declared.make.TheConstants.{MOST_SYMBOLS}
+use Rattle.bn_cell.specs.declared.numbers.TheConstants.{MOST_SYMBOLS}
 use Rattle.bn_control.specs.declared.state.State.{State}
 use Rattle.bn_control.specs.States.{name_of, IsProper}
 use Rattle.bn_control.specs.Entries.{AreEntries, IsFirstSent}
@@ -56,4 +56,5 @@ pub record TellsAwaited (m : Quadruples) (q : ControlState) (o : Option (ℕ × 
 -- so do these for as many states as there are of them
 pub record AreAwaited (m : Quadruples) (ss : List State) (os : List (Option (ℕ × ℕ))) : Type 0 where
   pub counted : length os ≡ length ss
-  pub each : (n : ℕ) (x : State) (o : Option (ℕ × ℕ)) → slice_get ss n ≡ Some x → slice_get os n ≡ Some o → TellsAwaited m (name_of x) o
+  pub each : (n : ℕ) (x : State) (o : Option (ℕ × ℕ)) → slice_get ss n ≡ Some x → slice_get os n ≡ Some o
+      → TellsAwaited m (name_of x) o

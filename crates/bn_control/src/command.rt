@@ -50,7 +50,8 @@ fn push_reads(commands: &mut Vec<Command>, quad: &Quad) -> Result<(), AllocError
 
 // The shifts, by rising tape.
 fn push_shifts(commands: &mut Vec<Command>, number: u32, quad: &Quad) -> Result<(), AllocError>
-    ensures { (r : Rule ℕ) → quad.now ≡ quad_of r → OnOk result (commands.new.items ≡ commands.old.items ++ shift_commands number r) }
+    ensures { (r : Rule ℕ) → quad.now ≡ quad_of r
+        → OnOk result (commands.new.items ≡ commands.old.items ++ shift_commands number r) }
 {
     let [one, two, three] = quad.act;
     push_shift(commands, number, 1, one)?;
@@ -60,7 +61,8 @@ fn push_shifts(commands: &mut Vec<Command>, number: u32, quad: &Quad) -> Result<
 
 // The writes, by falling tape.
 fn push_writes(commands: &mut Vec<Command>, quad: &Quad) -> Result<(), AllocError>
-    ensures { (r : Rule ℕ) → quad.now ≡ quad_of r → OnOk result (commands.new.items ≡ commands.old.items ++ write_commands r) }
+    ensures { (r : Rule ℕ) → quad.now ≡ quad_of r
+        → OnOk result (commands.new.items ≡ commands.old.items ++ write_commands r) }
 {
     let [one, two, three] = quad.act;
     let rest = symbols(written(two), written(one));

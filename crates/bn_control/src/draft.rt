@@ -34,7 +34,8 @@ impl Draft {
     /// The control as a sequential machine.
     pub(crate) fn rsm(&self, alloc: Global) -> Result<Rsm, AllocError>
         requires { IsSomeDraft self.now }
-        ensures { (m : Quadruples) → IsDraft m self.now → IfOk result (λ r. IsControlTable m (map name_of self.now.states.items) (machine_table r)) }
+        ensures { (m : Quadruples) → IsDraft m self.now
+            → IfOk result (λ r. IsControlTable m (map name_of self.now.states.items) (machine_table r)) }
     {
         let states = self.states.as_slice();
         let numbered = numbered(alloc, states, &self.symbols, self.moves.as_slice())?;
@@ -52,7 +53,8 @@ impl Draft {
     /// and the output line of that command.
     pub(crate) fn firsts(&self, alloc: Global) -> Result<Vec<Option<(u32, u32)>>, AllocError>
         requires { IsSomeDraft self.now }
-        ensures { (m : Quadruples) → IsDraft m self.now → IfOk result (λ v. AreFirsts m self.now.states.items m.states v.items) }
+        ensures { (m : Quadruples) → IsDraft m self.now
+            → IfOk result (λ v. AreFirsts m self.now.states.items m.states v.items) }
     {
         let mut firsts = Vec::new(alloc);
         for entry in self.entries.iter() {
@@ -64,7 +66,8 @@ impl Draft {
     // What is kept of a first command.
     fn first(&self, entry: &Sending) -> Option<(u32, u32)>
         requires { IsSomeEntry self.now entry.now }
-        ensures { (m : Quadruples) (a : ℕ) → IsDraft m self.now → IsFirstSent m a entry.now → IsFirstKept m (map name_of self.now.states.items) a result }
+        ensures { (m : Quadruples) (a : ℕ) → IsDraft m self.now → IsFirstSent m a entry.now
+            → IsFirstKept m (map name_of self.now.states.items) a result }
     {
         match entry.state {
             State::End => None,
@@ -91,7 +94,8 @@ impl Draft {
     // The state of the machine and the tape whose first read this state awaits.
     fn awaited_by(&self, state: State) -> Option<(u32, u32)>
         requires { OccursInDraft self.now state }
-        ensures tells { (m : Quadruples) → IsDraft m self.now → Occurs m (name_of state) → IsProper state → TellsAwaited m (name_of state) result }
+        ensures tells { (m : Quadruples) → IsDraft m self.now → Occurs m (name_of state) → IsProper state
+            → TellsAwaited m (name_of state) result }
         ensures tape { IsTapeAwaited result }
     {
         match state {

@@ -13,10 +13,7 @@ use bn_quad::QuadMachine;
 use std::alloc::{AllocError, Global};
 
 /// What a control sends first in each state of the machine.
-pub(crate) fn entries_of(
-    alloc: Global,
-    machine: &QuadMachine,
-) -> Result<Vec<Sending>, AllocError>
+pub(crate) fn entries_of(alloc: Global, machine: &QuadMachine) -> Result<Vec<Sending>, AllocError>
     requires { IsUniformMachine machine.now }
     ensures { IfOk result (λ v. AreEntries machine.now v.items) }
 {
@@ -29,14 +26,12 @@ pub(crate) fn entries_of(
 }
 
 // What would be sent first in each state if no quadruple left it.
-fn waiting_entries(
-    alloc: Global,
-    states: u32,
-    final_state: u32,
-) -> Result<Vec<Sending>, AllocError>
+fn waiting_entries(alloc: Global, states: u32, final_state: u32) -> Result<Vec<Sending>, AllocError>
     ensures { IfOk result (λ v. v.items ≡ map (waiting final_state) (range_with_len 0 states)) }
 {
-    (0..states).map(|state| waiting(final_state, state)).collect(alloc)
+    (0..states)
+        .map(|state| waiting(final_state, state))
+        .collect(alloc)
 }
 
 // In the final state the signal leaves; another state reads tape 1.

@@ -3,7 +3,7 @@
 ghost use Rattle.std.specs.Prelude.{◌≡◌, ◌<◌, ◌≤◌, All};
 ghost use Rattle.bn_modules.specs.Controls.{lines_before};
 
-use crate::make::MOST_SYMBOLS;
+use bn_cell::MOST_SYMBOLS;
 use bn_element::Element;
 use bn_rsm::Rsm;
 use std::marker::Model;

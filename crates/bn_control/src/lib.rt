@@ -13,6 +13,10 @@ mod order;
 mod state;
 mod states;
 
+pub use bn_cell::MOST_SYMBOLS;
 pub use bn_rsm::NoMemory;
 pub use finite::Control;
-pub use make::{MOST_QUADRUPLES, MOST_STATES, MOST_SYMBOLS, control};
+pub use make::{MOST_QUADRUPLES, MOST_STATES, control};
+
+#[cfg(test)]
+mod tests;

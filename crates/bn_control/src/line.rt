@@ -1,8 +1,8 @@
 //! The lines of a control, and what it sends by them.
 
 use crate::finite::lines_before;
-use crate::make::MOST_SYMBOLS;
 use crate::state::State;
+use bn_cell::MOST_SYMBOLS;
 use bn_modules::CellLine;
 
 /// A line of a control, in or out.

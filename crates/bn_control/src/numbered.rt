@@ -11,10 +11,10 @@ ghost use Rattle.bn_control.specs.Numbered.{HasNumbers, AreNumbered, rsm_move};
 ghost use Rattle.bn_control.specs.declared.named.NamedMove.{NamedMove};
 
 use crate::finite::lines_before;
-use crate::make::MOST_SYMBOLS;
 use crate::named::NamedMove;
 use crate::state::State;
 use crate::states::number_of;
+use bn_cell::MOST_SYMBOLS;
 use bn_rsm::RsmMove;
 use std::alloc::{AllocError, Global};
 

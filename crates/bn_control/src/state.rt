@@ -25,7 +25,10 @@ pub(crate) enum State {
         before: Symbols,
     },
     /// In a quadruple, counted from 1, awaiting the answer to the shift of a tape.
-    Shifts { quad: u32, tape: u32 },
+    Shifts {
+        quad: u32,
+        tape: u32,
+    },
     /// On the way into a state, awaiting the answer to the write on a tape, with symbols still to be written.
     Writes {
         to: u32,

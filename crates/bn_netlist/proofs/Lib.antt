@@ -9,3 +9,4 @@ pub mod TextLemmas
 pub mod CircuitLemmas
 pub mod DecideLemmas
 pub mod LentLineLemmas
+pub mod SameTexts

@@ -2,4 +2,4 @@ mod Decimals
 mod Passing
 mod Drafting
 mod Coming
-mod ReadingLaws
+pub mod ReadingLaws

@@ -1,16 +1,18 @@
--- The answer of the workbench to words and bytes: a text, a status, and the places that a watch is told (this project's own profile). It rests on the definitions of texts, tables and circuits alone.
+-- The answer of the workbench to words and bytes: a text, a status, and the places that a watch is told (this project's
+-- own profile). It rests on the definitions of texts, tables and circuits alone.
 use Rattle.std.specs.Prelude.{◌≡◌, ℕ, ◌<◌, ◌≤◌, List, [], ◌∷◌, ◌++◌, length, codes}
-use Rattle.bn_theory.specs.Stepping.{run, back, places, places_back}
 use Rattle.bn_theory.specs.declared.place.Place.{Place}
-use Rattle.bn_top.specs.Words.{Request, Steps, Backs, Checks, Runs, Tests, Translates, Realises, HasForm, HasNoForm}
-use Rattle.bn_top.specs.CircuitReply.{CircuitReplies}
-use Rattle.bn_top.specs.CheckReply.{CheckReplies}
-use Rattle.bn_top.specs.MachineReply.{MachineReplies}
-use Rattle.bn_top.specs.ReversibleReply.{ReversibleReplies}
-use Rattle.bn_top.specs.BennettReply.{BennettReplies}
-use Rattle.bn_top.specs.RealiseReply.{RealiseReplies}
-use Rattle.bn_top.specs.declared.status.Status.{Status}
-use Rattle.bn_top.specs.declared.status.Status.TheVariants.{Usage, Size}
+use Rattle.bn_words.specs.Requests.{Request, HasForm, HasNoForm, letters_at, number_at}
+use Rattle.bn_words.specs.declared.form.Form.{Form}
+use Rattle.bn_words.specs.declared.form.Form.TheVariants.{Step, Back, Check, Machine, Reversible, Bennett, Realise}
+use Rattle.bn_netreply.specs.CircuitReply.{BackReplies, StepReplies}
+use Rattle.bn_netreply.specs.RealiseReply.{RealiseReplies}
+use Rattle.bn_tablereply.specs.BennettReply.{BennettReplies}
+use Rattle.bn_tablereply.specs.CheckReply.{CheckReplies}
+use Rattle.bn_tablereply.specs.MachineReply.{MachineReplies}
+use Rattle.bn_tablereply.specs.ReversibleReply.{ReversibleReplies}
+use Rattle.bn_reply.specs.declared.status.Status.{Status}
+use Rattle.bn_reply.specs.declared.status.Status.TheVariants.{Usage, Size}
 
 -- the greatest number of bytes of an input: 64 MiB
 abbrev pub input_limit : ℕ
@@ -26,18 +28,35 @@ size_text = codes "size: input" ++ 10 ∷ []
 abbrev pub read_fault_text : List ℕ
 read_fault_text = codes "read fault" ++ 10 ∷ []
 
--- what is answered to a request and an input within the limit
-abbrev pub Replies : Request → List ℕ → Status → List ℕ → List Place → Type 0
-Replies (Steps e) bytes status text told = CircuitReplies (λ k c. run k c e) (λ k c. places k e c) bytes status text told
-Replies (Backs e) bytes status text told = CircuitReplies (λ k c. back k c e) (λ k c. places_back k e c) bytes status text told
-Replies Checks bytes status text told = CheckReplies bytes status text × (told ≡ [])
-Replies (Runs word n) bytes status text told = MachineReplies word n bytes status text × (told ≡ [])
-Replies Tests bytes status text told = ReversibleReplies bytes status text × (told ≡ [])
-Replies Translates bytes status text told = BennettReplies bytes status text × (told ≡ [])
-Replies (Realises q i) bytes status text told = RealiseReplies q i bytes status text × (told ≡ [])
+-- what is answered to a request of this form and an input within the limit; the words behind the name are counted
+-- from 0
+abbrev pub RepliesBy : Form → Request → List ℕ → Status → List ℕ → List Place → Type 0
+RepliesBy Step request = StepReplies (number_at request 0)
+RepliesBy Back request = BackReplies (number_at request 0)
+RepliesBy Check request = CheckReplies
+RepliesBy Machine request = MachineReplies (letters_at request 0) (number_at request 1)
+RepliesBy Reversible request = ReversibleReplies
+RepliesBy Bennett request = BennettReplies
+RepliesBy Realise request = RealiseReplies (number_at request 0) (number_at request 1)
 
--- The answer, by the first cause that applies: the words ask for nothing; the input is too long; else what is answered to the request.
-pub data Answers (words : List (List ℕ)) (bytes : List ℕ) (status : Status) (text : List ℕ) (told : List Place) : Type 0 where
+abbrev pub Replies : Request → List ℕ → Status → List ℕ → List Place → Type 0
+Replies request = RepliesBy request.form request
+
+-- the forms whose command is answered without an input: none of these
+abbrev pub ReadsNothing : Form → Type 0
+ReadsNothing form = ⊥
+
+abbrev pub ReadsInput : Form → Type 0
+ReadsInput form = ReadsNothing form → ⊥
+
+-- The answer, by the first cause that applies: the words ask for nothing; they ask for what needs no input; the input
+-- is too long; else what is answered to the request and the input.
+pub data Answers (words : List (List ℕ)) (bytes : List ℕ) (status : Status) (text : List ℕ)
+    (told : List Place) : Type 0 where
   no_form : HasNoForm words → status ≡ Usage → text ≡ usage_text → told ≡ [] → Answers words bytes status text told
-  too_long : (request : Request) → HasForm words request → input_limit < length bytes → status ≡ Size → text ≡ size_text → told ≡ [] → Answers words bytes status text told
-  replied : (request : Request) → HasForm words request → length bytes ≤ input_limit → Replies request bytes status text told → Answers words bytes status text told
+  unread : (request : Request) → HasForm words request → ReadsNothing request.form →
+      Replies request [] status text told → Answers words bytes status text told
+  too_long : (request : Request) → HasForm words request → ReadsInput request.form → input_limit < length bytes →
+      status ≡ Size → text ≡ size_text → told ≡ [] → Answers words bytes status text told
+  replied : (request : Request) → HasForm words request → ReadsInput request.form → length bytes ≤ input_limit →
+      Replies request bytes status text told → Answers words bytes status text told

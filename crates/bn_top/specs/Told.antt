@@ -5,12 +5,12 @@ use Rattle.bn_io.specs.Faults.{Rose}
 use Rattle.bn_io.specs.Told.{Loses, Grows, GrowsByFront}
 use Rattle.bn_net.specs.Watching.{Hears}
 use Rattle.bn_top.specs.Answers.{Answers, usage_text, read_fault_text}
-use Rattle.bn_top.specs.declared.status.Status.{Status}
-use Rattle.bn_top.specs.declared.status.Status.TheVariants.{Usage, WriteFault, NoMemory}
-use Rattle.bn_top.specs.Replying.{IsUnfinished}
+use Rattle.bn_reply.specs.declared.status.Status.{Status}
+use Rattle.bn_reply.specs.declared.status.Status.TheVariants.{Usage, WriteFault}
 
 -- The answer was given whole: the sink took its text, and the watch heard its places.
-pub record IsAnswered (words : List (List ℕ)) (bytes : List ℕ) (status : Status) (taken took : Option (List ℕ)) (told heard : Option (List Place)) : Type 0 where
+pub record IsAnswered (words : List (List ℕ)) (bytes : List ℕ) (status : Status) (taken took : Option (List ℕ))
+    (told heard : Option (List Place)) : Type 0 where
   pub text : List ℕ
   pub places : List Place
   pub answers : Answers words bytes status text places
@@ -18,7 +18,8 @@ pub record IsAnswered (words : List (List ℕ)) (bytes : List ℕ) (status : Sta
   pub hears : Hears told places heard
 
 -- The answer was begun: the sink took a front of its text, and the watch heard a front of its places.
-pub record IsBegun (words : List (List ℕ)) (bytes : List ℕ) (taken took : Option (List ℕ)) (told heard : Option (List Place)) : Type 0 where
+pub record IsBegun (words : List (List ℕ)) (bytes : List ℕ) (taken took : Option (List ℕ))
+    (told heard : Option (List Place)) : Type 0 where
   pub status : Status
   pub text : List ℕ
   pub places : List Place
@@ -30,7 +31,8 @@ pub record IsBegun (words : List (List ℕ)) (bytes : List ℕ) (taken took : Op
   pub hears : Hears told front heard
 
 -- Nothing was given yet, or the answer was begun.
-pub data IsBroken (words : List (List ℕ)) (bytes : List ℕ) (taken took : Option (List ℕ)) (told heard : Option (List Place)) : Type 0 where
+pub data IsBroken (words : List (List ℕ)) (bytes : List ℕ) (taken took : Option (List ℕ))
+    (told heard : Option (List Place)) : Type 0 where
   unbegun : Grows taken took [] → Hears told [] heard → IsBroken words bytes taken took told heard
   begun : IsBegun words bytes taken took told heard → IsBroken words bytes taken took told heard
 
@@ -41,7 +43,8 @@ UsageEnds WriteFault taken took = GrowsByFront taken took usage_text
 UsageEnds _ taken took = ⊥
 
 -- The sink took a front of the line that says that reading failed, after the source failed.
-pub record IsReadFaultCut (before now : ℕ) (taken took : Option (List ℕ)) (told heard : Option (List Place)) : Type 0 where
+pub record IsReadFaultCut (before now : ℕ) (taken took : Option (List ℕ))
+    (told heard : Option (List Place)) : Type 0 where
   pub source : Rose before now
   pub grows : GrowsByFront taken took read_fault_text
   pub hears : Hears told [] heard
@@ -49,9 +52,3 @@ pub record IsReadFaultCut (before now : ℕ) (taken took : Option (List ℕ)) (t
 -- the source gave more bytes than the limit
 abbrev pub GaveMore : Option (List ℕ) → Option (List ℕ) → ℕ → Type 0
 GaveMore old new limit = (piece : List ℕ) × Loses old new piece × (limit < length piece)
-
--- How the answer of a command to its input ends: given whole; cut short by the sink; or not given, for want of memory.
-pub data AnswerEnds (replies : Status → List ℕ → List Place → Type 0) (result : Status) (taken took : Option (List ℕ)) (before now : ℕ) (told heard : Option (List Place)) : Type 0 where
-  whole : (text : List ℕ) (places : List Place) → replies result text places → Grows taken took text → Hears told places heard → AnswerEnds replies result taken took before now told heard
-  cut : result ≡ WriteFault → Rose before now → (status : Status) (text : List ℕ) (places : List Place) → replies status text places → GrowsByFront taken took text → Hears told places heard → AnswerEnds replies result taken took before now told heard
-  wanting : result ≡ NoMemory → took ≡ taken → IsUnfinished replies told heard → AnswerEnds replies result taken took before now told heard

@@ -6,7 +6,6 @@ use Rattle.bn_theory.specs.declared.line.Wire.{Wire}
 use Rattle.bn_theory.specs.declared.place.Place.TheVariants.{Enter}
 use Rattle.bn_net.specs.Faults.{AreFaultless}
 use Rattle.bn_rsm.specs.Machines.{machine_table}
-use Rattle.bn_column.specs.Wirings.{AreWiresOf}
 use Rattle.bn_modules.specs.Networks.{IsTape, IsNetWire, module_tables}
 use Rattle.bn_existence.proofs.NetworkLemmas.{wired}
 use Rattle.bn_assembly.specs.Assembled.{limits_of}

@@ -1,4 +1,3 @@
-use Rattle.std.proofs.Common.{◌≡◌}
 use Rattle.bn_control.proofs.SearchLemmas.{found, not_missing}
 use Rattle.bn_control.proofs.states.number_of.Goals as goal
 

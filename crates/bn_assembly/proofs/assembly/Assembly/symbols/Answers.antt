@@ -1,6 +1,6 @@
-use Rattle.std.proofs.Common.{rules, ◌≡◌, ℕ, ◌≤◌, sym, ap, ◌∙◌, Some}
+use Rattle.std.proofs.Common.{ℕ, ◌≤◌, ap, ◌∙◌, Some}
 use Rattle.bn_modules.specs.Networks.{IsTape}
-use Rattle.bn_assembly.specs.Assembled.{Assembled, limits_of}
+use Rattle.bn_assembly.specs.Assembled.{limits_of}
 use Rattle.bn_assembly.proofs.SymbolLemmas.{first_within, first_symbols, no_control}
 use Rattle.bn_assembly.proofs.assembly.Assembly.symbols.Goals as goal
 

@@ -1,4 +1,4 @@
-use Rattle.std.proofs.Common.{◌≡◌, ◌<◌, List, length, get_or, take, ap, subst, sym, ◌∙◌, arith, All, rules}
+use Rattle.std.proofs.Common.{◌≡◌, ◌<◌, List, length, get_or, take, ap, subst, sym, ◌∙◌, arith, All}
 use Rattle.std.proofs.Math.Seq.{take-length}
 use Rattle.std.proofs.lemmas.List.Elements.{All-push}
 use Rattle.bn_control.specs.Controlled.{IsTapeAwaited}

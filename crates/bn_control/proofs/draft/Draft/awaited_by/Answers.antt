@@ -1,4 +1,4 @@
-use Rattle.std.proofs.Common.{◌≡◌, sym, ◌∙◌, arith}
+use Rattle.std.proofs.Common.{sym, ◌∙◌, arith}
 use Rattle.bn_control.proofs.DraftLemmas.{read_tells, read_tape, read_inside, read_low}
 use Rattle.bn_control.proofs.draft.Draft.awaited_by.Goals as goal
 

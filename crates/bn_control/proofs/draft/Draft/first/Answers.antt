@@ -1,6 +1,5 @@
-use Rattle.std.proofs.Common.{◌≡◌, ◌<◌, ◌^◌, List, length, ap, subst, sym, ◌∙◌, Some, rules, map, slice_get}
+use Rattle.std.proofs.Common.{◌≡◌, ◌<◌, ◌^◌, List, length, subst, sym, Some, map, slice_get}
 use Rattle.bn_control.specs.declared.state.State.{State}
-use Rattle.bn_control.specs.declared.state.State.TheVariants.{End}
 use Rattle.bn_control.specs.Ordered.{HasNumber}
 use Rattle.bn_control.specs.States.{name_of}
 use Rattle.bn_control.proofs.DraftLemmas.{final_first, other_first, entry_number, entry_line}

@@ -17,8 +17,8 @@ numbered-requires-clause-known c = λ n x e.
 pub returns-in-Ok : goal.returns-in-Ok
 returns-in-Ok c = λ m is.
     let numbers : AreNumbered m c.args.self.now.states.items c.args.self.now.moves.items c.in_ok-numbered.numbered.items =
-        subst (λ (l : List State). AreNumbered m l c.args.self.now.moves.items c.in_ok-numbered.numbered.items) c.as_slice-states.ensures.value
-        (subst (λ (l : List NamedMove). AreNumbered m c.as_slice-states.result.now l c.in_ok-numbered.numbered.items) c.as_slice.ensures.value (c.in_ok-numbered.ensures.numbers m is.symbols)) in
+    subst (λ (l : List State). AreNumbered m l c.args.self.now.moves.items c.in_ok-numbered.numbered.items) c.as_slice-states.ensures.value
+    (subst (λ (l : List NamedMove). AreNumbered m c.as_slice-states.result.now l c.in_ok-numbered.numbered.items) c.as_slice.ensures.value (c.in_ok-numbered.ensures.numbers m is.symbols)) in
     control_table m is.uniform is.valid c.args.self.now.moves.items is.moves c.args.self.now.states.items is.ordered c.in_ok-numbered.numbered.items c.in_ok-ordered.ordered.items numbers
     c.in_ok-ordered.ensures.rising c.in_ok-ordered.ensures.each c.in_ok-ordered.ensures.only
     c.in-Ok.rsm (length c.as_slice-states.result.now) c.lines_before-lines.result c.in_ok-moves.moves.items
@@ -29,10 +29,10 @@ want_of_memory-requires c =
     let m = c.requires.machine in
     let is = c.requires.is in
     let numbers : AreNumbered m c.args.self.now.states.items c.args.self.now.moves.items c.in_ok-numbered.numbered.items =
-        subst (λ (l : List State). AreNumbered m l c.args.self.now.moves.items c.in_ok-numbered.numbered.items) c.as_slice-states.ensures.value
-        (subst (λ (l : List NamedMove). AreNumbered m c.as_slice-states.result.now l c.in_ok-numbered.numbered.items) c.as_slice.ensures.value (c.in_ok-numbered.ensures.numbers m is.symbols)) in
+    subst (λ (l : List State). AreNumbered m l c.args.self.now.moves.items c.in_ok-numbered.numbered.items) c.as_slice-states.ensures.value
+    (subst (λ (l : List NamedMove). AreNumbered m c.as_slice-states.result.now l c.in_ok-numbered.numbered.items) c.as_slice.ensures.value (c.in_ok-numbered.ensures.numbers m is.symbols)) in
     let sound = control_sound m is.uniform is.valid c.args.self.now.moves.items is.moves c.args.self.now.states.items is.ordered c.in_ok-numbered.numbered.items c.in_ok-ordered.ordered.items numbers
-        c.in_ok-ordered.ensures.rising c.in_ok-ordered.ensures.each c.in_ok-ordered.ensures.only
-        (length c.as_slice-states.result.now) c.lines_before-lines.result c.in_ok-moves.moves.items
-        (ap length c.as_slice-states.ensures.value) (c.lines_before-lines.ensures ∙ ap (λ zs. lines_before zs 3) (sym is.symbols)) (c.in_ok-moves.ensures ∙ ap (map rsm_move) c.as_slice-2.ensures.value) in
+    c.in_ok-ordered.ensures.rising c.in_ok-ordered.ensures.each c.in_ok-ordered.ensures.only
+    (length c.as_slice-states.result.now) c.lines_before-lines.result c.in_ok-moves.moves.items
+    (ap length c.as_slice-states.ensures.value) (c.lines_before-lines.ensures ∙ ap (λ zs. lines_before zs 3) (sym is.symbols)) (c.in_ok-moves.ensures ∙ ap (map rsm_move) c.as_slice-2.ensures.value) in
     c.sound_moves_are_taken.ensures (length c.as_slice-states.result.now) c.lines_before-lines.result c.in_ok-moves.moves.items c.in-Err.refusal sound c.in-Err.ensures.refused

@@ -1,2 +1,0 @@
-mod LayoutLemmas
-mod WireLemmas

@@ -1,3 +1,0 @@
-pub mod Flattened
-pub mod Locations
-pub mod BoardWires

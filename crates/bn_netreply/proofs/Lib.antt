@@ -1,0 +1,3 @@
+pub mod CircuitLemmas
+pub mod BankLemmas
+pub mod RealiseLemmas

@@ -1,0 +1,3 @@
+pub mod CircuitReply
+pub mod RealiseReply
+pub mod Refused

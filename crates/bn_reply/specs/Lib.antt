@@ -1,0 +1,9 @@
+pub mod Codes
+pub mod Ends
+pub mod Answering
+pub mod Replying
+pub mod Lines
+pub mod Words
+pub mod TableReply
+pub mod Letters
+pub mod Opened

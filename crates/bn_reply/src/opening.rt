@@ -1,0 +1,82 @@
+//! The input of the commands that take a table in standard form, and a word of its letters: each is opened,
+//! or what is answered where there is none.
+
+ghost use Rattle.std.specs.Prelude.{IfOk};
+ghost use Rattle.bn_reply.specs.Opened.{IsJudged, IsOpenedTable, IsOpenedWord};
+
+use crate::letters::{WordRefusal, symbols_of};
+use crate::lines::{fault_text, why_text};
+use crate::reply::{NoMemory, Reply};
+use crate::status::Status;
+use bn_standard::{Standard, check};
+use bn_table::{Table, bytes_have_a_reading_or_a_fault, read_quints};
+use std::alloc::Global;
+
+/// A table, or the answer to bytes that are none.
+#[derive(Drop)]
+pub enum OpenedTable {
+    /// The bytes' table.
+    Read(Table),
+    /// What is answered where there is none.
+    Refused(Reply),
+}
+
+/// A table's machine in standard form, or the answer where it isn't in that form.
+#[derive(Drop)]
+pub enum Judged<'a> {
+    /// The machine.
+    Standard(Standard<'a>),
+    /// What is answered where it isn't in standard form.
+    Refused(Reply),
+}
+
+/// The symbols of a word, or the answer to a word that has none.
+#[derive(Drop)]
+pub enum OpenedWord {
+    /// The symbols of the word's letters, none of which is the blank.
+    Symbols(Vec<u32>),
+    /// What is answered to a word with another letter.
+    Refused(Reply),
+}
+
+/// Reads the bytes as a table of quintuples.
+pub fn open_table(alloc: Global, bytes: &[u8]) -> Result<OpenedTable, NoMemory>
+    ensures { IfOk result (IsOpenedTable bytes.now) }
+{
+    // The law that bytes with a fault have no reading.
+    bytes_have_a_reading_or_a_fault();
+    match read_quints(alloc, bytes) {
+        Ok(table) => Ok(OpenedTable::Read(table)),
+        Err(refusal) => Ok(OpenedTable::Refused(Reply {
+            text: fault_text(alloc, refusal)?,
+            status: Status::Text,
+        })),
+    }
+}
+
+/// Tests the standard form of a table's machine. What is handed on keeps that the machine passed.
+pub fn judge_table(alloc: Global, table: &Table) -> Result<Judged<'_>, NoMemory>
+    ensures { IfOk result (IsJudged table.now) }
+{
+    match check(alloc, table.machine()) {
+        Ok(standard) => Ok(Judged::Standard(standard)),
+        Err(why) => Ok(Judged::Refused(Reply {
+            text: why_text(alloc, why)?,
+            status: Status::Machine,
+        })),
+    }
+}
+
+/// Reads a word in a table's letters.
+pub fn open_word(alloc: Global, table: &Table, word: &[u8]) -> Result<OpenedWord, NoMemory>
+    ensures { IfOk result (IsOpenedWord table.now word.now) }
+{
+    match symbols_of(alloc, table, word) {
+        Ok(symbols) => Ok(OpenedWord::Symbols(symbols)),
+        Err(WordRefusal::Foreign { place }) => Ok(OpenedWord::Refused(Reply {
+            text: format!(in alloc; "word: {place}\n")?.into_bytes(),
+            status: Status::Word,
+        })),
+        Err(WordRefusal::NoMemory) => Err(NoMemory),
+    }
+}

@@ -1,0 +1,55 @@
+//! How a command came out.
+
+ghost use Rattle.std.specs.Prelude.{◌≡◌};
+ghost use Rattle.bn_reply.specs.Codes.{code_of};
+
+/// How a command of the workbench came out.
+#[derive(Clone, Copy, PartialEq, Eq, Debug)]
+pub enum Status {
+    /// The command's text was written.
+    Done,
+    /// The words have none of the forms.
+    Usage,
+    /// The input has no reading.
+    Text,
+    /// The input's machine is not one that the command takes.
+    Machine,
+    /// The word has a letter that is none of the machine's.
+    Word,
+    /// The input, the word or the circuit is too large.
+    Size,
+    /// The source failed.
+    ReadFault,
+    /// The sink failed.
+    WriteFault,
+    /// There was no memory.
+    NoMemory,
+    /// The run is stuck.
+    Stuck,
+    /// The run left its window.
+    Window,
+    /// The run was not at its end.
+    Inside,
+}
+
+impl Status {
+    /// The exit code of a program that ends so.
+    pub fn code(&self) -> u8
+        ensures { result ≡ code_of self.now }
+    {
+        match self {
+            Status::Done => 0,
+            Status::Usage => 2,
+            Status::Text => 3,
+            Status::Machine => 4,
+            Status::Word => 5,
+            Status::Size => 6,
+            Status::ReadFault => 7,
+            Status::WriteFault => 8,
+            Status::NoMemory => 9,
+            Status::Stuck => 10,
+            Status::Window => 11,
+            Status::Inside => 12,
+        }
+    }
+}

@@ -1,0 +1,9 @@
+pub mod CheckLemmas
+pub mod MachineLemmas
+mod RunLemmas
+mod OutputLemmas
+mod WholeRunLemmas
+mod FitLemmas
+mod ClashOrNot
+pub mod ReversibleLemmas
+pub mod BennettLemmas

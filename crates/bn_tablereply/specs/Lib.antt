@@ -1,0 +1,5 @@
+pub mod CheckReply
+pub mod MachineReply
+pub mod MachineRun
+pub mod ReversibleReply
+pub mod BennettReply

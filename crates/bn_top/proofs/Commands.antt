@@ -1,0 +1,116 @@
+-- What each command's form needs of proofs: the law that it has one answer and only one, and that its reply is the one to the request.
+use Rattle.std.specs.Prelude.{◌≡◌, ℕ, ◌≤◌, List, [], Option, Some, Result, slice_get, IfOk, OnErr, refl}
+use Rattle.std.proofs.Common.{sym, subst, ◌∙◌}
+use Rattle.bn_theory.specs.declared.place.Place.{Place}
+use Rattle.bn_words.specs.Forms.{most_number, row_of}
+use Rattle.bn_words.specs.Requests.{AreWithin, HasForm, Request, letters_at, number_at}
+use Rattle.bn_words.specs.declared.form.Form.{Form}
+use Rattle.bn_words.specs.declared.form.Form.TheVariants.{Step, Back, Check, Machine, Reversible, Bennett, Realise}
+use Rattle.bn_words.specs.declared.kind.Kind.TheVariants.{Ordinal}
+use Rattle.bn_words.proofs.ArgumentLemmas.{form-AreWithin, ordinal_least}
+use Rattle.bn_reply.specs.Answering.{IsSettled}
+use Rattle.bn_reply.specs.Replying.{IsReplied, IsUnfinished}
+use Rattle.bn_reply.specs.declared.reply.Reply.{Reply}
+use Rattle.bn_reply.specs.declared.status.Status.{Status}
+use Rattle.bn_reply.specs.declared.reply.NoMemory.{NoMemory as WantOfMemory}
+use Rattle.bn_reply.proofs.ReplyLemmas.{silent}
+use Rattle.bn_netreply.specs.CircuitReply.{BackReplies, StepReplies}
+use Rattle.bn_netreply.specs.RealiseReply.{RealiseReplies}
+use Rattle.bn_netreply.proofs.CircuitLemmas.{back_settled, step_settled}
+use Rattle.bn_netreply.proofs.RealiseLemmas.{realise_settled}
+use Rattle.bn_tablereply.specs.BennettReply.{BennettReplies}
+use Rattle.bn_tablereply.specs.CheckReply.{CheckReplies}
+use Rattle.bn_tablereply.specs.MachineReply.{MachineReplies}
+use Rattle.bn_tablereply.specs.ReversibleReply.{ReversibleReplies}
+use Rattle.bn_tablereply.proofs.BennettLemmas.{bennett_settled}
+use Rattle.bn_tablereply.proofs.CheckLemmas.{check_settled}
+use Rattle.bn_tablereply.proofs.MachineLemmas.{machine_settled}
+use Rattle.bn_tablereply.proofs.ReversibleLemmas.{reversible_settled}
+use Rattle.bn_top.specs.Answers.{Replies, RepliesBy}
+
+-- ---- the laws
+
+settled_by : (form : Form) (request : Request) → AreWithin (row_of form).kinds request.arguments →
+    (bytes : List ℕ) → IsSettled (RepliesBy form request bytes)
+settled_by Step request within = step_settled (number_at request 0)
+settled_by Back request within = back_settled (number_at request 0)
+settled_by Check request within = check_settled
+settled_by Machine request within = machine_settled (letters_at request 0) (number_at request 1)
+settled_by Reversible request within = reversible_settled
+settled_by Bennett request within = bennett_settled
+settled_by Realise request within = λ bytes.
+    let kinds = (row_of Realise).kinds in
+    let least : (n : ℕ) → slice_get kinds n ≡ Some (Ordinal most_number) → 1 ≤ number_at request n =
+    λ n here. ordinal_least kinds request.arguments n most_number within here in
+    realise_settled (number_at request 0) (number_at request 1) bytes (least 0 refl) (least 1 refl)
+
+-- what is asked for has one answer and only one
+pub settled : (words : List (List ℕ)) (request : Request) → HasForm words request → (bytes : List ℕ) → IsSettled (Replies request bytes)
+settled words request form = settled_by request.form request (form-AreWithin words request form)
+
+-- ---- the replies; `replies` has a lemma a command, for the dispatch
+
+-- the relations of a command's reply, by what it answers
+abbrev Silent : Result Reply WantOfMemory → (Status → List ℕ → List Place → Type 0) → Type 0
+Silent result answers = IfOk result (λ r. answers r.status r.text.items [])
+
+abbrev Replied : Result Reply WantOfMemory → Option (List Place) → Option (List Place) →
+    (Status → List ℕ → List Place → Type 0) → Type 0
+Replied result told heard answers = IfOk result (λ r. IsReplied answers r told heard)
+
+abbrev Unfinished : Result Reply WantOfMemory → Option (List Place) → Option (List Place) → (Status → List ℕ → List Place → Type 0) → Type 0
+Unfinished result told heard answers = OnErr result (IsUnfinished answers told heard)
+
+module _ (request : Request) (form : Form) (of : form ≡ request.form) (bytes : List ℕ) (result : Result Reply WantOfMemory) where
+  -- a claim of the answers to a request of some form
+  by_form : (other : Form) → form ≡ other → (Claim : (Status → List ℕ → List Place → Type 0) → Type 0) →
+      Claim (RepliesBy other request bytes) → Claim (Replies request bytes)
+  by_form other is Claim h = subst (λ f. Claim (RepliesBy f request bytes)) (sym is ∙ of) h
+
+  module _ (told : Option (List Place)) where
+    silent_by : (other : Form) → form ≡ other → Silent result (RepliesBy other request bytes) → Replied result told told (Replies request bytes)
+    silent_by other is h = by_form other is (Replied result told told) (silent (RepliesBy other request bytes) result told h)
+
+    pub check_reply : form ≡ Check → Silent result (CheckReplies bytes) → Replied result told told (Replies request bytes)
+    check_reply is h = silent_by Check is h
+
+    pub machine_reply : (word : List ℕ) (n : ℕ) → form ≡ Machine → word ≡ letters_at request 0 → n ≡ number_at request 1 →
+        Silent result (MachineReplies word n bytes) → Replied result told told (Replies request bytes)
+    machine_reply word n is word_is n_is h =
+        let counted = subst (λ m. Silent result (MachineReplies word m bytes)) n_is h in
+        silent_by Machine is (subst (λ w. Silent result (MachineReplies w (number_at request 1) bytes)) word_is counted)
+
+    pub reversible_reply : form ≡ Reversible → Silent result (ReversibleReplies bytes) → Replied result told told (Replies request bytes)
+    reversible_reply is h = silent_by Reversible is h
+
+    pub bennett_reply : form ≡ Bennett → Silent result (BennettReplies bytes) → Replied result told told (Replies request bytes)
+    bennett_reply is h = silent_by Bennett is h
+
+    pub realise_reply : (q i : ℕ) → form ≡ Realise → q ≡ number_at request 0 → i ≡ number_at request 1 →
+        Silent result (RealiseReplies q i bytes) → Replied result told told (Replies request bytes)
+    realise_reply q i is q_is i_is h =
+        let placed = subst (λ j. Silent result (RealiseReplies q j bytes)) i_is h in
+        silent_by Realise is (subst (λ p. Silent result (RealiseReplies p (number_at request 1) bytes)) q_is placed)
+
+  module _ (told heard : Option (List Place)) (n : ℕ) where
+    pub step_reply : form ≡ Step → n ≡ number_at request 0 → Replied result told heard (StepReplies n bytes) →
+        Replied result told heard (Replies request bytes)
+    step_reply is n_is h =
+        by_form Step is (Replied result told heard) (subst (λ m. Replied result told heard (StepReplies m bytes)) n_is h)
+
+    pub step_part : form ≡ Step → n ≡ number_at request 0 → Unfinished result told heard (StepReplies n bytes) →
+        Unfinished result told heard (Replies request bytes)
+    step_part is n_is h =
+        by_form Step is (Unfinished result told heard) (subst (λ m. Unfinished result told heard (StepReplies m bytes)) n_is h)
+
+    pub back_reply : form ≡ Back → n ≡ number_at request 0 → Replied result told heard (BackReplies n bytes) →
+        Replied result told heard (Replies request bytes)
+    back_reply is n_is h =
+        by_form Back is (Replied result told heard) (subst (λ m. Replied result told heard (BackReplies m bytes)) n_is h)
+
+    pub back_part : form ≡ Back → n ≡ number_at request 0 → Unfinished result told heard (BackReplies n bytes) →
+        Unfinished result told heard (Replies request bytes)
+    back_part is n_is h =
+        by_form Back is (Unfinished result told heard) (subst (λ m. Unfinished result told heard (BackReplies m bytes)) n_is h)
+
+pub ruleset replies = (step_reply, step_part, back_reply, back_part, check_reply, machine_reply, reversible_reply, bennett_reply, realise_reply)

@@ -1,6 +1,0 @@
-use Rattle.std.proofs.Common.{◌≡◌, ◌++◌, take}
-use Rattle.bn_top.specs.MachineReply.{letters_of}
-use Rattle.bn_top.proofs.letters.push_letters.Given as goal
-
-abbrev pub invariant-loop-symbol : goal.invariant-loop-symbol
-invariant-loop-symbol l = l.text.items ≡ l.initial.text.items ++ letters_of l.table (take l.symbol-index l.symbols)

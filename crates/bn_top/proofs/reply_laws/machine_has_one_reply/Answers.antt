@@ -1,9 +1,0 @@
-use Rattle.bn_top.specs.ReplyLaws.{machine_replies_once}
-use Rattle.bn_top.proofs.RepliesToAll.{machine_replies_to_all}
-use Rattle.bn_top.proofs.reply_laws.machine_has_one_reply.Goals as goal
-
-pub returns-clause-some : goal.returns-clause-some
-returns-clause-some c = machine_replies_to_all c.bytes_have_a_reading_or_a_fault.ensures
-
-pub returns-clause-one : goal.returns-clause-one
-returns-clause-one c = machine_replies_once c.bytes_have_one_reading.ensures

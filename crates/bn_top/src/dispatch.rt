@@ -1,0 +1,41 @@
+//! From a request to the command that answers it.
+
+ghost use Rattle.std.specs.Prelude.{IfOk, OnErr};
+ghost use Rattle.bn_reply.specs.Replying.{IsReplied, IsUnfinished};
+ghost use Rattle.bn_top.specs.Answers.{Replies};
+
+use bn_net::Watch;
+use bn_netreply::{reply_back, reply_realise, reply_step};
+use bn_reply::{NoMemory, Reply};
+use bn_tablereply::{reply_bennett, reply_check, reply_machine, reply_reversible};
+use bn_words::{Form, Request};
+use std::alloc::Global;
+
+// The reply to a request. Where a command's reply is that of its form, `Commands` says so.
+#[tactic(auto, using(crate::proofs::Commands::replies))]
+pub(crate) fn reply_to<W: Watch>(
+    alloc: Global,
+    request: &Request<'_>,
+    bytes: &[u8],
+    watch: &mut W,
+) -> Result<Reply, NoMemory>
+    ensures replied { IfOk result (λ r. IsReplied (Replies request.now bytes.now) r (W.told watch.old)
+        (W.told watch.new)) }
+    ensures interrupted { OnErr result (IsUnfinished (Replies request.now bytes.now) (W.told watch.old)
+        (W.told watch.new)) }
+{
+    match request.form() {
+        Form::Step => reply_step(alloc, request.number(0), bytes, watch),
+        Form::Back => reply_back(alloc, request.number(0), bytes, watch),
+        Form::Check => reply_check(alloc, bytes),
+        Form::Machine => reply_machine(alloc, request.letters(0), request.number(1) as u32, bytes),
+        Form::Reversible => reply_reversible(alloc, bytes),
+        Form::Bennett => reply_bennett(alloc, bytes),
+        Form::Realise => reply_realise(
+            alloc,
+            request.number(0) as u32,
+            request.number(1) as u32,
+            bytes,
+        ),
+    }
+}

@@ -1,0 +1,28 @@
+-- The table of the forms of a command line, a row a form (this project's own profile).
+use Rattle.std.specs.Prelude.{ℕ, List, [], ◌∷◌, codes}
+use Rattle.bn_base.specs.Number.{greatest}
+use Rattle.bn_words.specs.declared.kind.Kind.{Kind}
+use Rattle.bn_words.specs.declared.kind.Kind.TheVariants.{Count, Ordinal, Letters}
+use Rattle.bn_words.specs.declared.form.Form.{Form}
+use Rattle.bn_words.specs.declared.form.Form.TheVariants.{Step, Back, Check, Machine, Reversible, Bennett, Realise}
+
+-- a row: the command's name, and the kinds of the words behind it
+pub record Row : Type 0 where
+  pub name : List ℕ
+  pub kinds : List Kind
+
+abbrev row : List ℕ → List Kind → Row
+row name kinds = record { name = name; kinds = kinds }
+
+-- the greatest number of steps of a machine by itself, of a state and of a line
+abbrev pub most_number : ℕ
+most_number = 1048576
+
+abbrev pub row_of : Form → Row
+row_of Step = row (codes "step") (Count greatest ∷ [])
+row_of Back = row (codes "back") (Count greatest ∷ [])
+row_of Check = row (codes "check") []
+row_of Machine = row (codes "machine") (Letters ∷ Count most_number ∷ [])
+row_of Reversible = row (codes "reversible") []
+row_of Bennett = row (codes "bennett") []
+row_of Realise = row (codes "realise") (Ordinal most_number ∷ Ordinal most_number ∷ [])

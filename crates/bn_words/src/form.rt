@@ -1,0 +1,77 @@
+//! The table of the forms of a command line.
+
+ghost use Rattle.std.specs.Prelude.{◌≡◌};
+ghost use Rattle.bn_words.specs.Forms.{row_of};
+
+use crate::kind::Kind;
+use crate::kind::Kind::{Count, Letters, Ordinal};
+
+/// The greatest number of steps of a circuit: 2^62.
+const MOST_STEPS: u64 = 1 << 62;
+
+/// The greatest number of steps of a machine by itself, of a state and of a line.
+const MOST_NUMBER: u64 = 1_048_576;
+
+/// A form of a command line. A name may have several forms, told apart by what stands behind it.
+#[derive(Clone, Copy, PartialEq, Eq, Debug)]
+pub enum Form {
+    /// `step E`: at most E steps of a circuit.
+    Step,
+    /// `back E`: at most E steps back.
+    Back,
+    /// `check`: the verdict on standard form.
+    Check,
+    /// `machine =W n`: a machine's own run from the word W, of at most n steps.
+    Machine,
+    /// `reversible`: the two verdicts on quadruples.
+    Reversible,
+    /// `bennett`: the table of Bennett's reversible machine.
+    Bennett,
+    /// `realise Q I`: the text of a bank in state Q with the signal at line I.
+    Realise,
+}
+
+/// A row of the table: a name, and the kinds of the words behind it.
+#[derive(Clone, Copy, Debug)]
+pub(crate) struct Row {
+    pub(crate) name: &'static str,
+    pub(crate) kinds: &'static [Kind],
+}
+
+impl Form {
+    /// All forms.
+    pub const ALL: [Form; 7] = [
+        Form::Step,
+        Form::Back,
+        Form::Check,
+        Form::Machine,
+        Form::Reversible,
+        Form::Bennett,
+        Form::Realise,
+    ];
+
+    // The form's row.
+    pub(crate) fn row(self) -> Row
+        ensures name { result.name.now ≡ (row_of self).name }
+        ensures kinds { result.kinds.now ≡ (row_of self).kinds }
+    {
+        match self {
+            Form::Step => Row::new("step", &[Count(MOST_STEPS)]),
+            Form::Back => Row::new("back", &[Count(MOST_STEPS)]),
+            Form::Check => Row::new("check", &[]),
+            Form::Machine => Row::new("machine", &[Letters, Count(MOST_NUMBER)]),
+            Form::Reversible => Row::new("reversible", &[]),
+            Form::Bennett => Row::new("bennett", &[]),
+            Form::Realise => Row::new("realise", &[Ordinal(MOST_NUMBER), Ordinal(MOST_NUMBER)]),
+        }
+    }
+}
+
+impl Row {
+    fn new(name: &'static str, kinds: &'static [Kind]) -> Row
+        ensures name { result.name.now ≡ name.now }
+        ensures kinds { result.kinds.now ≡ kinds.now }
+    {
+        Row { name, kinds }
+    }
+}
