@@ -15,7 +15,7 @@ returns-in_default-to_config-clause-interrupted g c =
     unwritten (λ k d. back k d c.args.count) (λ k d. places_back k c.args.count d) c.in-Ok.read c.args.bytes.now c.run_back_watched.new.self.config
     (g.W.Watch.told c.args.watch.now) (g.W.Watch.told c.run_back_watched.new.watch)
     (packed_gone (λ k d. back k d c.args.count) (λ k d. places_back k c.args.count d) c.in-Ok.read c.args.bytes.now c.in-Ok-from_net.packed c.run_back_watched.new.self.config c.run_back_watched.new.self.config (g.W.Watch.told c.args.watch.now)
-        (g.W.Watch.told c.run_back_watched.new.watch) c.in-Ok.ensures.spelled c.in-Ok-from_net.ensures.net c.in-Ok-from_net.ensures.config c.run_back_watched.ensures.back c.run_back_watched.ensures.told refl)
+    (g.W.Watch.told c.run_back_watched.new.watch) c.in-Ok.ensures.spelled c.in-Ok-from_net.ensures.net c.in-Ok-from_net.ensures.config c.run_back_watched.ensures.back c.run_back_watched.ensures.told refl)
 
 pub write_config-requires : goal.write_config-requires
 write_config-requires g c = read-Admits c.in-Ok.read c.args.bytes.now c.in-Ok-to_config.config c.in-Ok.ensures.spelled
@@ -26,11 +26,11 @@ returns-in-Ok-write_config-clause-replied g c =
     replied (λ k d. back k d c.args.count) (λ k d. places_back k c.args.count d) c.in-Ok.read c.args.bytes.now c.in-Ok-to_config.config
     (g.W.Watch.told c.args.watch.now) (g.W.Watch.told c.run_back_watched.new.watch) _
     (packed_gone (λ k d. back k d c.args.count) (λ k d. places_back k c.args.count d) c.in-Ok.read c.args.bytes.now c.in-Ok-from_net.packed c.in-Ok-to_config.config c.run_back_watched.new.self.config (g.W.Watch.told c.args.watch.now)
-        (g.W.Watch.told c.run_back_watched.new.watch) c.in-Ok.ensures.spelled c.in-Ok-from_net.ensures.net c.in-Ok-from_net.ensures.config c.run_back_watched.ensures.back c.run_back_watched.ensures.told c.in-Ok-to_config.ensures.config) refl c.in-Ok-write_config.ensures
+    (g.W.Watch.told c.run_back_watched.new.watch) c.in-Ok.ensures.spelled c.in-Ok-from_net.ensures.net c.in-Ok-from_net.ensures.config c.run_back_watched.ensures.back c.run_back_watched.ensures.told c.in-Ok-to_config.ensures.config) refl c.in-Ok-write_config.ensures
 
 pub returns-clause-interrupted : goal.returns-clause-interrupted
 returns-clause-interrupted g c =
     unwritten (λ k d. back k d c.args.count) (λ k d. places_back k c.args.count d) c.in-Ok.read c.args.bytes.now c.in-Ok-to_config.config
     (g.W.Watch.told c.args.watch.now) (g.W.Watch.told c.run_back_watched.new.watch)
     (packed_gone (λ k d. back k d c.args.count) (λ k d. places_back k c.args.count d) c.in-Ok.read c.args.bytes.now c.in-Ok-from_net.packed c.in-Ok-to_config.config c.run_back_watched.new.self.config (g.W.Watch.told c.args.watch.now)
-        (g.W.Watch.told c.run_back_watched.new.watch) c.in-Ok.ensures.spelled c.in-Ok-from_net.ensures.net c.in-Ok-from_net.ensures.config c.run_back_watched.ensures.back c.run_back_watched.ensures.told c.in-Ok-to_config.ensures.config)
+    (g.W.Watch.told c.run_back_watched.new.watch) c.in-Ok.ensures.spelled c.in-Ok-from_net.ensures.net c.in-Ok-from_net.ensures.config c.run_back_watched.ensures.back c.run_back_watched.ensures.told c.in-Ok-to_config.ensures.config)
