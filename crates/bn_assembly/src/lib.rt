@@ -11,7 +11,7 @@ mod windows;
 mod wires;
 
 pub use assembly::Assembly;
-pub use make::{MOST_ELEMENTS, assemble};
+pub use make::{MOST_ELEMENTS, assemble, element_count};
 pub use module::Module;
 pub use refusal::AssembleRefusal;
 pub use windows::{MOST_CELLS, Windows};

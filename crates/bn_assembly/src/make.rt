@@ -6,7 +6,7 @@ ghost use Rattle.bn_net.specs.Faults.{AreFaultless};
 ghost use Rattle.bn_net.specs.Parts.{circuit};
 ghost use Rattle.bn_quad.specs.Quadruples.{IsQuadMachine};
 ghost use Rattle.bn_quad.specs.Calls.{IsUniformMachine};
-ghost use Rattle.bn_modules.specs.Controls.{ControlState};
+ghost use Rattle.bn_modules.specs.Controls.{ControlState, IsNumbering};
 ghost use Rattle.bn_modules.specs.Networks.{bank_size, cell_size, elements_by};
 ghost use Rattle.bn_control.specs.Controlled.{IsControlOf, IsWithinLimits};
 ghost use Rattle.bn_assembly.specs.Assembled.{AreSmall, IsAssembled, IsRefusal, IsWordOf, limits_of};
@@ -24,6 +24,7 @@ use bn_control::{Control, NoMemory, control};
 use bn_element::Element;
 use bn_net::{Config, Net, NetRefusal, Place, States, Wire};
 use bn_quad::{QuadMachine, Uniform};
+use bn_statecount::state_count;
 use std::alloc::Global;
 
 /// The greatest number of elements of a flat board.
@@ -81,6 +82,16 @@ fn assemble_fitting(
         Ok(assembly) => Ok(assembly),
         Err(_) => Err(AssembleRefusal::NoMemory),
     }
+}
+
+/// How many elements the flat board of a uniform machine's network has in these windows. It takes no memory.
+pub fn element_count(machine: &Uniform, windows: &Windows) -> u64
+    requires machine { IsWithinLimits machine.now }
+    requires windows { AreSmall (limits_of windows.now) }
+    ensures { (names : List ControlState) → IsNumbering machine.now names → result ≡ elements_by machine.now (limits_of windows.now) (length names) }
+{
+    let machine = machine.machine();
+    count_elements(machine, windows, state_count(machine))
 }
 
 // How many elements the board has whose control has so many states.

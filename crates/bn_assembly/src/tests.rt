@@ -163,6 +163,16 @@ fn the_least_network_makes_its_thirteen_moves(rt: HostRuntime) -> Result<(), Fai
         sum = sum.saturating_add(expected.3);
     }
     assert_eq!(rt; sum, 6_540);
+    assert_eq!(rt;
+        element_count(
+            translated.machine(),
+            &Windows {
+                right2: 0,
+                ..WINDOWS
+            }
+        ),
+        1_064
+    );
     Ok(())
 }
 
