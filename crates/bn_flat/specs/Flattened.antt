@@ -1,7 +1,7 @@
 -- A board: a net of rotary elements in a configuration that was reached from its start, with the layout by which it is read (this project's own profile).
 use Rattle.std.specs.Prelude.{◌≡◌, ℕ, ◌-◌, ◌<◌, ◌≤◌, ◌^◌, List, All, length, Option, Some, None}
 use Rattle.bn_theory.specs.Runs.{Reaches}
-use Rattle.bn_theory.specs.Circuits.{Circuit, Goes, IsConfig}
+use Rattle.bn_theory.specs.Circuits.{Circuit, Goes, IsCircuit, IsConfig}
 use Rattle.bn_theory.specs.Stepping.{back}
 use Rattle.bn_theory.specs.declared.line.Line.{Line}
 use Rattle.bn_theory.specs.declared.config.Config.{Config}
@@ -73,6 +73,7 @@ pub record IsLayoutKept (b : Layout) : Type 0 where
 
 -- what every board keeps
 pub record IsBoardKept (b : Flattened) : Type 0 where
+  pub circuit : IsCircuit (rotary_circuit b.net)
   pub reached : IsReached (rotary_circuit b.net) b.config
   pub layout : IsLayoutKept b.layout
   pub elements : length b.net.elements ≡ elements_of b.layout

@@ -1,6 +1,6 @@
 //! The numbers by which a board is read.
 
-ghost use Rattle.std.specs.Prelude.{◌≡◌, ◌<◌, ◌≤◌, ◌+◌, ◌*◌, ◌^◌, length, Some, slice_get};
+ghost use Rattle.std.specs.Prelude.{◌≡◌, ◌<◌, ◌≤◌, ◌+◌, ◌*◌, ◌^◌, length, Some, slice_get, IfOk};
 ghost use Rattle.bn_layout.specs.Layouts.{letters_at, lines_at, first_element, cell_element, elements_of};
 ghost use Rattle.bn_modules.specs.Controls.{lines_before};
 ghost use Rattle.bn_modules.specs.Networks.{bank_size, cell_size, cells_in, left_of};
@@ -12,6 +12,8 @@ ghost use Rattle.bn_control.specs.Controlled.{IsTapeAwaited};
 
 use bn_assembly::{MOST_ELEMENTS, Windows};
 use bn_cell::MOST_SYMBOLS;
+use bn_net::NoMemory;
+use std::alloc::Global;
 use std::marker::Model;
 
 // The numbers by which a board is read: the window of each tape; how many symbols each tape has; how many states the
@@ -58,6 +60,25 @@ impl Layout {
             firsts,
             awaited,
         }
+    }
+
+    // The same layout once more.
+    pub(crate) fn copy(&self, alloc: Global) -> Result<Layout, NoMemory>
+        ensures { IfOk result (λ b. b ≡ self.now) }
+    {
+        let Ok(firsts) = self.firsts.as_slice().to_vec(alloc) else {
+            return Err(NoMemory);
+        };
+        let Ok(awaited) = self.awaited.as_slice().to_vec(alloc) else {
+            return Err(NoMemory);
+        };
+        Ok(Layout {
+            windows: self.windows,
+            symbols: self.symbols,
+            states: self.states,
+            firsts,
+            awaited,
+        })
     }
 
     // The window of each tape.

@@ -1,6 +1,10 @@
 //! Flat boards: the network of a machine of quadruples as one net of rotary elements, and how it is run and read.
 #![tactic(auto)]
 
+mod board;
 mod layout;
+mod located;
 
 pub use bn_net::NoMemory;
+pub use board::Board;
+pub use located::Located;
