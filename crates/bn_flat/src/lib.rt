@@ -4,6 +4,7 @@
 mod board;
 mod layout;
 mod located;
+mod wiring;
 
 pub use bn_net::NoMemory;
 pub use board::Board;
