@@ -1,3 +1,7 @@
 pub mod LayoutLemmas
 pub mod ReachedLemmas
 pub mod WireLemmas
+pub mod KeptLemmas
+pub mod StartLemmas
+pub mod CopyLemmas
+pub mod MadeLemmas

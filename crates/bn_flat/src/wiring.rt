@@ -31,12 +31,12 @@ pub(crate) fn bases(alloc: Global, net: &Net<Module>) -> Result<Vec<u32>, NoMemo
 }
 
 // The elements of a module's bank.
-fn size_of(module: &Module) -> u32
-    requires some { 0 < (module_table module.now).states }
-    requires few { size_of (module_table module.now) ≤ MOST_ELEMENTS }
-    ensures { result ≡ size_of (module_table module.now) }
+pub(crate) fn size_of(bank: &Module) -> u32
+    requires some { 0 < (module_table bank.now).states }
+    requires few { size_of (module_table bank.now) ≤ MOST_ELEMENTS }
+    ensures { result ≡ size_of (module_table bank.now) }
 {
-    module.states() * (module.lines_in() + 1)
+    bank.states() * (bank.lines_in() + 1)
 }
 
 // The wires of the board of this net of modules, whose banks begin at these elements.
@@ -164,13 +164,13 @@ fn between(net: &Net<Module>, bases: &[u32], number: u32, line: u32, to: Line) -
 }
 
 // The output line of a module's bank that begins at this element.
-fn output_line(module: &Module, first: u32, line: u32) -> Line
-    requires some { 0 < (module_table module.now).states }
-    requires line { line < (module_table module.now).inputs }
-    requires fits { first + size_of (module_table module.now) ≤ MOST_ELEMENTS }
-    ensures { result ≡ output_line first (module_table module.now) line }
+fn output_line(bank: &Module, first: u32, line: u32) -> Line
+    requires some { 0 < (module_table bank.now).states }
+    requires line { line < (module_table bank.now).inputs }
+    requires fits { first + size_of (module_table bank.now) ≤ MOST_ELEMENTS }
+    ensures { result ≡ output_line first (module_table bank.now) line }
 {
-    let last = (module.states() - 1) * (module.lines_in() + 1);
+    let last = (bank.states() - 1) * (bank.lines_in() + 1);
     Line {
         element: first + last + line,
         line: EAST,
