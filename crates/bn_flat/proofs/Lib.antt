@@ -5,3 +5,4 @@ pub mod KeptLemmas
 pub mod StartLemmas
 pub mod CopyLemmas
 pub mod MadeLemmas
+pub mod PartLemmas

@@ -6,6 +6,7 @@ use Rattle.bn_theory.specs.declared.line.Line.{Line}
 use Rattle.bn_theory.specs.declared.config.Config.{Config}
 use Rattle.bn_element.specs.declared.rotary.Rotary.{Rotary}
 use Rattle.bn_net.specs.Parts.{Parts}
+use Rattle.bn_net.specs.Order.{AreInOrder}
 use Rattle.bn_column.specs.Nets.{rotary_circuit}
 use Rattle.bn_boards.specs.Boards.{IsBoard, size}
 use Rattle.bn_layout.specs.Layouts.{Layout, elements_of}
@@ -21,7 +22,7 @@ module _ (a : Assembled) (kept : IsKept a) (layout : Layout) (is : IsLayoutOf a 
   count-size = layout-size a layout kept is ∙ sym (kept-size a kept)
 
   module _ (net : Parts Rotary) (config : Config) (start end : Line) (count : ℕ) (board : IsBoard (network_of a) (rotary_circuit net))
-      (at_start : config ≡ start_by (network_of a).tables a.config.states) (elements : length net.elements ≡ count) (count_is : count ≡ elements_of layout) where
+      (at_start : config ≡ start_by (network_of a).tables a.config.states) (elements : length net.elements ≡ count) (count_is : count ≡ elements_of layout) (order : AreInOrder net.wires) where
     abbrev made : Flattened
     made = record { net = net; config = config; start = start; end = end; layout = layout }
 
@@ -31,6 +32,7 @@ module _ (a : Assembled) (kept : IsKept a) (layout : Layout) (is : IsLayoutOf a 
     pub made-kept : IsBoardKept made
     made-kept = record {
       circuit = board.circuit;
+      order = order;
       reached = start-IsReached (rotary_circuit net) config good (ap (λ (c : Config). c.steps) at_start);
       layout = kept-layout a layout kept is;
       elements = elements ∙ count_is;

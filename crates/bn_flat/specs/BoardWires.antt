@@ -39,3 +39,10 @@ pub data IsWireBefore (n : Circuit) (e o : ℕ) (from to : Line) : Type 0 where
 pub record IsBetween (n : Circuit) (number line : ℕ) (to : Line) (w : Wire) : Type 0 where
   pub wire : (t : Table) → slice_get n.tables number ≡ Some t
       → w ≡ record { from = output_line (base n.tables number) t line; to = input_line (base n.tables to.element) to.line }
+
+-- ---- the wires of a net, output line by output line
+
+-- the wire of this list that leaves an output line before line l of element e
+pub record IsTargetBefore (ws : List Wire) (e l : ℕ) (from to : Line) : Type 0 where
+  pub leads : target ws from ≡ Some to
+  pub before : IsBefore e l from

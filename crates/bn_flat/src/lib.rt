@@ -7,9 +7,11 @@ mod layout;
 mod located;
 mod make;
 mod numbers;
+mod parts;
 mod wiring;
 
 pub use bn_net::NoMemory;
 pub use board::Board;
 pub use located::Located;
 pub use make::flatten;
+pub use parts::NetParts;

@@ -1,6 +1,7 @@
 //! Boards are made here.
 
 ghost use Rattle.std.specs.Prelude.{◌≡◌, ◌≤◌, length, IfOk};
+ghost use Rattle.bn_net.specs.Order.{AreInOrder};
 ghost use Rattle.bn_column.specs.Nets.{rotary_circuit};
 ghost use Rattle.bn_boards.specs.Boards.{AreModules, IsBoard, size};
 ghost use Rattle.bn_assembly.specs.Assembled.{network_of};
@@ -42,6 +43,7 @@ fn packed_of(alloc: Global, assembly: &Assembly, count: u32) -> Result<Packed, N
     ensures board { IfOk result (λ p. IsBoard (network_of assembly.now) (rotary_circuit p.net)) }
     ensures config { IfOk result (λ p. p.config ≡ start_by (network_of assembly.now).tables assembly.now.config.states) }
     ensures elements { IfOk result (λ p. length p.net.elements ≡ count) }
+    ensures order { IfOk result (λ p. AreInOrder p.net.wires) }
 {
     let net = board_net(alloc, assembly.net(), count)?;
     let bars = start_bars(alloc, assembly.net(), assembly.config().states.as_slice())?;
@@ -63,6 +65,7 @@ fn board_net(alloc: Global, net: &Net<Module>, count: u32) -> Result<Net<Rotary>
     requires count { count ≡ size (module_circuit net.now).tables }
     ensures board { IfOk result (λ n. IsBoard (module_circuit net.now) (rotary_circuit n)) }
     ensures elements { IfOk result (λ n. length n.elements ≡ count) }
+    ensures order { IfOk result (λ n. AreInOrder n.wires) }
 {
     let bases = bases(alloc, net)?;
     let wires = board_wires(alloc, net, bases.as_slice())?;
