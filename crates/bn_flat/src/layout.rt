@@ -120,10 +120,11 @@ impl Layout {
         if tape == 1 { self.windows.left1 } else { 0 }
     }
 
-    // The states of the control.
+    // The states of the control. Its contract also tells what every layout keeps.
     pub(crate) fn states(&self) -> u32
         ensures number { result ≡ self.now.states }
         ensures some { 0 < result }
+        ensures kept { IsLayoutKept self.now }
     {
         self.states
     }

@@ -2,9 +2,11 @@
 #![tactic(auto)]
 
 mod board;
+mod exit_of;
 mod layout;
 mod located;
 
+pub use bn_layout::Exit;
 pub use bn_net::NoMemory;
 pub use board::Board;
 pub use located::Located;
