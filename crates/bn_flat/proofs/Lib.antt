@@ -1,3 +1,4 @@
 pub mod LayoutLemmas
 pub mod ReachedLemmas
 pub mod ExitLemmas
+pub mod MomentLemmas

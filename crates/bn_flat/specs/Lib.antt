@@ -1,3 +1,4 @@
 pub mod Flattened
 pub mod BoardWires
 pub mod Locations
+pub mod Moments

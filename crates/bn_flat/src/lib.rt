@@ -5,6 +5,7 @@ mod board;
 mod exit_of;
 mod layout;
 mod located;
+mod moment;
 
 pub use bn_layout::Exit;
 pub use bn_net::NoMemory;
