@@ -207,7 +207,7 @@ module _ (b : Layout) (kept : IsLayoutKept b) where
 -- ---- the search
 
 -- a test that fails at each element
-position_never : {X : Type 0} (p : X → Bool) (xs : List X) → ((k : ℕ) (x : X) → k < length xs → slice_get xs k ≡ Some x → p x ≡ false) → position p xs ≡ None
+pub position_never : {X : Type 0} (p : X → Bool) (xs : List X) → ((k : ℕ) (x : X) → k < length xs → slice_get xs k ≡ Some x → p x ≡ false) → position p xs ≡ None
 position_never p [] never = refl
 position_never p (x ∷ xs) never =
     let n : ℕ = length (x ∷ xs) in

@@ -2,12 +2,14 @@
 #![tactic(auto)]
 
 mod board;
+mod cells;
 mod exit_of;
 mod layout;
+mod locate;
 mod located;
 mod moment;
 
-pub use bn_layout::Exit;
+pub use bn_layout::{Cells, Exit, Spelled, SpelledTape};
 pub use bn_net::NoMemory;
 pub use board::Board;
 pub use located::Located;
