@@ -6,3 +6,7 @@ pub mod StartLemmas
 pub mod CopyLemmas
 pub mod MadeLemmas
 pub mod PartLemmas
+pub mod ExitLemmas
+pub mod MomentLemmas
+pub mod LocationLemmas
+pub mod CellLemmas

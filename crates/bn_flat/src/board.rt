@@ -175,4 +175,31 @@ impl Board {
     {
         self.packed.run_back(e)
     }
+
+    /// Makes at most `e` element steps, as `run` does, and tells the watch the place after each. It takes no memory.
+    pub fn run_watched<W: Watch>(&mut self, e: u64, watch: &mut W) -> u64
+        ensures bound { result ≤ e }
+        ensures made { Reaches (Goes (rotary_circuit self.old.net)) result self.old.config self.new.config }
+        ensures ended { result < e → IsStuck (rotary_circuit self.old.net) self.new.config }
+        ensures run { self.new.config ≡ run (rotary_circuit self.old.net) self.old.config e }
+        ensures undone { back (rotary_circuit self.old.net) self.new.config result ≡ self.old.config }
+        ensures same { IsSameBoard self.old self.new }
+        ensures told { Hears (W.told watch.old) (places (rotary_circuit self.old.net) e self.old.config) (W.told watch.new) }
+    {
+        self.packed.run_watched(e, watch)
+    }
+
+    /// Takes at most `e` element steps back, as `run_back` does, and tells the watch the place after each. It takes no
+    /// memory.
+    pub fn run_back_watched<W: Watch>(&mut self, e: u64, watch: &mut W) -> u64
+        ensures bound { result ≤ e }
+        ensures made { Reaches (Goes (rotary_circuit self.old.net)) result self.new.config self.old.config }
+        ensures ended { result < e → IsFirst (rotary_circuit self.old.net) self.new.config }
+        ensures back { self.new.config ≡ back (rotary_circuit self.old.net) self.old.config e }
+        ensures undone { run (rotary_circuit self.old.net) self.new.config result ≡ self.old.config }
+        ensures same { IsSameBoard self.old self.new }
+        ensures told { Hears (W.told watch.old) (places_back (rotary_circuit self.old.net) e self.old.config) (W.told watch.new) }
+    {
+        self.packed.run_back_watched(e, watch)
+    }
 }

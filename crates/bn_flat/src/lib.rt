@@ -3,13 +3,18 @@
 
 mod bars;
 mod board;
+mod cells;
+mod exit_of;
 mod layout;
+mod locate;
 mod located;
 mod make;
+mod moment;
 mod numbers;
 mod parts;
 mod wiring;
 
+pub use bn_layout::{Cells, Exit, Spelled, SpelledTape};
 pub use bn_net::NoMemory;
 pub use board::Board;
 pub use located::Located;
