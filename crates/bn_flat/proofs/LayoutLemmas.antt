@@ -1,8 +1,8 @@
 -- Sizes and elements of a layout are within the greatest number of elements.
-use Rattle.std.specs.Prelude.{ℕ, ◌+◌, ◌*◌, ◌<◌, ◌≤◌, ◌^◌}
-use Rattle.std.proofs.Common.{zero, suc, arith}
+use Rattle.std.specs.Prelude.{◌≡◌, ℕ, ◌+◌, ◌-◌, ◌*◌, ◌<◌, ◌≤◌, ◌^◌, refl}
+use Rattle.std.proofs.Common.{zero, suc, arith, sym, ap, ◌∙◌}
 use Rattle.std.proofs.Math.Nat.{mul-le-mul_right, mul-le-mul_left}
-use Rattle.bn_modules.specs.Networks.{cell_size, cells_in}
+use Rattle.bn_modules.specs.Networks.{bank_size, cell_size, cells_in}
 use Rattle.bn_layout.specs.Layouts.{Layout, letters_at, lines_at, first_element, cell_element, elements_of}
 use Rattle.bn_cell.specs.declared.numbers.TheConstants.{MOST_SYMBOLS}
 use Rattle.bn_assembly.specs.declared.make.TheConstants.{MOST_ELEMENTS}
@@ -19,6 +19,9 @@ cell_small z few = let h : 2 * z * (2 * z + 8 + 1) ≤ 8002 * 8011 = product_wit
 module _ (b : Layout) (kept : IsLayoutKept b) where
   pub control_within : b.states * (lines_at b + 1) ≤ MOST_ELEMENTS
   control_within = let few = kept.few_elements in omega arith
+
+  pub last_within : (b.states - 1) * (lines_at b + 1) ≤ MOST_ELEMENTS
+  last_within = let h : (b.states - 1) * (lines_at b + 1) ≤ b.states * (lines_at b + 1) = mul-le-mul_right (lines_at b + 1) (omega arith) in let few = control_within in omega arith
 
   pub row_within : (t : ℕ) → 1 ≤ t → t ≤ 3 → first_element b t + cells_in b.limits t * cell_size (letters_at b t) ≤ elements_of b
   row_within zero low high = absurd (omega arith)

@@ -4,3 +4,9 @@ pub mod ExitLemmas
 pub mod MomentLemmas
 pub mod LocationLemmas
 pub mod CellLemmas
+pub mod WireLemmas
+pub mod KeptLemmas
+pub mod StartLemmas
+pub mod CopyLemmas
+pub mod MadeLemmas
+pub mod PartLemmas

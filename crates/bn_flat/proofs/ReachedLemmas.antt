@@ -1,5 +1,5 @@
 -- A board's configuration stays reached from its origin, after steps both ways.
-use Rattle.std.specs.Prelude.{◌≡◌, ℕ, ◌+◌, Bool, true, false, refl}
+use Rattle.std.specs.Prelude.{◌≡◌, ℕ, ◌+◌, ◌≤◌, Bool, true, false, refl}
 use Rattle.std.specs.Bool.{OnTrue, OnFalse}
 use Rattle.std.proofs.Common.{arith, sym, ap, subst, ◌∙◌}
 use Rattle.bn_theory.specs.Runs.{Reaches, runs_join}
@@ -65,7 +65,7 @@ module _ (b : Flattened) (net : Parts Rotary) (d : Config) (kept : IsBoardKept b
   board_kept : IsKeptOn (rotary_circuit b.net) kept.circuit b.config d → IsMoved b (with_config b net d)
   board_kept on =
       let at_net : IsMoved b (with_config b b.net d) = record {
-        kept = record { circuit = kept.circuit; reached = on.reached; layout = kept.layout; elements = kept.elements };
+        kept = record { circuit = kept.circuit; order = kept.order; reached = on.reached; layout = kept.layout; elements = kept.elements };
         same = record { net = refl; start = refl; end = refl; layout = refl; origin_is = on.origin_is };
       } in
       subst (λ n. IsMoved b (with_config b n d)) (sym net_is) at_net

@@ -7,6 +7,7 @@ use Rattle.bn_theory.specs.declared.line.Line.{Line}
 use Rattle.bn_theory.specs.declared.config.Config.{Config}
 use Rattle.bn_element.specs.declared.rotary.Rotary.{Rotary}
 use Rattle.bn_net.specs.Parts.{Parts}
+use Rattle.bn_net.specs.Order.{AreInOrder}
 use Rattle.bn_column.specs.Nets.{rotary_circuit}
 use Rattle.bn_quad.specs.Quadruples.{Quadruples}
 use Rattle.bn_realise.specs.Banks.{input_line, column_at}
@@ -74,6 +75,7 @@ pub record IsLayoutKept (b : Layout) : Type 0 where
 -- what every board keeps
 pub record IsBoardKept (b : Flattened) : Type 0 where
   pub circuit : IsCircuit (rotary_circuit b.net)
+  pub order : AreInOrder b.net.wires
   pub reached : IsReached (rotary_circuit b.net) b.config
   pub layout : IsLayoutKept b.layout
   pub elements : length b.net.elements ≡ elements_of b.layout

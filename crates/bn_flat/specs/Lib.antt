@@ -2,3 +2,4 @@ pub mod Flattened
 pub mod BoardWires
 pub mod Locations
 pub mod Moments
+pub mod Starts

@@ -1,15 +1,22 @@
 //! Flat boards: the network of a machine of quadruples as one net of rotary elements, and how it is run and read.
 #![tactic(auto)]
 
+mod bars;
 mod board;
 mod cells;
 mod exit_of;
 mod layout;
 mod locate;
 mod located;
+mod make;
 mod moment;
+mod numbers;
+mod parts;
+mod wiring;
 
 pub use bn_layout::{Cells, Exit, Spelled, SpelledTape};
 pub use bn_net::NoMemory;
 pub use board::Board;
 pub use located::Located;
+pub use make::flatten;
+pub use parts::NetParts;

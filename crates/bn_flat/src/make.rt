@@ -1,0 +1,77 @@
+//! Boards are made here.
+
+ghost use Rattle.std.specs.Prelude.{◌≡◌, ◌≤◌, length, IfOk};
+ghost use Rattle.bn_net.specs.Order.{AreInOrder};
+ghost use Rattle.bn_column.specs.Nets.{rotary_circuit};
+ghost use Rattle.bn_boards.specs.Boards.{AreModules, IsBoard, size};
+ghost use Rattle.bn_assembly.specs.Assembled.{network_of};
+ghost use Rattle.bn_flat.specs.BoardWires.{module_circuit};
+ghost use Rattle.bn_flat.specs.Flattened.{IsFlattened};
+ghost use Rattle.bn_flat.specs.Starts.{start_by};
+
+use crate::bars::start_bars;
+use crate::board::Board;
+use crate::numbers::layout_of;
+use crate::wiring::{bases, board_wires};
+use bn_assembly::{Assembly, MOST_ELEMENTS, Module};
+use bn_column::rotary_net;
+use bn_element::{Rotary, WEST};
+use bn_net::{Config, Line, Net, NoMemory, Place, States};
+use bn_packed::Packed;
+use std::alloc::Global;
+
+/// The board of a network: each module as its bank of columns of rotary elements, bank after bank in the order of the
+/// modules, at the network's start. Elements are counted from 0.
+pub fn flatten(alloc: Global, assembly: &Assembly) -> Result<Board, NoMemory>
+    ensures { IfOk result (IsFlattened assembly.now) }
+{
+    let layout = layout_of(alloc, assembly)?;
+    let packed = packed_of(alloc, assembly, layout.elements())?;
+    let end = layout.end_line();
+    Ok(Board::new(packed, START, end, layout))
+}
+
+// The line by which the signal enters at the start.
+const START: Line = Line {
+    element: 0,
+    line: WEST,
+};
+
+// The net of the board, with the bars at the start.
+fn packed_of(alloc: Global, assembly: &Assembly, count: u32) -> Result<Packed, NoMemory>
+    requires { count ≡ size (network_of assembly.now).tables }
+    ensures board { IfOk result (λ p. IsBoard (network_of assembly.now) (rotary_circuit p.net)) }
+    ensures config { IfOk result (λ p. p.config ≡ start_by (network_of assembly.now).tables assembly.now.config.states) }
+    ensures elements { IfOk result (λ p. length p.net.elements ≡ count) }
+    ensures order { IfOk result (λ p. AreInOrder p.net.wires) }
+{
+    let net = board_net(alloc, assembly.net(), count)?;
+    let bars = start_bars(alloc, assembly.net(), assembly.config().states.as_slice())?;
+    let config = Config {
+        states: States::new(bars),
+        place: Place::Enter {
+            element: START.element,
+            line: START.line,
+        },
+        steps: 0,
+    };
+    Packed::from_net(alloc, &net, &config)
+}
+
+// The net of the board of this net of modules.
+fn board_net(alloc: Global, net: &Net<Module>, count: u32) -> Result<Net<Rotary>, NoMemory>
+    requires modules { AreModules (module_circuit net.now) }
+    requires few { size (module_circuit net.now).tables ≤ MOST_ELEMENTS }
+    requires count { count ≡ size (module_circuit net.now).tables }
+    ensures board { IfOk result (λ n. IsBoard (module_circuit net.now) (rotary_circuit n)) }
+    ensures elements { IfOk result (λ n. length n.elements ≡ count) }
+    ensures order { IfOk result (λ n. AreInOrder n.wires) }
+{
+    let bases = bases(alloc, net)?;
+    let wires = board_wires(alloc, net, bases.as_slice())?;
+    let Ok(board) = rotary_net(alloc, count, wires.as_slice()) else {
+        return Err(NoMemory);
+    };
+    let _elements = board.len();
+    Ok(board)
+}
