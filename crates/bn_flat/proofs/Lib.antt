@@ -1,12 +1,12 @@
 pub mod LayoutLemmas
 pub mod ReachedLemmas
+pub mod ExitLemmas
+pub mod MomentLemmas
+pub mod LocationLemmas
+pub mod CellLemmas
 pub mod WireLemmas
 pub mod KeptLemmas
 pub mod StartLemmas
 pub mod CopyLemmas
 pub mod MadeLemmas
 pub mod PartLemmas
-pub mod ExitLemmas
-pub mod MomentLemmas
-pub mod LocationLemmas
-pub mod CellLemmas
