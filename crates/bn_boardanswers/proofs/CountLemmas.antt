@@ -1,5 +1,5 @@
 -- The elements of a board are counted by its machine and limits alone; a property is counted once.
-use Rattle.std.specs.Prelude.{◌≡◌, ◌⊎◌, ℕ, ◌+◌, ◌*◌, Bool, true, false, List, [], ◌∷◌, ◌++◌, length, replicate, refl}
+use Rattle.std.specs.Prelude.{◌≡◌, ℕ, ◌+◌, ◌*◌, Bool, true, false, List, [], ◌∷◌, ◌++◌, length, replicate, refl}
 use Rattle.std.proofs.Common.{zero, suc, arith, suc-mul, zero-mul, inl, inr, sym, ap, subst, ◌∙◌}
 use Rattle.bn_theory.specs.Tables.{Table}
 use Rattle.bn_theory.specs.Counting.{one_if}

@@ -1,11 +1,9 @@
 -- The headline, from the answers; and that what is given has all that the headline speaks of.
-use Rattle.std.specs.Prelude.{◌≡◌, ℕ, ◌<◌, ◌≤◌, List, length, Option, Some, None, refl}
-use Rattle.std.proofs.Common.{arith, sym, ap, subst, ◌∙◌}
+use Rattle.std.specs.Prelude.{◌≡◌, ℕ, List, Option, Some, None}
+use Rattle.std.proofs.Common.{arith}
 use Rattle.bn_theory.specs.declared.place.Place.{Place}
-use Rattle.bn_io.specs.Told.{Grows}
 use Rattle.bn_machine.specs.Outcome.{Limits, Outcome}
 use Rattle.bn_machine.specs.OutcomeLaws.{outcome_exists, outcome_once}
-use Rattle.bn_netlist.specs.Spelling.{most_elements}
 use Rattle.bn_table.specs.Laws.{TablesAreMachines}
 use Rattle.bn_table.specs.Rows.{Named}
 use Rattle.bn_boards.specs.Boards.{size}
@@ -18,9 +16,9 @@ use Rattle.bn_reply.specs.TableReply.{WordReplies}
 use Rattle.bn_reply.specs.declared.status.Status.{Status}
 use Rattle.bn_reply.proofs.SettledLemmas.{standard_tells, word_tells}
 use Rattle.bn_reply.proofs.TableLemmas.{reads_table}
-use Rattle.bn_boardanswers.specs.Windows.{BoardReplies, long, large, board, ComesTo, CountsElements}
+use Rattle.bn_boardanswers.specs.Windows.{BoardReplies, long, large, board, ComesTo}
 use Rattle.bn_boardanswers.specs.RunReply.{TellsRun}
-use Rattle.bn_boardanswers.specs.Headline.{ComesOutOn, IsGiven, Tells, TookOutcome}
+use Rattle.bn_boardanswers.specs.Headline.{ComesOutOn, Tells, TookOutcome}
 use Rattle.bn_boardanswers.specs.Laws.{AnswersTellHeadline, BoardsAreCounted, GivenRunsHaveAll, MomentsAreCounted, RepliesTellOutcomes}
 use Rattle.bn_boardanswers.proofs.OutcomeLemmas.{runs-stop_within, runs-tell_outcomes}
 use Rattle.bn_boardanswers.proofs.TellingLemmas.{boards-tell_alike}

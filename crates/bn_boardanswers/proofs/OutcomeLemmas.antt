@@ -1,5 +1,5 @@
 -- What the text of a run tells is the outcome of the machine's own bounded run.
-use Rattle.std.specs.Prelude.{◌≡◌, ◌≢◌, ◌↔◌, ◌⊎◌, ℕ, ◌+◌, ◌-◌, ◌*◌, ◌<◌, ◌≤◌, List, [], ◌∷◌, ◌++◌, length, drop, Some, None, codes, refl}
+use Rattle.std.specs.Prelude.{◌≡◌, ◌≢◌, ◌↔◌, ◌⊎◌, ℕ, ◌+◌, ◌-◌, ◌*◌, ◌<◌, ◌≤◌, List, ◌++◌, length, drop, None}
 use Rattle.std.proofs.Common.{arith, zero-add, sym, ap, subst, ◌∙◌, inl, inr}
 use Rattle.std.proofs.lemmas.Bool.{cases_lt}
 use Rattle.bn_theory.specs.declared.place.Place.{Place}
@@ -19,23 +19,19 @@ use Rattle.bn_layout.specs.declared.exit.Exit.TheVariants as exit
 use Rattle.bn_layout.specs.declared.spelled.Spelled.{Spelled}
 use Rattle.bn_layout.specs.declared.spelled.SpelledTape.{SpelledTape}
 use Rattle.bn_layout.specs.Layouts.{IsNamedExit, moments, spelled_tape, config_tape, inside}
-use Rattle.bn_layout.specs.Flats.{Flat, IsAccepted, IsFlatOf, flat_start}
+use Rattle.bn_layout.specs.Flats.{Flat, IsFlatOf, flat_start}
 use Rattle.bn_layout.specs.Laws.{ExitsAreOne}
 use Rattle.bn_boards.specs.Boards.{size}
-use Rattle.bn_headline.specs.Costs.{HasCost, bound_of}
+use Rattle.bn_headline.specs.Costs.{bound_of}
 use Rattle.bn_headline.specs.Headline.{EndsWith, IsExitFor, RunsToExit}
 use Rattle.bn_headline.specs.Laws.{BoardsRunToTheirExit}
 use Rattle.bn_headline.proofs.CountLemmas.{before_end, costs-one, places_stop}
 use Rattle.bn_headline.proofs.OutcomeLemmas.{at_cost, not_unnamed}
-use Rattle.bn_reply.specs.Lines.{line}
-use Rattle.bn_reply.specs.Words.{letters_of}
-use Rattle.bn_reply.specs.declared.status.Status.{Status}
 use Rattle.bn_reply.specs.declared.status.Status.TheVariants as statuses
 use Rattle.bn_boardanswers.specs.Counts.{Counts}
-use Rattle.bn_boardanswers.specs.Windows.{ComesTo}
 use Rattle.bn_boardanswers.specs.RunText.{elements_line, exit_line, output_from, output_line, quadruple_line, rest_text, run_text, shown_lines, state_text, steps_line, stuck_line, tape_lines}
-use Rattle.bn_boardanswers.specs.RunReply.{HasMoment, TellsRun, after, reached, status_of}
-use Rattle.bn_boardanswers.specs.Headline.{IsGiven, outcome_line, outcome_rest, outcome_status}
+use Rattle.bn_boardanswers.specs.RunReply.{HasMoment, TellsRun, after, status_of}
+use Rattle.bn_boardanswers.specs.Headline.{outcome_line, outcome_rest, outcome_status}
 use Rattle.bn_boardanswers.specs.Laws.{MomentsAreCounted, RunsStopWithin, RunsTellOutcomes}
 use Rattle.bn_boardanswers.proofs.CountLemmas.{counts_once}
 use Rattle.bn_boardanswers.proofs.OutputLemmas.{output-read, halted_fits}

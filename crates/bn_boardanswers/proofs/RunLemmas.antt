@@ -1,32 +1,22 @@
 -- The run of a board has one exit, one count of moments and one text.
-use Rattle.std.specs.Prelude.{◌≡◌, ◌≢◌, ◌⊎◌, ℕ, ◌+◌, ◌-◌, ◌<◌, ◌≤◌, Bool, true, false, List, ◌++◌, Option, Some, None, is_some, slice_get, refl}
+use Rattle.std.specs.Prelude.{◌≡◌, ◌≢◌, ℕ, ◌+◌, ◌-◌, ◌<◌, ◌≤◌, true, false, Option, Some, None, is_some, refl}
 use Rattle.std.proofs.Common.{zero, suc, arith, zero-add, inl, inr, sym, ap, subst, ◌∙◌}
 use Rattle.std.proofs.lemmas.Bool.{cases_lt}
 use Rattle.bn_theory.specs.Runs.{Reaches}
-use Rattle.bn_theory.specs.Circuits.{Circuit, Goes}
+use Rattle.bn_theory.specs.Circuits.{Goes}
 use Rattle.bn_theory.specs.Counting.{one_if, tally}
 use Rattle.bn_theory.specs.RunLaws.{Reaches-run, run-zero}
-use Rattle.bn_theory.specs.Stepping.{places, run}
-use Rattle.bn_theory.specs.Tables.{Table}
 use Rattle.bn_theory.specs.declared.place.Place.{Place}
 use Rattle.bn_theory.specs.declared.config.Config.{Config}
-use Rattle.bn_theory.proofs.AlikeLemmas.{places-alike, run-alike}
 use Rattle.bn_theory.proofs.CountingLemmas.{tallies-add, tally-more, tally-zero}
 use Rattle.bn_theory.proofs.RunPartLemmas.{runs_split, steps_of_run}
-use Rattle.bn_machine.specs.Machine.{Program}
-use Rattle.bn_machine.specs.Outcome.{Limits, Outcome}
+use Rattle.bn_machine.specs.Outcome.{Outcome}
 use Rattle.bn_machine.specs.OutcomeLaws.{outcome_exists}
-use Rattle.bn_quad.specs.Quadruples.{Quadruples}
-use Rattle.bn_bennett.specs.Translation.{Translation}
-use Rattle.bn_modules.specs.Controls.{ControlState}
-use Rattle.bn_realise.specs.Banks.{input_line}
-use Rattle.bn_boards.specs.Boards.{base}
-use Rattle.bn_element.specs.Rotary.{west}
 use Rattle.bn_layout.specs.declared.exit.Exit.{Exit}
 use Rattle.bn_layout.specs.declared.exit.Exit.TheVariants as exit
-use Rattle.bn_layout.specs.BoardMoments.{IsBoardMoment, enters_first, left_by_end}
+use Rattle.bn_layout.specs.BoardMoments.{IsBoardMoment}
 use Rattle.bn_layout.specs.Layouts.{IsExit, IsNamedExit, Layout, inside, is_moment, moment_at, moments, named, unnamed}
-use Rattle.bn_layout.specs.Flats.{AreSameFlats, Flat, IsAccepted, IsFlatOf, flat_start, machine_of}
+use Rattle.bn_layout.specs.Flats.{Flat, flat_start, machine_of}
 use Rattle.bn_layout.proofs.ReadingLemmas.{own_accepted, own_flat}
 use Rattle.bn_headline.specs.Headline.{RunsToExit}
 use Rattle.bn_headline.specs.Laws.{BoardsRunToTheirExit}

@@ -6,33 +6,32 @@ use Rattle.std.proofs.Common.{zero, suc, arith, sym, ap, subst, ◌∙◌, inl, 
 use Rattle.std.proofs.lemmas.Bool.Decides.{eqb_tells}
 use Rattle.std.proofs.lemmas.List.{length-replicate, length-set}
 use Rattle.std.proofs.lemmas.Option.{slice_get_within}
-use Rattle.bn_theory.specs.Tables.{Table, IsReversible}
-use Rattle.bn_theory.specs.Circuits.{Circuit, target, source, IsCircuit, IsConfig, outputs_of, inputs_of, states_of}
+use Rattle.bn_theory.specs.Tables.{Table}
+use Rattle.bn_theory.specs.Circuits.{target, source, IsCircuit, IsConfig}
 use Rattle.bn_theory.specs.Laws.{same_lines, slice_get-set_same, slice_get-set_other}
 use Rattle.bn_theory.specs.Situations.{Situation}
 use Rattle.bn_theory.specs.declared.line.Line.{Line}
-use Rattle.bn_theory.specs.declared.place.Place.{Place}
 use Rattle.bn_theory.specs.declared.place.Place.TheVariants.{Enter, Left}
 use Rattle.bn_theory.specs.declared.config.Config.{Config}
-use Rattle.bn_element.specs.Rotary.{rotary, horizontal, vertical, east}
+use Rattle.bn_element.specs.Rotary.{rotary, horizontal, vertical}
 use Rattle.bn_column.specs.Columns.{line_at}
 use Rattle.bn_machine.specs.Machine.{Program}
 use Rattle.bn_machine.specs.Outcome.{Limits}
-use Rattle.bn_netlist.specs.Spelling.{Spelling, Admits, Spelled, circuit_of, text_of}
+use Rattle.bn_netlist.specs.Spelling.{Spelling, Admits, circuit_of, text_of}
 use Rattle.bn_netlist.proofs.SameTexts.{same_text}
 use Rattle.bn_netlist.specs.WireLaws.{rotary_inputs, rotary_outputs, rotary_states}
 use Rattle.bn_quad.specs.Quadruples.{Quadruples}
 use Rattle.bn_realise.specs.Banks.{IsBankWire, column_at, bottom_at, input_line, output_line}
 use Rattle.bn_realise.specs.BankWires.{bank_wire-IsWithinLines, bank_wire-no_input, output-no_wire}
 use Rattle.bn_modules.specs.Controls.{Tape as to_tape, in_number, out_number}
-use Rattle.bn_modules.specs.Networks.{IsNetWire, commands, replies, rightward, leftward, first_cell}
+use Rattle.bn_modules.specs.Networks.{IsNetWire, commands, replies, rightward, leftward}
 use Rattle.bn_controllaws.proofs.LineLemmas.{lines_some}
 use Rattle.bn_existence.proofs.RowLemmas.{cells_later}
 use Rattle.bn_boards.specs.Boards.{AreModules, IsBoardWire, own, between, StandsFor, bars_of, base, board_start, output_at, size, size_of}
 use Rattle.bn_boards.proofs.ModuleLemmas.{bank_within, banks_apart, input_once, one_table, output_once, wired_input, wired_output}
 use Rattle.bn_boards.proofs.MovedLemmas.{in_bank}
 use Rattle.bn_layout.specs.Layouts.{end_place}
-use Rattle.bn_layout.specs.Flats.{AreSameFlats, Flat, IsAccepted, IsFlatOf, flat_start, situation_at_start}
+use Rattle.bn_layout.specs.Flats.{AreSameFlats, Flat, IsFlatOf, flat_start, situation_at_start}
 use Rattle.bn_layout.specs.Laws.{BoardsRead}
 use Rattle.bn_layout.specs.Readings.{BoardReads}
 use Rattle.bn_boardanswers.specs.CompileReply.{IsFlatSpelling}

@@ -1,15 +1,14 @@
 -- What is told of a board is one, and the same of each board of one machine, word and limits.
-use Rattle.std.specs.Prelude.{◌≡◌, ℕ, ◌+◌, ◌-◌, List, [], ◌∷◌, ◌++◌, Option, Some, None, codes, drop, slice_get, refl}
+use Rattle.std.specs.Prelude.{◌≡◌, ℕ, ◌+◌, ◌-◌, List, [], ◌++◌, Option, Some, None, drop, slice_get, refl}
 use Rattle.std.proofs.Common.{zero, suc, inl, inr, sym, ap, subst, ◌∙◌}
 use Rattle.bn_theory.specs.Stepping.{places, run}
 use Rattle.bn_theory.specs.Tables.{Table}
 use Rattle.bn_theory.specs.declared.place.Place.{Place}
-use Rattle.bn_theory.specs.declared.place.Place.TheVariants.{Enter, Left}
+use Rattle.bn_theory.specs.declared.place.Place.TheVariants.{Enter}
 use Rattle.bn_theory.specs.declared.config.Config.{Config}
 use Rattle.bn_theory.specs.Circuits.{Circuit}
 use Rattle.bn_theory.proofs.AlikeLemmas.{places-alike, run-alike}
-use Rattle.bn_element.specs.Rotary.{east, west}
-use Rattle.bn_machine.specs.Machine.{Program}
+use Rattle.bn_element.specs.Rotary.{west}
 use Rattle.bn_machine.specs.Outcome.{Limits}
 use Rattle.bn_quad.specs.Quadruples.{Quadruples}
 use Rattle.bn_table.specs.Laws.{TablesAreMachines}
@@ -25,7 +24,7 @@ use Rattle.bn_layout.specs.declared.exit.Exit.{Exit}
 use Rattle.bn_layout.specs.declared.exit.Exit.TheVariants.{Inside, End, Stuck, Window, Unnamed}
 use Rattle.bn_layout.specs.BoardMoments.{IsBoardMoment, enters_first, left_by_end}
 use Rattle.bn_layout.specs.Layouts.{IsNamedExit, Layout, moments, spelled_tape}
-use Rattle.bn_layout.specs.Flats.{AreSameFlats, Flat, IsAccepted, IsFlatOf, flat_start, machine_of}
+use Rattle.bn_layout.specs.Flats.{AreSameFlats, Flat, flat_start, machine_of}
 use Rattle.bn_layout.specs.Laws.{ExitsAreOne, FlatsAreOne}
 use Rattle.bn_netlist.specs.Spelling.{text_of}
 use Rattle.bn_reply.specs.Answering.{AgreeInAll, HasAnswer}
@@ -33,7 +32,7 @@ use Rattle.bn_reply.specs.Codes.{IsReplyStatus}
 use Rattle.bn_reply.specs.declared.status.Status.{Status}
 use Rattle.bn_reply.specs.declared.status.Status.TheVariants as statuses
 use Rattle.bn_boardanswers.specs.Counts.{Counts}
-use Rattle.bn_boardanswers.specs.Windows.{AreSmall, ComesTo}
+use Rattle.bn_boardanswers.specs.Windows.{ComesTo}
 use Rattle.bn_boardanswers.specs.CompileReply.{CompileIsSettled, TellsStart}
 use Rattle.bn_boardanswers.specs.RunText.{elements_line, exit_line, output_from, output_line, quadruple_line, rest_text, run_text, shown_lines, state_text, steps_line, stuck_line, tape_lines}
 use Rattle.bn_boardanswers.specs.RunReply.{HasMoment, RunIsSettled, TellsRun, after, budget, reached, status_of}

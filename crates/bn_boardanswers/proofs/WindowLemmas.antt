@@ -10,12 +10,11 @@ use Rattle.bn_stages.specs.Stages.{IsStandardMachine}
 use Rattle.bn_table.specs.Laws.{TablesAreMachines}
 use Rattle.bn_table.specs.Rows.{FitsTable, Named}
 use Rattle.bn_boards.specs.Boards.{size}
-use Rattle.bn_layout.specs.Flats.{Flat, IsAccepted, IsFlatOf}
+use Rattle.bn_layout.specs.Flats.{Flat, IsFlatOf}
 use Rattle.bn_existence.specs.Laws.{FlatsAreThere}
 use Rattle.bn_reply.specs.Answering.{AgreeInAll, HasAnswer, IsOneAnswer, IsSettled}
 use Rattle.bn_reply.specs.Codes.{IsReplyStatus}
 use Rattle.bn_reply.specs.TableReply.{ReadsStandard, WordReplies}
-use Rattle.bn_reply.specs.Words.{IsSpelledBy}
 use Rattle.bn_reply.specs.declared.status.Status.{Status}
 use Rattle.bn_reply.specs.declared.status.Status.TheVariants as statuses
 use Rattle.bn_reply.proofs.SettledLemmas.{agree, standard_settled, word_settled}
@@ -104,7 +103,7 @@ pub window_settled : (tells : Named → Flat → Status → List ℕ → List Pl
 window_settled tells word l bytes machines flats counted small some one status =
     standard_settled (λ t. WordReplies (BoardReplies (tells t) t.machine l) t word) bytes
     (λ t reads. word_settled (BoardReplies (tells t) t.machine l) t (reads_table bytes t reads.reads) word (λ symbols spelled.
-        let given : IsGiven bytes word l t symbols = record { reads = reads; spelled = spelled; small = small } in
-        let standard = standard_machine machines bytes t reads in
-        let flat = flats t.machine symbols l standard.0 standard.1 in
-        board_settled (tells t) t.machine l symbols counted (flat.0, flat.1) (λ f. some t symbols f given) (λ f g. one t symbols f g given) (status t)))
+    let given : IsGiven bytes word l t symbols = record { reads = reads; spelled = spelled; small = small } in
+    let standard = standard_machine machines bytes t reads in
+    let flat = flats t.machine symbols l standard.0 standard.1 in
+    board_settled (tells t) t.machine l symbols counted (flat.0, flat.1) (λ f. some t symbols f given) (λ f g. one t symbols f g given) (status t)))

@@ -1,5 +1,5 @@
 -- What the laws of this crate say, each the contract of a function that only names the laws below it.
-use Rattle.std.specs.Prelude.{◌≡◌, ◌↔◌, ℕ, ◌+◌, ◌<◌, ◌≤◌, List, [], length, Option, Some, None}
+use Rattle.std.specs.Prelude.{◌≡◌, ◌↔◌, ℕ, ◌+◌, ◌<◌, ◌≤◌, List, length, Option, Some, None}
 use Rattle.bn_io.specs.Told.{Grows}
 use Rattle.bn_theory.specs.declared.place.Place.{Place}
 use Rattle.bn_theory.specs.Stepping.{places}
@@ -19,7 +19,7 @@ use Rattle.bn_boardanswers.specs.Counts.{Counts}
 use Rattle.bn_boardanswers.specs.Windows.{AreSmall, ComesTo, CountsElements}
 use Rattle.bn_boardanswers.specs.CompileReply.{IsFlatSpelling}
 use Rattle.bn_boardanswers.specs.RunText.{run_text}
-use Rattle.bn_boardanswers.specs.RunReply.{HasMoment, RunReplies, TellsRun, after, budget, reached}
+use Rattle.bn_boardanswers.specs.RunReply.{HasMoment, RunReplies, TellsRun, after, budget}
 use Rattle.bn_boardanswers.specs.Headline.{AsksRun, ComesOutOn, IsGiven, TellsHeadline, TellsOutcome, TookOutcome, most_bytes}
 
 -- two counts of the elements of one machine's board agree, and each board has as many
