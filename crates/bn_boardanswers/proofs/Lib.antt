@@ -6,3 +6,4 @@ pub mod TellingLemmas
 pub mod OutputLemmas
 pub mod OutcomeLemmas
 pub mod HeadlineLemmas
+pub mod CompileLemmas

@@ -276,28 +276,25 @@ boards-spelled read p symbols l f flat accepted =
 
 -- ---- one text
 
-module _ (f g : Flat) (same : AreSameFlats f g) (p : Program) (symbols : List ℕ) (l : Limits) (flat : IsFlatOf p symbols l f)
-    (other : IsFlatOf p symbols l g) (s u : Spelling) (a : IsFlatSpelling f s) (b : IsFlatSpelling g u) where
-  -- a wire of the one is a wire of the other
-  target_of : (from : Line) → target s.wires from ≡ target f.circuit.wires from
-  target_of from = options_one (target s.wires from) (target f.circuit.wires from) (λ to h. (flat.is_board.wires from to).1 ((a.wires from to).0 h))
-      (λ to h. (a.wires from to).1 ((flat.is_board.wires from to).0 h))
+-- the wires of a board's spelling are the board's
+pub target_of : (f : Flat) (p : Program) (symbols : List ℕ) (l : Limits) → IsFlatOf p symbols l f → (s : Spelling) → IsFlatSpelling f s → (from : Line) →
+    target s.wires from ≡ target f.circuit.wires from
+target_of f p symbols l flat s a from =
+    options_one (target s.wires from) (target f.circuit.wires from) (λ to h. (flat.is_board.wires from to).1 ((a.wires from to).0 h))
+    (λ to h. (a.wires from to).1 ((flat.is_board.wires from to).0 h))
 
-  target_there : (from : Line) → target u.wires from ≡ target g.circuit.wires from
-  target_there from = options_one (target u.wires from) (target g.circuit.wires from) (λ to h. (other.is_board.wires from to).1 ((b.wires from to).0 h))
-      (λ to h. (b.wires from to).1 ((other.is_board.wires from to).0 h))
+pub entered_once : (c d : Line) → Enter c.element c.line ≡ Enter d.element d.line → c ≡ d
+entered_once c d h = same_lines c d (cc) (cc)
 
-  entered_once : (c d : Line) → Enter c.element c.line ≡ Enter d.element d.line → c ≡ d
-  entered_once c d h = same_lines c d (cc) (cc)
+pub left_once : (c d : Line) → Left c.element c.line ≡ Left d.element d.line → c ≡ d
+left_once c d h = same_lines c d (cc) (cc)
 
-  left_once : (c d : Line) → Left c.element c.line ≡ Left d.element d.line → c ≡ d
-  left_once c d h = same_lines c d (cc) (cc)
-
-  -- one text
-  pub spelled_alike : text_of s ≡ text_of u
-  spelled_alike =
-      let elements : s.elements ≡ u.elements = a.elements ∙ ap size same.network.tables ∙ sym b.elements in
-      let config : s.config ≡ u.config = a.config ∙ same.start ∙ sym b.config in
-      let start : s.start ≡ u.start = entered_once s.start u.start (a.start ∙ ap (λ (c : Config). c.place) same.start ∙ sym b.start) in
-      let end : s.end ≡ u.end = left_once s.end u.end (a.end ∙ ap end_place same.layout ∙ sym b.end) in
-      same_text s u elements (λ from. target_of from ∙ same.circuit.targets from ∙ sym (target_there from)) config start end
+-- boards that are the same have one text
+pub spelled_alike : (f g : Flat) → AreSameFlats f g → (p : Program) (symbols : List ℕ) (l : Limits) → IsFlatOf p symbols l f → IsFlatOf p symbols l g →
+    (s u : Spelling) → IsFlatSpelling f s → IsFlatSpelling g u → text_of s ≡ text_of u
+spelled_alike f g same p symbols l flat other s u a b =
+    let elements : s.elements ≡ u.elements = a.elements ∙ ap size same.network.tables ∙ sym b.elements in
+    let config : s.config ≡ u.config = a.config ∙ same.start ∙ sym b.config in
+    let start : s.start ≡ u.start = entered_once s.start u.start (a.start ∙ ap (λ (c : Config). c.place) same.start ∙ sym b.start) in
+    let end : s.end ≡ u.end = left_once s.end u.end (a.end ∙ ap end_place same.layout ∙ sym b.end) in
+    same_text s u elements (λ from. target_of f p symbols l flat s a from ∙ same.circuit.targets from ∙ sym (target_of g p symbols l other u b from)) config start end

@@ -4,4 +4,5 @@ pub mod CompileReply
 pub mod RunText
 pub mod RunReply
 pub mod Headline
+pub mod CompileLaws
 pub mod Laws

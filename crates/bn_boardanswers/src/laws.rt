@@ -1,5 +1,6 @@
 //! Laws on the answers of the commands on boards. Each function only names the laws below it; its contract is the law.
 ghost use Rattle.bn_boardanswers.specs.CompileReply.{CompileIsSettled};
+ghost use Rattle.bn_boardanswers.specs.CompileLaws.{CompiledTextsStepBack, TextsDifferInWords};
 ghost use Rattle.bn_boardanswers.specs.RunReply.{RunIsSettled};
 ghost use Rattle.bn_boardanswers.specs.Laws.{AnswersTellHeadline, BoardsAreCounted, BoardsAreSpelled, BoardsHaveRuns};
 ghost use Rattle.bn_boardanswers.specs.Laws.{BoardsTellAlike, ExitsAreNamed, GivenBoardsAreAccepted, GivenRunsHaveAll};
@@ -9,7 +10,10 @@ use bn_bennett::translations_are_one;
 use bn_controllaws::controls_are_one;
 use bn_existence::flats_are_there;
 use bn_headline::{boards_have_moments, boards_run_to_their_exit};
-use bn_layout::{boards_are_read, exits_are_one, flats_are_one};
+use bn_layout::{
+    boards_are_read, exits_are_one, flats_are_one, words_differ_in_cells, words_share_boards,
+};
+use bn_netreply::circuits_have_one_reply;
 use bn_table::tables_are_machines;
 
 /// The elements of a board are counted by its machine and limits alone.
@@ -76,6 +80,23 @@ pub fn compile_has_one_reply()
     flats_are_one();
     boards_are_counted();
     boards_are_spelled();
+}
+
+/// The texts of two words on one table in one window spell one circuit with one start, end and place, whose bars differ at
+/// most at bottoms of tape 1's cells.
+pub fn texts_differ_in_words()
+    ensures { TextsDifferInWords }
+{
+    tables_are_machines();
+    words_share_boards();
+    words_differ_in_cells();
+}
+
+/// What `step` makes of a compiled text, `back` takes back.
+pub fn compiled_texts_step_back()
+    ensures { CompiledTextsStepBack }
+{
+    circuits_have_one_reply();
 }
 
 /// To all words, limits that may be asked for, numbers of steps and bytes `run` has an answer, and only one.
