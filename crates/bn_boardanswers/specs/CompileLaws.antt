@@ -20,7 +20,8 @@ use Rattle.bn_boardanswers.specs.Headline.{IsGiven}
 
 -- ---- two words
 
--- the same circuit with the same start, end, place and steps; and bars that differ at most at bottoms of tape 1's cells
+-- the same circuit with the same start, end, place and steps; and bars that differ at most at bottoms of tape 1's
+-- cells
 pub record DifferInCells (l : Limits) (b : Layout) (s u : Spelling) : Type 0 where
   pub elements : s.elements ≡ u.elements
   pub targets : (from : Line) → target s.wires from ≡ target u.wires from

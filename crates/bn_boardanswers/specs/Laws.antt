@@ -20,7 +20,8 @@ use Rattle.bn_boardanswers.specs.Windows.{AreSmall, ComesTo, CountsElements}
 use Rattle.bn_boardanswers.specs.CompileReply.{IsFlatSpelling}
 use Rattle.bn_boardanswers.specs.RunText.{run_text}
 use Rattle.bn_boardanswers.specs.RunReply.{HasMoment, RunReplies, TellsRun, after, budget}
-use Rattle.bn_boardanswers.specs.Headline.{AsksRun, ComesOutOn, IsGiven, TellsHeadline, TellsOutcome, TookOutcome, most_bytes}
+use Rattle.bn_boardanswers.specs.Headline.{AsksRun, ComesOutOn, IsGiven, TellsHeadline}
+use Rattle.bn_boardanswers.specs.Headline.{TellsOutcome, TookOutcome, most_bytes}
 
 -- two counts of the elements of one machine's board agree, and each board has as many
 abbrev pub BoardsAreCounted : Type 0
@@ -67,7 +68,8 @@ abbrev pub BoardsHaveRuns : Type 0
 BoardsHaveRuns =
     (bytes letters : List ℕ) (l : Limits) (t : Named) (symbols : List ℕ) (f : Flat) (given : Option ℕ)
     → IsGiven bytes letters l t symbols → ComesTo t.machine l symbols f
-    → (status : Status) × (text : List ℕ) × TellsRun given t f status text (places f.circuit (budget f given) (flat_start f))
+    → (status : Status) × (text : List ℕ)
+    × TellsRun given t f status text (places f.circuit (budget f given) (flat_start f))
 
 -- the run of a board without a number of steps tells the outcome of the machine's own bounded run
 abbrev pub RunsTellOutcomes : Type 0
@@ -77,7 +79,8 @@ RunsTellOutcomes =
     → TellsRun None t f status text told
     → (i : ℕ) (o : Outcome) → HasOutcome t.machine symbols l i o → TellsOutcome t l symbols f i o status text
 
--- With a number of steps the status is `Inside` exactly where that is below the cost; from the cost on the run tells what it tells without a number of steps, and below it what the board shows after so many.
+-- With a number of steps the status is `Inside` exactly where that is below the cost; from the cost on the run tells
+-- what it tells without a number of steps, and below it what the board shows after so many.
 abbrev pub RunsStopWithin : Type 0
 RunsStopWithin =
     (bytes letters : List ℕ) (l : Limits) (t : Named) (symbols : List ℕ) (f : Flat) (e : ℕ) (status : Status)
@@ -88,7 +91,9 @@ RunsStopWithin =
     × (cost ≤ e → TellsRun None t f status text told)
     × (e < cost → text ≡ run_text t f (after f e) 0 exit.Inside)
 
--- Each machine in standard form, word of its letters and limits that may be asked for have one count of elements and one outcome; and where the word fits and the elements aren't too many, they have a board, and all their boards are the same up to the order of wires, with one cost.
+-- Each machine in standard form, word of its letters and limits that may be asked for have one count of elements and
+-- one outcome; and where the word fits and the elements aren't too many, they have a board, and all their boards are
+-- the same up to the order of wires, with one cost.
 pub record HasAll (p : Program) (l : Limits) (symbols : List ℕ) : Type 0 where
   pub count : ℕ
   pub counts : CountsElements p l count

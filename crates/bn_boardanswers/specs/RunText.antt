@@ -1,5 +1,6 @@
 -- The text of a run of a board (this project's own profile): what the configuration shows to which the run has come.
-use Rattle.std.specs.Prelude.{ℕ, zero, suc, ◌==◌, if◌then◌else◌, drop, ℤ, pos, negsuc, List, [], ◌∷◌, ◌++◌, Option, Some, None, codes, decimal, slice_index_or}
+use Rattle.std.specs.Prelude.{ℕ, zero, suc, ◌==◌, if◌then◌else◌, drop, ℤ, pos, negsuc, List, [], ◌∷◌, ◌++◌}
+use Rattle.std.specs.Prelude.{Option, Some, None, codes, decimal, slice_index_or}
 use Rattle.bn_theory.specs.declared.place.Place.{Place}
 use Rattle.bn_theory.specs.declared.config.Config.{Config}
 use Rattle.bn_machine.specs.declared.quint.Side.{Side}
@@ -41,7 +42,8 @@ window_line tape s = line (codes "exit window " ∷ decimal tape ∷ codes " " �
 abbrev pub exit_line : Named → Flat → Place → Exit → List ℕ
 exit_line t f p Inside = line (codes "inside " ∷ line_text (line_at p) ∷ [])
 exit_line t f p End = line (codes "exit end" ∷ [])
-exit_line t f p (Stuck a c) = stuck_line t (state_text t (machine_state_by f.translation.final_state (name_of f.translation a))) c
+exit_line t f p (Stuck a c) =
+    stuck_line t (state_text t (machine_state_by f.translation.final_state (name_of f.translation a))) c
 exit_line t f p (Window n s) = window_line n s
 exit_line t f p Unnamed = []
 
@@ -72,7 +74,9 @@ cells_text t tape (None ∷ cs) = codes " ?" ++ cells_text t tape cs
 cells_text t tape (Some s ∷ cs) = codes " " ++ (symbol_text t tape s ++ cells_text t tape cs)
 
 abbrev pub tape_line : Named → ℕ → SpelledTape → List ℕ
-tape_line t tape s = line (codes "tape " ∷ decimal tape ∷ codes " from " ∷ position_text s.first ∷ codes " head " ∷ head_text s.head ∷ codes ":" ∷ cells_text t tape s.cells ∷ [])
+tape_line t tape s =
+    line (codes "tape " ∷ decimal tape ∷ codes " from " ∷ position_text s.first ∷ codes " head " ∷ head_text s.head
+    ∷ codes ":" ∷ cells_text t tape s.cells ∷ [])
 
 -- the lines of three tapes
 abbrev pub tape_lines : Named → SpelledTape → SpelledTape → SpelledTape → List ℕ
@@ -101,13 +105,19 @@ output_line t y = line (codes "output =" ∷ letters_of t y ∷ [])
 
 -- the three tapes that the cells of a board show with these bars
 abbrev pub shown_lines : Named → Flat → List ℕ → List ℕ
-shown_lines t f states = tape_lines t (spelled_tape f.layout states 1) (spelled_tape f.layout states 2) (spelled_tape f.layout states 3)
+shown_lines t f states =
+    tape_lines t (spelled_tape f.layout states 1) (spelled_tape f.layout states 2) (spelled_tape f.layout states 3)
 
--- the lines behind that of the steps: the tapes, and at the end alone the steps of the machine of quadruples and the output, which is read from cell 1 of tape 3
+-- the lines behind that of the steps: the tapes, and at the end alone the steps of the machine of quadruples and the
+-- output, which is read from cell 1 of tape 3
 abbrev pub rest_text : Named → Flat → Config → ℕ → Exit → List ℕ
-rest_text t f d quadruple_steps End = quadruple_line quadruple_steps ++ (shown_lines t f d.states ++ output_line t (output_from (drop 1 (spelled_tape f.layout d.states 3).cells)))
+rest_text t f d quadruple_steps End =
+    quadruple_line quadruple_steps ++ (shown_lines t f d.states
+    ++ output_line t (output_from (drop 1 (spelled_tape f.layout d.states 3).cells)))
 rest_text t f d quadruple_steps _ = shown_lines t f d.states
 
 -- the text of a run that has come to this configuration, whose exit is this
 abbrev pub run_text : Named → Flat → Config → ℕ → Exit → List ℕ
-run_text t f d quadruple_steps exit = elements_line (size f.network.tables) ++ (exit_line t f d.place exit ++ (steps_line d.steps ++ rest_text t f d quadruple_steps exit))
+run_text t f d quadruple_steps exit =
+    elements_line (size f.network.tables) ++ (exit_line t f d.place exit
+    ++ (steps_line d.steps ++ rest_text t f d quadruple_steps exit))

@@ -1,6 +1,6 @@
 -- What the commands answer that take a table, a word and four limits, by what is answered of the board (this project's
--- own profile). What is wrong with the bytes comes first, then with the machine, the word's letters, its length, and the
--- number of elements.
+-- own profile). What is wrong with the bytes comes first, then with the machine, the word's letters, its length, and
+-- the number of elements.
 use Rattle.std.specs.Prelude.{◌≡◌, ℕ, ◌<◌, ◌≤◌, List, [], ◌∷◌, length, codes, decimal}
 use Rattle.bn_theory.specs.declared.place.Place.{Place}
 use Rattle.bn_machine.specs.Machine.{Program}
@@ -32,8 +32,8 @@ pub record CountsElements (p : Program) (l : Limits) (count : ℕ) : Type 0 wher
   pub numbering : IsNumbering translation.machine names
   pub is : count ≡ elements_by translation.machine l (length names)
 
--- The machine, a word of these symbols and the limits come to this board: the word fits on tape 1, the board is theirs,
--- and it hasn't too many elements.
+-- The machine, a word of these symbols and the limits come to this board: the word fits on tape 1, the board is
+-- theirs, and it hasn't too many elements.
 pub record ComesTo (p : Program) (l : Limits) (symbols : List ℕ) (f : Flat) : Type 0 where
   pub fits : length symbols ≤ l.right
   pub flat : IsFlatOf p symbols l f
@@ -46,8 +46,8 @@ long_line letters = line (codes "size: word needs " ∷ decimal letters ∷ [])
 abbrev pub large_line : ℕ → List ℕ
 large_line elements = line (codes "size: elements " ∷ decimal elements ∷ [])
 
--- What is answered to a word of these symbols, where `tells` is what is answered of its board: the word is too long; it
--- isn't, and the board has too many elements; or that.
+-- What is answered to a word of these symbols, where `tells` is what is answered of its board: the word is too long;
+-- it isn't, and the board has too many elements; or that.
 pub data BoardReplies (tells : Flat → Status → List ℕ → List Place → Type 0) (p : Program) (l : Limits)
     (symbols : List ℕ) (status : Status) (text : List ℕ) (told : List Place) : Type 0 where
   long : l.right < length symbols → text ≡ long_line (length symbols) → status ≡ statuses.Size → told ≡ []

@@ -24,8 +24,8 @@ pub fn boards_are_counted()
     controls_are_one();
 }
 
-/// A table's machine in standard form, a word of its letters and limits that may be asked for may be compiled, where their
-/// board isn't too large.
+/// A table's machine in standard form, a word of its letters and limits that may be asked for may be compiled,
+/// where their board isn't too large.
 pub fn given_boards_are_accepted()
     ensures { GivenBoardsAreAccepted }
 {
@@ -82,8 +82,8 @@ pub fn compile_has_one_reply()
     boards_are_spelled();
 }
 
-/// The texts of two words on one table in one window spell one circuit with one start, end and place, whose bars differ at
-/// most at bottoms of tape 1's cells.
+/// The texts of two words on one table in one window spell one circuit with one start, end and place, whose bars
+/// differ at most at bottoms of tape 1's cells.
 pub fn texts_differ_in_words()
     ensures { TextsDifferInWords }
 {
@@ -122,8 +122,8 @@ pub fn runs_tell_outcomes()
     moments_are_counted();
 }
 
-/// With a greatest number of steps the run is inside exactly where that is below the board's cost, and else tells what it
-/// tells without one.
+/// With a greatest number of steps the run is inside exactly where that is below the board's cost, and else tells
+/// what it tells without one.
 pub fn runs_stop_within()
     ensures { RunsStopWithin }
 {
@@ -132,8 +132,8 @@ pub fn runs_stop_within()
     boards_run_to_their_exit();
 }
 
-/// Each machine, word and limits have one count of elements and one outcome, and a board, the same up to the order of
-/// wires, with one cost, where it isn't too large.
+/// Each machine, word and limits have one count of elements and one outcome, and a board, the same up to the order
+/// of wires, with one cost, where it isn't too large.
 pub fn given_runs_have_all()
     ensures { GivenRunsHaveAll }
 {
