@@ -7,3 +7,4 @@ pub mod OutputLemmas
 pub mod OutcomeLemmas
 pub mod HeadlineLemmas
 pub mod CompileLemmas
+pub mod ClosedLemmas
