@@ -1,11 +1,11 @@
 -- The run of a board has one exit, one count of moments and one text.
-use Rattle.std.specs.Prelude.{◌≡◌, ◌≢◌, ℕ, ◌+◌, ◌-◌, ◌<◌, ◌≤◌, true, false, Option, Some, None, is_some, refl}
+use Rattle.std.specs.Prelude.{◌≡◌, ◌≢◌, ℕ, ◌+◌, ◌-◌, ◌<◌, ◌≤◌, Bool, true, false, Option, Some, None, is_some, refl}
 use Rattle.std.proofs.Common.{zero, suc, arith, zero-add, inl, inr, sym, ap, subst, ◌∙◌}
 use Rattle.std.proofs.lemmas.Bool.{cases_lt}
 use Rattle.bn_theory.specs.Runs.{Reaches}
-use Rattle.bn_theory.specs.Circuits.{Goes}
+use Rattle.bn_theory.specs.Circuits.{Circuit, Goes, IsStuck}
 use Rattle.bn_theory.specs.Counting.{one_if, tally}
-use Rattle.bn_theory.specs.RunLaws.{Reaches-run, run-zero}
+use Rattle.bn_theory.specs.RunLaws.{Reaches-run, next-stuck, run-zero}
 use Rattle.bn_theory.specs.declared.place.Place.{Place}
 use Rattle.bn_theory.specs.declared.config.Config.{Config}
 use Rattle.bn_theory.proofs.CountingLemmas.{tallies-add, tally-more, tally-zero}
@@ -15,7 +15,7 @@ use Rattle.bn_machine.specs.OutcomeLaws.{outcome_exists}
 use Rattle.bn_layout.specs.declared.exit.Exit.{Exit}
 use Rattle.bn_layout.specs.declared.exit.Exit.TheVariants as exit
 use Rattle.bn_layout.specs.BoardMoments.{IsBoardMoment}
-use Rattle.bn_layout.specs.Layouts.{IsExit, IsNamedExit, Layout, inside, is_moment, moment_at, moments, named, unnamed}
+use Rattle.bn_layout.specs.Layouts.{IsExit, IsNamedExit, Layout, ends, inside, is_moment, left, moment_at, moments, named, right, stuck, unnamed}
 use Rattle.bn_layout.specs.Flats.{Flat, flat_start, machine_of}
 use Rattle.bn_layout.proofs.ReadingLemmas.{own_accepted, own_flat}
 use Rattle.bn_headline.specs.Headline.{RunsToExit}
@@ -50,7 +50,21 @@ exits-named boards p symbols l f flat accepted n =
               (ran.exit, subst (λ (c : Config). IsNamedExit f.layout c.place ran.exit) (sym (at_cost p f i o ran n high)) there))
         ]
 
+-- what has a name isn't without one
+pub named_apart : (b : Layout) (at : Place) (e : Exit) → IsNamedExit b at e → e ≢ exit.Unnamed
+named_apart b at e (inside m j there) h = cc
+named_apart b at e (ends there) h = cc
+named_apart b at e (stuck q a t c kept low there) h = cc
+named_apart b at e (right t some few there) h = cc
+named_apart b at e (left t some few there) h = cc
+
 -- ---- the number of moments
+
+-- none is counted where no step can be made
+tally_stuck : (k : Circuit) (test : Config → Bool) (t : ℕ) (c : Config) → IsStuck k c → tally test k t c ≡ 0
+unfolding tally
+tally_stuck k test zero c ended = refl
+tally_stuck k test (suc t) c ended = rw (next-stuck k c ended) refl
 
 module _ (f : Flat) (cost : ℕ) (run_to : Reaches (Goes f.circuit) cost (flat_start f) (after f cost)) where
   -- a front of the run
@@ -110,11 +124,13 @@ moments-counted boards have p symbols l f flat accepted n =
     own : HasMoments f.limits f
     own = have p f.word f.limits f (own_flat p symbols l f flat) (own_accepted p symbols l f flat accepted)
 
-    by_order : (i : ℕ) (o : Outcome) → RunsToExit p f i o → Counts (HasMoment f) ((after f n).steps + 1) (moments f.layout f.circuit (after f n).steps (flat_start f))
+    by_order : (i : ℕ) (o : Outcome) → RunsToExit p f i o →
+        Counts (HasMoment f) ((after f n).steps + 1) (moments f.layout f.circuit (after f n).steps (flat_start f))
+        × (moments f.layout f.circuit n (flat_start f) ≡ moments f.layout f.circuit (after f n).steps (flat_start f))
     by_order i o ran =
         let steps = (after f n).steps in
         let more : suc steps ≡ steps + 1 = omega arith in
-        subst (λ m. Counts (HasMoment f) m (moments f.layout f.circuit steps (flat_start f))) more (count_to f ran.cost ran.run_to found steps within)
+        (subst (λ m. Counts (HasMoment f) m (moments f.layout f.circuit steps (flat_start f))) more (count_to f ran.cost ran.run_to found steps made.0), made.1)
       where
         found : (t a : ℕ) → t ≤ ran.cost → (moment_at f.layout (after f t) ≡ Some a → HasMoment f t) × (IsBoardMoment (machine_of f) f.limits f.names f.network (after f t) a → moment_at f.layout (after f t) ≡ Some a)
         found t a low = (
@@ -122,10 +138,24 @@ moments-counted boards have p symbols l f flat accepted n =
           (λ h. (own.found ran.cost t a ran.has_cost low).1 ((own.sums ran.cost t a ran.has_cost low).0 h)),
         )
 
-        within : (after f n).steps ≤ ran.cost
-        within =
+        -- from the cost on no moment more is counted
+        no_more : ran.cost ≤ n → moments f.layout f.circuit n (flat_start f) ≡ moments f.layout f.circuit ran.cost (flat_start f)
+        no_more high =
+            let both = tallies-add.0 f.circuit (is_moment f.layout) ran.cost (n - ran.cost) (flat_start f) (after f ran.cost) ran.run_to in
+            let none = tally_stuck f.circuit (is_moment f.layout) (n - ran.cost) (after f ran.cost) ran.ended in
+            let sum : ran.cost + (n - ran.cost) ≡ n = omega arith in
+            let whole = ap (λ m. tally (is_moment f.layout) f.circuit m (flat_start f)) sum in
+            omega (arith, both, none, whole)
+
+        made : ((after f n).steps ≤ ran.cost) × (moments f.layout f.circuit n (flat_start f) ≡ moments f.layout f.circuit (after f n).steps (flat_start f))
+        made =
             elim (cases_lt n ran.cost) [
-              | inl low ↦ (let is = steps_made f ran.cost ran.run_to n (omega arith) in omega arith)
+              | inl low ↦
+                  (let is = steps_made f ran.cost ran.run_to n (omega arith) in
+                  (omega arith, ap (λ m. moments f.layout f.circuit m (flat_start f)) (sym is)))
               | inr high ↦
-                  (let there = ap (λ (c : Config). c.steps) (at_cost p f i o ran n high) in let is = steps_made f ran.cost ran.run_to ran.cost (omega arith) in omega arith)
+                  (let there = ap (λ (c : Config). c.steps) (at_cost p f i o ran n high) in
+                  let is = steps_made f ran.cost ran.run_to ran.cost (omega arith) in
+                  let steps : ran.cost ≡ (after f n).steps = omega arith in
+                  (omega arith, no_more high ∙ ap (λ m. moments f.layout f.circuit m (flat_start f)) steps))
             ]

@@ -298,3 +298,11 @@ spelled_alike f g same p symbols l flat other s u a b =
     let start : s.start ≡ u.start = entered_once s.start u.start (a.start ∙ ap (λ (c : Config). c.place) same.start ∙ sym b.start) in
     let end : s.end ≡ u.end = left_once s.end u.end (a.end ∙ ap end_place same.layout ∙ sym b.end) in
     same_text s u elements (λ from. target_of f p symbols l flat s a from ∙ same.circuit.targets from ∙ sym (target_of g p symbols l other u b from)) config start end
+
+-- and one board has one text
+pub spelled_once : (p : Program) (symbols : List ℕ) (l : Limits) (f : Flat) → IsFlatOf p symbols l f → (s u : Spelling) → IsFlatSpelling f s → IsFlatSpelling f u →
+    text_of s ≡ text_of u
+spelled_once p symbols l f flat s u a b =
+    let start : s.start ≡ u.start = entered_once s.start u.start (a.start ∙ sym b.start) in
+    let end : s.end ≡ u.end = left_once s.end u.end (a.end ∙ sym b.end) in
+    same_text s u (a.elements ∙ sym b.elements) (λ from. target_of f p symbols l flat s a from ∙ sym (target_of f p symbols l flat u b from)) (a.config ∙ sym b.config) start end

@@ -1,5 +1,5 @@
 -- What is told of a board is one, and the same of each board of one machine, word and limits.
-use Rattle.std.specs.Prelude.{◌≡◌, ℕ, ◌+◌, ◌-◌, List, [], ◌++◌, Option, Some, None, drop, slice_get, refl}
+use Rattle.std.specs.Prelude.{◌≡◌, ◌≢◌, ℕ, ◌+◌, ◌-◌, List, [], ◌++◌, Option, Some, None, drop, slice_get, refl}
 use Rattle.std.proofs.Common.{zero, suc, inl, inr, sym, ap, subst, ◌∙◌}
 use Rattle.bn_theory.specs.Stepping.{places, run}
 use Rattle.bn_theory.specs.Tables.{Table}
@@ -21,9 +21,10 @@ use Rattle.bn_boards.specs.Boards.{base, size}
 use Rattle.bn_existence.specs.Laws.{FlatsAreThere}
 use Rattle.bn_headline.specs.Costs.{bound_of}
 use Rattle.bn_layout.specs.declared.exit.Exit.{Exit}
+use Rattle.bn_layout.specs.declared.exit.Exit.TheVariants as exits_of
 use Rattle.bn_layout.specs.declared.exit.Exit.TheVariants.{Inside, End, Stuck, Window, Unnamed}
 use Rattle.bn_layout.specs.BoardMoments.{IsBoardMoment, enters_first, left_by_end}
-use Rattle.bn_layout.specs.Layouts.{IsNamedExit, Layout, moments, spelled_tape}
+use Rattle.bn_layout.specs.Layouts.{IsExit, named, unnamed, IsNamedExit, Layout, moments, spelled_tape}
 use Rattle.bn_layout.specs.Flats.{AreSameFlats, Flat, flat_start, machine_of}
 use Rattle.bn_layout.specs.Laws.{ExitsAreOne, FlatsAreOne}
 use Rattle.bn_netlist.specs.Spelling.{text_of}
@@ -37,9 +38,10 @@ use Rattle.bn_boardanswers.specs.CompileReply.{CompileIsSettled, TellsStart}
 use Rattle.bn_boardanswers.specs.RunText.{elements_line, exit_line, output_from, output_line, quadruple_line, rest_text, run_text, shown_lines, state_text, steps_line, stuck_line, tape_lines}
 use Rattle.bn_boardanswers.specs.RunReply.{HasMoment, RunIsSettled, TellsRun, after, budget, reached, status_of}
 use Rattle.bn_boardanswers.specs.Headline.{IsGiven}
-use Rattle.bn_boardanswers.specs.Laws.{BoardsAreCounted, BoardsAreSpelled, BoardsHaveRuns, BoardsTellAlike, ExitsAreNamed, MomentsAreCounted}
+use Rattle.bn_boardanswers.specs.Laws.{BoardsAreCounted, BoardsAreSpelled, BoardsHaveRuns, BoardsTellAlike, BoardsTellRuns, ExitsAreNamed, MomentsAreCounted, StartsAreTold, found_text}
 use Rattle.bn_boardanswers.proofs.CountLemmas.{counts_once}
-use Rattle.bn_boardanswers.proofs.SpelledLemmas.{spelled_alike}
+use Rattle.bn_boardanswers.proofs.SpelledLemmas.{spelled_alike, spelled_once}
+use Rattle.bn_boardanswers.proofs.RunLemmas.{named_apart, named_of}
 use Rattle.bn_boardanswers.proofs.WindowLemmas.{given_accepted, standard_machine, window_settled}
 
 -- ---- moments of two boards
@@ -48,8 +50,8 @@ use Rattle.bn_boardanswers.proofs.WindowLemmas.{given_accepted, standard_machine
 moment_by_tables : (m : Quadruples) (l : Limits) (names : List ControlState) (n o : Circuit) (d : Config) (a : ℕ) → n.tables ≡ o.tables → IsBoardMoment m l names n d a →
     IsBoardMoment m l names o d a
 moment_by_tables m l names n o d a same (left_by_end final control has left) = left_by_end final control (subst (λ (ts : List Table). slice_get ts 0 ≡ Some control) same has) left
-moment_by_tables m l names n o d a same (enters_first other first entry into wire place q named marked) =
-    enters_first other first entry into wire (subst (λ (ts : List Table). d.place ≡ Enter (input_line (base ts into.element) into.line).element west) same place) q named marked
+moment_by_tables m l names n o d a same (enters_first other first entry into wire place q names_it marked) =
+    enters_first other first entry into wire (subst (λ (ts : List Table). d.place ≡ Enter (input_line (base ts into.element) into.line).element west) same place) q names_it marked
 
 moment_there : (f g : Flat) (d : Config) (a : ℕ) → f.translation ≡ g.translation → f.limits ≡ g.limits → f.names ≡ g.names → f.network.tables ≡ g.network.tables →
     IsBoardMoment (machine_of f) f.limits f.names f.network d a → IsBoardMoment (machine_of g) g.limits g.names g.network d a
@@ -159,24 +161,41 @@ module _ (machines : TablesAreMachines) (ones : FlatsAreOne) where
   boards-tell_alike bytes letters l t symbols f g number s text told given a b tells =
       tell_there f g (same_boards bytes letters l t symbols f g given a b) (a.flat.limits_are ∙ sym b.flat.limits_are) t number s text told tells
 
-pub boards-have_runs : TablesAreMachines → ExitsAreNamed → MomentsAreCounted → BoardsHaveRuns
-boards-have_runs machines exits counts bytes letters l t symbols f number given comes =
+-- a run with the exit and the moments that the layout finds is told
+pub boards-tell_runs : TablesAreMachines → ExitsAreNamed → MomentsAreCounted → BoardsTellRuns
+boards-tell_runs machines exits counts bytes letters l t symbols f number given comes e is =
     let accepted = given_accepted machines bytes letters l t symbols f given comes in
     let found = exits t.machine symbols l f comes.flat accepted (budget f number) in
-    let d = reached f number in
-    let count = moments f.layout f.circuit d.steps (flat_start f) in (
-      status_of found.0,
-      run_text t f d (count - 1) found.0,
+    let count = counts t.machine symbols l f comes.flat accepted (budget f number) in
+    let some : e ≢ exits_of.Unnamed = not_unnamed found.0 found.1 is in (
+      some,
       record {
-        exit = found.0;
-        is_exit = found.1;
-        moments = count;
-        counted = counts t.machine symbols l f comes.flat accepted (budget f number);
+        exit = e;
+        is_exit = named_of f.layout (reached f number).place e is some;
+        moments = moments f.layout f.circuit (budget f number) (flat_start f);
+        counted = subst (Counts (HasMoment f) ((reached f number).steps + 1)) (sym count.1) count.0;
         status_is = refl;
         text_is = refl;
         told_is = refl;
       },
     )
+  where
+    not_unnamed : (x : Exit) → IsNamedExit f.layout (reached f number).place x → IsExit f.layout (reached f number).place e → e ≢ exits_of.Unnamed
+    not_unnamed x there (named h) = named_apart f.layout (reached f number).place e h
+    not_unnamed x there (unnamed same none) = absurd (none x there)
+
+-- and there is an exit
+pub boards-have_runs : TablesAreMachines → ExitsAreNamed → BoardsHaveRuns
+boards-have_runs machines exits bytes letters l t symbols f number given comes =
+    let found = exits t.machine symbols l f comes.flat (given_accepted machines bytes letters l t symbols f given comes) (budget f number) in
+    (found.0, named found.1)
+
+-- a board at its start is told by whatever spells it
+pub starts-told : BoardsAreSpelled → StartsAreTold
+starts-told spelled p symbols l f flat accepted s is =
+    let some = spelled p symbols l f flat accepted in
+    let same : text_of s ≡ text_of some.0 = spelled_once p symbols l f flat s some.0 is some.1 in
+    record { spelling = some.0; board = some.1; spelled = record { admitted = some.2.admitted; written = same }; done = refl; silent = refl }
 
 status_answers : (e : Exit) → IsReplyStatus (status_of e)
 status_answers Inside = tt
@@ -191,9 +210,14 @@ status_answers Unnamed = tt
 pub run_settled : TablesAreMachines → FlatsAreThere → FlatsAreOne → BoardsAreCounted → ExitsAreOne → ExitsAreNamed → MomentsAreCounted → RunIsSettled
 run_settled machines flats ones counted exits_one exits counts given word l bytes small =
     window_settled (TellsRun given) word l bytes machines flats counted small
-    (λ t symbols f is comes. let run = boards-have_runs machines exits counts bytes word l t symbols f given is comes in (run.0, run.1, places f.circuit (budget f given) (flat_start f), run.2)) one
+    some one
     (λ t f s text told a. subst IsReplyStatus (sym a.status_is) (status_answers a.exit))
   where
+    some : (t : Named) (symbols : List ℕ) (f : Flat) → IsGiven bytes word l t symbols → ComesTo t.machine l symbols f → HasAnswer (TellsRun given t f)
+    some t symbols f is comes =
+        let found = boards-have_runs machines exits bytes word l t symbols f given is comes in
+        (status_of found.0, found_text given t f found.0, places f.circuit (budget f given) (flat_start f), (boards-tell_runs machines exits counts bytes word l t symbols f given is comes found.0 found.1).1)
+
     one : (t : Named) (symbols : List ℕ) (f g : Flat) → IsGiven bytes word l t symbols → ComesTo t.machine l symbols f → ComesTo t.machine l symbols g →
         (s u : Status) (a b : List ℕ) (x y : List Place) → TellsRun given t f s a x → TellsRun given t g u b y → AgreeInAll s u a b x y
     one t symbols f g is h k s u a b x y tells other =

@@ -1,5 +1,5 @@
 -- What the laws of this crate say, each the contract of a function that only names the laws below it.
-use Rattle.std.specs.Prelude.{◌≡◌, ◌↔◌, ℕ, ◌+◌, ◌<◌, ◌≤◌, List, length, Option, Some, None}
+use Rattle.std.specs.Prelude.{◌≡◌, ◌≢◌, ◌↔◌, ℕ, ◌+◌, ◌-◌, ◌<◌, ◌≤◌, List, [], length, Option, Some, None}
 use Rattle.bn_io.specs.Told.{Grows}
 use Rattle.bn_theory.specs.declared.place.Place.{Place}
 use Rattle.bn_theory.specs.Stepping.{places}
@@ -10,16 +10,16 @@ use Rattle.bn_table.specs.Rows.{Named}
 use Rattle.bn_boards.specs.Boards.{size}
 use Rattle.bn_layout.specs.declared.exit.Exit.{Exit}
 use Rattle.bn_layout.specs.declared.exit.Exit.TheVariants as exit
-use Rattle.bn_layout.specs.Layouts.{IsNamedExit, moments}
+use Rattle.bn_layout.specs.Layouts.{IsExit, IsNamedExit, moments}
 use Rattle.bn_layout.specs.Flats.{AreSameFlats, Flat, IsAccepted, IsFlatOf, flat_start}
 use Rattle.bn_headline.specs.Costs.{HasCost}
 use Rattle.bn_reply.specs.declared.status.Status.{Status}
 use Rattle.bn_reply.specs.declared.status.Status.TheVariants as statuses
 use Rattle.bn_boardanswers.specs.Counts.{Counts}
 use Rattle.bn_boardanswers.specs.Windows.{AreSmall, ComesTo, CountsElements}
-use Rattle.bn_boardanswers.specs.CompileReply.{IsFlatSpelling}
+use Rattle.bn_boardanswers.specs.CompileReply.{IsFlatSpelling, TellsStart}
 use Rattle.bn_boardanswers.specs.RunText.{run_text}
-use Rattle.bn_boardanswers.specs.RunReply.{HasMoment, RunReplies, TellsRun, after, budget}
+use Rattle.bn_boardanswers.specs.RunReply.{reached, status_of, HasMoment, RunReplies, TellsRun, after, budget}
 use Rattle.bn_boardanswers.specs.Headline.{AsksRun, ComesOutOn, IsGiven, TellsHeadline}
 use Rattle.bn_boardanswers.specs.Headline.{TellsOutcome, TookOutcome, most_bytes}
 
@@ -48,12 +48,19 @@ ExitsAreNamed =
     (p : Program) (symbols : List ℕ) (l : Limits) (f : Flat) → IsFlatOf p symbols l f → IsAccepted p symbols l f
     → (n : ℕ) → (e : Exit) × IsNamedExit f.layout (after f n).place e
 
--- the moments that a board's layout finds on its run are counted
+-- the moments that a board's layout finds on its run are counted, however many steps are asked for
 abbrev pub MomentsAreCounted : Type 0
 MomentsAreCounted =
     (p : Program) (symbols : List ℕ) (l : Limits) (f : Flat) → IsFlatOf p symbols l f → IsAccepted p symbols l f
     → (n : ℕ)
     → Counts (HasMoment f) ((after f n).steps + 1) (moments f.layout f.circuit (after f n).steps (flat_start f))
+    × (moments f.layout f.circuit n (flat_start f) ≡ moments f.layout f.circuit (after f n).steps (flat_start f))
+
+-- whatever spells a board at its start, its text is what is told
+abbrev pub StartsAreTold : Type 0
+StartsAreTold =
+    (p : Program) (symbols : List ℕ) (l : Limits) (f : Flat) → IsFlatOf p symbols l f → IsAccepted p symbols l f
+    → (s : Spelling) → IsFlatSpelling f s → TellsStart f statuses.Done (text_of s) []
 
 -- whatever is told of one board is told of each board of the same machine, word and limits
 abbrev pub BoardsTellAlike : Type 0
@@ -63,13 +70,27 @@ BoardsTellAlike =
     → ComesTo t.machine l symbols f → ComesTo t.machine l symbols g
     → TellsRun given t f status text told → TellsRun given t g status text told
 
--- the run of each board is told in some text, with its places
+-- the text of a run by the layout: with this exit, and the moments that the layout finds
+abbrev pub found_text : Option ℕ → Named → Flat → Exit → List ℕ
+found_text given t f e =
+    run_text t f (reached f given) (moments f.layout f.circuit (budget f given) (flat_start f) - 1) e
+
+-- whatever exit the layout finds for the place to which a run comes, it has a name, and what is told is the text with it
+-- and with the moments that the layout finds
+abbrev pub BoardsTellRuns : Type 0
+BoardsTellRuns =
+    (bytes letters : List ℕ) (l : Limits) (t : Named) (symbols : List ℕ) (f : Flat) (given : Option ℕ)
+    → IsGiven bytes letters l t symbols → ComesTo t.machine l symbols f
+    → (e : Exit) → IsExit f.layout (reached f given).place e
+    → (e ≢ exit.Unnamed)
+    × TellsRun given t f (status_of e) (found_text given t f e) (places f.circuit (budget f given) (flat_start f))
+
+-- and there is one
 abbrev pub BoardsHaveRuns : Type 0
 BoardsHaveRuns =
     (bytes letters : List ℕ) (l : Limits) (t : Named) (symbols : List ℕ) (f : Flat) (given : Option ℕ)
     → IsGiven bytes letters l t symbols → ComesTo t.machine l symbols f
-    → (status : Status) × (text : List ℕ)
-    × TellsRun given t f status text (places f.circuit (budget f given) (flat_start f))
+    → (e : Exit) × IsExit f.layout (reached f given).place e
 
 -- the run of a board without a number of steps tells the outcome of the machine's own bounded run
 abbrev pub RunsTellOutcomes : Type 0

@@ -3,8 +3,9 @@ ghost use Rattle.bn_boardanswers.specs.CompileReply.{CompileIsSettled};
 ghost use Rattle.bn_boardanswers.specs.CompileLaws.{CompiledTextsStepBack, TextsDifferInWords};
 ghost use Rattle.bn_boardanswers.specs.RunReply.{RunIsSettled};
 ghost use Rattle.bn_boardanswers.specs.Laws.{AnswersTellHeadline, BoardsAreCounted, BoardsAreSpelled, BoardsHaveRuns};
-ghost use Rattle.bn_boardanswers.specs.Laws.{BoardsTellAlike, ExitsAreNamed, GivenBoardsAreAccepted, GivenRunsHaveAll};
-ghost use Rattle.bn_boardanswers.specs.Laws.{MomentsAreCounted, RepliesTellOutcomes, RunsStopWithin, RunsTellOutcomes};
+ghost use Rattle.bn_boardanswers.specs.Laws.{BoardsTellAlike, BoardsTellRuns, ExitsAreNamed, GivenBoardsAreAccepted};
+ghost use Rattle.bn_boardanswers.specs.Laws.{GivenRunsHaveAll, MomentsAreCounted, RepliesTellOutcomes};
+ghost use Rattle.bn_boardanswers.specs.Laws.{RunsStopWithin, RunsTellOutcomes, StartsAreTold};
 
 use bn_bennett::translations_are_one;
 use bn_controllaws::controls_are_one;
@@ -62,13 +63,28 @@ pub fn boards_tell_alike()
     flats_are_one();
 }
 
-/// The run of each board is told in a text, with the places on the way.
+/// Where a run comes to, the layout finds an exit.
 pub fn boards_have_runs()
     ensures { BoardsHaveRuns }
 {
     tables_are_machines();
     exits_are_named();
+}
+
+/// The run of a board is told by the exit and the moments that its layout finds.
+pub fn boards_tell_runs()
+    ensures { BoardsTellRuns }
+{
+    tables_are_machines();
+    exits_are_named();
     moments_are_counted();
+}
+
+/// A board at its start is told by whatever spells it.
+pub fn starts_are_told()
+    ensures { StartsAreTold }
+{
+    boards_are_spelled();
 }
 
 /// To all words, limits that may be asked for, and bytes `compile` has an answer, and only one.
