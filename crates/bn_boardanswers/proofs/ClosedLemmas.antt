@@ -68,7 +68,8 @@ costs n k q i r o state line next out =
     let second : pass_cost k o ≤ 2 * k + 2 = omega arith in
     let before : q ≤ n - 1 = omega arith in
     let after : n - (r + 1) ≤ n - 1 = omega arith in (
-      subst (λ x. move_cost n k q i r o ≤ 4 * (x * (k + 1))) one_more (in_all (n - 1) k q (n - (r + 1)) (pass_cost k i) (pass_cost k o) before after first second),
+      subst (λ x. move_cost n k q i r o ≤ 4 * (x * (k + 1))) one_more (in_all (n - 1) k q (n - (r + 1)) (pass_cost k i)
+          (pass_cost k o) before after first second),
       subst (λ x. loose_cost k q i ≤ 4 * (x * (k + 1))) one_more (to_loose (n - 1) k q (pass_cost k i) before first),
     )
 
@@ -76,16 +77,22 @@ costs n k q i r o state line next out =
 
 uniform : TranslationsAreUniform
 uniform p t standard h =
-    let all = numbers_pass_tests p standard (name_of t) t.machine.rules h.rules in
-    (record { deterministic = all.0; reversible = all.1; uniform = all.2 }, begins_named p t h standard numbers_pass_tests, ends_named p t h standard numbers_pass_tests, names_apart p t h)
+    let all = numbers_pass_tests p standard (name_of t) t.machine.rules h.rules in (
+      record { deterministic = all.0; reversible = all.1; uniform = all.2 },
+      begins_named p t h standard numbers_pass_tests,
+      ends_named p t h standard numbers_pass_tests,
+      names_apart p t h,
+    )
 
 alike : TranslationsEndAlike
 alike p t word standard h letters = ends_alike p t h standard numbers_pass_tests numbers_run_alike word bounded_runs_agree letters
 
 stand : TranslationsStand
 stand p t word standard h letters = (
-  λ rooms n d run. every_moment_stands p word standard letters rooms n (in_state (name_of t) d) (run_named p t h standard numbers_pass_tests numbers_run_alike word rooms n d run),
-  λ l n d run. bounded_runs_are_short p word standard letters l n (in_state (name_of t) d) (run_named p t h standard numbers_pass_tests numbers_run_alike word (rooms_of l) n d run),
+  λ rooms n d run. every_moment_stands p word standard letters rooms n (in_state (name_of t) d)
+      (run_named p t h standard numbers_pass_tests numbers_run_alike word rooms n d run),
+  λ l n d run. bounded_runs_are_short p word standard letters l n (in_state (name_of t) d)
+      (run_named p t h standard numbers_pass_tests numbers_run_alike word (rooms_of l) n d run),
 )
 
 -- ---- the board
@@ -97,11 +104,13 @@ read_off : BoardsRead
 read_off = boards-read uniform have-entries
 
 run_to_exit : BoardsRunToTheirExit
-run_to_exit = boards-run alike uniform stand (first-moment costs have-entries) (next-moment costs (commands-walk costs) have-entries) (last-moment costs (commands-walk costs) have-entries) read_off
+run_to_exit = boards-run alike uniform stand (first-moment costs have-entries) (next-moment costs (commands-walk costs) have-entries)
+    (last-moment costs (commands-walk costs) have-entries) read_off
 
 have_moments : BoardsHaveMoments
 have_moments =
-    boards-moments uniform have-entries alike stand (outcome_exists, outcome_once) (first-moment costs have-entries) (next-moment costs (commands-walk costs) have-entries)
+    boards-moments uniform have-entries alike stand (outcome_exists, outcome_once) (first-moment costs have-entries)
+    (next-moment costs (commands-walk costs) have-entries)
     (last-moment costs (commands-walk costs) have-entries) heads-stay
 
 flats_one : FlatsAreOne

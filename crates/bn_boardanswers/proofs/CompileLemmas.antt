@@ -49,11 +49,22 @@ compiled : (bytes word : List ℕ) (l : Limits) (text : List ℕ) (told : List P
 compiled bytes word l text told (faulty h e n) = absurd (cc)
 compiled bytes word l text told (read t reads answer) = by_machine answer
   where
-    by_board : IsStandard t.machine.quints → (symbols : List ℕ) → IsSpelledBy t word symbols → BoardReplies TellsStart t.machine l symbols Done text told → IsCompiled bytes word l text
+    by_board : IsStandard t.machine.quints → (symbols : List ℕ) → IsSpelledBy t word symbols → BoardReplies TellsStart t.machine l symbols Done text told →
+        IsCompiled bytes word l text
     by_board standard symbols is (long far h e n) = absurd (cc)
     by_board standard symbols is (large fits count counts great h e n) = absurd (cc)
     by_board standard symbols is (board f comes a) =
-        record { table = t; symbols = symbols; reads = record { reads = reads; standard = standard }; spells = is; flat = f; comes = comes; tells = a.spelling; board_is = a.board; is_text = a.spelled }
+        record {
+          table = t;
+          symbols = symbols;
+          reads = record { reads = reads; standard = standard };
+          spells = is;
+          flat = f;
+          comes = comes;
+          tells = a.spelling;
+          board_is = a.board;
+          is_text = a.spelled;
+        }
 
     by_word : IsStandard t.machine.quints → WordReplies (BoardReplies TellsStart t.machine l) t word Done text told → IsCompiled bytes word l text
     by_word standard (foreign p h told_is e n) = absurd (cc)
@@ -71,13 +82,15 @@ texts-differ machines share cells bytes word other l text second told heard smal
     let k = compiled bytes other l second heard b in
     let tables : k.table ≡ h.table = one_table bytes k.table h.table k.reads.reads h.reads.reads in
     let given : IsGiven bytes word l h.table h.symbols = record { reads = h.reads; spelled = h.spells; small = small } in
-    let also : IsGiven bytes other l h.table k.symbols = subst (λ (t : Named). IsGiven bytes other l t k.symbols) tables (record { reads = k.reads; spelled = k.spells; small = small }) in
+    let also : IsGiven bytes other l h.table k.symbols = subst (λ (t : Named). IsGiven bytes other l t k.symbols) tables
+    (record { reads = k.reads; spelled = k.spells; small = small }) in
     let comes : ComesTo h.table.machine l k.symbols k.flat = subst (λ (t : Named). ComesTo t.machine l k.symbols k.flat) tables k.comes in
     let p = h.table.machine in
     let both = share p h.symbols k.symbols l h.flat k.flat (standard_machine machines bytes h.table h.reads).0 h.comes.flat comes.flat in
     let bars = cells p h.symbols k.symbols l h.flat k.flat h.comes.flat comes.flat (given_accepted machines bytes word l h.table h.symbols h.flat given h.comes)
     (given_accepted machines bytes other l h.table k.symbols k.flat also comes) in
-    let sizes : size h.flat.network.tables ≡ size k.flat.network.tables = sym (length-replicate (size h.flat.network.tables) rotary) ∙ ap (λ ts. length ts) (sym h.comes.flat.is_board.tables ∙ both.0.tables ∙ comes.flat.is_board.tables)
+    let sizes : size h.flat.network.tables ≡ size k.flat.network.tables = sym (length-replicate (size h.flat.network.tables) rotary)
+    ∙ ap (λ ts. length ts) (sym h.comes.flat.is_board.tables ∙ both.0.tables ∙ comes.flat.is_board.tables)
     ∙ length-replicate (size k.flat.network.tables) rotary in
     record {
       table = h.table;
@@ -91,12 +104,14 @@ texts-differ machines share cells bytes word other l text second told heard smal
       other = k.is_text;
       differ = record {
         elements = h.board_is.elements ∙ sizes ∙ sym k.board_is.elements;
-        targets = λ from. target_of h.flat p h.symbols l h.comes.flat h.tells h.board_is from ∙ both.0.targets from ∙ sym (target_of k.flat p k.symbols l comes.flat k.tells k.board_is from);
+        targets = λ from. target_of h.flat p h.symbols l h.comes.flat h.tells h.board_is from ∙ both.0.targets from
+            ∙ sym (target_of k.flat p k.symbols l comes.flat k.tells k.board_is from);
         start = entered_once h.tells.start k.tells.start (h.board_is.start ∙ bars.0 ∙ sym k.board_is.start);
         end = left_once h.tells.end k.tells.end (h.board_is.end ∙ both.2 ∙ sym k.board_is.end);
         place = ap (λ (c : Config). c.place) h.board_is.config ∙ bars.0 ∙ sym (ap (λ (c : Config). c.place) k.board_is.config);
         steps = ap (λ (c : Config). c.steps) h.board_is.config ∙ sym (ap (λ (c : Config). c.steps) k.board_is.config);
-        bars = λ e apart. ap (λ (c : Config). slice_get c.states e) h.board_is.config ∙ bars.1 e (λ j c low few. apart c j low few) ∙ sym (ap (λ (c : Config). slice_get c.states e) k.board_is.config);
+        bars = λ e apart. ap (λ (c : Config). slice_get c.states e) h.board_is.config ∙ bars.1 e (λ j c low few. apart c j low few)
+            ∙ sym (ap (λ (c : Config). slice_get c.states e) k.board_is.config);
       };
     }
 
@@ -113,7 +128,11 @@ module _ (settled : CircuitIsSettled) (s : Spelling) (text : List ℕ) (is : Spe
   stepped-spelled : (n : ℕ) → Spelled (moved_to s (stepped n)) (text_of (moved_to s (stepped n)))
   stepped-spelled n =
       let made = run_makes whole_circuit s.config n in
-      record { admitted = spellings-move s (stepped n) is.admitted (Reaches-IsConfig whole_circuit is.admitted.circuit made.made s.config (stepped n) is.admitted.config made.reaches); written = refl }
+      record {
+        admitted = spellings-move s (stepped n) is.admitted (Reaches-IsConfig whole_circuit is.admitted.circuit made.made s.config
+            (stepped n) is.admitted.config made.reaches);
+        written = refl;
+      }
 
   -- what `step` answers
   step_is : (n : ℕ) (a : Status) (middle : List ℕ) (told : List Place) → StepReplies n text a middle told →
@@ -128,7 +147,8 @@ module _ (settled : CircuitIsSettled) (s : Spelling) (text : List ℕ) (is : Spe
       last ≡ text_of (moved_to s (back whole_circuit (stepped n) m))
   back_is n m b middle last heard same reply =
       let here : BackReplies m (text_of (moved_to s (stepped n))) b last heard = subst (λ bytes. BackReplies m bytes b last heard) same reply in
-      ((settled m (text_of (moved_to s (stepped n)))).1.one b Done last (text_of (moved_to s (back whole_circuit (stepped n) m))) heard (places_back whole_circuit m (stepped n)) here
+      ((settled m (text_of (moved_to s (stepped n)))).1.one b Done last (text_of (moved_to s (back whole_circuit (stepped n) m))) heard
+      (places_back whole_circuit m (stepped n)) here
       (walked (record { spelling = moved_to s (stepped n); spelled = stepped-spelled n; written = refl; places = refl }) refl)).texts
 
   -- no step leads to the start
@@ -139,14 +159,17 @@ module _ (settled : CircuitIsSettled) (s : Spelling) (text : List ℕ) (is : Spe
   steps_back = record {
     whole = λ e a b middle last told heard step reply.
         let made = run_makes whole_circuit s.config e in
-        let start : back whole_circuit (stepped e) e ≡ s.config = back_stops whole_circuit is.admitted.circuit made.made e s.config (stepped e) is.admitted.config made.reaches made.within (λ _. first_here) in
+        let start : back whole_circuit (stepped e) e ≡ s.config = back_stops whole_circuit is.admitted.circuit made.made e s.config
+        (stepped e) is.admitted.config made.reaches made.within (λ _. first_here) in
         back_is e e b middle last heard (step_is e a middle told step).0 reply ∙ ap (λ c. text_of (moved_to s c)) start ∙ sym is.written;
     part = λ r n a b c middle last front told heard some step count reply short.
         let all = places-of_runs whole_circuit (r + n) s.config in
         let told_is = (step_is (r + n) a middle told step).1 in
         let made : all.count ≡ r + n = sym all.all ∙ ap (λ (ps : List Place). length ps) (sym told_is) ∙ count in
-        let there : back whole_circuit (stepped (r + n)) n ≡ stepped r = runs-undo_in_part whole_circuit is.admitted.circuit n r all.count s.config (stepped (r + n)) made all.reaches in
-        back_is (r + n) n b middle last heard (step_is (r + n) a middle told step).0 reply ∙ ap (λ c. text_of (moved_to s c)) there ∙ sym (step_is r c front some short).0;
+        let there : back whole_circuit (stepped (r + n)) n ≡ stepped r =
+        runs-undo_in_part whole_circuit is.admitted.circuit n r all.count s.config (stepped (r + n)) made all.reaches in
+        back_is (r + n) n b middle last heard (step_is (r + n) a middle told step).0 reply ∙ ap (λ c. text_of (moved_to s c)) there
+        ∙ sym (step_is r c front some short).0;
   }
 
 pub compiled_texts-step_back : CircuitIsSettled → CompiledTextsStepBack

@@ -26,10 +26,13 @@ use Rattle.bn_boardanswers.proofs.WindowLemmas.{given_accepted, standard_machine
 
 -- ---- the headline
 
-module _ (machines : TablesAreMachines) (ones : FlatsAreOne) (counted : BoardsAreCounted) (exits : ExitsAreOne) (boards : BoardsRunToTheirExit) (counts : MomentsAreCounted) where
+module _ (machines : TablesAreMachines) (ones : FlatsAreOne) (counted : BoardsAreCounted) (exits : ExitsAreOne) (boards : BoardsRunToTheirExit)
+    (counts : MomentsAreCounted) where
   -- what is told of a board is the outcome
-  given_tells : (number : Option ℕ) (bytes letters : List ℕ) (l : Limits) (t : Named) (symbols : List ℕ) (count i : ℕ) (o : Outcome) (f : Flat) (status : Status) (text : List ℕ) (told : List Place) →
-      ComesOutOn bytes letters l t symbols count i o → ComesTo t.machine l symbols f → TellsRun number t f status text told → Tells number t l symbols f i o status text
+  given_tells : (number : Option ℕ) (bytes letters : List ℕ) (l : Limits) (t : Named) (symbols : List ℕ) (count i : ℕ) (o : Outcome) (f : Flat)
+      (status : Status) (text : List ℕ) (told : List Place) →
+      ComesOutOn bytes letters l t symbols count i o → ComesTo t.machine l symbols f → TellsRun number t f status text told →
+      Tells number t l symbols f i o status text
   given_tells None bytes letters l t symbols count i o f status text told on comes tells =
       runs-tell_outcomes machines exits boards counts bytes letters l t symbols f status text told on.given comes tells i o on.outcome
   given_tells (Some e) bytes letters l t symbols count i o f status text told on comes tells =
@@ -41,13 +44,15 @@ module _ (machines : TablesAreMachines) (ones : FlatsAreOne) (counted : BoardsAr
         has_cost = ran.has_cost;
         inside = within.0;
         begun = within.2;
-        ended = λ low. runs-tell_outcomes machines exits boards counts bytes letters l t symbols f status text told on.given comes (within.1 low) i o on.outcome;
+        ended = λ low. runs-tell_outcomes machines exits boards counts bytes letters l t symbols f status text told on.given comes
+            (within.1 low) i o on.outcome;
       }
 
   -- no other answer is given than that of a board
   pub replies-tell_outcomes : RepliesTellOutcomes
   replies-tell_outcomes number bytes letters l status text told taken took reply grows t symbols count i o on =
-      by_board (word_tells (BoardReplies (TellsRun number t) t.machine l) t (reads_table bytes t on.given.reads.reads) letters symbols status text told on.given.spelled
+      by_board (word_tells (BoardReplies (TellsRun number t) t.machine l) t
+      (reads_table bytes t on.given.reads.reads) letters symbols status text told on.given.spelled
       (standard_tells (λ u. WordReplies (BoardReplies (TellsRun number u) u.machine l) u letters) bytes t status text told on.given.reads reply))
     where
       by_board : BoardReplies (TellsRun number t) t.machine l symbols status text told → TookOutcome number t l symbols count i o status taken took

@@ -29,7 +29,8 @@ use Rattle.bn_headline.proofs.CountLemmas.{before_end, costs-one, places_stop}
 use Rattle.bn_headline.proofs.OutcomeLemmas.{at_cost, not_unnamed}
 use Rattle.bn_reply.specs.declared.status.Status.TheVariants as statuses
 use Rattle.bn_boardanswers.specs.Counts.{Counts}
-use Rattle.bn_boardanswers.specs.RunText.{elements_line, exit_line, output_from, output_line, quadruple_line, rest_text, run_text, shown_lines, state_text, steps_line, stuck_line, tape_lines}
+use Rattle.bn_boardanswers.specs.RunText.{elements_line, exit_line, output_from, output_line, quadruple_line, rest_text, run_text, shown_lines, state_text}
+use Rattle.bn_boardanswers.specs.RunText.{steps_line, stuck_line, tape_lines}
 use Rattle.bn_boardanswers.specs.RunReply.{HasMoment, TellsRun, after, status_of}
 use Rattle.bn_boardanswers.specs.Headline.{outcome_line, outcome_rest, outcome_status}
 use Rattle.bn_boardanswers.specs.Laws.{MomentsAreCounted, RunsStopWithin, RunsTellOutcomes}
@@ -60,7 +61,8 @@ status_told f (outcome.Outside n s) e is = ap status_of is
 -- the exit with a name that the run comes to, from its cost on
 ran_exit : (p : Program) (f : Flat) (i : ℕ) (o : Outcome) (ran : RunsToExit p f i o) (n : ℕ) → ran.cost ≤ n → IsNamedExit f.layout (after f n).place ran.exit
 ran_exit p f i o ran n low =
-    let there : IsNamedExit f.layout (after f ran.cost).place ran.exit = named_of f.layout (after f ran.cost).place ran.exit ran.is_exit (not_unnamed f o ran.exit ran.for_outcome) in
+    let there : IsNamedExit f.layout (after f ran.cost).place ran.exit =
+    named_of f.layout (after f ran.cost).place ran.exit ran.is_exit (not_unnamed f o ran.exit ran.for_outcome) in
     subst (λ (c : Config). IsNamedExit f.layout c.place ran.exit) (sym (at_cost p f i o ran n low)) there
 
 -- ---- the lines behind that of the steps
@@ -71,11 +73,15 @@ module _ (t : Named) (p : Program) (symbols : List ℕ) (l : Limits) (f : Flat) 
       k ≡ moments f.layout f.circuit d.steps (flat_start f) → rest_text t f d (k - 1) exit.End ≡ outcome_rest t l symbols f cost i (outcome.Halted y)
   end_told i y cost k d shown comes count =
       let spells = shown.0.spells in
-      let one : spelled_tape f.layout d.states 1 ≡ config_tape l 1 (word_tape symbols) = ap (λ (s : Spelled). s.one) spells ∙ (λ j. config_tape (flat.limits_are j) 1 (word_tape (flat.word_is j))) in
-      let two : spelled_tape f.layout d.states 2 ≡ config_tape l 2 blank_tape = ap (λ (s : Spelled). s.two) spells ∙ (λ j. config_tape (flat.limits_are j) 2 blank_tape) in
-      let three : spelled_tape f.layout d.states 3 ≡ config_tape l 3 (word_tape y) = ap (λ (s : Spelled). s.three) spells ∙ (λ j. config_tape (flat.limits_are j) 3 (word_tape y)) in
+      let one : spelled_tape f.layout d.states 1 ≡ config_tape l 1 (word_tape symbols) = ap (λ (s : Spelled). s.one) spells
+      ∙ (λ j. config_tape (flat.limits_are j) 1 (word_tape (flat.word_is j))) in
+      let two : spelled_tape f.layout d.states 2 ≡ config_tape l 2 blank_tape = ap (λ (s : Spelled). s.two) spells
+      ∙ (λ j. config_tape (flat.limits_are j) 2 blank_tape) in
+      let three : spelled_tape f.layout d.states 3 ≡ config_tape l 3 (word_tape y) = ap (λ (s : Spelled). s.three) spells
+      ∙ (λ j. config_tape (flat.limits_are j) 3 (word_tape y)) in
       let fits = halted_fits p symbols l i y comes in
-      let output : output_from (drop 1 (spelled_tape f.layout d.states 3).cells) ≡ y = ap (λ (s : SpelledTape). output_from (drop 1 s.cells)) three ∙ output-read l y fits.0 fits.1 in
+      let output : output_from (drop 1 (spelled_tape f.layout d.states 3).cells) ≡ y = ap (λ (s : SpelledTape). output_from (drop 1 s.cells)) three
+      ∙ output-read l y fits.0 fits.1 in
       let steps : k - 1 ≡ 4 * i + 4 * length y + 5 = one_less k (4 * i + 4 * length y) (count ∙ shown.1) in
       λ j. quadruple_line (steps j) ++ (tape_lines t (one j) (two j) (three j) ++ output_line t (output j))
     where
@@ -97,11 +103,14 @@ runs-tell_outcomes machines exits boards counts bytes letters l t symbols f stat
     let ran = boards t.machine symbols l f flat accepted i o outcome in
     let d = after f (bound_of f.layout) in
     let there : d ≡ after f ran.cost = at_cost t.machine f i o ran (bound_of f.layout) ran.bounded in
-    let one : tells.exit ≡ ran.exit = exits t.machine symbols l f flat accepted d.place tells.exit ran.exit tells.is_exit (ran_exit t.machine f i o ran (bound_of f.layout) ran.bounded) in
+    let one : tells.exit ≡ ran.exit = exits t.machine symbols l f flat accepted d.place tells.exit ran.exit tells.is_exit
+    (ran_exit t.machine f i o ran (bound_of f.layout) ran.bounded) in
     let for_exit : IsExitFor f o tells.exit = subst (IsExitFor f o) (sym one) ran.for_outcome in
-    let steps : d.steps ≡ ran.cost = ap (λ (x : Config). x.steps) there ∙ steps_of_run f.circuit ran.cost (flat_start f) (after f ran.cost) ran.run_to ∙ zero-add ran.cost in
+    let steps : d.steps ≡ ran.cost = ap (λ (x : Config). x.steps) there ∙ steps_of_run f.circuit ran.cost (flat_start f) (after f ran.cost) ran.run_to
+    ∙ zero-add ran.cost in
     let shown : EndsWith f d i o = subst (λ (x : Config). EndsWith f x i o) (sym there) ran.with_tapes in
-    let count = counts_once (HasMoment f) (d.steps + 1) tells.moments (moments f.layout f.circuit d.steps (flat_start f)) tells.counted (counts t.machine symbols l f flat accepted (bound_of f.layout)).0 in
+    let count = counts_once (HasMoment f) (d.steps + 1) tells.moments (moments f.layout f.circuit d.steps (flat_start f)) tells.counted
+    (counts t.machine symbols l f flat accepted (bound_of f.layout)).0 in
     let rest = rest_told t t.machine symbols l f flat i o ran.cost tells.moments d tells.exit there for_exit shown outcome count in
     let exit_is = exit_told t f o d.place tells.exit for_exit in
     record {
@@ -126,22 +135,26 @@ runs-stop_within machines exits boards bytes letters l t symbols f e status text
     d = after f e
 
     -- below the cost the signal is inside
-    begun : (i : ℕ) (o : Outcome) (ran : RunsToExit t.machine f i o) → ran.cost ≡ cost → ((at : Place) (e x : Exit) → IsNamedExit f.layout at e → IsNamedExit f.layout at x → e ≡ x) →
+    begun : (i : ℕ) (o : Outcome) (ran : RunsToExit t.machine f i o) → ran.cost ≡ cost →
+        ((at : Place) (e x : Exit) → IsNamedExit f.layout at e → IsNamedExit f.layout at x → e ≡ x) →
         e < cost → tells.exit ≡ exit.Inside
     begun i o ran same one low =
         let before = before_end f.circuit ran.cost e (flat_start f) (after f ran.cost) ran.run_to (omega arith) in
         one d.place tells.exit exit.Inside tells.is_exit (inside before.0 before.1 before.2)
 
     -- from the cost on it has left
-    ended : (i : ℕ) (o : Outcome) (ran : RunsToExit t.machine f i o) → ran.cost ≡ cost → ((at : Place) (e x : Exit) → IsNamedExit f.layout at e → IsNamedExit f.layout at x → e ≡ x) →
+    ended : (i : ℕ) (o : Outcome) (ran : RunsToExit t.machine f i o) → ran.cost ≡ cost →
+        ((at : Place) (e x : Exit) → IsNamedExit f.layout at e → IsNamedExit f.layout at x → e ≡ x) →
         cost ≤ e → IsExitFor f o tells.exit
     ended i o ran same one low =
         subst (IsExitFor f o) (sym (one d.place tells.exit ran.exit tells.is_exit (ran_exit t.machine f i o ran e (omega arith)))) ran.for_outcome
 
     unbounded : (i : ℕ) (o : Outcome) (ran : RunsToExit t.machine f i o) → ran.cost ≡ cost → cost ≤ e → TellsRun None t f status text told
     unbounded i o ran same low =
-        let here : d ≡ after f (bound_of f.layout) = at_cost t.machine f i o ran e (omega arith) ∙ sym (at_cost t.machine f i o ran (bound_of f.layout) ran.bounded) in
-        let told_alike = places_stop f.circuit ran.cost e (bound_of f.layout) (flat_start f) (after f ran.cost) ran.run_to ran.ended (omega arith) ran.bounded in
+        let here : d ≡ after f (bound_of f.layout) = at_cost t.machine f i o ran e (omega arith)
+        ∙ sym (at_cost t.machine f i o ran (bound_of f.layout) ran.bounded) in
+        let told_alike = places_stop f.circuit ran.cost e (bound_of f.layout) (flat_start f) (after f ran.cost) ran.run_to ran.ended
+        (omega arith) ran.bounded in
         record {
           exit = tells.exit;
           is_exit = subst (λ (x : Config). IsNamedExit f.layout x.place tells.exit) here tells.is_exit;
@@ -152,11 +165,17 @@ runs-stop_within machines exits boards bytes letters l t symbols f e status text
           told_is = tells.told_is ∙ told_alike;
         }
 
-    by_order : (i : ℕ) (o : Outcome) (ran : RunsToExit t.machine f i o) → ran.cost ≡ cost → ((at : Place) (e x : Exit) → IsNamedExit f.layout at e → IsNamedExit f.layout at x → e ≡ x) →
-        (e < cost) ⊎ (cost ≤ e) → ((status ≡ statuses.Inside) ↔ (e < cost)) × (cost ≤ e → TellsRun None t f status text told) × (e < cost → text ≡ run_text t f d 0 exit.Inside)
+    by_order : (i : ℕ) (o : Outcome) (ran : RunsToExit t.machine f i o) → ran.cost ≡ cost →
+        ((at : Place) (e x : Exit) → IsNamedExit f.layout at e → IsNamedExit f.layout at x → e ≡ x) →
+        (e < cost) ⊎ (cost ≤ e) → ((status ≡ statuses.Inside) ↔ (e < cost)) × (cost ≤ e → TellsRun None t f status text told)
+        × (e < cost → text ≡ run_text t f d 0 exit.Inside)
     by_order i o ran same one (inl low) =
-        let is = begun i o ran same one low in
-        (((λ _. low), (λ _. tells.status_is ∙ ap status_of is)), (λ high. absurd (omega arith)), (λ _. tells.text_is ∙ ap (run_text t f d (tells.moments - 1)) is))
+        let is = begun i o ran same one low in (
+          ((λ _. low), (λ _. tells.status_is ∙ ap status_of is)),
+          (λ high. absurd (omega arith)),
+          (λ _. tells.text_is
+              ∙ ap (run_text t f d (tells.moments - 1)) is),
+        )
     by_order i o ran same one (inr high) =
         let left : status ≢ statuses.Inside = λ h. not_inside f o tells.exit (ended i o ran same one high) (sym tells.status_is ∙ h) in
         (((λ h. absurd (left h)), (λ low. absurd (omega arith))), (λ _. unbounded i o ran same high), (λ low. absurd (omega arith)))

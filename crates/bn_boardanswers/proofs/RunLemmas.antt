@@ -46,7 +46,8 @@ exits-named boards p symbols l f flat accepted n =
               (let before = before_end f.circuit ran.cost n (flat_start f) (after f ran.cost) ran.run_to low in
               (exit.Inside, inside before.0 before.1 before.2))
           | inr high ↦
-              (let there : IsNamedExit f.layout (after f ran.cost).place ran.exit = named_of f.layout (after f ran.cost).place ran.exit ran.is_exit (not_unnamed f o ran.exit ran.for_outcome) in
+              (let there : IsNamedExit f.layout (after f ran.cost).place ran.exit =
+              named_of f.layout (after f ran.cost).place ran.exit ran.is_exit (not_unnamed f o ran.exit ran.for_outcome) in
               (ran.exit, subst (λ (c : Config). IsNamedExit f.layout c.place ran.exit) (sym (at_cost p f i o ran n high)) there))
         ]
 
@@ -86,16 +87,19 @@ module _ (f : Flat) (cost : ℕ) (run_to : Reaches (Goes f.circuit) cost (flat_s
   steps_made n low = steps_of_run f.circuit n (flat_start f) (after f n) (front n low) ∙ zero-add n
 
   -- one step more counts one moment more, or none
-  moments_more : (n : ℕ) → n < cost → moments f.layout f.circuit (suc n) (flat_start f) ≡ moments f.layout f.circuit n (flat_start f) + one_if (is_moment f.layout (after f (suc n)))
+  moments_more : (n : ℕ) → n < cost → moments f.layout f.circuit (suc n) (flat_start f) ≡ moments f.layout f.circuit n (flat_start f) + one_if
+      (is_moment f.layout (after f (suc n)))
   moments_more n low =
       let both = tallies-add.0 f.circuit (is_moment f.layout) n 1 (flat_start f) (after f n) (front n (omega arith)) in
       let one = tally-more f.circuit (is_moment f.layout) 0 (after f n) (after f (suc n)) (step_on n low) in
       let none = tally-zero f.circuit (is_moment f.layout) (after f (suc n)) in
       let count : n + 1 ≡ suc n = omega arith in
-      let whole : tally (is_moment f.layout) f.circuit (suc n) (flat_start f) ≡ tally (is_moment f.layout) f.circuit (n + 1) (flat_start f) = ap (λ m. tally (is_moment f.layout) f.circuit m (flat_start f)) (sym count) in
+      let whole : tally (is_moment f.layout) f.circuit (suc n) (flat_start f) ≡ tally (is_moment f.layout) f.circuit (n + 1) (flat_start f) =
+      ap (λ m. tally (is_moment f.layout) f.circuit m (flat_start f)) (sym count) in
       omega (arith, both, one, none, whole)
 
-  module _ (has : (t a : ℕ) → t ≤ cost → (moment_at f.layout (after f t) ≡ Some a → HasMoment f t) × (IsBoardMoment (machine_of f) f.limits f.names f.network (after f t) a → moment_at f.layout (after f t) ≡ Some a)) where
+  module _ (has : (t a : ℕ) → t ≤ cost → (moment_at f.layout (after f t) ≡ Some a → HasMoment f t)
+      × (IsBoardMoment (machine_of f) f.limits f.names f.network (after f t) a → moment_at f.layout (after f t) ≡ Some a)) where
     test_holds : (t : ℕ) → t ≤ cost → is_moment f.layout (after f t) ≡ true → HasMoment f t
     test_holds t low = by_option (moment_at f.layout (after f t)) refl
       where
@@ -104,15 +108,19 @@ module _ (f : Flat) (cost : ℕ) (run_to : Reaches (Goes f.circuit) cost (flat_s
         by_option (Some a) is test = (has t a low).0 is
 
     test_fails : (t : ℕ) → t ≤ cost → is_moment f.layout (after f t) ≡ false → HasMoment f t → ⊥
-    test_fails t low test h = let there = (has t h.0 low).1 h.1 in let is : is_some (Some h.0) ≡ false = ap (λ (o : Option ℕ). is_some o) (sym there) ∙ test in cc
+    test_fails t low test h = let there = (has t h.0 low).1 h.1 in let is : is_some (Some h.0) ≡ false = ap (λ (o : Option ℕ). is_some o) (sym there)
+        ∙ test in cc
 
     count_to : (n : ℕ) → n ≤ cost → Counts (HasMoment f) (suc n) (moments f.layout f.circuit n (flat_start f))
     count_to zero low =
         let none = tally-zero f.circuit (is_moment f.layout) (flat_start f) in
-        let first : one_if (is_moment f.layout (after f 0)) ≡ one_if (is_moment f.layout (flat_start f)) = ap (λ c. one_if (is_moment f.layout c)) (run-zero f.circuit (flat_start f)) in
-        counts_more (HasMoment f) 0 0 (moments f.layout f.circuit 0 (flat_start f)) (is_moment f.layout (after f 0)) (test_holds 0 low) (test_fails 0 low) (omega (arith, none, first)) refl
+        let first : one_if (is_moment f.layout (after f 0)) ≡ one_if (is_moment f.layout (flat_start f)) =
+        ap (λ c. one_if (is_moment f.layout c)) (run-zero f.circuit (flat_start f)) in
+        counts_more (HasMoment f) 0 0 (moments f.layout f.circuit 0 (flat_start f)) (is_moment f.layout (after f 0)) (test_holds 0 low) (test_fails 0 low)
+        (omega (arith, none, first)) refl
     count_to (suc n) low =
-        counts_more (HasMoment f) (suc n) (moments f.layout f.circuit n (flat_start f)) (moments f.layout f.circuit (suc n) (flat_start f)) (is_moment f.layout (after f (suc n)))
+        counts_more (HasMoment f) (suc n) (moments f.layout f.circuit n (flat_start f)) (moments f.layout f.circuit (suc n) (flat_start f))
+        (is_moment f.layout (after f (suc n)))
         (test_holds (suc n) low) (test_fails (suc n) low) (moments_more n (omega arith)) (count_to n (omega arith))
 
 -- the moments that the layout finds on the run are counted
@@ -132,7 +140,8 @@ moments-counted boards have p symbols l f flat accepted n =
         let more : suc steps ≡ steps + 1 = omega arith in
         (subst (λ m. Counts (HasMoment f) m (moments f.layout f.circuit steps (flat_start f))) more (count_to f ran.cost ran.run_to found steps made.0), made.1)
       where
-        found : (t a : ℕ) → t ≤ ran.cost → (moment_at f.layout (after f t) ≡ Some a → HasMoment f t) × (IsBoardMoment (machine_of f) f.limits f.names f.network (after f t) a → moment_at f.layout (after f t) ≡ Some a)
+        found : (t a : ℕ) → t ≤ ran.cost → (moment_at f.layout (after f t) ≡ Some a → HasMoment f t)
+            × (IsBoardMoment (machine_of f) f.limits f.names f.network (after f t) a → moment_at f.layout (after f t) ≡ Some a)
         found t a low = (
           (λ h. (a, (own.sums ran.cost t a ran.has_cost low).1 ((own.found ran.cost t a ran.has_cost low).0 h))),
           (λ h. (own.found ran.cost t a ran.has_cost low).1 ((own.sums ran.cost t a ran.has_cost low).0 h)),

@@ -142,7 +142,8 @@ module _ (p : Program) (symbols : List ℕ) (l : Limits) (f : Flat) (flat : IsFl
   within_board x low = let h = bank_within f.network.tables 0 control has_control in omega arith
 
   -- another bank holds none of its elements
-  other_bank : (m : ℕ) (t : Table) (x : ℕ) → slice_get f.network.tables m ≡ Some t → m ≢ 0 → base f.network.tables m ≤ x → x < base f.network.tables m + size_of t →
+  other_bank : (m : ℕ) (t : Table) (x : ℕ) → slice_get f.network.tables m ≡ Some t → m ≢ 0 → base f.network.tables m ≤ x →
+      x < base f.network.tables m + size_of t →
       x < size_of control → ⊥
   other_bank m t x has apart low high first = banks_apart f.network.tables m 0 t control x has has_control apart low high (omega arith) (omega arith)
 
@@ -248,7 +249,8 @@ module _ (p : Program) (symbols : List ℕ) (l : Limits) (f : Flat) (flat : IsFl
         bars = reads.starts.bars;
         rests = reads.starts.rests;
         admissible = (
-          subst (λ (o : Option Table). 0 < option_map_or (λ (t : Table). t.outputs) o 0) (sym has_control) (let outputs = square in let some = some_line in omega arith),
+          subst (λ (o : Option Table). 0 < option_map_or (λ (t : Table). t.outputs) o 0) (sym has_control)
+              (let outputs = square in let some = some_line in omega arith),
           no_net_target (target f.network.wires (line_at 0 0)) refl,
         );
         place = refl;
@@ -297,12 +299,15 @@ spelled_alike f g same p symbols l flat other s u a b =
     let config : s.config ≡ u.config = a.config ∙ same.start ∙ sym b.config in
     let start : s.start ≡ u.start = entered_once s.start u.start (a.start ∙ ap (λ (c : Config). c.place) same.start ∙ sym b.start) in
     let end : s.end ≡ u.end = left_once s.end u.end (a.end ∙ ap end_place same.layout ∙ sym b.end) in
-    same_text s u elements (λ from. target_of f p symbols l flat s a from ∙ same.circuit.targets from ∙ sym (target_of g p symbols l other u b from)) config start end
+    same_text s u elements (λ from. target_of f p symbols l flat s a from ∙ same.circuit.targets from
+    ∙ sym (target_of g p symbols l other u b from)) config start end
 
 -- and one board has one text
-pub spelled_once : (p : Program) (symbols : List ℕ) (l : Limits) (f : Flat) → IsFlatOf p symbols l f → (s u : Spelling) → IsFlatSpelling f s → IsFlatSpelling f u →
+pub spelled_once : (p : Program) (symbols : List ℕ) (l : Limits) (f : Flat) → IsFlatOf p symbols l f → (s u : Spelling) → IsFlatSpelling f s →
+    IsFlatSpelling f u →
     text_of s ≡ text_of u
 spelled_once p symbols l f flat s u a b =
     let start : s.start ≡ u.start = entered_once s.start u.start (a.start ∙ sym b.start) in
     let end : s.end ≡ u.end = left_once s.end u.end (a.end ∙ sym b.end) in
-    same_text s u (a.elements ∙ sym b.elements) (λ from. target_of f p symbols l flat s a from ∙ sym (target_of f p symbols l flat u b from)) (a.config ∙ sym b.config) start end
+    same_text s u (a.elements ∙ sym b.elements) (λ from. target_of f p symbols l flat s a from ∙ sym (target_of f p symbols l flat u b from)) (a.config
+    ∙ sym b.config) start end

@@ -35,10 +35,12 @@ use Rattle.bn_reply.specs.declared.status.Status.TheVariants as statuses
 use Rattle.bn_boardanswers.specs.Counts.{Counts}
 use Rattle.bn_boardanswers.specs.Windows.{ComesTo}
 use Rattle.bn_boardanswers.specs.CompileReply.{CompileIsSettled, TellsStart}
-use Rattle.bn_boardanswers.specs.RunText.{elements_line, exit_line, output_from, output_line, quadruple_line, rest_text, run_text, shown_lines, state_text, steps_line, stuck_line, tape_lines}
+use Rattle.bn_boardanswers.specs.RunText.{elements_line, exit_line, output_from, output_line, quadruple_line, rest_text, run_text, shown_lines, state_text}
+use Rattle.bn_boardanswers.specs.RunText.{steps_line, stuck_line, tape_lines}
 use Rattle.bn_boardanswers.specs.RunReply.{HasMoment, RunIsSettled, TellsRun, after, budget, reached, status_of}
 use Rattle.bn_boardanswers.specs.Headline.{IsGiven}
-use Rattle.bn_boardanswers.specs.Laws.{BoardsAreCounted, BoardsAreSpelled, BoardsHaveRuns, BoardsTellAlike, BoardsTellRuns, ExitsAreNamed, MomentsAreCounted, StartsAreTold, found_text}
+use Rattle.bn_boardanswers.specs.Laws.{BoardsAreCounted, BoardsAreSpelled, BoardsHaveRuns, BoardsTellAlike, BoardsTellRuns, ExitsAreNamed, MomentsAreCounted}
+use Rattle.bn_boardanswers.specs.Laws.{StartsAreTold, found_text}
 use Rattle.bn_boardanswers.proofs.CountLemmas.{counts_once}
 use Rattle.bn_boardanswers.proofs.SpelledLemmas.{spelled_alike, spelled_once}
 use Rattle.bn_boardanswers.proofs.RunLemmas.{named_apart, named_of}
@@ -47,13 +49,17 @@ use Rattle.bn_boardanswers.proofs.WindowLemmas.{given_accepted, standard_machine
 -- ---- moments of two boards
 
 -- a moment knows the tables of the network alone
-moment_by_tables : (m : Quadruples) (l : Limits) (names : List ControlState) (n o : Circuit) (d : Config) (a : ℕ) → n.tables ≡ o.tables → IsBoardMoment m l names n d a →
+moment_by_tables : (m : Quadruples) (l : Limits) (names : List ControlState) (n o : Circuit) (d : Config) (a : ℕ) → n.tables ≡ o.tables →
+    IsBoardMoment m l names n d a →
     IsBoardMoment m l names o d a
-moment_by_tables m l names n o d a same (left_by_end final control has left) = left_by_end final control (subst (λ (ts : List Table). slice_get ts 0 ≡ Some control) same has) left
+moment_by_tables m l names n o d a same (left_by_end final control has left) =
+    left_by_end final control (subst (λ (ts : List Table). slice_get ts 0 ≡ Some control) same has) left
 moment_by_tables m l names n o d a same (enters_first other first entry into wire place q names_it marked) =
-    enters_first other first entry into wire (subst (λ (ts : List Table). d.place ≡ Enter (input_line (base ts into.element) into.line).element west) same place) q names_it marked
+    enters_first other first entry into wire
+    (subst (λ (ts : List Table). d.place ≡ Enter (input_line (base ts into.element) into.line).element west) same place) q names_it marked
 
-moment_there : (f g : Flat) (d : Config) (a : ℕ) → f.translation ≡ g.translation → f.limits ≡ g.limits → f.names ≡ g.names → f.network.tables ≡ g.network.tables →
+moment_there : (f g : Flat) (d : Config) (a : ℕ) → f.translation ≡ g.translation → f.limits ≡ g.limits → f.names ≡ g.names →
+    f.network.tables ≡ g.network.tables →
     IsBoardMoment (machine_of f) f.limits f.names f.network d a → IsBoardMoment (machine_of g) g.limits g.names g.network d a
 moment_there f g d a translation limits names tables h =
     subst (λ (ns : List ControlState). IsBoardMoment (machine_of g) g.limits ns g.network d a) names
@@ -88,12 +94,18 @@ module _ (f g : Flat) (same : AreSameFlats f g) (limits : f.limits ≡ g.limits)
   told_same given = places_same (budget f given) ∙ ap (λ n. places g.circuit n (flat_start g)) (budget_same given)
 
   moment_to : (n : ℕ) → HasMoment f n → HasMoment g n
-  moment_to n h =
-      (h.0, subst (λ c. IsBoardMoment (machine_of g) g.limits g.names g.network c h.0) (after_same n) (moment_there f g (after f n) h.0 same.translation limits same.names same.network.tables h.1))
+  moment_to n h = (
+    h.0,
+    subst (λ c. IsBoardMoment (machine_of g) g.limits g.names g.network c h.0) (after_same n)
+        (moment_there f g (after f n) h.0 same.translation limits same.names same.network.tables h.1),
+  )
 
   moment_from : (n : ℕ) → HasMoment g n → HasMoment f n
-  moment_from n h =
-      (h.0, subst (λ c. IsBoardMoment (machine_of f) f.limits f.names f.network c h.0) (sym (after_same n)) (moment_there g f (after g n) h.0 (sym same.translation) (sym limits) (sym same.names) (sym same.network.tables) h.1))
+  moment_from n h = (
+    h.0,
+    subst (λ c. IsBoardMoment (machine_of f) f.limits f.names f.network c h.0) (sym (after_same n))
+        (moment_there g f (after g n) h.0 (sym same.translation) (sym limits) (sym same.names) (sym same.network.tables) h.1),
+  )
 
   module _ (t : Named) where
     exit_same : (p : Place) (e : Exit) → exit_line t f p e ≡ exit_line t g p e
@@ -104,7 +116,8 @@ module _ (f g : Flat) (same : AreSameFlats f g) (limits : f.limits ≡ g.limits)
     exit_same p Unnamed = refl
 
     shown_same : (states : List ℕ) → shown_lines t f states ≡ shown_lines t g states
-    shown_same states = λ i. tape_lines t (spelled_tape (same.layout i) states 1) (spelled_tape (same.layout i) states 2) (spelled_tape (same.layout i) states 3)
+    shown_same states = λ i. tape_lines t (spelled_tape (same.layout i) states 1) (spelled_tape (same.layout i) states 2)
+        (spelled_tape (same.layout i) states 3)
 
     rest_same : (d : Config) (k : ℕ) (e : Exit) → rest_text t f d k e ≡ rest_text t g d k e
     rest_same d k End =
@@ -128,9 +141,11 @@ module _ (f g : Flat) (same : AreSameFlats f g) (limits : f.limits ≡ g.limits)
         let configs = reached_same given in
         record {
           exit = a.exit;
-          is_exit = subst (λ (y : Layout). IsNamedExit y (reached g given).place a.exit) same.layout (subst (λ (c : Config). IsNamedExit f.layout c.place a.exit) configs a.is_exit);
+          is_exit = subst (λ (y : Layout). IsNamedExit y (reached g given).place a.exit) same.layout
+              (subst (λ (c : Config). IsNamedExit f.layout c.place a.exit) configs a.is_exit);
           moments = a.moments;
-          counted = subst (λ (c : Config). Counts (HasMoment g) (c.steps + 1) a.moments) configs (counts_alike (HasMoment f) (HasMoment g) moment_to moment_from ((reached f given).steps + 1) a.moments a.counted);
+          counted = subst (λ (c : Config). Counts (HasMoment g) (c.steps + 1) a.moments) configs
+              (counts_alike (HasMoment f) (HasMoment g) moment_to moment_from ((reached f given).steps + 1) a.moments a.counted);
           status_is = a.status_is;
           text_is = a.text_is ∙ text_same (reached f given) (a.moments - 1) a.exit ∙ ap (λ (c : Config). run_text t g c (a.moments - 1) a.exit) configs;
           told_is = a.told_is ∙ told_same given;
@@ -138,7 +153,8 @@ module _ (f g : Flat) (same : AreSameFlats f g) (limits : f.limits ≡ g.limits)
 
 -- of one board one run is told
 run_once : (given : Option ℕ) (t : Named) (f : Flat) → ((at : Place) (e x : Exit) → IsNamedExit f.layout at e → IsNamedExit f.layout at x → e ≡ x) →
-    (s u : Status) (text second : List ℕ) (told heard : List Place) → TellsRun given t f s text told → TellsRun given t f u second heard → AgreeInAll s u text second told heard
+    (s u : Status) (text second : List ℕ) (told heard : List Place) → TellsRun given t f s text told → TellsRun given t f u second heard →
+    AgreeInAll s u text second told heard
 run_once given t f one s u text second told heard a b =
     let exits = one (reached f given).place a.exit b.exit a.is_exit b.is_exit in
     let counts = counts_once (HasMoment f) ((reached f given).steps + 1) a.moments b.moments a.counted b.counted in
@@ -152,7 +168,8 @@ run_once given t f one s u text second told heard a b =
 
 module _ (machines : TablesAreMachines) (ones : FlatsAreOne) where
   -- two boards are the same
-  same_boards : (bytes letters : List ℕ) (l : Limits) (t : Named) (symbols : List ℕ) (f g : Flat) → IsGiven bytes letters l t symbols → ComesTo t.machine l symbols f →
+  same_boards : (bytes letters : List ℕ) (l : Limits) (t : Named) (symbols : List ℕ) (f g : Flat) → IsGiven bytes letters l t symbols →
+      ComesTo t.machine l symbols f →
       ComesTo t.machine l symbols g → AreSameFlats f g
   same_boards bytes letters l t symbols f g given a b =
       ones t.machine symbols l f g (standard_machine machines bytes t given.reads).0 a.flat b.flat
@@ -215,8 +232,12 @@ run_settled machines flats ones counted exits_one exits counts given word l byte
   where
     some : (t : Named) (symbols : List ℕ) (f : Flat) → IsGiven bytes word l t symbols → ComesTo t.machine l symbols f → HasAnswer (TellsRun given t f)
     some t symbols f is comes =
-        let found = boards-have_runs machines exits bytes word l t symbols f given is comes in
-        (status_of found.0, found_text given t f found.0, places f.circuit (budget f given) (flat_start f), (boards-tell_runs machines exits counts bytes word l t symbols f given is comes found.0 found.1).1)
+        let found = boards-have_runs machines exits bytes word l t symbols f given is comes in (
+          status_of found.0,
+          found_text given t f found.0,
+          places f.circuit (budget f given) (flat_start f),
+          (boards-tell_runs machines exits counts bytes word l t symbols f given is comes found.0 found.1).1,
+        )
 
     one : (t : Named) (symbols : List ℕ) (f g : Flat) → IsGiven bytes word l t symbols → ComesTo t.machine l symbols f → ComesTo t.machine l symbols g →
         (s u : Status) (a b : List ℕ) (x y : List Place) → TellsRun given t f s a x → TellsRun given t g u b y → AgreeInAll s u a b x y
@@ -241,6 +262,7 @@ compile_settled machines flats ones counted spelled word l bytes small =
         let same = same_boards machines ones bytes word l t symbols f g is h k in
         record {
           statuses = tells.done ∙ sym other.done;
-          texts = tells.spelled.written ∙ spelled_alike f g same t.machine symbols l h.flat k.flat tells.spelling other.spelling tells.board other.board ∙ sym other.spelled.written;
+          texts = tells.spelled.written ∙ spelled_alike f g same t.machine symbols l h.flat k.flat tells.spelling other.spelling tells.board other.board
+              ∙ sym other.spelled.written;
           places = tells.silent ∙ sym other.silent;
         }

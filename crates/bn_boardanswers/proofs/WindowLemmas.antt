@@ -46,7 +46,8 @@ given_accepted machines bytes letters l t symbols f given comes =
 
 module _ (tells : Flat → Status → List ℕ → List Place → Type 0) (p : Program) (l : Limits) (symbols : List ℕ) (counted : BoardsAreCounted)
     (there : (f : Flat) × IsFlatOf p symbols l f) (some : (f : Flat) → ComesTo p l symbols f → HasAnswer (tells f))
-    (one : (f g : Flat) → ComesTo p l symbols f → ComesTo p l symbols g → (s u : Status) (a b : List ℕ) (x y : List Place) → tells f s a x → tells g u b y → AgreeInAll s u a b x y)
+    (one : (f g : Flat) → ComesTo p l symbols f → ComesTo p l symbols g → (s u : Status) (a b : List ℕ) (x y : List Place) → tells f s a x → tells g u b y →
+    AgreeInAll s u a b x y)
     (status : (f : Flat) → (s : Status) (text : List ℕ) (told : List Place) → tells f s text told → IsReplyStatus s) where
   board_some : HasAnswer (BoardReplies tells p l symbols)
   board_some = by_length (cases_lt l.right (length symbols))
@@ -99,7 +100,8 @@ pub window_settled : (tells : Named → Flat → Status → List ℕ → List Pl
     ((t : Named) (symbols : List ℕ) (f : Flat) → IsGiven bytes word l t symbols → ComesTo t.machine l symbols f → HasAnswer (tells t f)) →
     ((t : Named) (symbols : List ℕ) (f g : Flat) → IsGiven bytes word l t symbols → ComesTo t.machine l symbols f → ComesTo t.machine l symbols g →
     (s u : Status) (a b : List ℕ) (x y : List Place) → tells t f s a x → tells t g u b y → AgreeInAll s u a b x y) →
-    ((t : Named) (f : Flat) (s : Status) (text : List ℕ) (told : List Place) → tells t f s text told → IsReplyStatus s) → IsSettled (WindowReplies tells word l bytes)
+    ((t : Named) (f : Flat) (s : Status) (text : List ℕ) (told : List Place) → tells t f s text told → IsReplyStatus s) →
+    IsSettled (WindowReplies tells word l bytes)
 window_settled tells word l bytes machines flats counted small some one status =
     standard_settled (λ t. WordReplies (BoardReplies (tells t) t.machine l) t word) bytes
     (λ t reads. word_settled (BoardReplies (tells t) t.machine l) t (reads_table bytes t reads.reads) word (λ symbols spelled.

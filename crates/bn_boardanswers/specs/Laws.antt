@@ -75,8 +75,8 @@ abbrev pub found_text : Option ℕ → Named → Flat → Exit → List ℕ
 found_text given t f e =
     run_text t f (reached f given) (moments f.layout f.circuit (budget f given) (flat_start f) - 1) e
 
--- whatever exit the layout finds for the place to which a run comes, it has a name, and what is told is the text with it
--- and with the moments that the layout finds
+-- whatever exit the layout finds for the place to which a run comes, it has a name, and what is told is the text with
+-- it and with the moments that the layout finds
 abbrev pub BoardsTellRuns : Type 0
 BoardsTellRuns =
     (bytes letters : List ℕ) (l : Limits) (t : Named) (symbols : List ℕ) (f : Flat) (given : Option ℕ)
