@@ -19,7 +19,7 @@ use Rattle.bn_reply.proofs.TableLemmas.{reads_table}
 use Rattle.bn_boardanswers.specs.Windows.{BoardReplies, long, large, board, ComesTo}
 use Rattle.bn_boardanswers.specs.RunReply.{TellsRun}
 use Rattle.bn_boardanswers.specs.Headline.{ComesOutOn, Tells, TookOutcome}
-use Rattle.bn_boardanswers.specs.Laws.{AnswersTellHeadline, BoardsAreCounted, GivenRunsHaveAll, MomentsAreCounted, RepliesTellOutcomes}
+use Rattle.bn_boardanswers.specs.Laws.{AnswersTellHeadline, BoardsAreCounted, RunsHaveOneOfEach, MomentsAreCounted, RepliesTellOutcomes}
 use Rattle.bn_boardanswers.proofs.OutcomeLemmas.{runs-stop_within, runs-tell_outcomes}
 use Rattle.bn_boardanswers.proofs.TellingLemmas.{boards-tell_alike}
 use Rattle.bn_boardanswers.proofs.WindowLemmas.{given_accepted, standard_machine}
@@ -78,8 +78,8 @@ module _ (machines : TablesAreMachines) (ones : FlatsAreOne) (counted : BoardsAr
 
 -- ---- it speaks of something
 
-pub given_runs-have_all : TablesAreMachines → FlatsAreThere → BoardsAreCounted → BoardsRunToTheirExit → GivenRunsHaveAll
-given_runs-have_all machines flats counted boards bytes letters l t symbols given =
+pub runs-have_one_of_each : TablesAreMachines → FlatsAreThere → BoardsAreCounted → BoardsRunToTheirExit → RunsHaveOneOfEach
+runs-have_one_of_each machines flats counted boards bytes letters l t symbols given =
     let standard = standard_machine machines bytes t given.reads in
     let flat = flats t.machine symbols l standard.0 standard.1 in
     let count = size flat.0.network.tables in

@@ -115,7 +115,7 @@ RunsStopWithin =
 -- Each machine in standard form, word of its letters and limits that may be asked for have one count of elements and
 -- one outcome; and where the word fits and the elements aren't too many, they have a board, and all their boards are
 -- the same up to the order of wires, with one cost.
-pub record HasAll (p : Program) (l : Limits) (symbols : List ℕ) : Type 0 where
+pub record HasOneOfEach (p : Program) (l : Limits) (symbols : List ℕ) : Type 0 where
   pub count : ℕ
   pub counts : CountsElements p l count
   pub one_count : (other : ℕ) → CountsElements p l other → other ≡ count
@@ -128,10 +128,10 @@ pub record HasAll (p : Program) (l : Limits) (symbols : List ℕ) : Type 0 where
   pub cost : (f : Flat) → ComesTo p l symbols f → (cost : ℕ) × HasCost f cost
       × ((other : ℕ) → HasCost f other → other ≡ cost)
 
-abbrev pub GivenRunsHaveAll : Type 0
-GivenRunsHaveAll =
+abbrev pub RunsHaveOneOfEach : Type 0
+RunsHaveOneOfEach =
     (bytes letters : List ℕ) (l : Limits) (t : Named) (symbols : List ℕ) → IsGiven bytes letters l t symbols
-    → HasAll t.machine l symbols
+    → HasOneOfEach t.machine l symbols
 
 -- a reply to the words that ask for a run tells the headline, where the sink takes its text
 abbrev pub RepliesTellOutcomes : Type 0

@@ -4,7 +4,7 @@ ghost use Rattle.bn_boardanswers.specs.CompileLaws.{CompiledTextsStepBack, Texts
 ghost use Rattle.bn_boardanswers.specs.RunReply.{RunIsSettled};
 ghost use Rattle.bn_boardanswers.specs.Laws.{AnswersTellHeadline, BoardsAreCounted, BoardsAreSpelled, BoardsHaveRuns};
 ghost use Rattle.bn_boardanswers.specs.Laws.{BoardsTellAlike, BoardsTellRuns, ExitsAreNamed, GivenBoardsAreAccepted};
-ghost use Rattle.bn_boardanswers.specs.Laws.{GivenRunsHaveAll, MomentsAreCounted, RepliesTellOutcomes};
+ghost use Rattle.bn_boardanswers.specs.Laws.{RunsHaveOneOfEach, MomentsAreCounted, RepliesTellOutcomes};
 ghost use Rattle.bn_boardanswers.specs.Laws.{RunsStopWithin, RunsTellOutcomes, StartsAreTold};
 
 use bn_bennett::translations_are_one;
@@ -150,8 +150,8 @@ pub fn runs_stop_within()
 
 /// Each machine, word and limits have one count of elements and one outcome, and a board, the same up to the order
 /// of wires, with one cost, where it isn't too large.
-pub fn given_runs_have_all()
-    ensures { GivenRunsHaveAll }
+pub fn runs_have_one_of_each()
+    ensures { RunsHaveOneOfEach }
 {
     tables_are_machines();
     flats_are_there();
