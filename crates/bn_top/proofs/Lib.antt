@@ -2,3 +2,4 @@ pub mod Commands
 pub mod AnswerLemmas
 pub mod EndLemmas
 pub mod HeadlineLemmas
+pub mod WindowLemmas

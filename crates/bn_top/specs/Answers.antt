@@ -42,6 +42,13 @@ limits_at request = record {
   output = number_at request 4;
 }
 
+-- the forms whose words are a word, four limits, and perhaps more
+abbrev pub HasWindow : Form → Type 0
+HasWindow Compile = Unit {0}
+HasWindow Run = Unit {0}
+HasWindow RunWithin = Unit {0}
+HasWindow _ = ⊥
+
 -- what is answered to a request of this form and an input within the limit; the words behind the name are counted
 -- from 0
 abbrev pub RepliesBy : Form → Request → List ℕ → Status → List ℕ → List Place → Type 0
