@@ -108,7 +108,8 @@ module _ (b : Layout) (kept : IsLayoutKept b) where
       there : command_place b o ≡ Enter e west → IsCommandOf b e o
       there leads =
           let to = line_to o low high in
-          let element : first_element b to.tape + to.line ≡ e = (enters _ _ _ _ (sym (place_of to.tape to.line o to.low to.high to.within to.number) ∙ leads)).0 in
+          let element : first_element b to.tape + to.line ≡ e = (enters _ _ _ _ (sym (place_of to.tape to.line o to.low to.high to.within to.number) ∙
+          leads)).0 in
           record { tape = to.tape; low = to.low; high = to.high; line = to.line; within = to.within; number = to.number; element = sym element }
 
       back : IsCommandOf b e o → command_place b o ≡ Enter e west
@@ -119,7 +120,8 @@ module _ (b : Layout) (kept : IsLayoutKept b) where
   first_rises zero u low less = absurd (omega arith)
   first_rises (suc t) u low less =
       elim (cases_lt (suc t) u) [
-        | inl below ↦ (let h = later_tape b (suc t) u (omega arith) below in let e : first_element b (suc (suc t)) ≡ first_element b (suc t) + cells_in b.limits (suc t) * cell_size (letters_at b (suc t)) = refl in omega arith)
+        | inl below ↦ (let h = later_tape b (suc t) u (omega arith) below in let e : first_element b (suc (suc t)) ≡ first_element b (suc t) + cells_in
+            b.limits (suc t) * cell_size (letters_at b (suc t)) = refl in omega arith)
         | inr above ↦ (let same : suc t ≡ u = omega arith in subst (λ n. first_element b (suc t) ≤ first_element b n) same (omega arith))
       ]
 
@@ -150,7 +152,8 @@ module _ (b : Layout) (kept : IsLayoutKept b) where
   row_long t low high some =
       let cells : 1 ≤ cells_in b.limits t = some_cells b.limits t low high in
       let one : 1 * cell_size (letters_at b t) ≤ cells_in b.limits t * cell_size (letters_at b t) = mul-le-mul_right (cell_size (letters_at b t)) cells in
-      let two : (2 * 1) * (2 * letters_at b t + 8 + 1) ≤ (2 * letters_at b t) * (2 * letters_at b t + 8 + 1) = mul-le-mul_right (2 * letters_at b t + 8 + 1) (omega arith) in
+      let two : (2 * 1) * (2 * letters_at b t + 8 + 1) ≤ (2 * letters_at b t) * (2 * letters_at b t + 8 + 1) = mul-le-mul_right (2 * letters_at b t + 8 +
+      1) (omega arith) in
       omega arith
 
   -- where the next tape begins
@@ -164,7 +167,16 @@ module _ (b : Layout) (kept : IsLayoutKept b) where
   one_command e t first lines low high some first_is lines_is later least most o least_line line = (
     λ h. (
         let number : lines + (e - first) ≡ o = same_Some (lines + (e - first)) o h in
-        (command_is e o least_line line).1 (record { tape = t; low = low; high = high; line = e - first; within = most; number = omega arith; element = omega arith })),
+        (command_is e o least_line line).1 (record {
+          tape = t;
+          low = low;
+          high = high;
+          line = e - first;
+          within = most;
+          number = omega arith;
+          element =
+              omega arith;
+        })),
     λ leads. (
         let by = (command_is e o least_line line).0 leads in
         ap Some (same_number by)),
@@ -187,7 +199,8 @@ module _ (b : Layout) (kept : IsLayoutKept b) where
           ]
 
   -- no command of this tape leads there
-  pub later_still : (e t first : ℕ) → first ≡ first_element b t → ((o : ℕ) → (by : IsCommandOf b e o) → t ≤ by.tape) → first ≤ e → letters_at b t + 3 ≤ e - first
+  pub later_still : (e t first : ℕ) → first ≡ first_element b t → ((o : ℕ) → (by : IsCommandOf b e o) → t ≤ by.tape) → first ≤ e → letters_at b t + 3 ≤ e
+      - first
       → (o : ℕ) → (by : IsCommandOf b e o) → t + 1 ≤ by.tape
   later_still e t first first_is later least over o by =
       elim (cases_lt t by.tape) [
@@ -207,7 +220,8 @@ module _ (b : Layout) (kept : IsLayoutKept b) where
 -- ---- the search
 
 -- a test that fails at each element
-pub position_never : {X : Type 0} (p : X → Bool) (xs : List X) → ((k : ℕ) (x : X) → k < length xs → slice_get xs k ≡ Some x → p x ≡ false) → position p xs ≡ None
+pub position_never : {X : Type 0} (p : X → Bool) (xs : List X) → ((k : ℕ) (x : X) → k < length xs → slice_get xs k ≡ Some x → p x ≡ false) → position p
+    xs ≡ None
 position_never p [] never = refl
 position_never p (x ∷ xs) never =
     let n : ℕ = length (x ∷ xs) in
@@ -257,11 +271,13 @@ module _ (b : Layout) (c : Config) (xs : List (Option (ℕ × ℕ))) (xs_are : x
       ]
 
   pub none_left : (k : ℕ) → length xs ≤ k → AreUnsent k → None ≡ moment_at b c
-  none_left k over never = sym (position_never (is_sent b c) b.firsts (λ j g low here. never j g (let e : length xs ≡ length b.firsts = ap length xs_are in omega arith) here))
+  none_left k over never = sym (position_never (is_sent b c) b.firsts (λ j g low here. never j g (let e : length xs ≡ length b.firsts = ap length xs_are
+      in omega arith) here))
 
   -- an element is what each keeps
   pub first_within : IsLayoutKept b → (k : ℕ) (d : Option (ℕ × ℕ)) → k < length xs → IsFirstWithin b.states (lines_at b) (slice_index_or xs k d)
-  first_within kept k d low = subst (λ ys. IsFirstWithin b.states (lines_at b) (slice_index_or ys k d)) (sym xs_are) (AllWithin-from_all (IsFirstWithin b.states (lines_at b)) b.firsts kept.firsts_within k d (omega arith) (let e : length xs ≡ length b.firsts = ap length xs_are in omega arith))
+  first_within kept k d low = subst (λ ys. IsFirstWithin b.states (lines_at b) (slice_index_or ys k d)) (sym xs_are) (AllWithin-from_all (IsFirstWithin
+      b.states (lines_at b)) b.firsts kept.firsts_within k d (omega arith) (let e : length xs ≡ length b.firsts = ap length xs_are in omega arith))
 
 none_sent : (b : Layout) (c : Config) → ((j : ℕ) (g : Option (ℕ × ℕ)) → j < length b.firsts → slice_get b.firsts j ≡ Some g → is_sent b c g ≡ false)
     → None ≡ moment_at b c
@@ -277,7 +293,13 @@ module _ (b : Layout) (c : Config) where
             (let first = not_below o (lines_before b.symbols 1) more in
             elim (cases_lt o (lines_before b.symbols 2)) [
               | inl less ↦ (first_element b 2 + (o - lines_before b.symbols 1), let test = below o (lines_before b.symbols 2) less in rw (first, test) refl)
-              | inr again ↦ (first_element b 3 + (o - lines_before b.symbols 2), let test = not_below o (lines_before b.symbols 2) again in rw (first, test) refl)
+              | inr again ↦ (
+                first_element b 3 + (o - lines_before b.symbols 2),
+                let test = not_below o (lines_before b.symbols 2) again in rw (
+                  first,
+                  test,
+                ) refl,
+              )
             ])
       ]
 

@@ -7,10 +7,15 @@ use Rattle.bn_flat.proofs.MomentLemmas.{off_west, off_commands, off_end}
 use Rattle.bn_flat.proofs.board.Board.moment.Goals as goal
 
 pub returns-then-line-ne-WEST : goal.returns-then-line-ne-WEST
-returns-then-line-ne-WEST c = off_west c.args.self.now.layout c.args.self.now.config c.in-Enter.element c.in-Enter.line (sym c.in-Enter.ensures) c.if-line-ne-WEST.true
+returns-then-line-ne-WEST c = off_west c.args.self.now.layout c.args.self.now.config c.in-Enter.element c.in-Enter.line (sym c.in-Enter.ensures)
+    c.if-line-ne-WEST.true
 
 pub returns-in-None : goal.returns-in-None
-returns-in-None c = off_commands c.args.self.now.layout c.args.self.now.config c.in-Enter.element (sym c.in-Enter.ensures ∙ ap (λ n. Enter c.in-Enter.element n) c.if-line-ne-WEST.false) c.layout.ensures.kept.layout (subst (λ l. IsCommandTo l c.in-Enter.element _) c.layout.ensures.layout c.in-None.ensures)
+returns-in-None c = off_commands c.args.self.now.layout c.args.self.now.config c.in-Enter.element (sym c.in-Enter.ensures ∙ ap (λ n. Enter
+    c.in-Enter.element n) c.if-line-ne-WEST.false) c.layout.ensures.kept.layout (subst (λ l. IsCommandTo l c.in-Enter.element _) c.layout.ensures.layout
+    c.in-None.ensures)
 
 pub returns-else-eq : goal.returns-else-eq
-returns-else-eq c = off_end c.args.self.now.layout c.args.self.now.config c.in-Left.element c.in-Left.line (sym c.in-Left.ensures) (other_end c.args.self.now.layout (record { element = c.in-Left.element; line = c.in-Left.line }) c.end_line.result c.eq.result c.eq.ensures c.if-eq.false (ap (λ x. Left x.element x.line) c.end_line.ensures ∙ ap end_place c.layout-in-Left.ensures.layout))
+returns-else-eq c = off_end c.args.self.now.layout c.args.self.now.config c.in-Left.element c.in-Left.line (sym c.in-Left.ensures) (other_end
+    c.args.self.now.layout (record { element = c.in-Left.element; line = c.in-Left.line }) c.end_line.result c.eq.result c.eq.ensures c.if-eq.false (ap
+    (λ x. Left x.element x.line) c.end_line.ensures ∙ ap end_place c.layout-in-Left.ensures.layout))
