@@ -23,7 +23,7 @@ use Rattle.bn_layout.specs.Layouts.{Layout, letters_at, lines_at, cell_element, 
 use Rattle.bn_layout.proofs.PlaceLemmas.{output-within}
 use Rattle.bn_assembly.specs.declared.make.TheConstants.{MOST_ELEMENTS}
 use Rattle.bn_flat.specs.Flattened.{IsLayoutKept}
-use Rattle.bn_flat.proofs.LayoutLemmas.{cell_within}
+use Rattle.bn_flat.proofs.LayoutLemmas.{control_within, cell_within}
 
 -- numbers of a place
 pub left_parts : (e f l m : ℕ) → Left e l ≡ Left f m → (e ≡ f) × (l ≡ m)
@@ -76,6 +76,12 @@ pub record IsStuckBy (b : Layout) (e l a c : ℕ) : Type 0 where
   pub row : e % (lines_at b + 1) ≡ lines_before b.symbols (tape - 1) + c
 
 module _ (b : Layout) (kept : IsLayoutKept b) where
+  pub end_within : (b.states - 1) * (lines_at b + 1) ≤ MOST_ELEMENTS
+  end_within =
+      let h : (b.states - 1) * (lines_at b + 1) ≤ b.states * (lines_at b + 1) = mul-le-mul_right (lines_at b + 1) (omega arith) in
+      let few = control_within b kept in
+      omega arith
+
   pub output_few : (t p l : ℕ) → 1 ≤ t → t ≤ 3 → p < cells_in b.limits t → 1 ≤ letters_at b t → l < lines_of (letters_at b t)
       → cell_element b t p + (2 * letters_at b t - 1) * (lines_of (letters_at b t) + 1) + l ≤ MOST_ELEMENTS
   output_few t p l low high cell some line =

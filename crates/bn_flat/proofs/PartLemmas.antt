@@ -16,6 +16,7 @@ use Rattle.bn_net.proofs.OrderLemmas.{in_order-same}
 use Rattle.bn_column.specs.Columns.{line_at}
 use Rattle.bn_column.specs.Nets.{rotary_circuit, IsNetOf}
 use Rattle.bn_column.specs.Wirings.{AreWiresOf, AreFitting, IsWire, more_wire, same_wires, no_wires, apart-wire}
+use Rattle.bn_packed.specs.Ends.{rotaries}
 use Rattle.bn_packed.proofs.EndLemmas.{rotaries_all, output_below, input_below, four_out}
 use Rattle.bn_flat.specs.BoardWires.{IsBefore, IsTargetBefore}
 
@@ -54,8 +55,8 @@ module _ (net : Parts Rotary) (is : IsCircuit (rotary_circuit net)) where
   told_one e l to ws leads so =
       same_wires (λ x y. IsTargetBefore net.wires e l x y ⊎ IsWire (record { from = line_at e l; to = to }) x y) (IsTargetBefore net.wires e (l + 1)) (ws ++ record { from = line_at e l; to = to } ∷ [])
       (more_wire (IsTargetBefore net.wires e l) ws (record { from = line_at e l; to = to }) so
-        (λ x h. not_before_itself e l h.before)
-        (λ x h. let one = (is.one_to_one x to).0 h.leads in let other = (is.one_to_one (line_at e l) to).0 leads in let same : x ≡ line_at e l = cc in not_before_itself e l (subst (λ y. IsBefore e l y) same h.before)))
+      (λ x h. not_before_itself e l h.before)
+      (λ x h. let one = (is.one_to_one x to).0 h.leads in let other = (is.one_to_one (line_at e l) to).0 leads in let same : x ≡ line_at e l = cc in not_before_itself e l (subst (λ y. IsBefore e l y) same h.before)))
       forth back
     where
       forth : (x y : Line) → IsTargetBefore net.wires e l x y ⊎ IsWire (record { from = line_at e l; to = to }) x y → IsTargetBefore net.wires e (l + 1) x y
@@ -96,12 +97,14 @@ module _ (net : Parts Rotary) (is : IsCircuit (rotary_circuit net)) where
 
   -- they fit
   pub told_fits : (ws : List Wire) → AreWiresOf (IsTargetBefore net.wires (length net.elements) 0) ws → AreFitting (length net.elements) ws
-  told_fits ws so = record { fits = λ i w h.
-      let leads = (so.sound w.from w.to (apart-wire ws i w so.apart h)).leads in
-      let wired = is.wired w.from w.to leads in
-      let out = output_below net.elements w.from wired.0 in
-      let into = input_below net.elements w.to wired.1 in
-      (out.element, out.line, into.element, into.line) }
+  told_fits ws so = record {
+    fits = λ i w h.
+        let leads = (so.sound w.from w.to (apart-wire ws i w so.apart h)).leads in
+        let wired = is.wired w.from w.to leads in
+        let out = output_below net.elements w.from wired.0 in
+        let into = input_below net.elements w.to wired.1 in
+        (out.element, out.line, into.element, into.line);
+  }
 
   -- and the net that is made of them is the net
   pub told_again : (other : Parts Rotary) (ws : List Wire) → AreWiresOf (IsTargetBefore net.wires (length net.elements) 0) ws → AreInOrder net.wires → AreInOrder other.wires

@@ -1,5 +1,5 @@
 pub mod Flattened
 pub mod BoardWires
 pub mod Locations
-pub mod Moments
 pub mod Starts
+pub mod Moments

@@ -70,7 +70,8 @@ impl Board {
         requires first { 1 ≤ tape }
         requires last { tape ≤ 3 }
         ensures { let b = self.now.layout in result
-            ≡ position (λ p. has_head (letters_at b tape) (cell_state_at b self.now.config.states tape p)) (range_with_len 0 (cells_in b.limits tape)) }
+            ≡ position (λ p. has_head (letters_at b tape) (cell_state_at b self.now.config.states tape p))
+            (range_with_len 0 (cells_in b.limits tape)) }
     {
         for cell in 0..self.layout().cells(tape) {
             if self.shows_head(tape, cell) {

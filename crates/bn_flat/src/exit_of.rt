@@ -5,7 +5,8 @@ ghost use Rattle.bn_theory.specs.declared.place.Place.TheVariants.{Left};
 ghost use Rattle.bn_modules.specs.Cells.{lines_of};
 ghost use Rattle.bn_modules.specs.Controls.{lines_before};
 ghost use Rattle.bn_modules.specs.Networks.{cells_in};
-ghost use Rattle.bn_layout.specs.Layouts.{IsExit, IsNamedExit, cell_output, letters_at, lines_at};
+ghost use Rattle.bn_flat.specs.Flattened.{end_line};
+ghost use Rattle.bn_layout.specs.Layouts.{IsExit, IsNamedExit, cell_output, end_place, letters_at, lines_at};
 ghost use Rattle.bn_layout.specs.declared.exit.Exit.{Exit};
 ghost use Rattle.bn_layout.specs.declared.exit.Exit.TheVariants.{Stuck, Window};
 ghost use Rattle.bn_machine.specs.declared.quint.Side.{Side};
@@ -50,6 +51,18 @@ impl Layout {
         match self.window_at(left) {
             Some((tape, side)) => Exit::Window { tape, side },
             None => Exit::Unnamed,
+        }
+    }
+
+    // The control's line to the outside.
+    #[tactic(auto, using(crate::proofs::ExitLemmas::end_within))]
+    pub(crate) fn end_line(&self) -> Line
+        ensures place { Left result.element result.line ≡ end_place self.now }
+        ensures line { result ≡ end_line self.now }
+    {
+        Line {
+            element: (self.states() - 1) * (self.lines() + 1),
+            line: EAST,
         }
     }
 

@@ -7,13 +7,12 @@ ghost use Rattle.bn_modules.specs.Networks.{bank_size, cell_size, cells_in, left
 ghost use Rattle.bn_modules.specs.Cells.{lines_of};
 ghost use Rattle.bn_headline.specs.Costs.{bound_of};
 ghost use Rattle.bn_assembly.specs.Assembled.{limits_of};
-ghost use Rattle.bn_flat.specs.Flattened.{IsLayoutKept, IsFirstWithin, end_line};
+ghost use Rattle.bn_flat.specs.Flattened.{IsLayoutKept, IsFirstWithin};
 ghost use Rattle.bn_control.specs.Controlled.{IsTapeAwaited};
 
 use bn_assembly::{MOST_ELEMENTS, Windows};
 use bn_cell::MOST_SYMBOLS;
-use bn_element::EAST;
-use bn_net::{Line, NoMemory};
+use bn_net::NoMemory;
 use std::alloc::Global;
 use std::marker::Model;
 
@@ -233,18 +232,6 @@ impl Layout {
         ensures few { result ≤ MOST_ELEMENTS }
     {
         self.first_element(4)
-    }
-
-    // The line by which the signal leaves at the end.
-    #[tactic(auto, using(crate::proofs::LayoutLemmas::last_within))]
-    pub(crate) fn end_line(&self) -> Line
-        ensures { result ≡ end_line self.now }
-    {
-        let _ = &self.windows;
-        Line {
-            element: (self.states() - 1) * (self.lines() + 1),
-            line: EAST,
-        }
     }
 
     // A bound on the steps of a run from the start to its exit.

@@ -82,6 +82,7 @@ fn push_element(wires: &mut Vec<Wire>, packed: &Packed, element: u32) -> Result<
     ensures wires { OnOk result (AreWiresOf (IsTargetBefore packed.now.net.wires (element + 1) 0) wires.new.items) }
     ensures few { OnOk result (length wires.new.items ≤ length wires.old.items + 4) }
 {
+    let _elements = packed.len();
     for line in 0..4 {
         push_line(wires, packed, Line { element, line })?;
     }
@@ -89,7 +90,6 @@ fn push_element(wires: &mut Vec<Wire>, packed: &Packed, element: u32) -> Result<
 }
 
 // The wire that leaves an output line, if one does.
-#[tactic(auto, using(crate::proofs::PartLemmas::told_none))]
 fn push_line(wires: &mut Vec<Wire>, packed: &Packed, from: Line) -> Result<(), NoMemory>
     requires element { from.element < length packed.now.net.elements }
     requires line { from.line < 4 }

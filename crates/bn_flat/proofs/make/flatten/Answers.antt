@@ -14,4 +14,4 @@ new-requires c =
 pub returns : goal.returns
 returns c =
     subst (IsFlattened c.args.assembly.now) (sym c.new.ensures) (made-flattened c.args.assembly.now c.layout_of.ensures.kept c.in_ok-layout.layout c.in_ok-layout.ensures.numbers c.in_ok-packed.packed.net c.in_ok-packed.packed.config _ c.end_line-end.result c.elements.result
-    c.in_ok-packed.ensures.board c.in_ok-packed.ensures.config c.in_ok-packed.ensures.elements c.elements.ensures.number c.in_ok-packed.ensures.order refl c.end_line-end.ensures)
+    c.in_ok-packed.ensures.board c.in_ok-packed.ensures.config c.in_ok-packed.ensures.elements c.elements.ensures.number c.in_ok-packed.ensures.order refl c.end_line-end.ensures.line)

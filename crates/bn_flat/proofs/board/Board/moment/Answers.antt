@@ -1,5 +1,5 @@
 use Rattle.std.proofs.Common.{subst, sym, ◌∙◌, ap}
-use Rattle.bn_theory.specs.declared.place.Place.TheVariants.{Enter, Left}
+use Rattle.bn_theory.specs.declared.place.Place.TheVariants.{Enter}
 use Rattle.bn_layout.specs.Layouts.{end_place}
 use Rattle.bn_flat.specs.Moments.{IsCommandTo}
 use Rattle.bn_flat.proofs.ExitLemmas.{off_end as other_end}
@@ -17,5 +17,5 @@ returns-in-None c = off_commands c.args.self.now.layout c.args.self.now.config c
 
 pub returns-else-eq : goal.returns-else-eq
 returns-else-eq c = off_end c.args.self.now.layout c.args.self.now.config c.in-Left.element c.in-Left.line (sym c.in-Left.ensures) (other_end
-    c.args.self.now.layout (record { element = c.in-Left.element; line = c.in-Left.line }) c.end_line.result c.eq.result c.eq.ensures c.if-eq.false (ap
-    (λ x. Left x.element x.line) c.end_line.ensures ∙ ap end_place c.layout-in-Left.ensures.layout))
+    c.args.self.now.layout (record { element = c.in-Left.element; line = c.in-Left.line }) c.end_line.result c.eq.result c.eq.ensures c.if-eq.false
+    (c.end_line.ensures.place ∙ ap end_place c.layout-in-Left.ensures.layout))

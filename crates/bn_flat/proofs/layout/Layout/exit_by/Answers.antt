@@ -1,9 +1,6 @@
-use Rattle.std.proofs.Common.{ap}
-use Rattle.bn_theory.specs.declared.place.Place.TheVariants.{Left}
 use Rattle.bn_layout.specs.Layouts.{named}
 use Rattle.bn_flat.proofs.ExitLemmas.{at_end}
 use Rattle.bn_flat.proofs.layout.Layout.exit_by.Goals as goal
 
 pub returns-then-eq : goal.returns-then-eq
-returns-then-eq c = named (at_end c.args.self.now c.args.left c.end_line.result c.eq.result c.eq.ensures c.if-eq.true (ap (λ x. Left x.element x.line)
-    c.end_line.ensures))
+returns-then-eq c = named (at_end c.args.self.now c.args.left c.end_line.result c.eq.result c.eq.ensures c.if-eq.true c.end_line.ensures.place)

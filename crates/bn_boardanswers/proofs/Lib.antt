@@ -1,0 +1,10 @@
+pub mod CountLemmas
+pub mod WindowLemmas
+pub mod SpelledLemmas
+pub mod RunLemmas
+pub mod TellingLemmas
+pub mod OutputLemmas
+pub mod OutcomeLemmas
+pub mod HeadlineLemmas
+pub mod CompileLemmas
+pub mod ClosedLemmas

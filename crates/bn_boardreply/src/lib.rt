@@ -1,0 +1,7 @@
+//! What the commands answer that make a machine, a word and a window into a board: `compile` and `run`.
+#![tactic(auto)]
+
+mod compile;
+mod opening;
+
+pub use compile::reply_compile;
