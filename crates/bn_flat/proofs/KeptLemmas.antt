@@ -1,23 +1,20 @@
 -- The layout of an assembled network's control keeps what every layout keeps, and is the machine's.
-use Rattle.std.specs.Prelude.{◌≡◌, ◌≢◌, ℕ, ◌+◌, ◌-◌, ◌<◌, ◌≤◌, ◌^◌, List, [], ◌∷◌, All, length, Option, Some, None, slice_get, slice_index, refl}
+use Rattle.std.specs.Prelude.{◌≡◌, ℕ, ◌+◌, ◌-◌, ◌<◌, ◌≤◌, List, [], ◌∷◌, All, length, Option, Some, slice_get, slice_index, refl}
 use Rattle.std.proofs.Common.{zero, suc, arith, sym, ap, subst, ◌∙◌}
 use Rattle.std.proofs.lemmas.Option.{slice_get_within, get_or_from_slice_get}
-use Rattle.bn_theory.specs.Tables.{Table}
-use Rattle.bn_rsm.specs.Machines.{machine_table}
 use Rattle.bn_machine.specs.Outcome.{Limits}
 use Rattle.bn_quad.specs.Quadruples.{Quadruples, IsQuadMachine}
-use Rattle.bn_modules.specs.Controls.{ControlState, ControlMove, Begin, Reads, Tape as to_tape, IsEntry, IsNumbering, is_begin, letters, lines_before, out_number, command_offset, control_lines}
+use Rattle.bn_modules.specs.Controls.{ControlState, Begin, Reads, Tape as to_tape, IsEntry, is_begin, letters, lines_before, out_number, command_offset, control_lines}
 use Rattle.bn_modules.specs.declared.cell_line.CellLine.TheVariants.{Read}
 use Rattle.bn_modules.specs.Networks.{elements_by}
 use Rattle.bn_control.specs.Controlled as controlled
 use Rattle.bn_control.specs.Controlled.{Controlled, IsControlOf, IsWithinLimits, IsTapeAwaited}
 use Rattle.bn_boards.proofs.ModuleLemmas.{found}
-use Rattle.bn_layout.specs.Layouts.{Layout, IsLayout, IsFirstKept, final_kept, sent_kept, lines_at, elements_of}
+use Rattle.bn_layout.specs.Layouts.{Layout, IsLayout, IsFirstKept, final_kept, sent_kept, elements_of}
 use Rattle.bn_layout.proofs.CommandLemmas.{command_number, entry-IsCommandMove}
 use Rattle.bn_assembly.specs.Assembled.{Assembled, IsAssembled, IsKept}
 use Rattle.bn_assembly.specs.declared.module.Module.{Module}
 use Rattle.bn_assembly.specs.declared.module.Module.TheVariants.{Control}
-use Rattle.bn_assembly.specs.declared.make.TheConstants.{MOST_ELEMENTS}
 use Rattle.bn_cell.specs.declared.numbers.TheConstants.{MOST_SYMBOLS}
 use Rattle.bn_flat.specs.Flattened.{IsFirstWithin, IsLayoutKept}
 use Rattle.bn_flat.specs.Starts.{layout_by, IsLayoutOf}

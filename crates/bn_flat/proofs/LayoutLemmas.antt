@@ -1,8 +1,8 @@
 -- Sizes and elements of a layout are within the greatest number of elements.
-use Rattle.std.specs.Prelude.{◌≡◌, ℕ, ◌+◌, ◌-◌, ◌*◌, ◌<◌, ◌≤◌, ◌^◌, refl}
-use Rattle.std.proofs.Common.{zero, suc, arith, sym, ap, ◌∙◌}
+use Rattle.std.specs.Prelude.{ℕ, ◌+◌, ◌-◌, ◌*◌, ◌<◌, ◌≤◌, ◌^◌}
+use Rattle.std.proofs.Common.{zero, suc, arith}
 use Rattle.std.proofs.Math.Nat.{mul-le-mul_right, mul-le-mul_left}
-use Rattle.bn_modules.specs.Networks.{bank_size, cell_size, cells_in}
+use Rattle.bn_modules.specs.Networks.{cell_size, cells_in}
 use Rattle.bn_layout.specs.Layouts.{Layout, letters_at, lines_at, first_element, cell_element, elements_of}
 use Rattle.bn_cell.specs.declared.numbers.TheConstants.{MOST_SYMBOLS}
 use Rattle.bn_assembly.specs.declared.make.TheConstants.{MOST_ELEMENTS}

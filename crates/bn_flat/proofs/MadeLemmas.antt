@@ -1,5 +1,5 @@
 -- The parts of a board make one that keeps what every board keeps, and that is the network's.
-use Rattle.std.specs.Prelude.{◌≡◌, ℕ, List, length, refl}
+use Rattle.std.specs.Prelude.{◌≡◌, ℕ, length}
 use Rattle.std.proofs.Common.{sym, ap, subst, ◌∙◌}
 use Rattle.bn_theory.specs.Circuits.{IsConfig}
 use Rattle.bn_theory.specs.declared.line.Line.{Line}

@@ -1,23 +1,20 @@
 -- The wires that are told of a packed net are the net's.
-use Rattle.std.specs.Prelude.{◌≡◌, ◌≢◌, ℕ, ◌+◌, ◌<◌, ◌≤◌, List, [], ◌∷◌, ◌++◌, length, map, Option, Some, None, slice_get, refl, ◌⊎◌}
-use Rattle.std.proofs.Common.{zero, suc, arith, sym, ap, subst, ◌∙◌, inl, inr}
+use Rattle.std.specs.Prelude.{◌≡◌, ℕ, ◌+◌, ◌<◌, List, [], ◌∷◌, ◌++◌, length, Option, Some, None, refl, ◌⊎◌}
+use Rattle.std.proofs.Common.{arith, sym, ap, subst, ◌∙◌, inl, inr}
 use Rattle.std.proofs.lemmas.Bool.{cases_lt}
-use Rattle.std.proofs.lemmas.Option.{slice_get_within}
-use Rattle.bn_theory.specs.Tables.{Table}
-use Rattle.bn_theory.specs.Circuits.{Circuit, IsCircuit, IsOutput, IsInput, target, source, outputs_of, inputs_of}
+use Rattle.bn_theory.specs.Circuits.{IsCircuit, target}
 use Rattle.bn_theory.specs.Laws.{same_lines}
 use Rattle.bn_theory.specs.declared.line.Line.{Line}
 use Rattle.bn_theory.specs.declared.line.Wire.{Wire}
-use Rattle.bn_element.specs.Rotary.{rotary}
 use Rattle.bn_element.specs.declared.rotary.Rotary.{Rotary}
-use Rattle.bn_net.specs.Parts.{Parts, circuit}
+use Rattle.bn_net.specs.Parts.{Parts}
 use Rattle.bn_net.specs.Order.{AreInOrder}
 use Rattle.bn_net.proofs.OrderLemmas.{in_order-same}
 use Rattle.bn_column.specs.Columns.{line_at}
 use Rattle.bn_column.specs.Nets.{rotary_circuit, IsNetOf}
 use Rattle.bn_column.specs.Wirings.{AreWiresOf, AreFitting, IsWire, more_wire, same_wires, no_wires, apart-wire}
 use Rattle.bn_packed.specs.Ends.{rotaries}
-use Rattle.bn_packed.proofs.EndLemmas.{rotaries_all, output_below, input_below, four_out}
+use Rattle.bn_packed.proofs.EndLemmas.{rotaries_all, output_below, input_below}
 use Rattle.bn_flat.specs.BoardWires.{IsBefore, IsTargetBefore}
 
 -- lines before one, and before the next

@@ -1,5 +1,5 @@
 -- What an assembled network gives its board: modules that can be banks, the number of elements, and a start in which each module is in one of its states.
-use Rattle.std.specs.Prelude.{◌≡◌, ℕ, ◌+◌, ◌-◌, ◌*◌, ◌<◌, ◌≤◌, List, [], ◌∷◌, ◌++◌, All, length, replicate, take, Some, slice_get, slice_set, refl, ◌⊎◌}
+use Rattle.std.specs.Prelude.{◌≡◌, ℕ, ◌+◌, ◌-◌, ◌*◌, ◌<◌, ◌≤◌, List, [], ◌∷◌, All, length, replicate, Some, slice_get, refl}
 use Rattle.std.proofs.Common.{zero, suc, arith, sym, ap, subst, ◌∙◌, inl, inr, length-set}
 use Rattle.bn_theory.specs.Tables.{Table}
 use Rattle.bn_theory.specs.Circuits.{Circuit}
@@ -10,9 +10,9 @@ use Rattle.bn_realise.specs.Banks.{bottom_at}
 use Rattle.bn_theory.specs.declared.config.Config.{Config}
 use Rattle.std.proofs.lemmas.Option.{slice_get_within}
 use Rattle.bn_modules.specs.Controls.{ControlState, Begin, is_begin, letters}
-use Rattle.bn_modules.specs.Networks.{IsNetwork, IsTape, network_start, elements_by}
+use Rattle.bn_modules.specs.Networks.{IsNetwork, network_start, elements_by}
 use Rattle.bn_modules.specs.Moments.{HasLetters}
-use Rattle.bn_boards.specs.Boards.{AreModules, StandsFor, bars_of, board_start, base, size, size_of}
+use Rattle.bn_boards.specs.Boards.{AreModules, StandsFor, bars_of, board_start, size, size_of}
 use Rattle.bn_layout.proofs.StartingLemmas.{starts}
 use Rattle.bn_layout.proofs.TabledLemmas.{whole}
 use Rattle.bn_existence.proofs.NetworkLemmas.{networks-modules}
@@ -35,7 +35,7 @@ use Rattle.bn_layout.proofs.StartedLemmas.{get_left, get_right, bars-length}
 use Rattle.bn_flat.specs.Flattened.{IsReached}
 use Rattle.bn_flat.specs.Starts.{start_by}
 use Rattle.bn_flat.proofs.CopyLemmas.{bank_bars}
-use Rattle.bn_assembly.specs.Assembled.{Assembled, IsAssembled, IsKept, network_of}
+use Rattle.bn_assembly.specs.Assembled.{Assembled, IsKept, network_of}
 use Rattle.bn_assembly.specs.declared.make.TheConstants.{MOST_ELEMENTS}
 
 -- a machine by its parts

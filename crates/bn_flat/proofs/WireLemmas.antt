@@ -11,16 +11,16 @@ use Rattle.bn_theory.specs.declared.line.Line.{Line}
 use Rattle.bn_theory.specs.declared.line.Wire.{Wire}
 use Rattle.bn_column.specs.Columns.{line_at}
 use Rattle.bn_column.specs.Wirings.{AreWiresOf, same_wires}
-use Rattle.bn_realise.specs.Banks.{IsBankWire, column_at, input_line, output_line}
+use Rattle.bn_realise.specs.Banks.{IsBankWire, input_line, output_line}
 use Rattle.bn_realise.specs.BankNets.{HasRoom}
 use Rattle.bn_boards.specs.Boards.{AreModules, IsBoardWire, base, size, size_of}
 use Rattle.bn_boards.proofs.ListedLemmas.{IsOwnBelow, own_none, own_more}
 use Rattle.bn_boards.proofs.ModuleLemmas.{bank_within, wired_input, found}
-use Rattle.bn_boards.proofs.GrownLemmas.{IsGrown, IsEarlier, grown_own, grown_skip, grown_more, grown_next, grown_all}
+use Rattle.bn_boards.proofs.GrownLemmas.{IsGrown, grown_own, grown_skip, grown_more, grown_next, grown_all}
 use Rattle.bn_net.specs.Parts.{Parts}
 use Rattle.bn_assembly.specs.Modules.{module_table}
 use Rattle.bn_assembly.specs.declared.module.Module.{Module}
-use Rattle.bn_flat.specs.BoardWires.{AreBases, module_circuit, IsOwnWire, of_bank, IsBefore, IsBetween, IsWireBefore, own_wire, between_banks}
+use Rattle.bn_flat.specs.BoardWires.{AreBases, module_circuit, IsOwnWire, of_bank, IsBetween, IsWireBefore, own_wire, between_banks}
 
 -- an item of a list with one more is an old one or the new one
 get_either : {X : Type 0} (xs : List X) (y : X) (i : ℕ) (x : X) → slice_get (xs ++ y ∷ []) i ≡ Some x → (slice_get xs i ≡ Some x) ⊎ ((i ≡ length xs) × (y ≡ x))

@@ -1,15 +1,14 @@
-use Rattle.std.proofs.Common.{rules, arith, ◌≡◌, ◌<◌, ◌+◌, Some, slice_get, slice_index_or, length, sym, ap, ◌∙◌, length-append, length-set, replicate}
+use Rattle.std.proofs.Common.{rules, arith, ◌≡◌, ◌<◌, ◌+◌, slice_index_or, length, ap, ◌∙◌, length-append, length-set, replicate}
 use Rattle.std.proofs.lemmas.Option.{slice_get-get_or}
 use Rattle.std.proofs.lemmas.List.{length-replicate}
 use Rattle.bn_element.specs.Rotary.{horizontal, vertical}
 use Rattle.bn_realise.specs.Banks.{bottom_at}
-use Rattle.bn_theory.specs.Tables.{Table}
-use Rattle.bn_boards.specs.Boards.{base, size_of}
+use Rattle.bn_boards.specs.Boards.{size_of}
 use Rattle.bn_assembly.specs.Modules.{module_table}
 use Rattle.bn_assembly.specs.declared.make.TheConstants.{MOST_ELEMENTS}
 use Rattle.bn_flat.specs.BoardWires.{module_circuit}
-use Rattle.bn_flat.proofs.WireLemmas.{module_at, tables_counted}
-use Rattle.bn_flat.proofs.CopyLemmas.{bank_bars, bars_more, bars_whole}
+use Rattle.bn_flat.proofs.WireLemmas.{module_at}
+use Rattle.bn_flat.proofs.CopyLemmas.{bank_bars, bars_more}
 use Rattle.bn_flat.proofs.bars.start_bars.Goals as goal
 
 pub push_bank-requires-clause-some : goal.push_bank-requires-clause-some

@@ -1,5 +1,5 @@
-use Rattle.std.proofs.Common.{rules, ◌≡◌, sym, subst, ap, ◌∙◌}
-use Rattle.bn_column.specs.Wirings.{AreWiresOf, AreFitting}
+use Rattle.std.proofs.Common.{subst}
+use Rattle.bn_column.specs.Wirings.{AreWiresOf}
 use Rattle.bn_column.specs.Nets.{IsNetOf}
 use Rattle.bn_boards.specs.Boards.{IsBoardWire, size}
 use Rattle.bn_boards.proofs.GrownLemmas.{board-fitting, net-IsBoard}

@@ -1,4 +1,4 @@
-use Rattle.std.proofs.Common.{rules, ◌≡◌, sym, subst, ◌∙◌, refl}
+use Rattle.std.proofs.Common.{sym, subst, ◌∙◌, refl}
 use Rattle.bn_flat.specs.Flattened.{IsFlattened}
 use Rattle.bn_flat.proofs.MadeLemmas.{count-size, made-kept, made-flattened}
 use Rattle.bn_flat.proofs.make.flatten.Goals as goal

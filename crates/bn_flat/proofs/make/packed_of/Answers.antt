@@ -1,6 +1,5 @@
-use Rattle.std.proofs.Common.{rules, ◌≡◌, sym, subst, ap, ◌∙◌}
+use Rattle.std.proofs.Common.{◌∙◌}
 use Rattle.bn_assembly.specs.Assembled.{network_of}
-use Rattle.bn_flat.specs.Starts.{start_by}
 use Rattle.bn_flat.proofs.StartLemmas.{kept-modules, kept-few, kept-some, states-counted, states-within, start-IsConfig}
 use Rattle.bn_flat.proofs.WireLemmas.{tables_counted}
 use Rattle.bn_flat.proofs.make.packed_of.Goals as goal

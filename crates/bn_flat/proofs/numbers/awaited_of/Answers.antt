@@ -1,4 +1,4 @@
-use Rattle.std.proofs.Common.{rules, All, sym, subst}
+use Rattle.std.proofs.Common.{All, sym, subst}
 use Rattle.std.proofs.lemmas.List.Elements.{All-push}
 use Rattle.bn_control.specs.Controlled.{IsTapeAwaited}
 use Rattle.bn_flat.proofs.CopyLemmas.{copy_more}

@@ -1,4 +1,4 @@
-use Rattle.std.proofs.Common.{rules, sym, subst, ◌∷◌, []}
+use Rattle.std.proofs.Common.{rules, sym, subst}
 use Rattle.bn_assembly.specs.Assembled.{limits_of}
 use Rattle.bn_flat.specs.Starts.{IsLayoutOf}
 use Rattle.bn_flat.proofs.KeptLemmas.{kept-layout, layout-read}

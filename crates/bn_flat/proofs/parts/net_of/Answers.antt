@@ -1,4 +1,4 @@
-use Rattle.std.proofs.Common.{rules, ◌≡◌, sym, subst}
+use Rattle.std.proofs.Common.{subst}
 use Rattle.std.specs.Prelude.{length}
 use Rattle.bn_column.specs.Nets.{IsNetOf}
 use Rattle.bn_column.specs.Wirings.{AreWiresOf}

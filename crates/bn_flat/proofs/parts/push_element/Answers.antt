@@ -1,4 +1,4 @@
-use Rattle.std.proofs.Common.{rules, arith}
+use Rattle.std.proofs.Common.{rules}
 use Rattle.bn_flat.proofs.PartLemmas.{told_all_lines}
 use Rattle.bn_flat.proofs.parts.push_element.Goals as goal
 

@@ -1,6 +1,5 @@
-use Rattle.std.proofs.Common.{rules, arith, ◌≡◌, ◌≤◌, ◌+◌, ◌*◌, sym, ap, refl, ◌∙◌, length-append}
 use Rattle.bn_assembly.specs.declared.make.TheConstants.{MOST_ELEMENTS}
-use Rattle.bn_flat.proofs.WireLemmas.{output_fits, entered_within, entered_fits, between_is, base_at, tables_counted}
+use Rattle.bn_flat.proofs.WireLemmas.{output_fits, entered_within, entered_fits, between_is}
 use Rattle.bn_flat.proofs.wiring.between.Goals as goal
 
 pub output_line-requires-clause-fits : goal.output_line-requires-clause-fits

@@ -1,6 +1,6 @@
-use Rattle.std.proofs.Common.{rules, arith, ◌≡◌, ◌≤◌, ◌+◌, ◌*◌, sym, ap, refl, ◌∙◌, length-append}
+use Rattle.std.proofs.Common.{rules, arith, refl}
 use Rattle.bn_assembly.specs.declared.make.TheConstants.{MOST_ELEMENTS}
-use Rattle.bn_flat.proofs.WireLemmas.{owned, all_wired, tables_counted}
+use Rattle.bn_flat.proofs.WireLemmas.{owned, all_wired}
 use Rattle.bn_flat.proofs.wiring.board_wires.Goals as goal
 
 pub loop-number-init : goal.loop-number-init

@@ -1,4 +1,4 @@
-use Rattle.std.proofs.Common.{◌≡◌, ◌≤◌, ◌+◌, ◌*◌, length}
+use Rattle.std.proofs.Common.{◌≤◌, ◌+◌, ◌*◌, length}
 use Rattle.bn_column.specs.Wirings.{AreWiresOf}
 use Rattle.bn_boards.specs.Boards.{base, size}
 use Rattle.bn_flat.specs.BoardWires.{IsWireBefore, module_circuit}

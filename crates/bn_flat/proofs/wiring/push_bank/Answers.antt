@@ -1,8 +1,7 @@
-use Rattle.std.proofs.Common.{rules, arith, ◌≡◌, ◌≤◌, ◌+◌, ◌*◌, sym, ap, refl, ◌∙◌, length-append}
+use Rattle.std.proofs.Common.{arith, ◌≡◌, ◌+◌, length-append}
 use Rattle.bn_assembly.specs.declared.make.TheConstants.{MOST_ELEMENTS}
 use Rattle.bn_flat.proofs.WireLemmas.{own_room, own_added, module_at, bank_count}
 use Rattle.std.specs.Prelude.{length}
-use Rattle.bn_theory.specs.Tables.{Table}
 use Rattle.bn_assembly.specs.Modules.{module_table}
 use Rattle.bn_flat.proofs.wiring.push_bank.Goals as goal
 

@@ -1,4 +1,4 @@
-use Rattle.std.proofs.Common.{rules, arith, ◌≡◌, ◌≤◌, ◌+◌, ◌*◌, sym, ap, refl, ◌∙◌, length-append}
+use Rattle.std.proofs.Common.{rules, ◌≡◌}
 use Rattle.bn_assembly.specs.declared.make.TheConstants.{MOST_ELEMENTS}
 use Rattle.bn_flat.proofs.WireLemmas.{line_skipped, line_added}
 use Rattle.std.specs.Prelude.{◌++◌, ◌∷◌, []}

@@ -1,8 +1,7 @@
-use Rattle.std.proofs.Common.{rules, arith, ◌≡◌, ◌≤◌, ◌+◌, ◌*◌, sym, ap, refl, ◌∙◌, length-append}
+use Rattle.std.proofs.Common.{rules, arith, ◌≤◌, ◌+◌, ◌*◌}
 use Rattle.bn_assembly.specs.declared.make.TheConstants.{MOST_ELEMENTS}
 use Rattle.bn_flat.proofs.WireLemmas.{module_at, module_ended}
 use Rattle.std.proofs.Math.Nat.{mul-le-mul_right}
-use Rattle.bn_theory.specs.Tables.{Table}
 use Rattle.bn_assembly.specs.Modules.{module_table}
 use Rattle.bn_flat.proofs.wiring.push_leaving.Goals as goal
 

@@ -1,6 +1,4 @@
-use Rattle.std.proofs.Common.{rules, ◌≡◌, sym, ap, refl}
-use Rattle.bn_flat.specs.Flattened.{Flattened}
-use Rattle.bn_flat.proofs.ReachedLemmas.{IsMoved, board_stepped_back}
+use Rattle.bn_flat.proofs.ReachedLemmas.{board_stepped_back}
 use Rattle.bn_flat.proofs.board.Board.back_step.Goals as goal
 
 pub invariant_of-self : goal.invariant_of-self
