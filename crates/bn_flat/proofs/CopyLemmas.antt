@@ -38,7 +38,8 @@ bars_next (u ∷ ts) (r ∷ qs) zero q t has at_q =
     append-nil (bank_bars u r) ∙ (λ i. bank_bars (tables i) (states i))
 bars_next (u ∷ ts) (r ∷ qs) (suc m) q t has at_q =
     let e : suc m + 1 ≡ suc (m + 1) = omega arith in
-    ap (λ k. bars_of (take k (u ∷ ts)) (take k (r ∷ qs))) e ∙ ap (λ bs. bank_bars u r ++ bs) (bars_next ts qs m q t has at_q) ∙ sym (append_assoc (bank_bars u r) (bars_of (take m ts) (take m qs)) (bank_bars t q))
+    ap (λ k. bars_of (take k (u ∷ ts)) (take k (r ∷ qs))) e ∙ ap (λ bs. bank_bars u r ++ bs) (bars_next ts qs m q t has at_q) ∙ sym (append_assoc
+    (bank_bars u r) (bars_of (take m ts) (take m qs)) (bank_bars t q))
 
 pub bars_more : (ts : List Table) (qs old new : List ℕ) (m q : ℕ) (t : Table) → slice_get ts m ≡ Some t → slice_get qs m ≡ Some q
     → old ≡ bars_of (take m ts) (take m qs) → new ≡ old ++ bank_bars t q → new ≡ bars_of (take (m + 1) ts) (take (m + 1) qs)

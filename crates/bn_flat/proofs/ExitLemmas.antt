@@ -67,7 +67,8 @@ answer_in (x ∷ (y ∷ (z ∷ []))) (suc (suc zero)) c three low = omega arith
 answer_in (x ∷ (y ∷ (z ∷ []))) (suc (suc (suc t))) c three low = absurd (omega arith)
 answer_in (x ∷ (y ∷ (z ∷ (w ∷ zs)))) t c three low = absurd (omega arith)
 
--- The line is the west of an answer's row in the column of a state of the control that awaits a first read: of this state of the machine, and the row is this symbol's.
+-- The line is the west of an answer's row in the column of a state of the control that awaits a first read.
+-- The read is of this state of the machine, and the row is this symbol's.
 pub record IsStuckBy (b : Layout) (e l a c : ℕ) : Type 0 where
   pub west_is : l ≡ west
   pub tape : ℕ

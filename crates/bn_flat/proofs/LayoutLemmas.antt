@@ -21,7 +21,8 @@ module _ (b : Layout) (kept : IsLayoutKept b) where
   control_within = let few = kept.few_elements in omega arith
 
   pub last_within : (b.states - 1) * (lines_at b + 1) ≤ MOST_ELEMENTS
-  last_within = let h : (b.states - 1) * (lines_at b + 1) ≤ b.states * (lines_at b + 1) = mul-le-mul_right (lines_at b + 1) (omega arith) in let few = control_within in omega arith
+  last_within = let h : (b.states - 1) * (lines_at b + 1) ≤ b.states * (lines_at b + 1) = mul-le-mul_right (lines_at b + 1) (omega arith) in let few =
+      control_within in omega arith
 
   pub row_within : (t : ℕ) → 1 ≤ t → t ≤ 3 → first_element b t + cells_in b.limits t * cell_size (letters_at b t) ≤ elements_of b
   row_within zero low high = absurd (omega arith)
@@ -44,5 +45,6 @@ module _ (b : Layout) (kept : IsLayoutKept b) where
   pub cell_within : (t p : ℕ) → 1 ≤ t → t ≤ 3 → p < cells_in b.limits t → cell_element b t p + cell_size (letters_at b t) ≤ elements_of b
   cell_within t p low high within =
       let row = row_within t low high in
-      let h : (p + 1) * cell_size (letters_at b t) ≤ cells_in b.limits t * cell_size (letters_at b t) = mul-le-mul_right (cell_size (letters_at b t)) (omega arith) in
+      let h : (p + 1) * cell_size (letters_at b t) ≤ cells_in b.limits t * cell_size (letters_at b t) = mul-le-mul_right (cell_size (letters_at b t))
+      (omega arith) in
       omega arith
