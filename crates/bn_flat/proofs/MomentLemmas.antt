@@ -102,18 +102,41 @@ module _ (b : Layout) (kept : IsLayoutKept b) where
             ])
       ]
 
-  command_is : (e o : ℕ) → 1 ≤ o → o < lines_at b → (command_place b o ≡ Enter e west) ↔ IsCommandOf b e o
-  command_is e o low high = (there, back)
+  -- a tape's line is one of the control's to tapes
+  line_within : (t m : ℕ) → 1 ≤ t → t ≤ 3 → m < letters_at b t + 3 → (1 ≤ before (t - 1) + m) × (before (t - 1) + m < lines_at b)
+  line_within zero m low high within = absurd (omega arith)
+  line_within (suc zero) m low high within =
+      let one = next 0 (omega arith) in
+      let two = next 1 (omega arith) in
+      let three = next 2 (omega arith) in
+      (omega arith, omega arith)
+  line_within (suc (suc zero)) m low high within =
+      let one = next 0 (omega arith) in
+      let two = next 1 (omega arith) in
+      let three = next 2 (omega arith) in
+      (omega arith, omega arith)
+  line_within (suc (suc (suc zero))) m low high within =
+      let one = next 0 (omega arith) in
+      let two = next 1 (omega arith) in
+      let three = next 2 (omega arith) in
+      (omega arith, omega arith)
+  line_within (suc (suc (suc (suc t)))) m low high within = absurd (omega arith)
+
+  command_is : (e o : ℕ) → ((1 ≤ o) × (o < lines_at b) × (command_place b o ≡ Enter e west)) ↔ IsCommandOf b e o
+  command_is e o = (there, back)
     where
-      there : command_place b o ≡ Enter e west → IsCommandOf b e o
+      there : (1 ≤ o) × (o < lines_at b) × (command_place b o ≡ Enter e west) → IsCommandOf b e o
       there leads =
-          let to = line_to o low high in
-          let element : first_element b to.tape + to.line ≡ e = (enters _ _ _ _ (sym (place_of to.tape to.line o to.low to.high to.within to.number) ∙
-          leads)).0 in
+          let to = line_to o leads.0 leads.1 in
+          let same = sym (place_of to.tape to.line o to.low to.high to.within to.number) ∙ leads.2 in
+          let element : first_element b to.tape + to.line ≡ e = (enters _ _ _ _ same).0 in
           record { tape = to.tape; low = to.low; high = to.high; line = to.line; within = to.within; number = to.number; element = sym element }
 
-      back : IsCommandOf b e o → command_place b o ≡ Enter e west
-      back by = place_of by.tape by.line o by.low by.high by.within by.number ∙ ap (λ n. Enter n west) (sym by.element)
+      back : IsCommandOf b e o → (1 ≤ o) × (o < lines_at b) × (command_place b o ≡ Enter e west)
+      back by =
+          let lines = line_within by.tape by.line by.low by.high by.within in
+          let number = by.number in
+          (omega arith, omega arith, place_of by.tape by.line o by.low by.high by.within by.number ∙ ap (λ n. Enter n west) (sym by.element))
 
   -- tapes lie one after another
   first_rises : (t u : ℕ) → 1 ≤ t → t ≤ u → first_element b t ≤ first_element b u
@@ -127,10 +150,10 @@ module _ (b : Layout) (kept : IsLayoutKept b) where
 
   -- no command leads to an element before the tapes that are left
   pub no_command : (e t : ℕ) → 1 ≤ t → ((o : ℕ) → (by : IsCommandOf b e o) → t ≤ by.tape) → e < first_element b t → IsCommandTo b e None
-  no_command e t low later less o some line = (
+  no_command e t low later less o = (
     λ h. absurd (let g : ◌≡◌ {A = Option ℕ} None (Some o) = h in cc),
     λ leads. absurd (
-        let by = (command_is e o some line).0 leads in
+        let by = (command_is e o).0 leads in
         let rises = first_rises t by.tape low (later o by) in
         let is = by.element in
         omega arith),
@@ -138,10 +161,10 @@ module _ (b : Layout) (kept : IsLayoutKept b) where
 
   -- nor where none is left
   pub no_tape : (e t : ℕ) → 4 ≤ t → ((o : ℕ) → (by : IsCommandOf b e o) → t ≤ by.tape) → IsCommandTo b e None
-  no_tape e t over later o some line = (
+  no_tape e t over later o = (
     λ h. absurd (let g : ◌≡◌ {A = Option ℕ} None (Some o) = h in cc),
     λ leads. absurd (
-        let by = (command_is e o some line).0 leads in
+        let by = (command_is e o).0 leads in
         let up = later o by in
         let high = by.high in
         omega arith),
@@ -164,10 +187,10 @@ module _ (b : Layout) (kept : IsLayoutKept b) where
   -- this tape's command leads there
   pub one_command : (e t first lines : ℕ) → 1 ≤ t → t ≤ 3 → 1 ≤ letters_at b t → first ≡ first_element b t → lines ≡ before (t - 1)
       → ((o : ℕ) → (by : IsCommandOf b e o) → t ≤ by.tape) → first ≤ e → e - first < letters_at b t + 3 → IsCommandTo b e (Some (lines + (e - first)))
-  one_command e t first lines low high some first_is lines_is later least most o least_line line = (
+  one_command e t first lines low high some first_is lines_is later least most o = (
     λ h. (
         let number : lines + (e - first) ≡ o = same_Some (lines + (e - first)) o h in
-        (command_is e o least_line line).1 (record {
+        (command_is e o).1 (record {
           tape = t;
           low = low;
           high = high;
@@ -178,7 +201,7 @@ module _ (b : Layout) (kept : IsLayoutKept b) where
               omega arith;
         })),
     λ leads. (
-        let by = (command_is e o least_line line).0 leads in
+        let by = (command_is e o).0 leads in
         ap Some (same_number by)),
   )
     where
@@ -329,7 +352,7 @@ module _ (b : Layout) (c : Config) where
     where
       by : (g : Option (ℕ × ℕ)) → IsFirstWithin b.states (lines_at b) g → is_sent b c g ≡ false
       by None within = enters_not e west at
-      by (Some f) within = off_place f (λ here. absurd (let h : ◌≡◌ {A = Option ℕ} None (Some f.1) = (none f.1 within.1 within.2).1 (sym here ∙ at) in cc))
+      by (Some f) within = off_place f (λ here. absurd (let h : ◌≡◌ {A = Option ℕ} None (Some f.1) = (none f.1).1 (within.1, within.2, sym here ∙ at) in cc))
 
   pub off_end : (e l : ℕ) → c.place ≡ Left e l → (Left e l ≡ end_place b → ⊥) → None ≡ moment_at b c
   off_end e l at other = none_sent b c (λ j g low has. by g)

@@ -1,4 +1,4 @@
-use Rattle.std.proofs.Common.{subst, sym, ◌∙◌, ap}
+use Rattle.std.proofs.Common.{Some, subst, sym, ◌∙◌, ap}
 use Rattle.bn_theory.specs.declared.place.Place.TheVariants.{Enter}
 use Rattle.bn_layout.specs.Layouts.{end_place}
 use Rattle.bn_flat.specs.Moments.{IsCommandTo}
@@ -19,3 +19,6 @@ pub returns-else-eq : goal.returns-else-eq
 returns-else-eq c = off_end c.args.self.now.layout c.args.self.now.config c.in-Left.element c.in-Left.line (sym c.in-Left.ensures) (other_end
     c.args.self.now.layout (record { element = c.in-Left.element; line = c.in-Left.line }) c.end_line.result c.eq.result c.eq.ensures c.if-eq.false
     (c.end_line.ensures.place ∙ ap end_place c.layout-in-Left.ensures.layout))
+
+pub sent_first-requires-clause-command : goal.sent_first-requires-clause-command
+sent_first-requires-clause-command c = subst (λ l. IsCommandTo l c.in-Enter.element (Some c.in-Some.command)) c.layout.ensures.layout c.in-Some.ensures
