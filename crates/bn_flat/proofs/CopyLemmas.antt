@@ -1,17 +1,10 @@
 -- Lists that are copied item by item, and bars that are written bank by bank.
-use Rattle.std.specs.Prelude.{◌≡◌, ℕ, ◌+◌, ◌<◌, ◌≤◌, List, [], ◌∷◌, ◌++◌, All, length, replicate, take, Some, slice_get, slice_set, slice_index_or, refl}
-use Rattle.std.proofs.Common.{zero, suc, arith, sym, ap, subst, ◌∙◌, append-nil, append_assoc}
-use Rattle.std.proofs.lemmas.Option.{slice_get_within, slice_get-map, get_or_from_slice_get}
+use Rattle.std.specs.Prelude.{◌≡◌, ℕ, ◌+◌, List, [], ◌∷◌, ◌++◌, length, replicate, take, Some, slice_get, slice_set, refl}
+use Rattle.std.proofs.Common.{zero, suc, arith, sym, ap, ◌∙◌, append-nil, append_assoc}
 use Rattle.bn_theory.specs.Tables.{Table}
-use Rattle.bn_net.specs.Parts.{Parts}
 use Rattle.bn_element.specs.Rotary.{horizontal, vertical}
 use Rattle.bn_realise.specs.Banks.{bottom_at}
-use Rattle.bn_boards.specs.Boards.{AreModules, bars_of, base, size, size_of}
-use Rattle.bn_boards.proofs.ModuleLemmas.{found}
-use Rattle.bn_assembly.specs.Modules.{module_table}
-use Rattle.bn_assembly.specs.declared.module.Module.{Module}
-use Rattle.bn_flat.specs.BoardWires.{module_circuit}
-use Rattle.bn_flat.proofs.WireLemmas.{module_at, base_next, tables_counted}
+use Rattle.bn_boards.specs.Boards.{bars_of, size_of}
 
 -- one item more
 pub take_next : {X : Type 0} (xs : List X) (n : ℕ) (x : X) → slice_get xs n ≡ Some x → take (n + 1) xs ≡ take n xs ++ x ∷ []
@@ -45,7 +38,8 @@ bars_next (u ∷ ts) (r ∷ qs) zero q t has at_q =
     append-nil (bank_bars u r) ∙ (λ i. bank_bars (tables i) (states i))
 bars_next (u ∷ ts) (r ∷ qs) (suc m) q t has at_q =
     let e : suc m + 1 ≡ suc (m + 1) = omega arith in
-    ap (λ k. bars_of (take k (u ∷ ts)) (take k (r ∷ qs))) e ∙ ap (λ bs. bank_bars u r ++ bs) (bars_next ts qs m q t has at_q) ∙ sym (append_assoc (bank_bars u r) (bars_of (take m ts) (take m qs)) (bank_bars t q))
+    ap (λ k. bars_of (take k (u ∷ ts)) (take k (r ∷ qs))) e ∙ ap (λ bs. bank_bars u r ++ bs) (bars_next ts qs m q t has at_q) ∙ sym (append_assoc
+    (bank_bars u r) (bars_of (take m ts) (take m qs)) (bank_bars t q))
 
 pub bars_more : (ts : List Table) (qs old new : List ℕ) (m q : ℕ) (t : Table) → slice_get ts m ≡ Some t → slice_get qs m ≡ Some q
     → old ≡ bars_of (take m ts) (take m qs) → new ≡ old ++ bank_bars t q → new ≡ bars_of (take (m + 1) ts) (take (m + 1) qs)

@@ -67,7 +67,8 @@ answer_in (x ∷ (y ∷ (z ∷ []))) (suc (suc zero)) c three low = omega arith
 answer_in (x ∷ (y ∷ (z ∷ []))) (suc (suc (suc t))) c three low = absurd (omega arith)
 answer_in (x ∷ (y ∷ (z ∷ (w ∷ zs)))) t c three low = absurd (omega arith)
 
--- The line is the west of an answer's row in the column of a state of the control that awaits a first read: of this state of the machine, and the row is this symbol's.
+-- The line is the west of an answer's row in the column of a state of the control that awaits a first read.
+-- The read is of this state of the machine, and the row is this symbol's.
 pub record IsStuckBy (b : Layout) (e l a c : ℕ) : Type 0 where
   pub west_is : l ≡ west
   pub tape : ℕ
@@ -108,8 +109,10 @@ module _ (b : Layout) (kept : IsLayoutKept b) where
       let symbols : s ≡ c = (let h : exit.Stuck d s ≡ exit.Stuck a c = named in cc) in
       let within = answer_low t s low in
       let whole = div-add-mod' e (lines_at b + 1) in
-      let both = same_from_place (e / (lines_at b + 1)) (e % (lines_at b + 1)) q (lines_before b.symbols (t - 1) + s) (lines_at b + 1) (omega arith) (omega arith) (omega (arith, parts.0)) in
-      let awaits' : slice_get b.awaited (e / (lines_at b + 1)) ≡ Some (Some (a, t)) = subst (λ n. slice_get b.awaited n ≡ Some (Some (a, t))) (sym both.0) (subst (λ n. slice_get b.awaited q ≡ Some (Some (n, t))) states awaits) in
+      let both = same_from_place (e / (lines_at b + 1)) (e % (lines_at b + 1)) q (lines_before b.symbols (t - 1) + s) (lines_at b + 1) (omega arith)
+      (omega arith) (omega (arith, parts.0)) in
+      let awaits' : slice_get b.awaited (e / (lines_at b + 1)) ≡ Some (Some (a, t)) = subst (λ n. slice_get b.awaited n ≡ Some (Some (a, t))) (sym
+      both.0) (subst (λ n. slice_get b.awaited q ≡ Some (Some (n, t))) states awaits) in
       record { west_is = parts.1; tape = t; awaits = awaits'; low = omega arith; row = omega (arith, both.1) }
 
   pub stuck_is : (e l a c : ℕ) → IsNamedExit b (Left e l) (exit.Stuck a c) ↔ IsStuckBy b e l a c
@@ -118,12 +121,18 @@ module _ (b : Layout) (kept : IsLayoutKept b) where
       back : IsStuckBy b e l a c → IsNamedExit b (Left e l) (exit.Stuck a c)
       back by =
           let whole = div-add-mod' e (lines_at b + 1) in
-          let element : e ≡ column_at 0 (lines_at b) (e / (lines_at b + 1)) + (lines_before b.symbols (by.tape - 1) + c) = (let row = by.row in omega arith) in
+          let element : e ≡ column_at 0 (lines_at b) (e / (lines_at b + 1)) + (lines_before b.symbols (by.tape - 1) + c) = (let row = by.row in omega
+          arith) in
           let line = by.west_is in
           stuck (e / (lines_at b + 1)) a by.tape c by.awaits by.low (λ i. Left (element i) (line i))
 
-  none_by : (e l : ℕ) → ((a c : ℕ) → IsStuckBy b e l a c → ⊥) → (a c : ℕ) → (◌≡◌ {A = Option (ℕ × ℕ)} None (Some (a, c))) ↔ IsNamedExit b (Left e l) (exit.Stuck a c)
-  none_by e l refuted a c = (λ h. absurd (let g : ◌≡◌ {A = Option (ℕ × ℕ)} None (Some (a, c)) = h in cc), λ named. absurd (refuted a c ((stuck_is e l a c).0 named)))
+  none_by : (e l : ℕ) → ((a c : ℕ) → IsStuckBy b e l a c → ⊥) → (a c : ℕ) → (◌≡◌ {A = Option (ℕ × ℕ)} None (Some (a, c))) ↔ IsNamedExit b (Left e l)
+      (exit.Stuck a c)
+  none_by e l refuted a c = (
+    λ h. absurd (let g : ◌≡◌ {A = Option (ℕ × ℕ)} None (Some (a, c)) = h in cc),
+    λ named. absurd (refuted a c ((stuck_is e l a
+        c).0 named)),
+  )
 
   pub off_line : (e l : ℕ) → l ≢ west → (a c : ℕ) → (◌≡◌ {A = Option (ℕ × ℕ)} None (Some (a, c))) ↔ IsNamedExit b (Left e l) (exit.Stuck a c)
   off_line e l other = none_by e l (λ a c by. other by.west_is)
@@ -169,7 +178,8 @@ module _ (b : Layout) (kept : IsLayoutKept b) where
             let parts = some_pair_parts from a s c h in
             let here = (some c).0 (ap Some parts.1) in
             let row : e % (lines_at b + 1) ≡ lines_before b.symbols (t - 1) + c = subst (λ k. e % (k + 1) ≡ lines_before b.symbols (t - 1) + c) n_is here.1 in
-            let awaits' : slice_get b.awaited (e / (lines_at b + 1)) ≡ Some (Some (a, t)) = subst (λ k. slice_get b.awaited (e / (lines_at b + 1)) ≡ Some (Some (k, t))) parts.0 awaits_here in
+            let awaits' : slice_get b.awaited (e / (lines_at b + 1)) ≡ Some (Some (a, t)) = subst (λ k. slice_get b.awaited (e / (lines_at b + 1)) ≡ Some
+            (Some (k, t))) parts.0 awaits_here in
             (stuck_is e l a c).1 (record { west_is = is_west; tape = t; awaits = awaits'; low = here.0; row = row })),
         λ named. (
             let by = (stuck_is e l a c).0 named in
@@ -201,9 +211,11 @@ module _ (b : Layout) where
   module _ (t cells z : ℕ) (cells_are : cells ≡ cells_in b.limits t) (letters_are : z ≡ letters_at b t) where
     right_is : (r : Line) → Left r.element r.line ≡ cell_output b t (cells - 1) (z + 3)
         → Left r.element r.line ≡ cell_output b t (cells_in b.limits t - 1) (line_number (letters_at b t) TakeRight)
-    right_is r is = subst (λ n. Left r.element r.line ≡ cell_output b t (n - 1) (letters_at b t + 3)) cells_are (subst (λ n. Left r.element r.line ≡ cell_output b t (cells - 1) (n + 3)) letters_are is)
+    right_is r is = subst (λ n. Left r.element r.line ≡ cell_output b t (n - 1) (letters_at b t + 3)) cells_are (subst (λ n. Left r.element r.line ≡
+        cell_output b t (cells - 1) (n + 3)) letters_are is)
 
-    left_is : (l : Line) → Left l.element l.line ≡ cell_output b t 0 (2 * z + 7) → Left l.element l.line ≡ cell_output b t 0 (line_number (letters_at b t) TakeLeft)
+    left_is : (l : Line) → Left l.element l.line ≡ cell_output b t 0 (2 * z + 7) → Left l.element l.line ≡ cell_output b t 0 (line_number (letters_at b
+        t) TakeLeft)
     left_is l is = subst (λ n. Left l.element l.line ≡ cell_output b t 0 (2 * n + 7)) letters_are is
 
     -- another line than those of both ends
@@ -211,7 +223,8 @@ module _ (b : Layout) where
         → Left r.element r.line ≡ cell_output b t (cells - 1) (z + 3) → Left l.element l.line ≡ cell_output b t 0 (2 * z + 7)
         → (s : Side) → IsNamedExit b (Left line.element line.line) (exit.Window t s) → ⊥
     off_ends line r l one two one_is no_right two_is no_left r_is l_is =
-        no_window t (Left line.element line.line) (other_line line r _ (other_lines line r one one_is no_right) (right_is r r_is)) (other_line line l _ (other_lines line l two two_is no_left) (left_is l l_is))
+        no_window t (Left line.element line.line) (other_line line r _ (other_lines line r one one_is no_right) (right_is r r_is)) (other_line line l _
+        (other_lines line l two two_is no_left) (left_is l l_is))
 
     pub at_right : (line r : Line) (one : Bool) → 1 ≤ t → t ≤ 3 → one ≡ is_line line r → one ≡ true
         → Left r.element r.line ≡ cell_output b t (cells - 1) (z + 3) → IsNamedExit b (Left line.element line.line) (exit.Window t side.Right)
@@ -237,8 +250,15 @@ module _ (b : Layout) where
       tape_by p x (inside m k is) t s named = absurd (let h : exit.Inside ≡ exit.Window t s = named in cc)
       tape_by p x (ends is) t s named = absurd (let h : exit.End ≡ exit.Window t s = named in cc)
       tape_by p x (stuck q a u c awaits low is) t s named = absurd (let h : exit.Stuck a c ≡ exit.Window t s = named in cc)
-      tape_by p x (right u low high is) t s named = let tapes : u ≡ t = (let h : exit.Window u side.Right ≡ exit.Window t s = named in cc) in (omega arith, omega arith)
-      tape_by p x (left u low high is) t s named = let tapes : u ≡ t = (let h : exit.Window u side.Left ≡ exit.Window t s = named in cc) in (omega arith, omega arith)
+      tape_by p x (right u low high is) t s named = let tapes : u ≡ t = (let h : exit.Window u side.Right ≡ exit.Window t s = named in cc) in (
+        omega
+            arith,
+        omega arith,
+      )
+      tape_by p x (left u low high is) t s named = let tapes : u ≡ t = (let h : exit.Window u side.Left ≡ exit.Window t s = named in cc) in (
+        omega arith,
+        omega arith,
+      )
 
   -- a line without a name
   pub no_name : (e l : ℕ) → (Left e l ≡ end_place b → ⊥) → ((a c : ℕ) → IsNamedExit b (Left e l) (exit.Stuck a c) → ⊥)

@@ -1,29 +1,27 @@
 -- The layout of an assembled network's control keeps what every layout keeps, and is the machine's.
-use Rattle.std.specs.Prelude.{◌≡◌, ◌≢◌, ℕ, ◌+◌, ◌-◌, ◌<◌, ◌≤◌, ◌^◌, List, [], ◌∷◌, All, length, Option, Some, None, slice_get, slice_index, refl}
+use Rattle.std.specs.Prelude.{◌≡◌, ℕ, ◌+◌, ◌-◌, ◌<◌, ◌≤◌, List, [], ◌∷◌, All, length, Option, Some, slice_get, slice_index, refl}
 use Rattle.std.proofs.Common.{zero, suc, arith, sym, ap, subst, ◌∙◌}
 use Rattle.std.proofs.lemmas.Option.{slice_get_within, get_or_from_slice_get}
-use Rattle.bn_theory.specs.Tables.{Table}
-use Rattle.bn_rsm.specs.Machines.{machine_table}
 use Rattle.bn_machine.specs.Outcome.{Limits}
 use Rattle.bn_quad.specs.Quadruples.{Quadruples, IsQuadMachine}
-use Rattle.bn_modules.specs.Controls.{ControlState, ControlMove, Begin, Reads, Tape as to_tape, IsEntry, IsNumbering, is_begin, letters, lines_before, out_number, command_offset, control_lines}
+use Rattle.bn_modules.specs.Controls.{ControlState, Begin, Reads, Tape as to_tape, IsEntry, is_begin, letters, lines_before, out_number, command_offset, control_lines}
 use Rattle.bn_modules.specs.declared.cell_line.CellLine.TheVariants.{Read}
 use Rattle.bn_modules.specs.Networks.{elements_by}
 use Rattle.bn_control.specs.Controlled as controlled
 use Rattle.bn_control.specs.Controlled.{Controlled, IsControlOf, IsWithinLimits, IsTapeAwaited}
 use Rattle.bn_boards.proofs.ModuleLemmas.{found}
-use Rattle.bn_layout.specs.Layouts.{Layout, IsLayout, IsFirstKept, final_kept, sent_kept, lines_at, elements_of}
+use Rattle.bn_layout.specs.Layouts.{Layout, IsLayout, IsFirstKept, final_kept, sent_kept, elements_of}
 use Rattle.bn_layout.proofs.CommandLemmas.{command_number, entry-IsCommandMove}
 use Rattle.bn_assembly.specs.Assembled.{Assembled, IsAssembled, IsKept}
 use Rattle.bn_assembly.specs.declared.module.Module.{Module}
 use Rattle.bn_assembly.specs.declared.module.Module.TheVariants.{Control}
-use Rattle.bn_assembly.specs.declared.make.TheConstants.{MOST_ELEMENTS}
 use Rattle.bn_cell.specs.declared.numbers.TheConstants.{MOST_SYMBOLS}
 use Rattle.bn_flat.specs.Flattened.{IsFirstWithin, IsLayoutKept}
 use Rattle.bn_flat.specs.Starts.{layout_by, IsLayoutOf}
 
 -- a line that is one of a tape's first ones, of three tapes
-first_low : (zs : List ℕ) (t x : ℕ) → length zs ≡ 3 → t < 3 → x < slice_index zs t + 3 → (1 ≤ lines_before zs t + x) × (lines_before zs t + x < lines_before zs 3)
+first_low : (zs : List ℕ) (t x : ℕ) → length zs ≡ 3 → t < 3 → x < slice_index zs t + 3 → (1 ≤ lines_before zs t + x) × (lines_before zs t + x <
+    lines_before zs 3)
 first_low (a ∷ b ∷ c ∷ []) zero x three low few = (omega arith, omega arith)
 first_low (a ∷ b ∷ c ∷ []) (suc zero) x three low few = (omega arith, omega arith)
 first_low (a ∷ b ∷ c ∷ []) (suc (suc zero)) x three low few = (omega arith, omega arith)
@@ -48,9 +46,12 @@ module _ (m : Quadruples) (names : List ControlState) (quad : IsQuadMachine m) (
           let move = entry-IsCommandMove m a k apart entry in
           let high = move.is_tape.high in
           let number = command_number (letters m move.tape) move.line move.command move.in_range in
-          let offset : command_offset (letters m (suc t)) move.line < letters m (suc t) + 3 = subst (λ u. command_offset (letters m u) move.line < letters m u + 3) at (let e = number.0 in let h = number.1 in omega arith) in
+          let offset : command_offset (letters m (suc t)) move.line < letters m (suc t) + 3 = subst (λ u. command_offset (letters m u) move.line <
+          letters m u + 3) at (let e = number.0 in let h = number.1 in omega arith) in
           let low = first_low m.symbols t (command_offset (letters m (suc t)) move.line) quad.tapes (omega arith) offset in
-          let line : out_number m k.1 ≡ lines_before m.symbols t + command_offset (letters m (suc t)) move.line = ap (out_number m) (move.is ∙ ap (λ u. to_tape u move.line) at) ∙ ap (λ x. lines_before m.symbols x + command_offset (letters m (suc t)) move.line) (let e : suc t - 1 ≡ t = omega arith in e) in
+          let line : out_number m k.1 ≡ lines_before m.symbols t + command_offset (letters m (suc t)) move.line = ap (out_number m) (move.is ∙ ap (λ u.
+          to_tape u move.line) at) ∙ ap (λ x. lines_before m.symbols x + command_offset (letters m (suc t)) move.line) (let e : suc t - 1 ≡ t = omega
+          arith in e) in
           (slice_get_within names q k.0 named, omega (arith, low.0), omega (arith, low.1))
 
 module _ (m : Quadruples) (names : List ControlState) (v : Controlled) (is : IsControlOf m names v) where
@@ -74,11 +75,13 @@ module _ (m : Quadruples) (names : List ControlState) (v : Controlled) (is : IsC
     awaiting = λ q a t. (λ at. forth q a t ((is.awaiting q a t).0 at), λ h. (is.awaiting q a t).1 (Reads a [], h.0, record { state = refl; entry = h.1 }));
   }
     where
-      forth : (q a t : ℕ) → (s : ControlState) × (slice_get names q ≡ Some s) × controlled.IsAwaiting m s a t → (slice_get names q ≡ Some (Reads a [])) × IsEntry m a (Reads a [], to_tape t Read)
+      forth : (q a t : ℕ) → (s : ControlState) × (slice_get names q ≡ Some s) × controlled.IsAwaiting m s a t → (slice_get names q ≡ Some (Reads a [])) ×
+          IsEntry m a (Reads a [], to_tape t Read)
       forth q a t h = (h.1 ∙ ap (λ s. Some s) h.2.state, h.2.entry)
 
 -- the number of elements, by the layout and by the machine
-counted_by : (m : Quadruples) (names : List ControlState) (v : Controlled) → IsControlOf m names v → (l : Limits) → elements_of (layout_by v l) ≡ elements_by m l (length names)
+counted_by : (m : Quadruples) (names : List ControlState) (v : Controlled) → IsControlOf m names v → (l : Limits) → elements_of (layout_by v l) ≡
+    elements_by m l (length names)
 counted_by m names v is l = at_states v.machine.states v.symbols is.table.states is.symbols
   where
     with_numbers : ℕ → List ℕ → Layout
@@ -95,7 +98,8 @@ all_by P xs each k d low =
 
 -- what an assembled network's layout keeps
 pub kept-layout : (a : Assembled) (b : Layout) → IsKept a → IsLayoutOf a b → IsLayoutKept b
-kept-layout a b kept is = subst IsLayoutKept (sym is.numbers) (at_control (control_of is.control kept.assembled.control (sym is.first ∙ kept.assembled.first)))
+kept-layout a b kept is = subst IsLayoutKept (sym is.numbers) (at_control (control_of is.control kept.assembled.control (sym is.first ∙
+    kept.assembled.first)))
   where
     at_control : is.control ≡ kept.assembled.control → IsLayoutKept (layout_by is.control a.limits)
     at_control same =
@@ -121,7 +125,8 @@ kept-layout a b kept is = subst IsLayoutKept (sym is.numbers) (at_control (contr
           few_elements = omega arith;
           few_firsts = omega arith;
           firsts_within = all_by (IsFirstWithin v.machine.states (lines_before v.symbols 3)) v.firsts (λ a f at.
-              subst (λ n. IsFirstWithin n (lines_before v.symbols 3) f) (sym states) (subst (λ zs. IsFirstWithin (length names) (lines_before zs 3) f) (sym control.symbols) (first_within m names quad v control a f (control.firsts a f at))));
+              subst (λ n. IsFirstWithin n (lines_before v.symbols 3) f) (sym states) (subst (λ zs. IsFirstWithin (length names) (lines_before zs 3) f)
+              (sym control.symbols) (first_within m names quad v control a f (control.firsts a f at))));
           awaited_counted = control.awaited_counted ∙ sym states;
           awaited_tapes = is.tapes;
         }
@@ -134,7 +139,8 @@ layout-size a b kept is =
     ap elements_of is.numbers ∙ counted_by kept.machine kept.names is.control control a.limits
 
 -- it is the layout of each machine for which the network was assembled
-pub layout-of-each : (a : Assembled) (b : Layout) → IsLayoutOf a b → (m : Quadruples) (word : List ℕ) (names : List ControlState) → IsAssembled m a.limits word names a → IsLayout m a.limits names b
+pub layout-of-each : (a : Assembled) (b : Layout) → IsLayoutOf a b → (m : Quadruples) (word : List ℕ) (names : List ControlState) → IsAssembled m
+    a.limits word names a → IsLayout m a.limits names b
 layout-of-each a b is m word names assembled =
     let same = control_of is.control assembled.control (sym is.first ∙ assembled.first) in
     let control : IsControlOf m names is.control = subst (λ w. IsControlOf m names w) (sym same) assembled.is_control in
@@ -156,7 +162,8 @@ pub layout-read : (a : Assembled) (kept : IsKept a) (v : Controlled) → slice_g
 layout-read a kept v first tapes l limits one two three states one_is two_is three_is states_is firsts awaited firsts_is awaited_is =
     let same = control_of v kept.assembled.control (sym first ∙ kept.assembled.first) in
     let symbols : v.symbols ≡ kept.machine.symbols = ap (λ (w : Controlled). w.symbols) same ∙ kept.assembled.is_control.symbols in
-    let all : one ∷ two ∷ three ∷ [] ≡ v.symbols = (λ i. one_is i ∷ two_is i ∷ three_is i ∷ []) ∙ three_of kept.machine.symbols kept.is_machine.tapes ∙ sym symbols in
+    let all : one ∷ two ∷ three ∷ [] ≡ v.symbols = (λ i. one_is i ∷ two_is i ∷ three_is i ∷ []) ∙ three_of kept.machine.symbols kept.is_machine.tapes ∙
+    sym symbols in
     record {
       control = v;
       first = first;

@@ -1,8 +1,8 @@
 -- Sizes and elements of a layout are within the greatest number of elements.
-use Rattle.std.specs.Prelude.{◌≡◌, ℕ, ◌+◌, ◌-◌, ◌*◌, ◌<◌, ◌≤◌, ◌^◌, refl}
-use Rattle.std.proofs.Common.{zero, suc, arith, sym, ap, ◌∙◌}
+use Rattle.std.specs.Prelude.{ℕ, ◌+◌, ◌-◌, ◌*◌, ◌<◌, ◌≤◌, ◌^◌}
+use Rattle.std.proofs.Common.{zero, suc, arith}
 use Rattle.std.proofs.Math.Nat.{mul-le-mul_right, mul-le-mul_left}
-use Rattle.bn_modules.specs.Networks.{bank_size, cell_size, cells_in}
+use Rattle.bn_modules.specs.Networks.{cell_size, cells_in}
 use Rattle.bn_layout.specs.Layouts.{Layout, letters_at, lines_at, first_element, cell_element, elements_of}
 use Rattle.bn_cell.specs.declared.numbers.TheConstants.{MOST_SYMBOLS}
 use Rattle.bn_assembly.specs.declared.make.TheConstants.{MOST_ELEMENTS}
@@ -21,7 +21,8 @@ module _ (b : Layout) (kept : IsLayoutKept b) where
   control_within = let few = kept.few_elements in omega arith
 
   pub last_within : (b.states - 1) * (lines_at b + 1) ≤ MOST_ELEMENTS
-  last_within = let h : (b.states - 1) * (lines_at b + 1) ≤ b.states * (lines_at b + 1) = mul-le-mul_right (lines_at b + 1) (omega arith) in let few = control_within in omega arith
+  last_within = let h : (b.states - 1) * (lines_at b + 1) ≤ b.states * (lines_at b + 1) = mul-le-mul_right (lines_at b + 1) (omega arith) in let few =
+      control_within in omega arith
 
   pub row_within : (t : ℕ) → 1 ≤ t → t ≤ 3 → first_element b t + cells_in b.limits t * cell_size (letters_at b t) ≤ elements_of b
   row_within zero low high = absurd (omega arith)
@@ -44,5 +45,6 @@ module _ (b : Layout) (kept : IsLayoutKept b) where
   pub cell_within : (t p : ℕ) → 1 ≤ t → t ≤ 3 → p < cells_in b.limits t → cell_element b t p + cell_size (letters_at b t) ≤ elements_of b
   cell_within t p low high within =
       let row = row_within t low high in
-      let h : (p + 1) * cell_size (letters_at b t) ≤ cells_in b.limits t * cell_size (letters_at b t) = mul-le-mul_right (cell_size (letters_at b t)) (omega arith) in
+      let h : (p + 1) * cell_size (letters_at b t) ≤ cells_in b.limits t * cell_size (letters_at b t) = mul-le-mul_right (cell_size (letters_at b t))
+      (omega arith) in
       omega arith

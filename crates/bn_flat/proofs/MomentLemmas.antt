@@ -102,33 +102,58 @@ module _ (b : Layout) (kept : IsLayoutKept b) where
             ])
       ]
 
-  command_is : (e o : ℕ) → 1 ≤ o → o < lines_at b → (command_place b o ≡ Enter e west) ↔ IsCommandOf b e o
-  command_is e o low high = (there, back)
+  -- a tape's line is one of the control's to tapes
+  line_within : (t m : ℕ) → 1 ≤ t → t ≤ 3 → m < letters_at b t + 3 → (1 ≤ before (t - 1) + m) × (before (t - 1) + m < lines_at b)
+  line_within zero m low high within = absurd (omega arith)
+  line_within (suc zero) m low high within =
+      let one = next 0 (omega arith) in
+      let two = next 1 (omega arith) in
+      let three = next 2 (omega arith) in
+      (omega arith, omega arith)
+  line_within (suc (suc zero)) m low high within =
+      let one = next 0 (omega arith) in
+      let two = next 1 (omega arith) in
+      let three = next 2 (omega arith) in
+      (omega arith, omega arith)
+  line_within (suc (suc (suc zero))) m low high within =
+      let one = next 0 (omega arith) in
+      let two = next 1 (omega arith) in
+      let three = next 2 (omega arith) in
+      (omega arith, omega arith)
+  line_within (suc (suc (suc (suc t)))) m low high within = absurd (omega arith)
+
+  command_is : (e o : ℕ) → ((1 ≤ o) × (o < lines_at b) × (command_place b o ≡ Enter e west)) ↔ IsCommandOf b e o
+  command_is e o = (there, back)
     where
-      there : command_place b o ≡ Enter e west → IsCommandOf b e o
+      there : (1 ≤ o) × (o < lines_at b) × (command_place b o ≡ Enter e west) → IsCommandOf b e o
       there leads =
-          let to = line_to o low high in
-          let element : first_element b to.tape + to.line ≡ e = (enters _ _ _ _ (sym (place_of to.tape to.line o to.low to.high to.within to.number) ∙ leads)).0 in
+          let to = line_to o leads.0 leads.1 in
+          let same = sym (place_of to.tape to.line o to.low to.high to.within to.number) ∙ leads.2 in
+          let element : first_element b to.tape + to.line ≡ e = (enters _ _ _ _ same).0 in
           record { tape = to.tape; low = to.low; high = to.high; line = to.line; within = to.within; number = to.number; element = sym element }
 
-      back : IsCommandOf b e o → command_place b o ≡ Enter e west
-      back by = place_of by.tape by.line o by.low by.high by.within by.number ∙ ap (λ n. Enter n west) (sym by.element)
+      back : IsCommandOf b e o → (1 ≤ o) × (o < lines_at b) × (command_place b o ≡ Enter e west)
+      back by =
+          let lines = line_within by.tape by.line by.low by.high by.within in
+          let number = by.number in
+          (omega arith, omega arith, place_of by.tape by.line o by.low by.high by.within by.number ∙ ap (λ n. Enter n west) (sym by.element))
 
   -- tapes lie one after another
   first_rises : (t u : ℕ) → 1 ≤ t → t ≤ u → first_element b t ≤ first_element b u
   first_rises zero u low less = absurd (omega arith)
   first_rises (suc t) u low less =
       elim (cases_lt (suc t) u) [
-        | inl below ↦ (let h = later_tape b (suc t) u (omega arith) below in let e : first_element b (suc (suc t)) ≡ first_element b (suc t) + cells_in b.limits (suc t) * cell_size (letters_at b (suc t)) = refl in omega arith)
+        | inl below ↦ (let h = later_tape b (suc t) u (omega arith) below in let e : first_element b (suc (suc t)) ≡ first_element b (suc t) + cells_in
+            b.limits (suc t) * cell_size (letters_at b (suc t)) = refl in omega arith)
         | inr above ↦ (let same : suc t ≡ u = omega arith in subst (λ n. first_element b (suc t) ≤ first_element b n) same (omega arith))
       ]
 
   -- no command leads to an element before the tapes that are left
   pub no_command : (e t : ℕ) → 1 ≤ t → ((o : ℕ) → (by : IsCommandOf b e o) → t ≤ by.tape) → e < first_element b t → IsCommandTo b e None
-  no_command e t low later less o some line = (
+  no_command e t low later less o = (
     λ h. absurd (let g : ◌≡◌ {A = Option ℕ} None (Some o) = h in cc),
     λ leads. absurd (
-        let by = (command_is e o some line).0 leads in
+        let by = (command_is e o).0 leads in
         let rises = first_rises t by.tape low (later o by) in
         let is = by.element in
         omega arith),
@@ -136,10 +161,10 @@ module _ (b : Layout) (kept : IsLayoutKept b) where
 
   -- nor where none is left
   pub no_tape : (e t : ℕ) → 4 ≤ t → ((o : ℕ) → (by : IsCommandOf b e o) → t ≤ by.tape) → IsCommandTo b e None
-  no_tape e t over later o some line = (
+  no_tape e t over later o = (
     λ h. absurd (let g : ◌≡◌ {A = Option ℕ} None (Some o) = h in cc),
     λ leads. absurd (
-        let by = (command_is e o some line).0 leads in
+        let by = (command_is e o).0 leads in
         let up = later o by in
         let high = by.high in
         omega arith),
@@ -150,7 +175,8 @@ module _ (b : Layout) (kept : IsLayoutKept b) where
   row_long t low high some =
       let cells : 1 ≤ cells_in b.limits t = some_cells b.limits t low high in
       let one : 1 * cell_size (letters_at b t) ≤ cells_in b.limits t * cell_size (letters_at b t) = mul-le-mul_right (cell_size (letters_at b t)) cells in
-      let two : (2 * 1) * (2 * letters_at b t + 8 + 1) ≤ (2 * letters_at b t) * (2 * letters_at b t + 8 + 1) = mul-le-mul_right (2 * letters_at b t + 8 + 1) (omega arith) in
+      let two : (2 * 1) * (2 * letters_at b t + 8 + 1) ≤ (2 * letters_at b t) * (2 * letters_at b t + 8 + 1) = mul-le-mul_right (2 * letters_at b t + 8 +
+      1) (omega arith) in
       omega arith
 
   -- where the next tape begins
@@ -161,12 +187,21 @@ module _ (b : Layout) (kept : IsLayoutKept b) where
   -- this tape's command leads there
   pub one_command : (e t first lines : ℕ) → 1 ≤ t → t ≤ 3 → 1 ≤ letters_at b t → first ≡ first_element b t → lines ≡ before (t - 1)
       → ((o : ℕ) → (by : IsCommandOf b e o) → t ≤ by.tape) → first ≤ e → e - first < letters_at b t + 3 → IsCommandTo b e (Some (lines + (e - first)))
-  one_command e t first lines low high some first_is lines_is later least most o least_line line = (
+  one_command e t first lines low high some first_is lines_is later least most o = (
     λ h. (
         let number : lines + (e - first) ≡ o = same_Some (lines + (e - first)) o h in
-        (command_is e o least_line line).1 (record { tape = t; low = low; high = high; line = e - first; within = most; number = omega arith; element = omega arith })),
+        (command_is e o).1 (record {
+          tape = t;
+          low = low;
+          high = high;
+          line = e - first;
+          within = most;
+          number = omega arith;
+          element =
+              omega arith;
+        })),
     λ leads. (
-        let by = (command_is e o least_line line).0 leads in
+        let by = (command_is e o).0 leads in
         ap Some (same_number by)),
   )
     where
@@ -187,7 +222,8 @@ module _ (b : Layout) (kept : IsLayoutKept b) where
           ]
 
   -- no command of this tape leads there
-  pub later_still : (e t first : ℕ) → first ≡ first_element b t → ((o : ℕ) → (by : IsCommandOf b e o) → t ≤ by.tape) → first ≤ e → letters_at b t + 3 ≤ e - first
+  pub later_still : (e t first : ℕ) → first ≡ first_element b t → ((o : ℕ) → (by : IsCommandOf b e o) → t ≤ by.tape) → first ≤ e → letters_at b t + 3 ≤ e
+      - first
       → (o : ℕ) → (by : IsCommandOf b e o) → t + 1 ≤ by.tape
   later_still e t first first_is later least over o by =
       elim (cases_lt t by.tape) [
@@ -207,7 +243,8 @@ module _ (b : Layout) (kept : IsLayoutKept b) where
 -- ---- the search
 
 -- a test that fails at each element
-pub position_never : {X : Type 0} (p : X → Bool) (xs : List X) → ((k : ℕ) (x : X) → k < length xs → slice_get xs k ≡ Some x → p x ≡ false) → position p xs ≡ None
+pub position_never : {X : Type 0} (p : X → Bool) (xs : List X) → ((k : ℕ) (x : X) → k < length xs → slice_get xs k ≡ Some x → p x ≡ false) → position p
+    xs ≡ None
 position_never p [] never = refl
 position_never p (x ∷ xs) never =
     let n : ℕ = length (x ∷ xs) in
@@ -257,11 +294,13 @@ module _ (b : Layout) (c : Config) (xs : List (Option (ℕ × ℕ))) (xs_are : x
       ]
 
   pub none_left : (k : ℕ) → length xs ≤ k → AreUnsent k → None ≡ moment_at b c
-  none_left k over never = sym (position_never (is_sent b c) b.firsts (λ j g low here. never j g (let e : length xs ≡ length b.firsts = ap length xs_are in omega arith) here))
+  none_left k over never = sym (position_never (is_sent b c) b.firsts (λ j g low here. never j g (let e : length xs ≡ length b.firsts = ap length xs_are
+      in omega arith) here))
 
   -- an element is what each keeps
   pub first_within : IsLayoutKept b → (k : ℕ) (d : Option (ℕ × ℕ)) → k < length xs → IsFirstWithin b.states (lines_at b) (slice_index_or xs k d)
-  first_within kept k d low = subst (λ ys. IsFirstWithin b.states (lines_at b) (slice_index_or ys k d)) (sym xs_are) (AllWithin-from_all (IsFirstWithin b.states (lines_at b)) b.firsts kept.firsts_within k d (omega arith) (let e : length xs ≡ length b.firsts = ap length xs_are in omega arith))
+  first_within kept k d low = subst (λ ys. IsFirstWithin b.states (lines_at b) (slice_index_or ys k d)) (sym xs_are) (AllWithin-from_all (IsFirstWithin
+      b.states (lines_at b)) b.firsts kept.firsts_within k d (omega arith) (let e : length xs ≡ length b.firsts = ap length xs_are in omega arith))
 
 none_sent : (b : Layout) (c : Config) → ((j : ℕ) (g : Option (ℕ × ℕ)) → j < length b.firsts → slice_get b.firsts j ≡ Some g → is_sent b c g ≡ false)
     → None ≡ moment_at b c
@@ -277,7 +316,13 @@ module _ (b : Layout) (c : Config) where
             (let first = not_below o (lines_before b.symbols 1) more in
             elim (cases_lt o (lines_before b.symbols 2)) [
               | inl less ↦ (first_element b 2 + (o - lines_before b.symbols 1), let test = below o (lines_before b.symbols 2) less in rw (first, test) refl)
-              | inr again ↦ (first_element b 3 + (o - lines_before b.symbols 2), let test = not_below o (lines_before b.symbols 2) again in rw (first, test) refl)
+              | inr again ↦ (
+                first_element b 3 + (o - lines_before b.symbols 2),
+                let test = not_below o (lines_before b.symbols 2) again in rw (
+                  first,
+                  test,
+                ) refl,
+              )
             ])
       ]
 
@@ -307,7 +352,7 @@ module _ (b : Layout) (c : Config) where
     where
       by : (g : Option (ℕ × ℕ)) → IsFirstWithin b.states (lines_at b) g → is_sent b c g ≡ false
       by None within = enters_not e west at
-      by (Some f) within = off_place f (λ here. absurd (let h : ◌≡◌ {A = Option ℕ} None (Some f.1) = (none f.1 within.1 within.2).1 (sym here ∙ at) in cc))
+      by (Some f) within = off_place f (λ here. absurd (let h : ◌≡◌ {A = Option ℕ} None (Some f.1) = (none f.1).1 (within.1, within.2, sym here ∙ at) in cc))
 
   pub off_end : (e l : ℕ) → c.place ≡ Left e l → (Left e l ≡ end_place b → ⊥) → None ≡ moment_at b c
   off_end e l at other = none_sent b c (λ j g low has. by g)

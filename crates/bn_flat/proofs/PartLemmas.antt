@@ -1,23 +1,20 @@
 -- The wires that are told of a packed net are the net's.
-use Rattle.std.specs.Prelude.{◌≡◌, ◌≢◌, ℕ, ◌+◌, ◌<◌, ◌≤◌, List, [], ◌∷◌, ◌++◌, length, map, Option, Some, None, slice_get, refl, ◌⊎◌}
-use Rattle.std.proofs.Common.{zero, suc, arith, sym, ap, subst, ◌∙◌, inl, inr}
+use Rattle.std.specs.Prelude.{◌≡◌, ℕ, ◌+◌, ◌<◌, List, [], ◌∷◌, ◌++◌, length, Option, Some, None, refl, ◌⊎◌}
+use Rattle.std.proofs.Common.{arith, sym, ap, subst, ◌∙◌, inl, inr}
 use Rattle.std.proofs.lemmas.Bool.{cases_lt}
-use Rattle.std.proofs.lemmas.Option.{slice_get_within}
-use Rattle.bn_theory.specs.Tables.{Table}
-use Rattle.bn_theory.specs.Circuits.{Circuit, IsCircuit, IsOutput, IsInput, target, source, outputs_of, inputs_of}
+use Rattle.bn_theory.specs.Circuits.{IsCircuit, target}
 use Rattle.bn_theory.specs.Laws.{same_lines}
 use Rattle.bn_theory.specs.declared.line.Line.{Line}
 use Rattle.bn_theory.specs.declared.line.Wire.{Wire}
-use Rattle.bn_element.specs.Rotary.{rotary}
 use Rattle.bn_element.specs.declared.rotary.Rotary.{Rotary}
-use Rattle.bn_net.specs.Parts.{Parts, circuit}
+use Rattle.bn_net.specs.Parts.{Parts}
 use Rattle.bn_net.specs.Order.{AreInOrder}
 use Rattle.bn_net.proofs.OrderLemmas.{in_order-same}
 use Rattle.bn_column.specs.Columns.{line_at}
 use Rattle.bn_column.specs.Nets.{rotary_circuit, IsNetOf}
 use Rattle.bn_column.specs.Wirings.{AreWiresOf, AreFitting, IsWire, more_wire, same_wires, no_wires, apart-wire}
 use Rattle.bn_packed.specs.Ends.{rotaries}
-use Rattle.bn_packed.proofs.EndLemmas.{rotaries_all, output_below, input_below, four_out}
+use Rattle.bn_packed.proofs.EndLemmas.{rotaries_all, output_below, input_below}
 use Rattle.bn_flat.specs.BoardWires.{IsBefore, IsTargetBefore}
 
 -- lines before one, and before the next
@@ -41,7 +38,8 @@ module _ (net : Parts Rotary) (is : IsCircuit (rotary_circuit net)) where
   none_told = no_wires (IsTargetBefore net.wires 0 0) (λ from to h. elim h.before [ inl low ↦ (omega arith) | inr same ↦ (let few = same.1 in omega arith) ])
 
   -- after a line that no wire leaves
-  pub told_none : (e l : ℕ) (ws : List Wire) → target net.wires (line_at e l) ≡ None → AreWiresOf (IsTargetBefore net.wires e l) ws → AreWiresOf (IsTargetBefore net.wires e (l + 1)) ws
+  pub told_none : (e l : ℕ) (ws : List Wire) → target net.wires (line_at e l) ≡ None → AreWiresOf (IsTargetBefore net.wires e l) ws → AreWiresOf
+      (IsTargetBefore net.wires e (l + 1)) ws
   told_none e l ws none so = same_wires (IsTargetBefore net.wires e l) (IsTargetBefore net.wires e (l + 1)) ws so
       (λ from to h. record { leads = h.leads; before = before_more e l from h.before })
       (λ from to h. elim (before_next e l from h.before) [
@@ -53,10 +51,12 @@ module _ (net : Parts Rotary) (is : IsCircuit (rotary_circuit net)) where
   pub told_one : (e l : ℕ) (to : Line) (ws : List Wire) → target net.wires (line_at e l) ≡ Some to → AreWiresOf (IsTargetBefore net.wires e l) ws
       → AreWiresOf (IsTargetBefore net.wires e (l + 1)) (ws ++ record { from = line_at e l; to = to } ∷ [])
   told_one e l to ws leads so =
-      same_wires (λ x y. IsTargetBefore net.wires e l x y ⊎ IsWire (record { from = line_at e l; to = to }) x y) (IsTargetBefore net.wires e (l + 1)) (ws ++ record { from = line_at e l; to = to } ∷ [])
+      same_wires (λ x y. IsTargetBefore net.wires e l x y ⊎ IsWire (record { from = line_at e l; to = to }) x y) (IsTargetBefore net.wires e (l + 1)) (ws
+      ++ record { from = line_at e l; to = to } ∷ [])
       (more_wire (IsTargetBefore net.wires e l) ws (record { from = line_at e l; to = to }) so
       (λ x h. not_before_itself e l h.before)
-      (λ x h. let one = (is.one_to_one x to).0 h.leads in let other = (is.one_to_one (line_at e l) to).0 leads in let same : x ≡ line_at e l = cc in not_before_itself e l (subst (λ y. IsBefore e l y) same h.before)))
+      (λ x h. let one = (is.one_to_one x to).0 h.leads in let other = (is.one_to_one (line_at e l) to).0 leads in let same : x ≡ line_at e l = cc in
+      not_before_itself e l (subst (λ y. IsBefore e l y) same h.before)))
       forth back
     where
       forth : (x y : Line) → IsTargetBefore net.wires e l x y ⊎ IsWire (record { from = line_at e l; to = to }) x y → IsTargetBefore net.wires e (l + 1) x y
@@ -69,14 +69,25 @@ module _ (net : Parts Rotary) (is : IsCircuit (rotary_circuit net)) where
       back : (x y : Line) → IsTargetBefore net.wires e (l + 1) x y → IsTargetBefore net.wires e l x y ⊎ IsWire (record { from = line_at e l; to = to }) x y
       back x y h = elim (before_next e l x h.before) [
         | inl earlier ↦ inl (record { leads = h.leads; before = earlier })
-        | inr here ↦ inr (record { leaves = here; ends = (let there = subst (λ a. target net.wires a ≡ Some y) here h.leads in let same : ◌≡◌ {A = Option Line} (Some y) (Some to) = sym there ∙ leads in cc) })
+        | inr here ↦ inr (record {
+          leaves = here;
+          ends = (let there = subst (λ a. target net.wires a ≡ Some y) here h.leads in let same : ◌≡◌ {A = Option
+              Line} (Some y) (Some to) = sym there ∙ leads in cc);
+        })
       ]
 
   -- after an element's last line
   pub told_all_lines : (e l : ℕ) (ws : List Wire) → l ≡ 4 → AreWiresOf (IsTargetBefore net.wires e l) ws → AreWiresOf (IsTargetBefore net.wires (e + 1) 0) ws
   told_all_lines e l ws four so = same_wires (IsTargetBefore net.wires e l) (IsTargetBefore net.wires (e + 1) 0) ws so
       (λ from to h. record { leads = h.leads; before = elim h.before [ inl low ↦ inl (omega arith) | inr same ↦ (let at = same.0 in inl (omega arith)) ] })
-      (λ from to h. record { leads = h.leads; before = elim h.before [ inl low ↦ near from to h.leads low | inr same ↦ absurd (let few = same.1 in omega arith) ] })
+      (λ from to h. record {
+        leads = h.leads;
+        before = elim h.before [
+          | inl low ↦ near from to h.leads low
+          | inr same ↦ absurd (let few = same.1 in omega
+              arith)
+        ];
+      })
     where
       near : (from to : Line) → target net.wires from ≡ Some to → from.element < e + 1 → IsBefore e l from
       near from to leads low =
@@ -87,8 +98,13 @@ module _ (net : Parts Rotary) (is : IsCircuit (rotary_circuit net)) where
           ]
 
   -- the whole list leads where the net does
-  pub told_whole : (ws : List Wire) → AreWiresOf (IsTargetBefore net.wires (length net.elements) 0) ws → (from : Line) → target ws from ≡ target net.wires from
-  told_whole ws so from = same (target ws from) (target net.wires from) (λ to h. (so.sound from to h).leads) (λ to h. so.complete from to (record { leads = h; before = inl (output_below net.elements from (is.wired from to h).0).element }))
+  pub told_whole : (ws : List Wire) → AreWiresOf (IsTargetBefore net.wires (length net.elements) 0) ws → (from : Line) → target ws from ≡ target
+      net.wires from
+  told_whole ws so from = same (target ws from) (target net.wires from) (λ to h. (so.sound from to h).leads) (λ to h. so.complete from to (record {
+    leads
+        = h;
+    before = inl (output_below net.elements from (is.wired from to h).0).element;
+  }))
     where
       same : (a b : Option Line) → ((to : Line) → a ≡ Some to → b ≡ Some to) → ((to : Line) → b ≡ Some to → a ≡ Some to) → a ≡ b
       same None None forth back = refl
@@ -107,7 +123,8 @@ module _ (net : Parts Rotary) (is : IsCircuit (rotary_circuit net)) where
   }
 
   -- and the net that is made of them is the net
-  pub told_again : (other : Parts Rotary) (ws : List Wire) → AreWiresOf (IsTargetBefore net.wires (length net.elements) 0) ws → AreInOrder net.wires → AreInOrder other.wires
+  pub told_again : (other : Parts Rotary) (ws : List Wire) → AreWiresOf (IsTargetBefore net.wires (length net.elements) 0) ws → AreInOrder net.wires →
+      AreInOrder other.wires
       → IsNetOf other (length net.elements) ws → other ≡ net
   told_again other ws so order order' made =
       let wires = in_order-same other.wires net.wires order' order (λ a. made.targets a ∙ told_whole ws so a) in

@@ -1,5 +1,5 @@
 -- A board's configuration stays reached from its origin, after steps both ways.
-use Rattle.std.specs.Prelude.{◌≡◌, ℕ, ◌+◌, ◌≤◌, Bool, true, false, refl}
+use Rattle.std.specs.Prelude.{◌≡◌, ℕ, ◌+◌, Bool, true, false, refl}
 use Rattle.std.specs.Bool.{OnTrue, OnFalse}
 use Rattle.std.proofs.Common.{arith, sym, ap, subst, ◌∙◌}
 use Rattle.bn_theory.specs.Runs.{Reaches, runs_join}
@@ -79,5 +79,6 @@ module _ (b : Flattened) (net : Parts Rotary) (d : Config) (kept : IsBoardKept b
   pub board_stepped : (made : Bool) → OnTrue made (Goes (rotary_circuit b.net) b.config d) → OnFalse made (d ≡ b.config) → IsMoved b (with_config b net d)
   board_stepped made goes stays = board_kept (kept_step (rotary_circuit b.net) kept.circuit made b.config d kept.reached good goes stays)
 
-  pub board_stepped_back : (made : Bool) → OnTrue made (Goes (rotary_circuit b.net) d b.config) → OnFalse made (d ≡ b.config) → IsMoved b (with_config b net d)
+  pub board_stepped_back : (made : Bool) → OnTrue made (Goes (rotary_circuit b.net) d b.config) → OnFalse made (d ≡ b.config) → IsMoved b (with_config b
+      net d)
   board_stepped_back made goes stays = board_kept (kept_step_back (rotary_circuit b.net) kept.circuit made b.config d kept.reached good goes stays)

@@ -1,5 +1,5 @@
 -- What an assembled network gives its board: modules that can be banks, the number of elements, and a start in which each module is in one of its states.
-use Rattle.std.specs.Prelude.{◌≡◌, ℕ, ◌+◌, ◌-◌, ◌*◌, ◌<◌, ◌≤◌, List, [], ◌∷◌, ◌++◌, All, length, replicate, take, Some, slice_get, slice_set, refl, ◌⊎◌}
+use Rattle.std.specs.Prelude.{◌≡◌, ℕ, ◌+◌, ◌-◌, ◌*◌, ◌<◌, ◌≤◌, List, [], ◌∷◌, All, length, replicate, Some, slice_get, refl}
 use Rattle.std.proofs.Common.{zero, suc, arith, sym, ap, subst, ◌∙◌, inl, inr, length-set}
 use Rattle.bn_theory.specs.Tables.{Table}
 use Rattle.bn_theory.specs.Circuits.{Circuit}
@@ -10,9 +10,9 @@ use Rattle.bn_realise.specs.Banks.{bottom_at}
 use Rattle.bn_theory.specs.declared.config.Config.{Config}
 use Rattle.std.proofs.lemmas.Option.{slice_get_within}
 use Rattle.bn_modules.specs.Controls.{ControlState, Begin, is_begin, letters}
-use Rattle.bn_modules.specs.Networks.{IsNetwork, IsTape, network_start, elements_by}
+use Rattle.bn_modules.specs.Networks.{IsNetwork, network_start, elements_by}
 use Rattle.bn_modules.specs.Moments.{HasLetters}
-use Rattle.bn_boards.specs.Boards.{AreModules, StandsFor, bars_of, board_start, base, size, size_of}
+use Rattle.bn_boards.specs.Boards.{AreModules, StandsFor, bars_of, board_start, size, size_of}
 use Rattle.bn_layout.proofs.StartingLemmas.{starts}
 use Rattle.bn_layout.proofs.TabledLemmas.{whole}
 use Rattle.bn_existence.proofs.NetworkLemmas.{networks-modules}
@@ -35,7 +35,7 @@ use Rattle.bn_layout.proofs.StartedLemmas.{get_left, get_right, bars-length}
 use Rattle.bn_flat.specs.Flattened.{IsReached}
 use Rattle.bn_flat.specs.Starts.{start_by}
 use Rattle.bn_flat.proofs.CopyLemmas.{bank_bars}
-use Rattle.bn_assembly.specs.Assembled.{Assembled, IsAssembled, IsKept, network_of}
+use Rattle.bn_assembly.specs.Assembled.{Assembled, IsKept, network_of}
 use Rattle.bn_assembly.specs.declared.make.TheConstants.{MOST_ELEMENTS}
 
 -- a machine by its parts
@@ -79,7 +79,8 @@ module _ (a : Assembled) (kept : IsKept a) where
       let numbering = kept.assembled.is_control.numbering in
       let begin = numbering.each Begin (is_begin refl) in
       let low : All (λ s. s < letters m 1) kept.word = (λ k d in_. (kept.symbols k d in_).1) in
-      has_by m.rules m.states m.symbols a.limits kept.names (network_of a) kept.word kept.is_machine.tapes kept.within.some_symbols kept.assembled.network (let h = slice_get_within kept.names begin.0 Begin begin.1 in omega arith) low
+      has_by m.rules m.states m.symbols a.limits kept.names (network_of a) kept.word kept.is_machine.tapes kept.within.some_symbols
+      kept.assembled.network (let h = slice_get_within kept.names begin.0 Begin begin.1 in omega arith) low
 
   -- its modules can be banks
   pub kept-modules : AreModules (network_of a)
@@ -105,7 +106,8 @@ module _ (a : Assembled) (kept : IsKept a) where
   pub kept-some : 0 < size (network_of a).tables
   kept-some =
       let modules = kept-modules in
-      let first : (t : Table) × (slice_get (network_of a).tables 0 ≡ Some t) = found (network_of a).tables 0 (let count = states-counted in let low = has.starts_so.count in let one : 0 < length (network_start kept.machine a.limits kept.word).states = omega arith in omega arith) in
+      let first : (t : Table) × (slice_get (network_of a).tables 0 ≡ Some t) = found (network_of a).tables 0 (let count = states-counted in let low =
+      has.starts_so.count in let one : 0 < length (network_start kept.machine a.limits kept.word).states = omega arith in omega arith) in
       let within = bank_within (network_of a).tables 0 first.0 first.1 in
       let states = modules.some_states 0 first.0 first.1 in
       let h : 1 * (first.0.inputs + 1) ≤ first.0.states * (first.0.inputs + 1) = mul-le-mul_right (first.0.inputs + 1) states in
@@ -130,14 +132,16 @@ bars_low [] qs e b at = absurd (cc)
 bars_low (t ∷ ts) [] e b at = absurd (cc)
 bars_low (t ∷ ts) (q ∷ qs) e b at = elim (cases_lt e (length (bank_bars t q))) [
   | inl low ↦ bank_low t q e b (sym (get_left (bank_bars t q) (bars_of ts qs) e low) ∙ at)
-  | inr high ↦ bars_low ts qs (e - length (bank_bars t q)) b (sym (get_right (bank_bars t q) (bars_of ts qs) (e - length (bank_bars t q)) e (omega arith)) ∙ at)
+  | inr high ↦ bars_low ts qs (e - length (bank_bars t q)) b (sym (get_right (bank_bars t q) (bars_of ts qs) (e - length (bank_bars t q)) e (omega
+      arith)) ∙ at)
 ]
 
 pub start-IsConfig : (net : Parts Rotary) (ts : List Table) (qs : List ℕ) → length net.elements ≡ size ts → length qs ≡ length ts → 0 < size ts
     → IsConfig (rotary_circuit net) (start_by ts qs)
 start-IsConfig net ts qs elements counted some =
     bars-IsConfig net (start_by ts qs) (bars-length ts qs counted ∙ sym elements) (bars_low ts qs)
-    (let at = rotary-table_at net.elements 0 (omega arith) in subst (λ o. west < option_map_or (λ (t : Table). t.inputs) o 0) (sym at) (omega arith)) (omega arith)
+    (let at = rotary-table_at net.elements 0 (omega arith) in subst (λ o. west < option_map_or (λ (t : Table). t.inputs) o 0) (sym at) (omega arith))
+    (omega arith)
 
 -- a board at the start is reached from it
 pub start-IsReached : (k : Circuit) (c : Config) → IsConfig k c → c.steps ≡ 0 → IsReached k c

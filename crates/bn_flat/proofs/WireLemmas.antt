@@ -11,19 +11,20 @@ use Rattle.bn_theory.specs.declared.line.Line.{Line}
 use Rattle.bn_theory.specs.declared.line.Wire.{Wire}
 use Rattle.bn_column.specs.Columns.{line_at}
 use Rattle.bn_column.specs.Wirings.{AreWiresOf, same_wires}
-use Rattle.bn_realise.specs.Banks.{IsBankWire, column_at, input_line, output_line}
+use Rattle.bn_realise.specs.Banks.{IsBankWire, input_line, output_line}
 use Rattle.bn_realise.specs.BankNets.{HasRoom}
 use Rattle.bn_boards.specs.Boards.{AreModules, IsBoardWire, base, size, size_of}
 use Rattle.bn_boards.proofs.ListedLemmas.{IsOwnBelow, own_none, own_more}
 use Rattle.bn_boards.proofs.ModuleLemmas.{bank_within, wired_input, found}
-use Rattle.bn_boards.proofs.GrownLemmas.{IsGrown, IsEarlier, grown_own, grown_skip, grown_more, grown_next, grown_all}
+use Rattle.bn_boards.proofs.GrownLemmas.{IsGrown, grown_own, grown_skip, grown_more, grown_next, grown_all}
 use Rattle.bn_net.specs.Parts.{Parts}
 use Rattle.bn_assembly.specs.Modules.{module_table}
 use Rattle.bn_assembly.specs.declared.module.Module.{Module}
-use Rattle.bn_flat.specs.BoardWires.{AreBases, module_circuit, IsOwnWire, of_bank, IsBefore, IsBetween, IsWireBefore, own_wire, between_banks}
+use Rattle.bn_flat.specs.BoardWires.{AreBases, module_circuit, IsOwnWire, of_bank, IsBetween, IsWireBefore, own_wire, between_banks}
 
 -- an item of a list with one more is an old one or the new one
-get_either : {X : Type 0} (xs : List X) (y : X) (i : ℕ) (x : X) → slice_get (xs ++ y ∷ []) i ≡ Some x → (slice_get xs i ≡ Some x) ⊎ ((i ≡ length xs) × (y ≡ x))
+get_either : {X : Type 0} (xs : List X) (y : X) (i : ℕ) (x : X) → slice_get (xs ++ y ∷ []) i ≡ Some x → (slice_get xs i ≡ Some x) ⊎ ((i ≡ length xs) × (y
+    ≡ x))
 get_either [] y zero x has = inr (refl, cc)
 get_either [] y (suc i) x has = absurd (cc)
 get_either (z ∷ xs) y zero x has = inl has
@@ -94,7 +95,11 @@ module _ (n : Circuit) (modules : AreModules n) where
 
   pub wires_more : (e o : ℕ) (ws : List Wire) (to : Line) (t : Table) → target n.wires (line_at e o) ≡ Some to → slice_get n.tables e ≡ Some t
       → AreWiresOf (IsWireBefore n e o) ws
-      → AreWiresOf (IsWireBefore n e (o + 1)) (ws ++ record { from = output_line (base n.tables e) t o; to = input_line (base n.tables to.element) to.line } ∷ [])
+      → AreWiresOf (IsWireBefore n e (o + 1)) (ws ++ record {
+        from = output_line (base n.tables e) t o;
+        to = input_line (base n.tables to.element)
+            to.line;
+      } ∷ [])
   wires_more e o ws to t is has are = into e (o + 1) _ (grown_more n modules e o ws to t is has (out_of e o ws are))
 
   pub wires_next : (e o : ℕ) (t : Table) (ws : List Wire) → slice_get n.tables e ≡ Some t → t.outputs ≤ o → AreWiresOf (IsWireBefore n e o) ws
@@ -180,7 +185,8 @@ entered n most out to modules few is =
     let h : 1 * (in_.0.inputs + 1) ≤ in_.0.states * (in_.0.inputs + 1) = mul-le-mul_right (in_.0.inputs + 1) some in
     record { within = slice_get_within n.tables to.element in_.0 in_.1; fits = omega arith }
 
-module _ (net : Parts Module) (bases : List ℕ) (most : ℕ) (modules : AreModules (module_circuit net)) (few : size (module_circuit net).tables ≤ most) (are : AreBases (module_circuit net).tables bases) where
+module _ (net : Parts Module) (bases : List ℕ) (most : ℕ) (modules : AreModules (module_circuit net)) (few : size (module_circuit net).tables ≤ most)
+    (are : AreBases (module_circuit net).tables bases) where
   base_of : (m : ℕ) (x : Module) → slice_get net.elements m ≡ Some x → slice_index_or bases m 0 ≡ base (module_circuit net).tables m
   base_of m x is =
       let low = slice_get_within net.elements m x is in
@@ -208,7 +214,8 @@ module _ (net : Parts Module) (bases : List ℕ) (most : ℕ) (modules : AreModu
         let at_x = (module_at net m most x modules few is).has in
         let same : module_table x ≡ t = cc in
         let one = base_of m x is in
-        let other = (base_at (module_circuit net).tables bases to.element are (entered (module_circuit net) most (line_at m line) to modules few leads).within).is in
+        let other = (base_at (module_circuit net).tables bases to.element are (entered (module_circuit net) most (line_at m line) to modules few
+        leads).within).is in
         let first : from ≡ output_line (base (module_circuit net).tables m) t line = from_is ∙ (λ i. output_line (one i) (same i) line) in
         let second : into_line ≡ input_line (base (module_circuit net).tables to.element) to.line = into_is ∙ ap (λ b. input_line b to.line) other in
         (λ i. record { from = first i; to = second i });
@@ -216,7 +223,8 @@ module _ (net : Parts Module) (bases : List ℕ) (most : ℕ) (modules : AreModu
 
   pub own_room : (m : ℕ) (x : Module) → slice_get net.elements m ≡ Some x → most < 2 ^ 32 → HasRoom (slice_index_or bases m 0) (module_table x)
   own_room m x is small =
-      subst (λ b. HasRoom b (module_table x)) (sym (base_of m x is)) (bank_room (module_circuit net) modules m most (module_table x) (module_at net m most x modules few is).has few small)
+      subst (λ b. HasRoom b (module_table x)) (sym (base_of m x is)) (bank_room (module_circuit net) modules m most (module_table x) (module_at net m
+      most x modules few is).has few small)
 
   pub own_added : (m : ℕ) (x : Module) (ws bs : List Wire) → slice_get net.elements m ≡ Some x → AreWiresOf (IsOwnWire (module_circuit net) m) ws
       → AreWiresOf (IsBankWire (slice_index_or bases m 0) (module_table x)) bs → AreWiresOf (IsOwnWire (module_circuit net) (m + 1)) (ws ++ bs)
@@ -241,9 +249,12 @@ module _ (net : Parts Module) (bases : List ℕ) (most : ℕ) (modules : AreModu
       → AreWiresOf (IsWireBefore (module_circuit net) m o) ws → AreWiresOf (IsWireBefore (module_circuit net) (m + 1) 0) ws
   module_ended m o x ws is past so = wires_next (module_circuit net) modules m o (module_table x) ws (module_at net m most x modules few is).has past so
 
-  pub all_wired : (m : ℕ) (ws : List Wire) → m ≡ length net.elements → AreWiresOf (IsWireBefore (module_circuit net) m 0) ws → AreWiresOf (IsBoardWire (module_circuit net)) ws
+  pub all_wired : (m : ℕ) (ws : List Wire) → m ≡ length net.elements → AreWiresOf (IsWireBefore (module_circuit net) m 0) ws → AreWiresOf (IsBoardWire
+      (module_circuit net)) ws
   all_wired m ws all so =
       wires_all (module_circuit net) modules ws (subst (λ n. AreWiresOf (IsWireBefore (module_circuit net) n 0) ws) (all ∙ sym (tables_counted net)) so)
 
-  pub owned : (m : ℕ) (ws : List Wire) → m ≡ length net.elements → AreWiresOf (IsOwnWire (module_circuit net) m) ws → AreWiresOf (IsWireBefore (module_circuit net) 0 0) ws
-  owned m ws all so = all_own (module_circuit net) modules ws (subst (λ n. AreWiresOf (IsOwnWire (module_circuit net) n) ws) (all ∙ sym (tables_counted net)) so)
+  pub owned : (m : ℕ) (ws : List Wire) → m ≡ length net.elements → AreWiresOf (IsOwnWire (module_circuit net) m) ws → AreWiresOf (IsWireBefore
+      (module_circuit net) 0 0) ws
+  owned m ws all so = all_own (module_circuit net) modules ws (subst (λ n. AreWiresOf (IsOwnWire (module_circuit net) n) ws) (all ∙ sym (tables_counted
+      net)) so)

@@ -6,4 +6,4 @@ use Rattle.bn_layout.specs.Layouts.{Layout, lines_at, command_place}
 
 -- the control's output line to a tape whose command leads to the west of this element, if one does
 abbrev pub IsCommandTo : Layout → ℕ → Option ℕ → Type 0
-IsCommandTo b e line = (o : ℕ) → 1 ≤ o → o < lines_at b → (line ≡ Some o) ↔ (command_place b o ≡ Enter e west)
+IsCommandTo b e line = (o : ℕ) → (line ≡ Some o) ↔ ((1 ≤ o) × (o < lines_at b) × (command_place b o ≡ Enter e west))

@@ -184,7 +184,8 @@ impl Board {
         ensures run { self.new.config ≡ run (rotary_circuit self.old.net) self.old.config e }
         ensures undone { back (rotary_circuit self.old.net) self.new.config result ≡ self.old.config }
         ensures same { IsSameBoard self.old self.new }
-        ensures told { Hears (W.told watch.old) (places (rotary_circuit self.old.net) e self.old.config) (W.told watch.new) }
+        ensures told { Hears (W.told watch.old) (places (rotary_circuit self.old.net) e self.old.config)
+            (W.told watch.new) }
     {
         self.packed.run_watched(e, watch)
     }
@@ -198,7 +199,8 @@ impl Board {
         ensures back { self.new.config ≡ back (rotary_circuit self.old.net) self.old.config e }
         ensures undone { run (rotary_circuit self.old.net) self.new.config result ≡ self.old.config }
         ensures same { IsSameBoard self.old self.new }
-        ensures told { Hears (W.told watch.old) (places_back (rotary_circuit self.old.net) e self.old.config) (W.told watch.new) }
+        ensures told { Hears (W.told watch.old) (places_back (rotary_circuit self.old.net) e self.old.config)
+            (W.told watch.new) }
     {
         self.packed.run_back_watched(e, watch)
     }

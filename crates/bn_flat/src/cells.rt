@@ -69,7 +69,9 @@ impl Board {
     fn head_cell(&self, tape: u32) -> Option<u32>
         requires first { 1 ≤ tape }
         requires last { tape ≤ 3 }
-        ensures { result ≡ position (λ p. has_head (letters_at self.now.layout tape) (cell_state_at self.now.layout self.now.config.states tape p)) (range_with_len 0 (cells_in self.now.layout.limits tape)) }
+        ensures { let b = self.now.layout in result
+            ≡ position (λ p. has_head (letters_at b tape) (cell_state_at b self.now.config.states tape p))
+            (range_with_len 0 (cells_in b.limits tape)) }
     {
         for cell in 0..self.layout().cells(tape) {
             if self.shows_head(tape, cell) {
@@ -84,7 +86,8 @@ impl Board {
         requires first { 1 ≤ tape }
         requires last { tape ≤ 3 }
         requires cell { cell < cells_in self.now.layout.limits tape }
-        ensures { result ≡ option_map (symbol_by (letters_at self.now.layout tape)) (cell_state_at self.now.layout self.now.config.states tape cell) }
+        ensures { let b = self.now.layout in result
+            ≡ option_map (symbol_by (letters_at b tape)) (cell_state_at b self.now.config.states tape cell) }
     {
         let letters = self.layout().letters(tape);
         match self.cell_state(tape, cell) {
@@ -99,7 +102,8 @@ impl Board {
         requires first { 1 ≤ tape }
         requires last { tape ≤ 3 }
         requires cell { cell < cells_in self.now.layout.limits tape }
-        ensures { result ≡ has_head (letters_at self.now.layout tape) (cell_state_at self.now.layout self.now.config.states tape cell) }
+        ensures { let b = self.now.layout in result
+            ≡ has_head (letters_at b tape) (cell_state_at b self.now.config.states tape cell) }
     {
         match self.cell_state(tape, cell) {
             Some(state) => state >= self.layout().letters(tape),

@@ -89,7 +89,8 @@ impl Layout {
     fn answer_at(&self, tape: u32, line: u32) -> Option<u32>
         requires first { 1 ≤ tape }
         requires last { tape ≤ 3 }
-        ensures { (c : ℕ) → (result ≡ Some c) ↔ ((c < letters_at self.now tape) × (line ≡ lines_before self.now.symbols (tape - 1) + c)) }
+        ensures { (c : ℕ) → (result ≡ Some c)
+            ↔ ((c < letters_at self.now tape) × (line ≡ lines_before self.now.symbols (tape - 1) + c)) }
     {
         let first = self.lines_before(tape - 1);
         if first <= line && line < first + self.letters(tape) {
@@ -102,7 +103,8 @@ impl Layout {
     // The tape and the side of its window at which the signal left by this line.
     fn window_at(&self, left: Line) -> Option<(u32, Side)>
         ensures named { IfSome result (λ w. IsNamedExit self.now (Left left.element left.line) (Window w.0 w.1)) }
-        ensures none { IfNone result ((t : ℕ) (s : Side) → IsNamedExit self.now (Left left.element left.line) (Window t s) → ⊥) }
+        ensures none { IfNone result ((t : ℕ) (s : Side)
+            → IsNamedExit self.now (Left left.element left.line) (Window t s) → ⊥) }
     {
         for tape in 1..4 {
             if let Some(side) = self.side_at(tape, left) {
@@ -117,7 +119,8 @@ impl Layout {
         requires first { 1 ≤ tape }
         requires last { tape ≤ 3 }
         ensures named { IfSome result (λ s. IsNamedExit self.now (Left left.element left.line) (Window tape s)) }
-        ensures none { IfNone result ((s : Side) → IsNamedExit self.now (Left left.element left.line) (Window tape s) → ⊥) }
+        ensures none { IfNone result ((s : Side)
+            → IsNamedExit self.now (Left left.element left.line) (Window tape s) → ⊥) }
     {
         let _states = self.states();
         let letters = self.letters(tape);

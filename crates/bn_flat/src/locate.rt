@@ -51,7 +51,8 @@ impl Layout {
         requires first { 1 ≤ tape }
         requires last { tape ≤ 3 }
         requires low { first_element self.now tape ≤ entered.element }
-        requires high { entered.element < first_element self.now tape + cells_in self.now.limits tape * cell_size (letters_at self.now tape) }
+        requires high { entered.element
+            < first_element self.now tape + cells_in self.now.limits tape * cell_size (letters_at self.now tape) }
         ensures { IsLocated self.now (Enter entered.element entered.line) result }
     {
         let cell = self.cell_of(tape, entered.element);
@@ -69,7 +70,8 @@ impl Layout {
         requires first { 1 ≤ tape }
         requires last { tape ≤ 3 }
         requires low { first_element self.now tape ≤ element }
-        requires high { element < first_element self.now tape + cells_in self.now.limits tape * cell_size (letters_at self.now tape) }
+        requires high { element
+            < first_element self.now tape + cells_in self.now.limits tape * cell_size (letters_at self.now tape) }
         ensures within { result < cells_in self.now.limits tape }
         ensures low { cell_element self.now tape result ≤ element }
         ensures high { element < cell_element self.now tape result + cell_size (letters_at self.now tape) }

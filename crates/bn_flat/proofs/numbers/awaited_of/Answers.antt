@@ -1,4 +1,4 @@
-use Rattle.std.proofs.Common.{rules, All, sym, subst}
+use Rattle.std.proofs.Common.{All, sym, subst}
 use Rattle.std.proofs.lemmas.List.Elements.{All-push}
 use Rattle.bn_control.specs.Controlled.{IsTapeAwaited}
 use Rattle.bn_flat.proofs.CopyLemmas.{copy_more}
@@ -6,6 +6,8 @@ use Rattle.bn_flat.proofs.numbers.awaited_of.Goals as goal
 
 pub loop-state-preserved : goal.loop-state-preserved
 loop-state-preserved c = record {
-  so_far = copy_more c.args.control.now.awaited c.loop-state.awaited.items c.push.new.items.items c.loop-state.state c.awaited.result c.loop-state.invariant.so_far c.awaited.ensures.kept c.in_ok-push.ensures;
-  tapes = subst (All IsTapeAwaited) (sym c.in_ok-push.ensures) (All-push IsTapeAwaited c.loop-state.awaited.items c.awaited.result c.loop-state.invariant.tapes c.awaited.ensures.tape);
+  so_far = copy_more c.args.control.now.awaited c.loop-state.awaited.items c.push.new.items.items c.loop-state.state c.awaited.result
+      c.loop-state.invariant.so_far c.awaited.ensures.kept c.in_ok-push.ensures;
+  tapes = subst (All IsTapeAwaited) (sym c.in_ok-push.ensures) (All-push IsTapeAwaited c.loop-state.awaited.items c.awaited.result
+      c.loop-state.invariant.tapes c.awaited.ensures.tape);
 }

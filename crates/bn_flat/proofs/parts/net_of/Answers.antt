@@ -1,4 +1,4 @@
-use Rattle.std.proofs.Common.{rules, ◌≡◌, sym, subst}
+use Rattle.std.proofs.Common.{subst}
 use Rattle.std.specs.Prelude.{length}
 use Rattle.bn_column.specs.Nets.{IsNetOf}
 use Rattle.bn_column.specs.Wirings.{AreWiresOf}
@@ -8,10 +8,13 @@ use Rattle.bn_flat.proofs.parts.net_of.Goals as goal
 
 pub rotary_net-requires-clause-fitting : goal.rotary_net-requires-clause-fitting
 rotary_net-requires-clause-fitting c =
-    rw (c.len.ensures.number, c.as_slice.ensures.value) (told_fits c.args.packed.now.net c.len.ensures.circuit c.in_ok-wires.wires.items c.in_ok-wires.ensures.wires)
+    rw (c.len.ensures.number, c.as_slice.ensures.value) (told_fits c.args.packed.now.net c.len.ensures.circuit c.in_ok-wires.wires.items
+    c.in_ok-wires.ensures.wires)
 
 pub returns : goal.returns
 returns c =
-    let wires : AreWiresOf (IsTargetBefore c.args.packed.now.net.wires (length c.args.packed.now.net.elements) 0) c.as_slice.result.now = rw c.as_slice.ensures.value c.in_ok-wires.ensures.wires in
-    let net : IsNetOf c.in-Ok.net (length c.args.packed.now.net.elements) c.as_slice.result.now = subst (λ n. IsNetOf c.in-Ok.net n c.as_slice.result.now) c.len.ensures.number c.in-Ok.ensures in
+    let wires : AreWiresOf (IsTargetBefore c.args.packed.now.net.wires (length c.args.packed.now.net.elements) 0) c.as_slice.result.now = rw
+    c.as_slice.ensures.value c.in_ok-wires.ensures.wires in
+    let net : IsNetOf c.in-Ok.net (length c.args.packed.now.net.elements) c.as_slice.result.now = subst (λ n. IsNetOf c.in-Ok.net n
+    c.as_slice.result.now) c.len.ensures.number c.in-Ok.ensures in
     told_again c.args.packed.now.net c.len.ensures.circuit c.in-Ok.net c.as_slice.result.now wires c.requires.order c.len-elements.ensures.order net

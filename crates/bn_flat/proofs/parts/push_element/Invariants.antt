@@ -4,4 +4,8 @@ use Rattle.bn_flat.specs.BoardWires.{IsTargetBefore}
 use Rattle.bn_flat.proofs.parts.push_element.Given as goal
 
 abbrev pub invariant-loop-line : goal.invariant-loop-line
-invariant-loop-line l = record { wires_are : AreWiresOf (IsTargetBefore l.packed.net.wires l.fn.element l.line) l.wires.items; few : length l.wires.items ≤ length l.initial.wires.items + l.line }
+invariant-loop-line l = record {
+  wires_are : AreWiresOf (IsTargetBefore l.packed.net.wires l.fn.element l.line) l.wires.items;
+  few : length l.wires.items
+      ≤ length l.initial.wires.items + l.line;
+}

@@ -1,4 +1,4 @@
-use Rattle.std.proofs.Common.{rules, arith, ◌≡◌, ◌<◌, sym, subst, ◌++◌, ◌∷◌, []}
+use Rattle.std.proofs.Common.{rules, ◌≡◌, ◌<◌, sym, subst, ◌++◌, ◌∷◌, []}
 use Rattle.std.proofs.lemmas.Result.{on_ok_weaker}
 use Rattle.bn_packed.proofs.EndLemmas.{four_out}
 use Rattle.bn_flat.proofs.PartLemmas.{told_one, told_none}
@@ -10,8 +10,10 @@ target-requires c = subst (λ n. c.args.from.line < n) (sym (four_out c.args.pac
 pub returns-in-Some-clause-wires : goal.returns-in-Some-clause-wires
 returns-in-Some-clause-wires c =
     on_ok_weaker c.push.result (λ (added : c.push.new.wires.items ≡ c.args.wires.now.items ++ record { from = c.args.from; to = c.in-Some.to } ∷ []).
-    rw added (told_one c.args.packed.now.net c.len-elements.ensures.circuit c.args.from.element c.args.from.line c.in-Some.to c.args.wires.now.items (search rules) c.requires.earlier))
+    rw added (told_one c.args.packed.now.net c.len-elements.ensures.circuit c.args.from.element c.args.from.line c.in-Some.to c.args.wires.now.items
+    (search rules) c.requires.earlier))
     c.push.ensures
 
 pub returns-in-None-clause-wires : goal.returns-in-None-clause-wires
-returns-in-None-clause-wires c = told_none c.args.packed.now.net c.len-elements.ensures.circuit c.args.from.element c.args.from.line c.args.wires.now.items (search rules) c.requires.earlier
+returns-in-None-clause-wires c = told_none c.args.packed.now.net c.len-elements.ensures.circuit c.args.from.element c.args.from.line
+    c.args.wires.now.items (search rules) c.requires.earlier

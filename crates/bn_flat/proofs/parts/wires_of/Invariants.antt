@@ -4,4 +4,8 @@ use Rattle.bn_flat.specs.BoardWires.{IsTargetBefore}
 use Rattle.bn_flat.proofs.parts.wires_of.Given as goal
 
 abbrev pub invariant-loop-element : goal.invariant-loop-element
-invariant-loop-element l = record { wires_are : AreWiresOf (IsTargetBefore l.packed.net.wires l.element 0) l.wires.items; few : length l.wires.items ≤ 4 * l.element }
+invariant-loop-element l = record {
+  wires_are : AreWiresOf (IsTargetBefore l.packed.net.wires l.element 0) l.wires.items;
+  few : length l.wires.items ≤ 4
+      * l.element;
+}

@@ -5,4 +5,8 @@ use Rattle.bn_flat.proofs.WireLemmas.{AreBasesUpTo}
 use Rattle.bn_flat.proofs.wiring.bases.Given as goal
 
 abbrev pub invariant-loop-number : goal.invariant-loop-number
-invariant-loop-number l = record { next_is : l.next ≡ base (module_circuit l.net).tables l.number; so_far : AreBasesUpTo (module_circuit l.net).tables l.number l.bases.items }
+invariant-loop-number l = record {
+  next_is : l.next ≡ base (module_circuit l.net).tables l.number;
+  so_far : AreBasesUpTo (module_circuit l.net).tables
+      l.number l.bases.items;
+}

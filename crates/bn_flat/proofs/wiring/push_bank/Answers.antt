@@ -1,23 +1,26 @@
-use Rattle.std.proofs.Common.{rules, arith, ◌≡◌, ◌≤◌, ◌+◌, ◌*◌, sym, ap, refl, ◌∙◌, length-append}
+use Rattle.std.proofs.Common.{arith, ◌≡◌, ◌+◌, length-append}
 use Rattle.bn_assembly.specs.declared.make.TheConstants.{MOST_ELEMENTS}
 use Rattle.bn_flat.proofs.WireLemmas.{own_room, own_added, module_at, bank_count}
 use Rattle.std.specs.Prelude.{length}
-use Rattle.bn_theory.specs.Tables.{Table}
 use Rattle.bn_assembly.specs.Modules.{module_table}
 use Rattle.bn_flat.proofs.wiring.push_bank.Goals as goal
 
 pub bank_wires-requires : goal.bank_wires-requires
-bank_wires-requires c = own_room c.args.net.now c.args.bases.now MOST_ELEMENTS c.requires.modules c.requires.few c.requires.bases c.args.number c.element.result.now c.element.ensures (omega arith)
+bank_wires-requires c = own_room c.args.net.now c.args.bases.now MOST_ELEMENTS c.requires.modules c.requires.few c.requires.bases c.args.number
+    c.element.result.now c.element.ensures (omega arith)
 
 pub returns-in-Ok-extend_from_slice-clause-wires : goal.returns-in-Ok-extend_from_slice-clause-wires
 returns-in-Ok-extend_from_slice-clause-wires c =
-    rw (c.in-Ok-extend_from_slice.ensures.items, c.as_slice.ensures.value) (own_added c.args.net.now c.args.bases.now MOST_ELEMENTS c.requires.modules c.requires.few c.requires.bases c.args.number c.element.result.now c.args.wires.now.items c.in-Ok.own.items c.element.ensures c.requires.earlier c.in-Ok.ensures.wires)
+    rw (c.in-Ok-extend_from_slice.ensures.items, c.as_slice.ensures.value) (own_added c.args.net.now c.args.bases.now MOST_ELEMENTS c.requires.modules
+    c.requires.few c.requires.bases c.args.number c.element.result.now c.args.wires.now.items c.in-Ok.own.items c.element.ensures c.requires.earlier
+    c.in-Ok.ensures.wires)
 
 pub returns-in-Ok-extend_from_slice-clause-few : goal.returns-in-Ok-extend_from_slice-clause-few
 returns-in-Ok-extend_from_slice-clause-few c =
     let at = module_at c.args.net.now c.args.number MOST_ELEMENTS c.element.result.now c.requires.modules c.requires.few c.element.ensures in
     let next = at.next in
-    let added : length c.extend_from_slice.new.self.items ≡ length c.args.wires.now.items + length c.in-Ok.own.items = (rw (c.in-Ok-extend_from_slice.ensures.items, c.as_slice.ensures.value) (length-append c.args.wires.now.items c.in-Ok.own.items)) in
+    let added : length c.extend_from_slice.new.self.items ≡ length c.args.wires.now.items + length c.in-Ok.own.items = (rw
+    (c.in-Ok-extend_from_slice.ensures.items, c.as_slice.ensures.value) (length-append c.args.wires.now.items c.in-Ok.own.items)) in
     let few = c.in-Ok.ensures.few in
     let h = bank_count (module_table c.element.result.now).states (module_table c.element.result.now).inputs in
     omega arith

@@ -1,4 +1,4 @@
-use Rattle.std.proofs.Common.{rules, arith, ◌≡◌, ◌≤◌, ◌+◌, ◌*◌, sym, ap, refl, ◌∙◌, length-append}
+use Rattle.std.proofs.Common.{rules, ◌≡◌}
 use Rattle.bn_assembly.specs.declared.make.TheConstants.{MOST_ELEMENTS}
 use Rattle.bn_flat.proofs.WireLemmas.{line_skipped, line_added}
 use Rattle.std.specs.Prelude.{◌++◌, ◌∷◌, []}
@@ -7,11 +7,13 @@ use Rattle.bn_boards.proofs.ModuleLemmas.{found}
 use Rattle.bn_flat.proofs.wiring.push_between.Goals as goal
 
 pub returns-in_default-clause-wires : goal.returns-in_default-clause-wires
-returns-in_default-clause-wires c = line_skipped c.args.net.now c.args.bases.now MOST_ELEMENTS c.requires.modules c.requires.few c.requires.bases c.args.number c.args.line c.args.wires.now.items (search rules) c.requires.earlier
+returns-in_default-clause-wires c = line_skipped c.args.net.now c.args.bases.now MOST_ELEMENTS c.requires.modules c.requires.few c.requires.bases
+    c.args.number c.args.line c.args.wires.now.items (search rules) c.requires.earlier
 
 pub returns-clause-wires : goal.returns-clause-wires
 returns-clause-wires c =
     let here = found c.args.net.now.elements c.args.number c.requires.within in
     on_ok_weaker c.push.result (λ (added : c.push.new.items.items ≡ c.args.wires.now.items ++ c.between.result ∷ []).
-    rw added (line_added c.args.net.now c.args.bases.now MOST_ELEMENTS c.requires.modules c.requires.few c.requires.bases c.args.number c.args.line here.0 c.in-Some.into c.between.result c.args.wires.now.items here.1 (search rules) c.between.ensures c.requires.earlier))
+    rw added (line_added c.args.net.now c.args.bases.now MOST_ELEMENTS c.requires.modules c.requires.few c.requires.bases c.args.number c.args.line
+    here.0 c.in-Some.into c.between.result c.args.wires.now.items here.1 (search rules) c.between.ensures c.requires.earlier))
     c.push.ensures

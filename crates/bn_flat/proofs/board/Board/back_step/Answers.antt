@@ -1,13 +1,26 @@
-use Rattle.std.proofs.Common.{rules, ◌≡◌, sym, ap, refl}
-use Rattle.bn_flat.specs.Flattened.{Flattened}
-use Rattle.bn_flat.proofs.ReachedLemmas.{IsMoved, board_stepped_back}
+use Rattle.bn_flat.proofs.ReachedLemmas.{board_stepped_back}
 use Rattle.bn_flat.proofs.board.Board.back_step.Goals as goal
 
 pub invariant_of-self : goal.invariant_of-self
-invariant_of-self c = (board_stepped_back (record { net = c.self.inside.packed.net; config = c.self.inside.packed.config; start = c.self.inside.start; end = c.self.inside.end; layout = c.self.inside.layout }) c.back_step.new.self.net c.back_step.new.self.config c.self.invariant c.back_step.ensures.net c.back_step.ensures.good c.back_step.result c.back_step.ensures.made c.back_step.ensures.kept).kept
+invariant_of-self c = (board_stepped_back (record {
+  net = c.self.inside.packed.net;
+  config = c.self.inside.packed.config;
+  start = c.self.inside.start;
+  end = c.self.inside.end;
+  layout = c.self.inside.layout;
+}) c.back_step.new.self.net c.back_step.new.self.config c.self.invariant
+    c.back_step.ensures.net c.back_step.ensures.good c.back_step.result c.back_step.ensures.made c.back_step.ensures.kept).kept
 
 pub returns-clause-first : goal.returns-clause-first
 returns-clause-first c = rw (← c.self.view_is) c.back_step.ensures.first
 
 pub returns-clause-same : goal.returns-clause-same
-returns-clause-same c = rw (← c.self.view_is) (board_stepped_back (record { net = c.self.inside.packed.net; config = c.self.inside.packed.config; start = c.self.inside.start; end = c.self.inside.end; layout = c.self.inside.layout }) c.back_step.new.self.net c.back_step.new.self.config c.self.invariant c.back_step.ensures.net c.back_step.ensures.good c.back_step.result c.back_step.ensures.made c.back_step.ensures.kept).same
+returns-clause-same c = rw (← c.self.view_is) (board_stepped_back (record {
+  net = c.self.inside.packed.net;
+  config = c.self.inside.packed.config;
+  start =
+      c.self.inside.start;
+  end = c.self.inside.end;
+  layout = c.self.inside.layout;
+}) c.back_step.new.self.net c.back_step.new.self.config c.self.invariant
+    c.back_step.ensures.net c.back_step.ensures.good c.back_step.result c.back_step.ensures.made c.back_step.ensures.kept).same

@@ -4,4 +4,5 @@ use Rattle.bn_layout.specs.Layouts.{is_sent}
 use Rattle.bn_flat.proofs.board.Board.ended.Given as goal
 
 abbrev pub invariant-loop-state : goal.invariant-loop-state
-invariant-loop-state l = (k : ℕ) (f : Option (ℕ × ℕ)) → k < l.state → slice_get l.self.layout.firsts k ≡ Some f → is_sent l.self.layout l.self.config f ≡ false
+invariant-loop-state l = (k : ℕ) (f : Option (ℕ × ℕ)) → k < l.state → slice_get l.self.layout.firsts k ≡ Some f → is_sent l.self.layout l.self.config f ≡
+    false

@@ -1,13 +1,27 @@
-use Rattle.std.proofs.Common.{rules, ◌≡◌, sym, ap, refl}
-use Rattle.bn_flat.specs.Flattened.{Flattened}
-use Rattle.bn_flat.proofs.ReachedLemmas.{IsMoved, board_ran_back}
+use Rattle.bn_flat.proofs.ReachedLemmas.{board_ran_back}
 use Rattle.bn_flat.proofs.board.Board.run_back.Goals as goal
 
 pub invariant_of-self : goal.invariant_of-self
-invariant_of-self c = (board_ran_back (record { net = c.self.inside.packed.net; config = c.self.inside.packed.config; start = c.self.inside.start; end = c.self.inside.end; layout = c.self.inside.layout }) c.run_back.new.self.net c.run_back.new.self.config c.self.invariant c.run_back.ensures.net c.run_back.ensures.good c.run_back.result c.run_back.ensures.made).kept
+invariant_of-self c = (board_ran_back (record {
+  net = c.self.inside.packed.net;
+  config = c.self.inside.packed.config;
+  start = c.self.inside.start;
+  end =
+      c.self.inside.end;
+  layout = c.self.inside.layout;
+}) c.run_back.new.self.net c.run_back.new.self.config c.self.invariant c.run_back.ensures.net
+    c.run_back.ensures.good c.run_back.result c.run_back.ensures.made).kept
 
 pub returns-clause-ended : goal.returns-clause-ended
 returns-clause-ended c = rw (← c.self.view_is) c.run_back.ensures.ended
 
 pub returns-clause-same : goal.returns-clause-same
-returns-clause-same c = rw (← c.self.view_is) (board_ran_back (record { net = c.self.inside.packed.net; config = c.self.inside.packed.config; start = c.self.inside.start; end = c.self.inside.end; layout = c.self.inside.layout }) c.run_back.new.self.net c.run_back.new.self.config c.self.invariant c.run_back.ensures.net c.run_back.ensures.good c.run_back.result c.run_back.ensures.made).same
+returns-clause-same c = rw (← c.self.view_is) (board_ran_back (record {
+  net = c.self.inside.packed.net;
+  config = c.self.inside.packed.config;
+  start =
+      c.self.inside.start;
+  end = c.self.inside.end;
+  layout = c.self.inside.layout;
+}) c.run_back.new.self.net c.run_back.new.self.config c.self.invariant
+    c.run_back.ensures.net c.run_back.ensures.good c.run_back.result c.run_back.ensures.made).same

@@ -7,4 +7,6 @@ use Rattle.bn_flat.proofs.board.Board.symbols_of.Goals as goal
 pub loop-cell-preserved : goal.loop-cell-preserved
 loop-cell-preserved c =
     let pushed : c.push.new.self.items ≡ c.loop-cell.symbols.items ++ c.symbol_at.result ∷ [] = search rules in
-    symbols_pushed (λ p. option_map (symbol_by (letters_at c.args.self.now.layout c.args.tape)) (cell_state_at c.args.self.now.layout c.args.self.now.config.states c.args.tape p)) c.loop-cell.cell c.loop-cell.symbols.items c.push.new.self.items c.symbol_at.result c.loop-cell.invariant c.symbol_at.ensures pushed
+    symbols_pushed (λ p. option_map (symbol_by (letters_at c.args.self.now.layout c.args.tape)) (cell_state_at c.args.self.now.layout
+    c.args.self.now.config.states c.args.tape p)) c.loop-cell.cell c.loop-cell.symbols.items c.push.new.self.items c.symbol_at.result
+    c.loop-cell.invariant c.symbol_at.ensures pushed
