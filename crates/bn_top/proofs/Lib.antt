@@ -1,3 +1,4 @@
 pub mod Commands
 pub mod AnswerLemmas
 pub mod EndLemmas
+pub mod HeadlineLemmas
