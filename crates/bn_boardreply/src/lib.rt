@@ -3,5 +3,8 @@
 
 mod compile;
 mod opening;
+mod pieces;
+mod run_text;
+mod tape_text;
 
 pub use compile::reply_compile;
