@@ -1,3 +1,4 @@
 pub mod OpeningLemmas
 pub mod MadeLemmas
 pub mod PieceLemmas
+pub mod CellTextLemmas
