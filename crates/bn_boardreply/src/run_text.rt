@@ -1,21 +1,21 @@
 //! The text of a run of a board.
 
-ghost use Rattle.std.specs.Prelude.{◌≡◌, ℕ, ◌<◌, ◌++◌, ◌∷◌, [], codes, IfOk, OnOk};
+ghost use Rattle.std.specs.Prelude.{◌≡◌, ℕ, ◌<◌, ◌≤◌, ◌++◌, ◌∷◌, [], codes, drop, length, IfOk, OnOk};
 ghost use Rattle.bn_netlist.specs.Sentences.{line_at, line_text};
 ghost use Rattle.bn_bennett.specs.Translation.{name_of};
 ghost use Rattle.bn_bennett.specs.Meaning.{machine_state_by};
 ghost use Rattle.bn_bennett.specs.declared.translated.MachineState.TheVariants.{AtState};
 ghost use Rattle.bn_layout.specs.Layouts.{letters_at};
 ghost use Rattle.bn_layout.specs.Flats.{Flat};
-ghost use Rattle.bn_boardanswers.specs.RunText.{exit_line, rest_text, run_text, state_text, stuck_line};
-ghost use Rattle.bn_boardanswers.specs.RunText.{window_line};
-ghost use Rattle.bn_boardreply.specs.Shown.{HasNames, IsKnownStuck, IsShown};
+ghost use Rattle.bn_boardanswers.specs.RunText.{exit_line, output_from, output_line, quadruple_line, rest_text, run_text};
+ghost use Rattle.bn_boardanswers.specs.RunText.{state_text, stuck_line, tape_lines, window_line};
+ghost use Rattle.bn_boardreply.specs.Shown.{HasNames, HaveLetters, IsKnownStuck, IsShown};
 
 use crate::pieces::{push, push_counted, push_number};
 use crate::tape_text::{push_output, push_tapes};
 use bn_bennett::{MachineState, Translated};
 use bn_element::{EAST, NORTH, SOUTH};
-use bn_flat::{Board, Exit};
+use bn_flat::{Board, Exit, Spelled};
 use bn_machine::Side;
 use bn_net::{Line, Place};
 use bn_reply::{NoMemory, push_letters};
@@ -159,11 +159,27 @@ fn push_rest(
         return Err(NoMemory);
     };
     match exit {
-        Exit::End => {
-            push_counted(text, b"quadruple steps ", quadruple_steps)?;
-            push_tapes(alloc, text, table, &shown)?;
-            push_output(alloc, text, table, shown.three.cells.as_slice())
-        }
+        Exit::End => push_end(alloc, text, table, &shown, quadruple_steps),
         _ => push_tapes(alloc, text, table, &shown),
     }
+}
+
+// Appends the lines behind that of the steps, where the machine has halted.
+fn push_end(
+    alloc: Global,
+    text: &mut Vec<u8>,
+    table: &Table,
+    shown: &Spelled,
+    quadruple_steps: u64,
+) -> Result<(), NoMemory>
+    requires one { HaveLetters table.now 1 shown.now.one.cells }
+    requires three { HaveLetters table.now 3 shown.now.three.cells }
+    requires some { 1 ≤ length shown.now.three.cells }
+    ensures { OnOk result (text.new.items ≡ text.old.items ++ (quadruple_line quadruple_steps
+        ++ (tape_lines table.now shown.now.one shown.now.two shown.now.three
+        ++ output_line table.now (output_from (drop 1 shown.now.three.cells))))) }
+{
+    push_counted(text, b"quadruple steps ", quadruple_steps)?;
+    push_tapes(alloc, text, table, shown)?;
+    push_output(alloc, text, table, shown.three.cells.as_slice())
 }

@@ -15,9 +15,9 @@ returns c = none_behind c.args.cells.now c.loop-cell.cell-index c.loop-cell.outp
 pub returns-in_default : goal.returns-in_default
 returns-in_default c =
     let none : IsNoLetter (get_or c.args.cells.now c.loop-cell.cell-index None) =
-        elim c.in_default.branch [
-          | in_default-via-in-Some+else-symbol-ne0 w ↦ (let h = subst IsNoLetter (sym w.in-Some.is) (shows_blank w.in-Some.symbol w.if-symbol-ne0.false) in h)
-          | in_default-via-in_default w ↦ subst IsNoLetter (sym w.in_default.is) shows_none
-        ] in
+    elim c.in_default.branch [
+      | in_default-via-in-Some+else-symbol-ne0 w ↦ (let h = subst IsNoLetter (sym w.in-Some.is) (shows_blank w.in-Some.symbol w.if-symbol-ne0.false) in h)
+      | in_default-via-in_default w ↦ subst IsNoLetter (sym w.in_default.is) shows_none
+    ] in
     output_ended c.args.cells.now c.loop-cell.cell-index None (get_or c.args.cells.now c.loop-cell.cell-index None) c.loop-cell.output.items
     c.loop-cell-test.true refl none c.loop-cell.invariant
