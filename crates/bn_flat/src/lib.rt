@@ -4,6 +4,7 @@
 mod bars;
 mod board;
 mod cells;
+mod counting;
 mod exit_of;
 mod layout;
 mod locate;
