@@ -1,21 +1,30 @@
 -- The moments of a run, counted step by step.
-use Rattle.std.specs.Prelude.{◌≡◌, ℕ, ◌+◌, ◌-◌, ◌<◌, ◌≤◌, Bool, true, false, List, [], ◌∷◌, Option, refl}
-use Rattle.std.proofs.Common.{zero, suc, arith, sym, ap, subst, ◌∙◌}
-use Rattle.bn_theory.specs.Runs.{Reaches}
+use Rattle.std.specs.Prelude.{◌≡◌, ℕ, ◌+◌, ◌-◌, ◌<◌, ◌≤◌, Bool, true, false, not, ◌&&◌, ◌||◌, ◌==◌, nat_lt, is_some, List, [], ◌∷◌, ◌++◌, Option, None, refl, ◌⊎◌}
+use Rattle.std.proofs.Common.{zero, suc, arith, sym, ap, subst, ◌∙◌, inl, inr}
+use Rattle.bn_theory.specs.Runs.{Reaches, Passes, passes_run, runs_join}
+use Rattle.bn_theory.proofs.RunPartLemmas.{passes_weaker}
 use Rattle.bn_theory.specs.Circuits.{Circuit, IsCircuit, IsConfig, Goes, IsStuck}
 use Rattle.bn_theory.specs.Stepping.{run, places}
-use Rattle.bn_theory.specs.RunLaws.{run_stops, next-stuck}
+use Rattle.bn_theory.specs.RunLaws.{run_stops, next-stuck, places-zero, places-Goes}
 use Rattle.bn_theory.specs.Laws.{next-IsConfig}
 use Rattle.bn_theory.specs.Counting.{tally, one_if}
 use Rattle.bn_theory.specs.declared.place.Place.{Place}
+use Rattle.bn_theory.specs.declared.place.Place.TheVariants.{Enter, Left}
 use Rattle.bn_theory.specs.declared.config.Config.{Config}
 use Rattle.bn_theory.proofs.CountingLemmas.{tally-zero, tally-more, tallies-add}
 use Rattle.bn_net.specs.Watching.{Hears}
 use Rattle.bn_net.specs.Walking.{HasWalked}
-use Rattle.bn_net.proofs.WalkLemmas.{walk_starts, walk_goes, walk_ends}
+use Rattle.bn_net.proofs.WalkLemmas.{hears-joins, walk_starts, walk_goes, walk_ends}
 use Rattle.bn_column.specs.Nets.{rotary_circuit}
-use Rattle.bn_layout.specs.Layouts.{is_moment}
-use Rattle.bn_flat.specs.Flattened.{Flattened, IsSameBoard, IsBoardKept, origin}
+use Rattle.bn_layout.specs.Layouts.{Layout, is_moment, moment_at, first_element, letters_at}
+use Rattle.bn_layout.proofs.FirstLemmas.{below, not_below}
+use Rattle.bn_element.specs.Rotary.{west}
+use Rattle.std.proofs.lemmas.Bool.Decides.{eqb_tells}
+use Rattle.bn_packed.specs.Stopping.{PassesBy, passes_by}
+use Rattle.bn_flat.specs.declared.first_rows.FirstRows.{FirstRows}
+use Rattle.bn_flat.specs.Moments.{AreFirstRows, enters_first, is_among}
+use Rattle.bn_flat.proofs.MomentLemmas.{IsCommandOf, no_tape, off_west, off_commands}
+use Rattle.bn_flat.specs.Flattened.{Flattened, IsSameBoard, IsBoardKept, IsLayoutKept, origin}
 
 -- So many steps were made from one configuration to another, and the test held after so many of them.
 pub record HasTallied (test : Config → Bool) (k : Circuit) (c d : Config) (made count : ℕ) (old new : Option (List Place)) : Type 0 where
@@ -28,6 +37,14 @@ at_most_one true = omega arith
 at_most_one false = omega arith
 
 module _ (test : Config → Bool) (k : Circuit) where
+  -- the places of two runs, one after the other
+  places-join : (m n : ℕ) (c d : Config) → Reaches (Goes k) m c d → places k (m + n) c ≡ places k m c ++ places k n d
+  places-join zero n c d path = ap (λ x. places k x c) (let e : zero + n ≡ n = omega arith in e) ∙ ap (places k n) path ∙ ap (λ ps. ps ++ places k n d) (sym (places-zero k c))
+  places-join (suc m) n c d path =
+      let e : suc m + n ≡ suc (m + n) = omega arith in
+      ap (λ x. places k x c) e ∙ places-Goes k c path.0 (m + n) path.1 ∙ ap (λ ps. path.0.place ∷ ps) (places-join m n path.0 d path.2)
+      ∙ ap (λ ps. ps ++ places k n d) (sym (places-Goes k c path.0 m path.1))
+
   pub tallied_none : (c : Config) (told : Option (List Place)) → IsConfig k c → HasTallied test k c c 0 0 told told
   tallied_none c told good = record { walked = walk_starts k c told good; tallied = sym (tally-zero k test c); few = omega arith }
 
@@ -47,6 +64,28 @@ module _ (test : Config → Bool) (k : Circuit) where
         tallied = omega arith;
         few = omega arith;
       }
+
+  -- so many steps more, with the test false strictly between
+  pub tallied_leap : (c d e : Config) (n made more count now : ℕ) (old mid new : Option (List Place)) → HasTallied test k c d made count old mid → 0 < n
+      → Passes (Goes k) (λ x. not (test x)) n d e → IsConfig k e → Hears mid (places k n d) new → more ≡ made + n → now ≡ count + one_if (test e)
+      → HasTallied test k c e more now old new
+  tallied_leap c d e n made more count now old mid new before some path good hears sum counted =
+      let run = passes_run (Goes k) (λ x. not (test x)) n d e path in
+      let whole = tallies-add.0 k test made n c d before.walked.reaches in
+      let one = tallies-add.1 k test n d e some path in
+      let low = at_most_one (test e) in
+      let tallied = before.tallied in
+      let few = before.few in
+      let here : HasTallied test k c e (made + n) now old new = record {
+        walked = record {
+          reaches = runs_join (Goes k) (made + n) made n c d e refl before.walked.reaches run;
+          good = good;
+          heard = subst (λ ts. Hears old ts new) (sym (places-join made n c d before.walked.reaches)) (hears-joins old mid new (places k made c) (places k n d) before.walked.heard hears);
+        };
+        tallied = omega arith;
+        few = omega arith;
+      } in
+      subst (λ x. HasTallied test k c e x now old new) (sym sum) here
 
   tally-stuck : (r : ℕ) (d : Config) → (0 < r → IsStuck k d) → tally test k r d ≡ 0
   unfolding tally
@@ -73,6 +112,59 @@ module _ (test : Config → Bool) (k : Circuit) where
     ran = sym (run_stops k made e c d before.walked.reaches within ended);
     told = walk_ends k c d made e old new before.walked within ended;
   }
+
+-- ---- places at which there is no moment
+
+among : (first count e : ℕ) → is_among first count e ≡ false → first ≤ e → e < first + count → ⊥
+among first count e none least most =
+    let low : nat_lt e first ≡ false = not_below e first least in
+    let high : nat_lt (e - first) count ≡ true = below (e - first) count (omega arith) in
+    let h : (not false && true) ≡ false = rw (low, high) at none in
+    cc
+
+either_false : (x y : Bool) → (x || y) ≡ false → (x ≡ false) × (y ≡ false)
+either_false false false h = (refl, refl)
+either_false false true h = absurd (cc)
+either_false true y h = absurd (cc)
+
+both_false : (x y : Bool) → (x && y) ≡ false → x ≡ true → y ≡ false
+both_false true y h is = h
+both_false false y h is = absurd (cc)
+
+not_true : (b : Bool) → not b ≡ true → b ≡ false
+not_true false h = refl
+not_true true h = absurd (cc)
+
+-- no moment where the signal passes by the rows of first commands
+pub quiet_between : (b : Layout) → IsLayoutKept b → (rows : FirstRows) → AreFirstRows b rows → (x : Config) → passes_by (enters_first rows) x.place ≡ true
+    → not (is_moment b x) ≡ true
+quiet_between b kept rows first x quiet = by_place x.place refl
+  where
+    no_moment : None ≡ moment_at b x → not (is_moment b x) ≡ true
+    no_moment none = ap (λ o. not (is_some o)) (sym none)
+
+    by_place : (p : Place) → x.place ≡ p → not (is_moment b x) ≡ true
+    by_place (Left e l) at = absurd (let h : passes_by (enters_first rows) (Left e l) ≡ true = subst (λ p. passes_by (enters_first rows) p ≡ true) at quiet in cc)
+    by_place (Enter e l) at = elim (eqb_tells l west) [
+      | inr other ↦ no_moment (off_west b x e l at other.1)
+      | inl same ↦
+          (let off : enters_first rows (record { element = e; line = l }) ≡ false = not_true _ (subst (λ p. passes_by (enters_first rows) p ≡ true) at quiet) in
+          let none = both_false (l == west) _ off same.0 in
+          let parts = either_false _ _ none in
+          let early = either_false _ _ parts.0 in
+          no_moment (off_commands b x e (at ∙ ap (Enter e) same.1) kept (no_tape b e 4 (omega arith) (λ o by. absurd (in_none early.0 early.1 parts.1 o by)))))
+    ]
+      where
+        in_none : is_among rows.one.first rows.one.count e ≡ false → is_among rows.two.first rows.two.count e ≡ false → is_among rows.three.first rows.three.count e ≡ false
+            → (o : ℕ) → IsCommandOf b e o → ⊥
+        in_none one two three o by = by_tape by.tape refl
+          where
+            by_tape : (t : ℕ) → by.tape ≡ t → ⊥
+            by_tape zero is = let h = by.low in omega arith
+            by_tape (suc zero) is = ?
+            by_tape (suc (suc zero)) is = ?
+            by_tape (suc (suc (suc zero))) is = ?
+            by_tape (suc (suc (suc (suc t)))) is = let h = by.high in omega arith
 
 -- ---- boards
 
@@ -105,6 +197,25 @@ counted_more a b c made count now old mid new kept before same goes hears counte
       same = here;
       tallied = tallied_more (is_moment a.layout) (rotary_circuit a.net) kept.circuit a.config b.config c.config made count now old mid new before.tallied
           (subst (λ n. Goes (rotary_circuit n) b.config c.config) before.same.net goes) hears
+          (counted ∙ ap (λ l. count + one_if (is_moment l c.config)) here.layout);
+    }
+
+-- a leap past all lines of first commands
+pub counted_leap : (a b c : Flattened) (rows : FirstRows) (n made more count now : ℕ) (old mid new : Option (List Place)) → IsBoardKept a → HasCounted a b made count old mid
+    → IsSameBoard b c → IsBoardKept c → AreFirstRows a.layout rows → 0 < n → PassesBy (rotary_circuit b.net) (enters_first rows) n b.config c.config
+    → Hears mid (places (rotary_circuit b.net) n b.config) new
+    → more ≡ made + n → now ≡ count + one_if (is_moment c.layout c.config) → HasCounted a c more now old new
+counted_leap a b c rows n made more count now old mid new kept before same kept' first some path hears sum counted =
+    let here = same_again a b c before.same same in
+    let k = rotary_circuit a.net in
+    let test = is_moment a.layout in
+    let by : PassesBy k (enters_first rows) n b.config c.config = subst (λ x. PassesBy (rotary_circuit x) (enters_first rows) n b.config c.config) before.same.net path in
+    record {
+      same = here;
+      tallied = tallied_leap test k a.config b.config c.config n made more count now old mid new before.tallied some
+          (passes_weaker (Goes k) (λ (x : Config). passes_by (enters_first rows) x.place) (λ x. not (test x)) (λ x quiet. quiet_between a.layout kept.layout rows first x quiet) n b.config c.config by)
+          (subst (λ x. IsConfig (rotary_circuit x) c.config) here.net kept'.reached.good)
+          (subst (λ x. Hears mid (places (rotary_circuit x) n b.config) new) before.same.net hears) sum
           (counted ∙ ap (λ l. count + one_if (is_moment l c.config)) here.layout);
     }
 

@@ -22,13 +22,16 @@ impl Board {
     {
         // What every board keeps.
         let _elements = self.len();
+        let rows = self.layout().first_rows();
         let mut moments = 0;
-        for made in 0..e {
-            if !self.step() {
+        let mut made = 0;
+        while made < e {
+            let steps = self.run_until(e - made, &rows, watch);
+            if steps == 0 {
                 return moments;
             }
-            watch.enter(&self.place());
             moments = self.count_moment(moments);
+            made += steps;
         }
         moments
     }

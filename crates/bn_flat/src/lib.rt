@@ -6,6 +6,7 @@ mod board;
 mod cells;
 mod counting;
 mod exit_of;
+mod first_rows;
 mod layout;
 mod locate;
 mod located;
