@@ -4,7 +4,7 @@ use Rattle.bn_theory.specs.declared.place.Place.TheVariants.{Enter, Left}
 use Rattle.bn_column.specs.Nets.{rotary_circuit}
 use Rattle.bn_machine.specs.Machine.{Program}
 use Rattle.bn_machine.specs.Outcome.{Limits}
-use Rattle.bn_netlist.specs.Spelling.{most_elements}
+use Rattle.bn_netlist.specs.Spelling.{Spelling, most_elements}
 use Rattle.bn_bennett.specs.Translation.{Translation}
 use Rattle.bn_layout.specs.Layouts.{end_place}
 use Rattle.bn_layout.specs.Flats.{Flat, flat_start}
@@ -36,3 +36,13 @@ pub data IsTooLarge (p : Program) (l : Limits) (symbols : List ℕ) (reply : Rep
 abbrev pub IsOpenedBoard : Program → Limits → List ℕ → OpenedBoard → Type 0
 IsOpenedBoard p l symbols (Made t b) = (f : Flat) × IsMade p l symbols f t b
 IsOpenedBoard p l symbols (Refused reply) = IsTooLarge p l symbols reply
+
+-- a board as it is spelled
+abbrev pub spelling_of_board : Flattened → Spelling
+spelling_of_board b = record {
+  elements = length b.net.elements;
+  wires = b.net.wires;
+  config = b.config;
+  start = b.start;
+  end = b.end;
+}

@@ -1,24 +1,26 @@
 //! The command `compile`.
 
-ghost use Rattle.std.specs.Prelude.{◌≡◌, [], IfOk};
+ghost use Rattle.std.specs.Prelude.{◌≡◌, [], All, IfOk};
 ghost use Rattle.bn_assembly.specs.Assembled.{AreSmall, limits_of};
-ghost use Rattle.bn_machine.specs.Machine.{Program};
-ghost use Rattle.bn_layout.specs.Flats.{Flat, IsAccepted};
+ghost use Rattle.bn_netlist.specs.Spelling.{Admits, text_of};
+ghost use Rattle.bn_reply.specs.Words.{IsLetterSymbol};
+ghost use Rattle.bn_standard.specs.Standard.{IsStandard};
 ghost use Rattle.bn_reply.specs.TableReply.{JudgedReplies, WordReplies};
 ghost use Rattle.bn_boardanswers.specs.Windows.{BoardReplies};
 ghost use Rattle.bn_boardanswers.specs.CompileReply.{CompileReplies, TellsStart};
-ghost use Rattle.bn_boardreply.specs.Opened.{IsMade};
+ghost use Rattle.bn_flat.specs.Flattened.{IsBoardKept};
+ghost use Rattle.bn_boardreply.specs.Opened.{spelling_of_board};
 
 use crate::opening::{OpenedBoard, open_board};
 use bn_assembly::Windows;
-use bn_boardanswers::{given_boards_are_accepted, starts_are_told};
+use bn_boardanswers::{boards_are_spelled, starts_are_told};
 use bn_flat::Board;
 use bn_netlist::{NetConfig, write_config};
 use bn_reply::{
     Judged, NoMemory, OpenedTable, OpenedWord, Reply, Status, judge_table, open_table, open_word,
 };
 use bn_standard::Standard;
-use bn_table::Table;
+use bn_table::{Table, tables_are_machines};
 use std::alloc::Global;
 
 /// What `compile` answers to a word, a window and some bytes: whether they are a table with a machine in standard
@@ -66,6 +68,7 @@ fn compile_word(
     windows: &Windows,
 ) -> Result<Reply, NoMemory>
     requires standard { standard.now ≡ table.now.machine }
+    requires fit { IsStandard table.now.machine.quints }
     requires windows { AreSmall (limits_of windows.now) }
     ensures { IfOk result (λ r. WordReplies
         (BoardReplies TellsStart table.now.machine (limits_of windows.now)) table.now word.now r.status r.text.items []) }
@@ -75,5 +78,56 @@ fn compile_word(
         OpenedWord::Symbols(symbols) => {
             compile_symbols(alloc, table, standard, symbols.as_slice(), windows)
         }
+    }
+}
+
+// What is answered of a table's machine and a word of these symbols.
+fn compile_symbols(
+    alloc: Global,
+    table: &Table,
+    standard: &Standard<'_>,
+    symbols: &[u32],
+    windows: &Windows,
+) -> Result<Reply, NoMemory>
+    requires standard { standard.now ≡ table.now.machine }
+    requires fit { IsStandard table.now.machine.quints }
+    requires windows { AreSmall (limits_of windows.now) }
+    requires symbols { All (IsLetterSymbol table.now) symbols.now }
+    ensures { IfOk result (λ r. BoardReplies TellsStart table.now.machine (limits_of windows.now) symbols.now
+        r.status r.text.items []) }
+{
+    // The laws that a board at its start has a text, which is what is told; and the table's own facts.
+    boards_are_spelled();
+    starts_are_told();
+    tables_are_machines();
+    let _machine = table.machine();
+    match open_board(alloc, table, standard, symbols, windows)? {
+        OpenedBoard::Refused(reply) => Ok(reply),
+        OpenedBoard::Made(_, board) => Ok(Reply {
+            text: board_text(alloc, &board)?,
+            status: Status::Done,
+        }),
+    }
+}
+
+// The configuration text of a board.
+fn board_text(alloc: Global, board: &Board) -> Result<Vec<u8>, NoMemory>
+    requires { IsBoardKept board.now → Admits (spelling_of_board board.now) }
+    ensures { IfOk result (λ text. text.items ≡ text_of (spelling_of_board board.now)) }
+{
+    // What every board keeps.
+    let _elements = board.len();
+    let Ok(parts) = board.net_config(alloc) else {
+        return Err(NoMemory);
+    };
+    let spelled = NetConfig {
+        net: parts.net,
+        config: parts.config,
+        start: parts.start,
+        end: parts.end,
+    };
+    match write_config(alloc, &spelled) {
+        Ok(text) => Ok(text),
+        Err(_) => Err(NoMemory),
     }
 }

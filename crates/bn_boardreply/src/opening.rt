@@ -8,11 +8,10 @@ ghost use Rattle.bn_boardanswers.specs.Windows.{long_line, large_line};
 
 use bn_assembly::{AssembleRefusal, Windows, assemble};
 use bn_bennett::{Translated, translate};
-use bn_boardanswers::boards_are_counted;
 use bn_flat::{Board, flatten};
 use bn_reply::{NoMemory, Reply, Status};
 use bn_standard::Standard;
-use bn_table::Table;
+use bn_table::{Table, tables_are_machines};
 use std::alloc::Global;
 
 /// A board with its machine's translation, or the answer where there is none.
@@ -40,14 +39,19 @@ pub(crate) fn open_board(
     if symbols.len() > windows.right1 as usize {
         return Ok(OpenedBoard::Refused(too_long(alloc, symbols.len())?));
     }
-    // The table's own fact: its machine is within the limits of tables.
+    // The table's own facts: its machine is a machine, within the limits of tables.
+    tables_are_machines();
     let _machine = table.machine();
     let Ok(translated) = translate(alloc, standard) else {
         return Err(NoMemory);
     };
     match assemble(alloc, translated.machine(), windows, symbols) {
         Ok(assembly) => match flatten(alloc, &assembly) {
-            Ok(board) => Ok(OpenedBoard::Made(translated, board)),
+            Ok(board) => {
+                // What every board keeps.
+                let _elements = board.len();
+                Ok(OpenedBoard::Made(translated, board))
+            }
             Err(_) => Err(NoMemory),
         },
         Err(AssembleRefusal::WordOutside { .. }) => unreachable!(),

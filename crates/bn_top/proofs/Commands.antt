@@ -1,13 +1,16 @@
 -- What each command's form needs of proofs: the law that it has one answer and only one, and that its reply is the one to the request.
-use Rattle.std.specs.Prelude.{◌≡◌, ℕ, ◌≤◌, List, [], Option, Some, Result, slice_get, IfOk, OnErr, refl}
+use Rattle.std.specs.Prelude.{◌≡◌, ℕ, ◌≤◌, List, [], Option, Some, None, Result, slice_get, IfOk, OnErr, refl}
 use Rattle.std.proofs.Common.{sym, subst, ◌∙◌}
 use Rattle.bn_theory.specs.declared.place.Place.{Place}
-use Rattle.bn_words.specs.Forms.{most_number, row_of}
+use Rattle.bn_machine.specs.Outcome.{Limits}
+use Rattle.bn_words.specs.Forms.{most_limit, most_number, row_of}
 use Rattle.bn_words.specs.Requests.{AreWithin, HasForm, Request, letters_at, number_at}
 use Rattle.bn_words.specs.declared.form.Form.{Form}
 use Rattle.bn_words.specs.declared.form.Form.TheVariants.{Step, Back, Check, Machine, Reversible, Bennett, Realise}
-use Rattle.bn_words.specs.declared.kind.Kind.TheVariants.{Ordinal}
-use Rattle.bn_words.proofs.ArgumentLemmas.{form-AreWithin, ordinal_least}
+use Rattle.bn_words.specs.declared.form.Form.TheVariants.{Compile, Run, RunWithin}
+use Rattle.bn_words.specs.declared.kind.Kind.{Kind}
+use Rattle.bn_words.specs.declared.kind.Kind.TheVariants.{Count, Ordinal}
+use Rattle.bn_words.proofs.ArgumentLemmas.{count_most, form-AreWithin, ordinal_least}
 use Rattle.bn_reply.specs.Answering.{IsSettled}
 use Rattle.bn_reply.specs.Replying.{IsReplied, IsUnfinished}
 use Rattle.bn_reply.specs.declared.reply.Reply.{Reply}
@@ -26,9 +29,24 @@ use Rattle.bn_tablereply.proofs.BennettLemmas.{bennett_settled}
 use Rattle.bn_tablereply.proofs.CheckLemmas.{check_settled}
 use Rattle.bn_tablereply.proofs.MachineLemmas.{machine_settled}
 use Rattle.bn_tablereply.proofs.ReversibleLemmas.{reversible_settled}
-use Rattle.bn_top.specs.Answers.{Replies, RepliesBy}
+use Rattle.bn_boardanswers.specs.CompileReply.{CompileReplies}
+use Rattle.bn_boardanswers.specs.RunReply.{RunReplies}
+use Rattle.bn_boardanswers.specs.Windows.{AreSmall}
+use Rattle.bn_boardanswers.proofs.ClosedLemmas.{compile_settled, run_settled}
+use Rattle.bn_top.specs.Answers.{Replies, RepliesBy, limits_at}
 
 -- ---- the laws
+
+-- four counts up to the greatest limit of a window are limits that may be asked for
+small_limits : (kinds : List Kind) (request : Request) → AreWithin kinds request.arguments → slice_get kinds 1 ≡ Some (Count most_limit) →
+    slice_get kinds 2 ≡ Some (Count most_limit) → slice_get kinds 3 ≡ Some (Count most_limit) → slice_get kinds 4 ≡ Some (Count most_limit) →
+    AreSmall (limits_at request)
+small_limits kinds request within a b c d = (
+  count_most kinds request.arguments 1 most_limit within a,
+  count_most kinds request.arguments 2 most_limit within b,
+  count_most kinds request.arguments 3 most_limit within c,
+  count_most kinds request.arguments 4 most_limit within d,
+)
 
 settled_by : (form : Form) (request : Request) → AreWithin (row_of form).kinds request.arguments →
     (bytes : List ℕ) → IsSettled (RepliesBy form request bytes)
@@ -43,6 +61,13 @@ settled_by Realise request within = λ bytes.
     let least : (n : ℕ) → slice_get kinds n ≡ Some (Ordinal most_number) → 1 ≤ number_at request n =
     λ n here. ordinal_least kinds request.arguments n most_number within here in
     realise_settled (number_at request 0) (number_at request 1) bytes (least 0 refl) (least 1 refl)
+settled_by Compile request within = λ bytes. compile_settled (letters_at request 0) (limits_at request) bytes
+    (small_limits (row_of Compile).kinds request within refl refl refl refl)
+settled_by Run request within = λ bytes.
+    run_settled None (letters_at request 0) (limits_at request) bytes (small_limits (row_of Run).kinds request within refl refl refl refl)
+settled_by RunWithin request within = λ bytes.
+    run_settled (Some (number_at request 5)) (letters_at request 0) (limits_at request) bytes
+    (small_limits (row_of RunWithin).kinds request within refl refl refl refl)
 
 -- what is asked for has one answer and only one
 pub settled : (words : List (List ℕ)) (request : Request) → HasForm words request → (bytes : List ℕ) → IsSettled (Replies request bytes)
@@ -92,6 +117,42 @@ module _ (request : Request) (form : Form) (of : form ≡ request.form) (bytes :
         let placed = subst (λ j. Silent result (RealiseReplies q j bytes)) i_is h in
         silent_by Realise is (subst (λ p. Silent result (RealiseReplies p (number_at request 1) bytes)) q_is placed)
 
+    pub compile_reply : (word : List ℕ) (l : Limits) → form ≡ Compile → word ≡ letters_at request 0 → l ≡ limits_at request →
+        Silent result (CompileReplies word l bytes) → Replied result told told (Replies request bytes)
+    compile_reply word l is word_is l_is h =
+        let limited = subst (λ m. Silent result (CompileReplies word m bytes)) l_is h in
+        silent_by Compile is (subst (λ w. Silent result (CompileReplies w (limits_at request) bytes)) word_is limited)
+
+  module _ (told heard : Option (List Place)) (word : List ℕ) (l : Limits) where
+    -- a claim of the answers to the words that ask for a run
+    run_by : (other : Form) (number : Option ℕ) → RepliesBy other request ≡ RunReplies number (letters_at request 0) (limits_at request) → form ≡ other →
+        word ≡ letters_at request 0 → l ≡ limits_at request → (Claim : (Status → List ℕ → List Place → Type 0) → Type 0) →
+        Claim (RunReplies number word l bytes) → Claim (Replies request bytes)
+    run_by other number same is word_is l_is Claim h =
+        let limited = subst (λ m. Claim (RunReplies number word m bytes)) l_is h in
+        let named = subst (λ w. Claim (RunReplies number w (limits_at request) bytes)) word_is limited in
+        by_form other is Claim (subst (λ replies. Claim (replies bytes)) (sym same) named)
+
+    pub run_reply : form ≡ Run → word ≡ letters_at request 0 → l ≡ limits_at request → Replied result told heard (RunReplies None word l bytes) →
+        Replied result told heard (Replies request bytes)
+    run_reply is word_is l_is h = run_by Run None refl is word_is l_is (Replied result told heard) h
+
+    pub run_part : form ≡ Run → word ≡ letters_at request 0 → l ≡ limits_at request → Unfinished result told heard (RunReplies None word l bytes) →
+        Unfinished result told heard (Replies request bytes)
+    run_part is word_is l_is h = run_by Run None refl is word_is l_is (Unfinished result told heard) h
+
+    pub run_within_reply : (e : ℕ) → form ≡ RunWithin → word ≡ letters_at request 0 → l ≡ limits_at request → e ≡ number_at request 5 →
+        Replied result told heard (RunReplies (Some e) word l bytes) → Replied result told heard (Replies request bytes)
+    run_within_reply e is word_is l_is e_is h =
+        run_by RunWithin (Some (number_at request 5)) refl is word_is l_is (Replied result told heard)
+        (subst (λ n. Replied result told heard (RunReplies (Some n) word l bytes)) e_is h)
+
+    pub run_within_part : (e : ℕ) → form ≡ RunWithin → word ≡ letters_at request 0 → l ≡ limits_at request → e ≡ number_at request 5 →
+        Unfinished result told heard (RunReplies (Some e) word l bytes) → Unfinished result told heard (Replies request bytes)
+    run_within_part e is word_is l_is e_is h =
+        run_by RunWithin (Some (number_at request 5)) refl is word_is l_is (Unfinished result told heard)
+        (subst (λ n. Unfinished result told heard (RunReplies (Some n) word l bytes)) e_is h)
+
   module _ (told heard : Option (List Place)) (n : ℕ) where
     pub step_reply : form ≡ Step → n ≡ number_at request 0 → Replied result told heard (StepReplies n bytes) →
         Replied result told heard (Replies request bytes)
@@ -113,4 +174,19 @@ module _ (request : Request) (form : Form) (of : form ≡ request.form) (bytes :
     back_part is n_is h =
         by_form Back is (Unfinished result told heard) (subst (λ m. Unfinished result told heard (BackReplies m bytes)) n_is h)
 
-pub ruleset replies = (step_reply, step_part, back_reply, back_part, check_reply, machine_reply, reversible_reply, bennett_reply, realise_reply)
+pub ruleset replies = (
+  step_reply,
+  step_part,
+  back_reply,
+  back_part,
+  check_reply,
+  machine_reply,
+  reversible_reply,
+  bennett_reply,
+  realise_reply,
+  compile_reply,
+  run_reply,
+  run_part,
+  run_within_reply,
+  run_within_part,
+)

@@ -18,7 +18,7 @@ use Rattle.bn_top.specs.Told.{IsAnswered, IsBegun, IsBroken, unbegun, begun}
 use Rattle.bn_top.proofs.Commands.{settled}
 
 -- what follows for the value that is told
-by_told : (o : Option (List ℕ)) (P Q : List ℕ → Type 0) → ((xs : List ℕ) → P xs → Q xs) → IfSome o P → IfSome o Q
+pub by_told : (o : Option (List ℕ)) (P Q : List ℕ → Type 0) → ((xs : List ℕ) → P xs → Q xs) → IfSome o P → IfSome o Q
 by_told None P Q f h = tt
 by_told (Some xs) P Q f h = f xs h
 

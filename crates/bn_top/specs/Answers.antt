@@ -1,10 +1,15 @@
 -- The answer of the workbench to words and bytes: a text, a status, and the places that a watch is told (this project's
 -- own profile). It rests on the definitions of texts, tables and circuits alone.
-use Rattle.std.specs.Prelude.{◌≡◌, ℕ, ◌<◌, ◌≤◌, List, [], ◌∷◌, ◌++◌, length, codes}
+use Rattle.std.specs.Prelude.{◌≡◌, ℕ, ◌<◌, ◌≤◌, List, [], ◌∷◌, ◌++◌, length, Some, None, codes}
 use Rattle.bn_theory.specs.declared.place.Place.{Place}
+use Rattle.bn_machine.specs.Outcome.{Limits}
 use Rattle.bn_words.specs.Requests.{Request, HasForm, HasNoForm, letters_at, number_at}
 use Rattle.bn_words.specs.declared.form.Form.{Form}
 use Rattle.bn_words.specs.declared.form.Form.TheVariants.{Step, Back, Check, Machine, Reversible, Bennett, Realise}
+use Rattle.bn_words.specs.declared.form.Form.TheVariants.{Compile, Run, RunWithin}
+use Rattle.bn_boardanswers.specs.CompileReply.{CompileReplies}
+use Rattle.bn_boardanswers.specs.Headline.{most_bytes}
+use Rattle.bn_boardanswers.specs.RunReply.{RunReplies}
 use Rattle.bn_netreply.specs.CircuitReply.{BackReplies, StepReplies}
 use Rattle.bn_netreply.specs.RealiseReply.{RealiseReplies}
 use Rattle.bn_tablereply.specs.BennettReply.{BennettReplies}
@@ -16,7 +21,7 @@ use Rattle.bn_reply.specs.declared.status.Status.TheVariants.{Usage, Size}
 
 -- the greatest number of bytes of an input: 64 MiB
 abbrev pub input_limit : ℕ
-input_limit = 67108864
+input_limit = most_bytes
 
 -- the lines that need no reading
 abbrev pub usage_text : List ℕ
@@ -28,6 +33,22 @@ size_text = codes "size: input" ++ 10 ∷ []
 abbrev pub read_fault_text : List ℕ
 read_fault_text = codes "read fault" ++ 10 ∷ []
 
+-- the limits of a window behind the name and the word
+abbrev pub limits_at : Request → Limits
+limits_at request = record {
+  left = number_at request 1;
+  right = number_at request 2;
+  steps = number_at request 3;
+  output = number_at request 4;
+}
+
+-- the forms whose words are a word, four limits, and perhaps more
+abbrev pub HasWindow : Form → Type 0
+HasWindow Compile = Unit {0}
+HasWindow Run = Unit {0}
+HasWindow RunWithin = Unit {0}
+HasWindow _ = ⊥
+
 -- what is answered to a request of this form and an input within the limit; the words behind the name are counted
 -- from 0
 abbrev pub RepliesBy : Form → Request → List ℕ → Status → List ℕ → List Place → Type 0
@@ -38,6 +59,9 @@ RepliesBy Machine request = MachineReplies (letters_at request 0) (number_at req
 RepliesBy Reversible request = ReversibleReplies
 RepliesBy Bennett request = BennettReplies
 RepliesBy Realise request = RealiseReplies (number_at request 0) (number_at request 1)
+RepliesBy Compile request = CompileReplies (letters_at request 0) (limits_at request)
+RepliesBy Run request = RunReplies None (letters_at request 0) (limits_at request)
+RepliesBy RunWithin request = RunReplies (Some (number_at request 5)) (letters_at request 0) (limits_at request)
 
 abbrev pub Replies : Request → List ℕ → Status → List ℕ → List Place → Type 0
 Replies request = RepliesBy request.form request

@@ -1,9 +1,12 @@
 //! From a request to the command that answers it.
 
-ghost use Rattle.std.specs.Prelude.{IfOk, OnErr};
+ghost use Rattle.std.specs.Prelude.{◌≡◌, IfOk, OnErr};
+ghost use Rattle.bn_assembly.specs.Assembled.{AreSmall, limits_of};
 ghost use Rattle.bn_reply.specs.Replying.{IsReplied, IsUnfinished};
-ghost use Rattle.bn_top.specs.Answers.{Replies};
+ghost use Rattle.bn_top.specs.Answers.{HasWindow, Replies, limits_at};
 
+use bn_assembly::Windows;
+use bn_boardreply::{reply_compile, reply_run};
 use bn_net::Watch;
 use bn_netreply::{reply_back, reply_realise, reply_step};
 use bn_reply::{NoMemory, Reply};
@@ -37,5 +40,38 @@ pub(crate) fn reply_to<W: Watch>(
             request.number(1) as u32,
             bytes,
         ),
+        Form::Compile => reply_compile(alloc, request.letters(0), &windows_of(request), bytes),
+        Form::Run => reply_run(
+            alloc,
+            request.letters(0),
+            &windows_of(request),
+            None,
+            bytes,
+            watch,
+        ),
+        Form::RunWithin => reply_run(
+            alloc,
+            request.letters(0),
+            &windows_of(request),
+            Some(request.number(5)),
+            bytes,
+            watch,
+        ),
+    }
+}
+
+// The window of a request for a board: the four limits behind the word.
+fn windows_of(request: &Request<'_>) -> Windows
+    requires { HasWindow request.now.form }
+    ensures limits { limits_of result ≡ limits_at request.now }
+    ensures small { AreSmall (limits_of result) }
+{
+    // What the form's kinds say of the numbers.
+    let _form = request.form();
+    Windows {
+        left1: request.number(1) as u32,
+        right1: request.number(2) as u32,
+        right2: request.number(3) as u32,
+        right3: request.number(4) as u32,
     }
 }

@@ -7,6 +7,7 @@ ghost use Rattle.bn_io.specs.Told.{Grows, GrowsByFront};
 ghost use Rattle.bn_net.specs.Watching.{Hears};
 ghost use Rattle.bn_reply.specs.Codes.{IsAnswer};
 ghost use Rattle.bn_words.specs.Requests.{HasNoForm};
+ghost use Rattle.bn_boardanswers.specs.Headline.{TellsHeadline};
 ghost use Rattle.bn_top.specs.Answers.{Replies, input_limit, read_fault_text};
 ghost use Rattle.bn_reply.specs.Replying.{AnswerEnds};
 ghost use Rattle.bn_top.specs.Told.{IsAnswered, IsBegun, IsBroken, UsageEnds, IsReadFaultCut, GaveMore};
@@ -35,6 +36,10 @@ pub fn workbench<S: Source, K: Sink, W: Watch>(
     ensures answered { IsAnswer result → IfSome (S.left source.old)
         (λ bytes. IsAnswered (map string_bytes words.now.items) bytes result (K.taken sink.old) (K.taken sink.new)
         (W.told watch.old) (W.told watch.new)) }
+
+    // The headline: the answer to words that ask for a run tells how the machine's own bounded run comes out.
+    ensures headline { IsAnswer result → IfSome (S.left source.old)
+        (λ bytes. TellsHeadline (map string_bytes words.now.items) bytes result (K.taken sink.old) (K.taken sink.new)) }
 
     // Without a fault of the outside there is an answer, unless memory is wanting.
     ensures complete { (Rose (S.faults source.old) (S.faults source.new) → ⊥) →

@@ -225,6 +225,21 @@ ordinal_least (k ∷ ks) (x ∷ xs) zero most h here = of_kind (subst (λ j. IsW
         least (Word l) v = absurd v
 ordinal_least (k ∷ ks) (x ∷ xs) (suc n) most h here = ordinal_least ks xs n most h.1 here
 
+-- what is said of a count is at most its limit
+pub count_most : (kinds : List Kind) (xs : List Argument) (n most : ℕ) → AreWithin kinds xs → slice_get kinds n ≡ Some (Count most) →
+    number_of (slice_get xs n) ≤ most
+count_most [] xs n most h here = cc
+count_most (k ∷ ks) [] n most h here = absurd h
+count_most (k ∷ ks) (x ∷ xs) zero most h here = of_kind (subst (λ j. IsWithin j x) (let e : k ≡ Count most = cc in e) h.0)
+  where
+    of_kind : IsWithin (Count most) x → number_of (Some x) ≤ most
+    of_kind w = low x w
+      where
+        low : (y : Argument) → IsWithin (Count most) y → number_of (Some y) ≤ most
+        low (Number m) v = v
+        low (Word l) v = absurd v
+count_most (k ∷ ks) (x ∷ xs) (suc n) most h here = count_most ks xs n most h.1 here
+
 -- a request of some words is in the limits of its row
 pub form-AreWithin : (words : List (List ℕ)) (request : Request) → HasForm words request → IsRequest request
 form-AreWithin words request h = are_within (row_of request.form).kinds h.behind request.arguments h.arguments

@@ -5,6 +5,7 @@ use Rattle.bn_words.specs.declared.kind.Kind.{Kind}
 use Rattle.bn_words.specs.declared.kind.Kind.TheVariants.{Count, Ordinal, Letters}
 use Rattle.bn_words.specs.declared.form.Form.{Form}
 use Rattle.bn_words.specs.declared.form.Form.TheVariants.{Step, Back, Check, Machine, Reversible, Bennett, Realise}
+use Rattle.bn_words.specs.declared.form.Form.TheVariants.{Compile, Run, RunWithin}
 
 -- a row: the command's name, and the kinds of the words behind it
 pub record Row : Type 0 where
@@ -18,6 +19,14 @@ row name kinds = record { name = name; kinds = kinds }
 abbrev pub most_number : ℕ
 most_number = 1048576
 
+-- the greatest limit of a window
+abbrev pub most_limit : ℕ
+most_limit = 1048576
+
+-- a word and the four limits of a window, and what stands behind them
+abbrev window_kinds : List Kind → List Kind
+window_kinds rest = Letters ∷ Count most_limit ∷ Count most_limit ∷ Count most_limit ∷ Count most_limit ∷ rest
+
 abbrev pub row_of : Form → Row
 row_of Step = row (codes "step") (Count greatest ∷ [])
 row_of Back = row (codes "back") (Count greatest ∷ [])
@@ -26,3 +35,6 @@ row_of Machine = row (codes "machine") (Letters ∷ Count most_number ∷ [])
 row_of Reversible = row (codes "reversible") []
 row_of Bennett = row (codes "bennett") []
 row_of Realise = row (codes "realise") (Ordinal most_number ∷ Ordinal most_number ∷ [])
+row_of Compile = row (codes "compile") (window_kinds [])
+row_of Run = row (codes "run") (window_kinds [])
+row_of RunWithin = row (codes "run") (window_kinds (Count greatest ∷ []))

@@ -12,6 +12,28 @@ const MOST_STEPS: u64 = 1 << 62;
 /// The greatest number of steps of a machine by itself, of a state and of a line.
 const MOST_NUMBER: u64 = 1_048_576;
 
+/// The greatest limit of a window: of the cells on a side of tape 1, the steps of the history, the cells of the output.
+const MOST_LIMIT: u64 = 1_048_576;
+
+/// A word and the four limits of a window.
+const WINDOW: [Kind; 5] = [
+    Letters,
+    Count(MOST_LIMIT),
+    Count(MOST_LIMIT),
+    Count(MOST_LIMIT),
+    Count(MOST_LIMIT),
+];
+
+/// A word, the four limits of a window, and a greatest number of steps.
+const WINDOW_AND_STEPS: [Kind; 6] = [
+    Letters,
+    Count(MOST_LIMIT),
+    Count(MOST_LIMIT),
+    Count(MOST_LIMIT),
+    Count(MOST_LIMIT),
+    Count(MOST_STEPS),
+];
+
 /// A form of a command line. A name may have several forms, told apart by what stands behind it.
 #[derive(Clone, Copy, PartialEq, Eq, Debug)]
 pub enum Form {
@@ -29,6 +51,13 @@ pub enum Form {
     Bennett,
     /// `realise Q I`: the text of a bank in state Q with the signal at line I.
     Realise,
+    /// `compile =W l1 r1 n r3`: the text of the board of a machine and the word W in a window. Tape 1 reaches from -l1
+    /// to r1, the history holds n steps, and the output tape reaches from 0 to r3.
+    Compile,
+    /// `run =W l1 r1 n r3`: the run of that board up to its exit.
+    Run,
+    /// `run =W l1 r1 n r3 E`: the run of that board, of at most E steps.
+    RunWithin,
 }
 
 /// A row of the table: a name, and the kinds of the words behind it.
@@ -40,7 +69,7 @@ pub(crate) struct Row {
 
 impl Form {
     /// All forms.
-    pub const ALL: [Form; 7] = [
+    pub const ALL: [Form; 10] = [
         Form::Step,
         Form::Back,
         Form::Check,
@@ -48,6 +77,9 @@ impl Form {
         Form::Reversible,
         Form::Bennett,
         Form::Realise,
+        Form::Compile,
+        Form::Run,
+        Form::RunWithin,
     ];
 
     // The form's row.
@@ -63,6 +95,9 @@ impl Form {
             Form::Reversible => Row::new("reversible", &[]),
             Form::Bennett => Row::new("bennett", &[]),
             Form::Realise => Row::new("realise", &[Ordinal(MOST_NUMBER), Ordinal(MOST_NUMBER)]),
+            Form::Compile => Row::new("compile", &WINDOW),
+            Form::Run => Row::new("run", &WINDOW),
+            Form::RunWithin => Row::new("run", &WINDOW_AND_STEPS),
         }
     }
 }

@@ -4,6 +4,7 @@ use Rattle.bn_words.specs.Requests.{HasForm, HasNoForm}
 use Rattle.bn_top.specs.Answers.{input_limit}
 use Rattle.bn_top.proofs.EndLemmas.{cut_cause, is_complete, never_read_fault, never_usage, read_as}
 use Rattle.bn_top.proofs.EndLemmas.{reply_answered, reply_cut, reply_wanting, size_answered, size_cut, usage_answered, usage_cut}
+use Rattle.bn_top.proofs.HeadlineLemmas.{headline_follows}
 use Rattle.bn_top.proofs.top.workbench.Goals as goal
 
 pub returns-in_default-clause-write_fault : goal.returns-in_default-clause-write_fault
@@ -130,3 +131,15 @@ returns-in-Ok-clause-write_cause g c = λ failed.
     cut_cause words c.in-Some.request form c.as_slice-in-Ok.result.now c.answer.result
     (g.K.Sink.taken c.args.sink.now) (g.K.Sink.taken c.answer.new.sink) (g.W.Watch.told c.args.watch.now) (g.W.Watch.told c.answer.new.watch)
     (g.K.Sink.faults c.args.sink.now) (g.K.Sink.faults c.answer.new.sink) c.answer.ensures.ends failed
+
+pub returns-in_default-clause-headline : goal.returns-in_default-clause-headline
+returns-in_default-clause-headline g c =
+    let words = map (string_bytes {Z = Global}) c.args.words.now.items in
+    headline_follows words (g.S.Source.left c.args.source.now) c.finish.result (g.K.Sink.taken c.args.sink.now) (g.K.Sink.taken c.finish.new.sink)
+    (g.W.Watch.told c.args.watch.now) (g.W.Watch.told c.args.watch.now) (returns-in_default-clause-answered g c)
+
+pub returns-in-Ok-clause-headline : goal.returns-in-Ok-clause-headline
+returns-in-Ok-clause-headline g c =
+    let words = map (string_bytes {Z = Global}) c.args.words.now.items in
+    headline_follows words (g.S.Source.left c.args.source.now) c.answer.result (g.K.Sink.taken c.args.sink.now) (g.K.Sink.taken c.answer.new.sink)
+    (g.W.Watch.told c.args.watch.now) (g.W.Watch.told c.answer.new.watch) (returns-in-Ok-clause-answered g c)
