@@ -3,5 +3,7 @@
 
 mod compile;
 mod opening;
+mod run;
 
 pub use compile::reply_compile;
+pub use run::reply_run;

@@ -5,6 +5,8 @@
 #[cfg(test)]
 mod banks;
 #[cfg(test)]
+mod boards;
+#[cfg(test)]
 mod calls;
 #[cfg(test)]
 mod circuits;
