@@ -1,6 +1,6 @@
 -- The moments of a run, counted step by step.
 use Rattle.std.specs.Prelude.{◌≡◌, ℕ, ◌+◌, ◌-◌, ◌<◌, ◌≤◌, Bool, true, false, not, ◌&&◌, ◌||◌, ◌==◌, nat_lt, is_some, List, [], ◌∷◌, ◌++◌, Option, None, refl, ◌⊎◌}
-use Rattle.std.proofs.Common.{zero, suc, arith, sym, ap, subst, ◌∙◌, inl, inr}
+use Rattle.std.proofs.Common.{zero, suc, arith, sym, ap, subst, ◌∙◌, inl, inr, append-nil}
 use Rattle.bn_theory.specs.Runs.{Reaches, Passes, passes_run, runs_join}
 use Rattle.bn_theory.proofs.RunPartLemmas.{passes_weaker}
 use Rattle.bn_theory.specs.Circuits.{Circuit, IsCircuit, IsConfig, Goes, IsStuck}
@@ -64,6 +64,20 @@ module _ (test : Config → Bool) (k : Circuit) where
         tallied = omega arith;
         few = omega arith;
       }
+
+  -- no step more, of which a watch was told nothing
+  pub tallied_still : (c d e : Config) (n made count : ℕ) (old mid new : Option (List Place)) → HasTallied test k c d made count old mid → n ≡ 0
+      → Reaches (Goes k) n d e → Hears mid (places k n d) new → HasTallied test k c e made count old new
+  tallied_still c d e n made count old mid new before none path hears =
+      let at_zero : d ≡ e = subst (λ x. Reaches (Goes k) x d e) none path in
+      let silent : Hears mid [] new = subst (λ ts. Hears mid ts new) (ap (λ x. places k x d) none ∙ places-zero k d) hears in
+      let heard = hears-joins old mid new (places k made c) [] before.walked.heard silent in
+      let now : HasTallied test k c d made count old new = record {
+        walked = record { reaches = before.walked.reaches; good = before.walked.good; heard = subst (λ ts. Hears old ts new) (append-nil (places k made c)) heard };
+        tallied = before.tallied;
+        few = before.few;
+      } in
+      subst (λ x. HasTallied test k c x made count old new) at_zero now
 
   -- so many steps more, with the test false strictly between
   pub tallied_leap : (c d e : Config) (n made more count now : ℕ) (old mid new : Option (List Place)) → HasTallied test k c d made count old mid → 0 < n
@@ -152,18 +166,24 @@ quiet_between b kept rows first x quiet = by_place x.place refl
           let none = both_false (l == west) _ off same.0 in
           let parts = either_false _ _ none in
           let early = either_false _ _ parts.0 in
-          no_moment (off_commands b x e (at ∙ ap (Enter e) same.1) kept (no_tape b e 4 (omega arith) (λ o by. absurd (in_none early.0 early.1 parts.1 o by)))))
+          no_moment (off_commands b x e (at ∙ ap (Enter e) same.1) kept (no_tape b kept e 4 (omega arith) (λ o by. absurd (in_none early.0 early.1 parts.1 o by)))))
     ]
       where
         in_none : is_among rows.one.first rows.one.count e ≡ false → is_among rows.two.first rows.two.count e ≡ false → is_among rows.three.first rows.three.count e ≡ false
             → (o : ℕ) → IsCommandOf b e o → ⊥
         in_none one two three o by = by_tape by.tape refl
           where
+            at_tape : (t : ℕ) → by.tape ≡ t → (begin count : ℕ) → begin ≡ first_element b t → count ≡ letters_at b t + 3 → is_among begin count e ≡ false → ⊥
+            at_tape t is begin count begins counted none =
+                let element : e ≡ first_element b t + by.line = subst (λ u. e ≡ first_element b u + by.line) is by.element in
+                let low : by.line < letters_at b t + 3 = subst (λ u. by.line < letters_at b u + 3) is by.within in
+                among begin count e none (omega arith) (omega arith)
+
             by_tape : (t : ℕ) → by.tape ≡ t → ⊥
             by_tape zero is = let h = by.low in omega arith
-            by_tape (suc zero) is = ?
-            by_tape (suc (suc zero)) is = ?
-            by_tape (suc (suc (suc zero))) is = ?
+            by_tape (suc zero) is = at_tape 1 is rows.one.first rows.one.count first.one first.one_count one
+            by_tape (suc (suc zero)) is = at_tape 2 is rows.two.first rows.two.count first.two first.two_count two
+            by_tape (suc (suc (suc zero))) is = at_tape 3 is rows.three.first rows.three.count first.three first.three_count three
             by_tape (suc (suc (suc (suc t)))) is = let h = by.high in omega arith
 
 -- ---- boards
@@ -225,13 +245,16 @@ counted_all a b made count e old new before within ended =
     tallied_all (is_moment a.layout) (rotary_circuit a.net) a.config b.config made count e old new before.tallied within
     (λ fewer. subst (λ n. IsStuck (rotary_circuit n) b.config) before.same.net (ended fewer))
 
--- the run has come to an end, and a step that was tried changed nothing
-pub record IsEnded (a c : Flattened) (e count : ℕ) (old new : Option (List Place)) : Type 0 where
-  pub same : IsSameBoard a c
-  pub tallied : IsTallied (is_moment a.layout) (rotary_circuit a.net) a.config c.config e count old new
-
-pub counted_ended : (a b c : Flattened) (made count e : ℕ) (old new : Option (List Place)) → HasCounted a b made count old new → made ≤ e
-    → c ≡ b → IsStuck (rotary_circuit b.net) b.config → IsEnded a c e count old new
-counted_ended a b c made count e old new before within kept stuck =
-    subst (λ x. IsEnded a x e count old new) (sym kept)
-    (record { same = before.same; tallied = counted_all a b made count e old new before within (λ _. stuck) })
+-- the run has come to an end: a step that was asked for was not made
+pub counted_still : (a b c : Flattened) (n made count e : ℕ) (old mid new : Option (List Place)) → HasCounted a b made count old mid → IsSameBoard b c → n ≡ 0
+    → Reaches (Goes (rotary_circuit b.net)) n b.config c.config → Hears mid (places (rotary_circuit b.net) n b.config) new → made ≤ e
+    → IsStuck (rotary_circuit b.net) b.config → IsTallied (is_moment a.layout) (rotary_circuit a.net) a.config c.config e count old new
+counted_still a b c n made count e old mid new before same none path hears within stuck =
+    let k = rotary_circuit a.net in
+    let run : Reaches (Goes k) n b.config c.config = subst (λ x. Reaches (Goes (rotary_circuit x)) n b.config c.config) before.same.net path in
+    let told : Hears mid (places k n b.config) new = subst (λ x. Hears mid (places (rotary_circuit x) n b.config) new) before.same.net hears in
+    let end : IsStuck k b.config = subst (λ x. IsStuck (rotary_circuit x) b.config) before.same.net stuck in
+    let here : b.config ≡ c.config = subst (λ x. Reaches (Goes k) x b.config c.config) none run in
+    tallied_all (is_moment a.layout) k a.config c.config made count e old new
+    (tallied_still (is_moment a.layout) k a.config b.config c.config n made count old mid new before.tallied none run told) within
+    (λ _. subst (IsStuck k) here end)

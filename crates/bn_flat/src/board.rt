@@ -184,6 +184,7 @@ impl Board {
         ensures made { Reaches (Goes (rotary_circuit self.old.net)) result self.old.config self.new.config }
         ensures between { PassesBy (rotary_circuit self.old.net) (S.stops stop.now) result self.old.config self.new.config }
         ensures moves { 0 < e → (0 < result) ⊎ IsStuck (rotary_circuit self.old.net) self.old.config }
+        ensures kept { IsBoardKept self.new }
         ensures same { IsSameBoard self.old self.new }
         ensures told { Hears (W.told watch.old) (places (rotary_circuit self.old.net) result self.old.config)
             (W.told watch.new) }

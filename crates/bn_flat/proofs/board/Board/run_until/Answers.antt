@@ -28,3 +28,14 @@ returns-clause-same g c = rw (← c.self.view_is) (board_ran (record {
   layout = c.self.inside.layout;
 }) c.run_until.new.self.net c.run_until.new.self.config
     c.self.invariant c.run_until.ensures.net c.run_until.ensures.good c.run_until.result c.run_until.ensures.made).same
+
+pub returns-clause-kept : goal.returns-clause-kept
+returns-clause-kept g c = (board_ran (record {
+  net = c.self.inside.packed.net;
+  config = c.self.inside.packed.config;
+  start = c.self.inside.start;
+  end =
+      c.self.inside.end;
+  layout = c.self.inside.layout;
+}) c.run_until.new.self.net c.run_until.new.self.config c.self.invariant
+    c.run_until.ensures.net c.run_until.ensures.good c.run_until.result c.run_until.ensures.made).kept
