@@ -3,7 +3,8 @@
 
 mod compile;
 mod opening;
-mod run;
+mod pieces;
+mod run_text;
+mod tape_text;
 
 pub use compile::reply_compile;
-pub use run::reply_run;

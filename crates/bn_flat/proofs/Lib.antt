@@ -10,3 +10,4 @@ pub mod StartLemmas
 pub mod CopyLemmas
 pub mod MadeLemmas
 pub mod PartLemmas
+pub mod CountingLemmas

@@ -1,19 +1,20 @@
 //! Boards, and their runs.
 
-ghost use Rattle.std.specs.Prelude.{◌≡◌, ◌<◌, ◌≤◌, length, IfOk};
+ghost use Rattle.std.specs.Prelude.{◌≡◌, ◌⊎◌, ◌<◌, ◌≤◌, length, IfOk};
 ghost use Rattle.std.specs.Bool.{OnTrue, OnFalse};
 ghost use Rattle.bn_theory.specs.Runs.{Reaches};
 ghost use Rattle.bn_theory.specs.Circuits.{Goes, IsStuck, IsFirst};
 ghost use Rattle.bn_theory.specs.Stepping.{run, back, places, places_back};
 ghost use Rattle.bn_net.specs.Watching.{Hears};
 ghost use Rattle.bn_column.specs.Nets.{rotary_circuit};
+ghost use Rattle.bn_packed.specs.Stopping.{PassesBy};
 ghost use Rattle.bn_layout.specs.Layouts.{elements_of};
 ghost use Rattle.bn_headline.specs.Costs.{bound_of};
 ghost use Rattle.bn_flat.specs.Flattened.{IsBoardKept, IsSameBoard};
 
 use crate::layout::Layout;
 use bn_net::{Line, NoMemory, Place, Watch};
-use bn_packed::Packed;
+use bn_packed::{Packed, Stop};
 use std::alloc::Global;
 use std::marker::Model;
 
@@ -174,6 +175,21 @@ impl Board {
         ensures same { IsSameBoard self.old self.new }
     {
         self.packed.run_back(e)
+    }
+
+    // Makes at most `e` element steps, and stops after a step where the signal is about to enter a line of `stop`; tells
+    // the watch the place after each.
+    pub(crate) fn run_until<S: Stop, W: Watch>(&mut self, e: u64, stop: &S, watch: &mut W) -> u64
+        ensures bound { result ≤ e }
+        ensures made { Reaches (Goes (rotary_circuit self.old.net)) result self.old.config self.new.config }
+        ensures between { PassesBy (rotary_circuit self.old.net) (S.stops stop.now) result self.old.config self.new.config }
+        ensures moves { 0 < e → (0 < result) ⊎ IsStuck (rotary_circuit self.old.net) self.old.config }
+        ensures kept { IsBoardKept self.new }
+        ensures same { IsSameBoard self.old self.new }
+        ensures told { Hears (W.told watch.old) (places (rotary_circuit self.old.net) result self.old.config)
+            (W.told watch.new) }
+    {
+        self.packed.run_until(e, stop, watch)
     }
 
     /// Makes at most `e` element steps, as `run` does, and tells the watch the place after each. It takes no memory.

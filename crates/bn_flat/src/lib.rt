@@ -4,7 +4,9 @@
 mod bars;
 mod board;
 mod cells;
+mod counting;
 mod exit_of;
+mod first_rows;
 mod layout;
 mod locate;
 mod located;

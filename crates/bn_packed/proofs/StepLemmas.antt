@@ -1,11 +1,11 @@
 -- A crossing of an element is a step of the circuit, forward and backward.
-use Rattle.std.specs.Prelude.{◌≡◌, ℕ, ◌+◌, ◌-◌, ◌<◌, ◌≤◌, ◌==◌, List, [], ◌∷◌, length, map, Option, Some, slice_get, slice_set, option_and_then, min, refl, ◌⊎◌}
+use Rattle.std.specs.Prelude.{◌≡◌, ℕ, ◌+◌, ◌-◌, ◌<◌, ◌≤◌, ◌==◌, Bool, true, false, List, [], ◌∷◌, length, map, Option, Some, slice_get, slice_set, option_and_then, min, refl, ◌⊎◌}
 use Rattle.std.proofs.Common.{zero, suc, arith, sym, ap, subst, ◌∙◌, inl, inr}
 use Rattle.std.proofs.lemmas.Bool.Decides.{nat_tests, eqb_tells}
 use Rattle.std.proofs.lemmas.Option.{option_and_then_some, slice_get_within}
 use Rattle.std.specs.Bool.{OnFalse}
 use Rattle.bn_theory.specs.Tables.{Table}
-use Rattle.bn_theory.specs.Runs.{Reaches}
+use Rattle.bn_theory.specs.Runs.{Reaches, passes_join}
 use Rattle.bn_theory.specs.Circuits.{Circuit, IsCircuit, IsConfig, IsPlace, IsOutput, Goes, IsStuck, IsFirst, clock, go_of, back_of, states_of, place_after}
 use Rattle.bn_theory.specs.Stepping.{run, back, places, places_back, line_before}
 use Rattle.bn_theory.specs.RunLaws.{run_stops, back_stops, Reaches-run, Reaches-back}
@@ -24,6 +24,7 @@ use Rattle.bn_net.proofs.NetSteps.{enter-within, output-state, back-Goes, first_
 use Rattle.bn_column.specs.Nets.{rotary_circuit}
 use Rattle.bn_packed.specs.Bars.{AreBars, crossed, crossed_back}
 use Rattle.bn_packed.specs.PackedNets.{PackedNet, config_at}
+use Rattle.bn_packed.specs.Stopping.{PassesBy, passes_by, stops_at}
 use Rattle.bn_packed.proofs.EndLemmas.{input_below, output_below}
 
 -- an element's moves are those of the rotary element
@@ -67,6 +68,11 @@ move_of bars after e o moves is =
     let line : m.1 ≡ o = ap (λ (x : List ℕ × ℕ). x.1) both in
     record { state = q; next = m.0; has_state = has; goes = goes ∙ ap (λ x. Some (m.0, x)) line; written = states }))
 
+-- a walk past these lines
+pub record IsOnWay (k : Circuit) (stops : Line → Bool) (c d : Config) (made : ℕ) (old new : Option (List Place)) : Type 0 where
+  pub walked : HasWalked k c d made old new
+  pub between : PassesBy k stops made c d
+
 module _ (net : Parts Rotary) (circuit : IsCircuit (rotary_circuit net)) where
   module _ (bars after : List ℕ) (place : Place) (e i o n : ℕ) (config : IsConfig (rotary_circuit net) (config_at bars place n))
       (at_place : place ≡ Enter e i) (cross : crossed bars e i ≡ Some (after, o)) where
@@ -108,6 +114,20 @@ module _ (net : Parts Rotary) (circuit : IsCircuit (rotary_circuit net)) where
       subst (λ x. HasWalked (rotary_circuit net) first (config_at after then p) x old new) (sym more)
       (walk_goes (rotary_circuit net) first (config_at bars place (n + made)) (config_at after then p) made old mid new walked goes
       (next-IsConfig (rotary_circuit net) circuit (config_at bars place (n + made)) (config_at after then p) walked.good goes) hears)
+
+  -- a step more on the way past these lines
+  pub way_more : (stops : Line → Bool) (first : Config) (bars after : List ℕ) (place then : Place) (e i o n made p q : ℕ) (old mid new : Option (List Place))
+      → IsOnWay (rotary_circuit net) stops first (config_at bars place (n + made)) made old mid → (0 < made → passes_by stops place ≡ true) → place ≡ Enter e i
+      → crossed bars e i ≡ Some (after, o)
+      → then ≡ place_after net.wires (record { element = e; line = o }) → n + made < clock → p ≡ n + made + 1 → q ≡ made + 1 → Hears mid (then ∷ []) new
+      → IsOnWay (rotary_circuit net) stops first (config_at after then p) q old new
+  way_more stops first bars after place then e i o n made p q old mid new way calm at_place cross leads room counted more hears =
+      let goes = crossed-Goes bars after place e i o (n + made) way.walked.good at_place cross then p leads (omega arith) (omega arith) in
+      record {
+        walked = walked_more first bars after place then e i o n made p q old mid new way.walked at_place cross leads room counted more hears;
+        between = passes_join (Goes (rotary_circuit net)) (λ (x : Config). passes_by stops x.place) q made 1 first (config_at bars place (n + made)) (config_at after then p) (omega arith) (λ some _. calm some)
+            way.between (config_at after then p, goes, tt, refl);
+      }
 
   -- a crossing taken back is a step taken back
   crossed_back-Goes : (bars before : List ℕ) (place : Place) (from : Line) (i n p : ℕ) → IsConfig (rotary_circuit net) (config_at bars place n)
@@ -262,6 +282,14 @@ walked_none k bars from to n m made told good here same none =
     (subst (λ x. HasWalked k (config_at bars from n) (config_at bars to x) 0 told told) same
     (subst (λ x. HasWalked k (config_at bars from n) (config_at bars x n) 0 told told) here (walk_starts k (config_at bars from n) told good)))
 
+pub way_none : (k : Circuit) (stops : Line → Bool) (bars : List ℕ) (from to : Place) (n m made : ℕ) (told : Option (List Place)) → IsConfig k (config_at bars from n) → from ≡ to
+    → n ≡ m
+    → 0 ≡ made → IsOnWay k stops (config_at bars from n) (config_at bars to m) made told told
+way_none k stops bars from to n m made told good here same none = record {
+  walked = walked_none k bars from to n m made told good here same none;
+  between = subst (λ x. PassesBy k stops x (config_at bars from n) (config_at bars to m)) none (λ i. config_at bars (here i) (same i));
+}
+
 pub walked_back_none : (k : Circuit) (bars : List ℕ) (from : Place) (n m made : ℕ) (told : Option (List Place)) → IsConfig k (config_at bars from n) → n ≡ m
     → 0 ≡ made → HasWalkedBack k (config_at bars from n) (config_at bars from m) made told told
 walked_back_none k bars from n m made told good same none =
@@ -309,3 +337,34 @@ pub packed-IsConfig : (net wiring : Parts Rotary) (c : Config) (bars states : Li
 packed-IsConfig net wiring c bars states config same packed is =
     subst (λ n. IsConfig (rotary_circuit n) (config_at bars c.place c.steps)) (sym same)
     (subst (λ xs. IsConfig (rotary_circuit net) (config_at xs c.place c.steps)) (sym (packed ∙ is)) config)
+
+-- ---- runs that stop on their way
+
+-- no line is one where no run stops
+pub no_stop : (p : Place) → stops_at (λ l. false) p ≡ true → ⊥
+no_stop (Enter e l) h = cc
+no_stop (Left e l) h = cc
+
+-- it made all steps that were asked for, or it ended early for a reason
+pub until_ended : (k : Circuit) (n m e room count : ℕ) (d : Config) (Reason : Type 0) → d.steps ≡ m → n ≤ clock → room ≡ clock - n → count ≡ min room e → n ≤ m
+    → m ≤ n + count → (m < n + count → IsStuck k d ⊎ Reason) → m - n < e → IsStuck k d ⊎ Reason
+until_ended k n m e room count d Reason steps in_time room_is least forward limit early fewer =
+    elim cases [
+      | inl some ↦ early some
+      | inr all ↦ inl (λ f goes. let late = goes.in_time in absurd (omega arith))
+    ]
+  where
+    cases : (m < n + count) ⊎ (n + count ≤ m)
+    cases = grind (arith, nat_tests)
+
+-- where a step was asked for it made one, or none can be made
+pub until_moves : (k : Circuit) (n m e room count : ℕ) (c : Config) → c.steps ≡ n → n ≤ clock → room ≡ clock - n → count ≡ min room e → n ≤ m
+    → (0 < count → (n < m) ⊎ IsStuck k c) → 0 < e → (0 < m - n) ⊎ IsStuck k c
+until_moves k n m e room count c steps in_time room_is least forward moves some =
+    elim cases [
+      | inl none ↦ inr (λ f goes. let late = goes.in_time in absurd (omega arith))
+      | inr more ↦ elim (moves more) [ inl made ↦ inl (omega arith) | inr stuck ↦ inr stuck ]
+    ]
+  where
+    cases : (count ≡ 0) ⊎ (0 < count)
+    cases = grind (arith, nat_tests)

@@ -1,3 +1,4 @@
 pub mod Ends
 pub mod Bars
 pub mod PackedNets
+pub mod Stopping

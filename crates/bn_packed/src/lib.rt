@@ -7,12 +7,14 @@ mod cells;
 mod ends;
 mod packed;
 mod signal;
+mod stop;
 mod walk;
 mod wires;
 mod wiring;
 
 pub use bn_net::NoMemory;
 pub use packed::Packed;
+pub use stop::Stop;
 
 #[cfg(test)]
 mod tests;

@@ -1,15 +1,17 @@
 //! Packed netlists.
 
-ghost use Rattle.std.specs.Prelude.{◌≡◌, ◌<◌, ◌≤◌, length, Some, IfOk, slice_get};
+ghost use Rattle.std.specs.Prelude.{◌≡◌, ◌⊎◌, ◌<◌, ◌≤◌, true, length, Some, IfOk, slice_get};
 ghost use Rattle.std.specs.Bool.{OnTrue, OnFalse};
 ghost use Rattle.bn_theory.specs.Runs.{Reaches};
 ghost use Rattle.bn_theory.specs.Circuits.{IsCircuit, IsConfig, IsOutput, Goes, IsStuck, IsFirst, target};
 ghost use Rattle.bn_theory.specs.Stepping.{run, back, places, places_back};
 ghost use Rattle.bn_net.specs.Watching.{Hears};
 ghost use Rattle.bn_column.specs.Nets.{rotary_circuit};
+ghost use Rattle.bn_packed.specs.Stopping.{PassesBy, stops_at};
 
 use crate::bars::Bars;
 use crate::signal::Signal;
+use crate::stop::Stop;
 use crate::wires::Wires;
 use bn_element::Rotary;
 use bn_net::{CLOCK, Config, Line, Net, NoMemory, Place, Quiet, States, Watch};
@@ -192,6 +194,28 @@ impl Packed {
         let before = self.signal.steps;
         let count = e.min(CLOCK - before);
         self.signal = self.wires.walk(&mut self.bars, self.signal, count, watch);
+        self.signal.steps - before
+    }
+
+    /// Makes at most `e` element steps, as `run_watched` does, but stops after a step where the signal is about to
+    /// enter a line of `stop`, and answers how many it made. Takes no memory.
+    pub fn run_until<S: Stop, W: Watch>(&mut self, e: u64, stop: &S, watch: &mut W) -> u64
+        ensures net { self.new.net ≡ self.old.net }
+        ensures bound { result ≤ e }
+        ensures made { Reaches (Goes (rotary_circuit self.old.net)) result self.old.config self.new.config }
+        ensures between { PassesBy (rotary_circuit self.old.net) (S.stops stop.now) result self.old.config self.new.config }
+        ensures ended { result < e → IsStuck (rotary_circuit self.old.net) self.new.config ⊎ (stops_at (S.stops stop.now) self.new.config.place ≡ true) }
+        ensures moves { 0 < e → (0 < result) ⊎ IsStuck (rotary_circuit self.old.net) self.old.config }
+        ensures good { IsConfig (rotary_circuit self.old.net) self.new.config }
+        ensures told { Hears (W.told watch.old) (places (rotary_circuit self.old.net) result self.old.config) (W.told watch.new) }
+    {
+        let _elements = self.wires.len();
+        let before = self.signal.steps;
+        let room = CLOCK - before;
+        let count = room.min(e);
+        self.signal = self
+            .wires
+            .walk_until(&mut self.bars, self.signal, count, stop, watch);
         self.signal.steps - before
     }
 

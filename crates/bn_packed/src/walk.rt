@@ -1,15 +1,17 @@
 //! Steps of the signal, one after another, with no test of the clock among them.
 
-ghost use Rattle.std.specs.Prelude.{◌≡◌, ◌+◌, ◌-◌, ◌<◌, ◌≤◌};
+ghost use Rattle.std.specs.Prelude.{◌≡◌, ◌⊎◌, ◌+◌, ◌-◌, ◌<◌, ◌≤◌, true};
 ghost use Rattle.bn_theory.specs.Circuits.{IsConfig, IsStuck, IsFirst, clock};
 ghost use Rattle.bn_theory.specs.declared.place.Place.TheVariants.{Enter, Left};
 ghost use Rattle.bn_net.specs.Walking.{HasWalked, HasWalkedBack};
 ghost use Rattle.bn_column.specs.Nets.{rotary_circuit};
 ghost use Rattle.bn_packed.specs.PackedNets.{config_at};
+ghost use Rattle.bn_packed.specs.Stopping.{PassesBy, stops_at};
 
 use crate::bars::Bars;
 use crate::cells::{Cell, end_of};
 use crate::signal::Signal;
+use crate::stop::{Nowhere, Stop};
 use crate::wiring::Wiring;
 use bn_net::{Line, Place, Watch};
 
@@ -28,6 +30,28 @@ pub(crate) fn walk<C: Cell, W: Watch>(
     ensures limit { result.steps ≤ signal.steps + count }
     ensures walked { HasWalked (rotary_circuit wiring.now) (config_at bars.old signal.place signal.steps) (config_at bars.new result.place result.steps) (result.steps - signal.steps) (W.told watch.old) (W.told watch.new) }
     ensures ended { result.steps < signal.steps + count → IsStuck (rotary_circuit wiring.now) (config_at bars.new result.place result.steps) }
+{
+    walk_until(wiring, bars, signal, count, &Nowhere, watch)
+}
+
+/// Makes at most `count` steps, for which the clock has room, and tells the watch the place after
+/// each; it ends early where the signal is about to enter a line of `stop`.
+pub(crate) fn walk_until<C: Cell, S: Stop, W: Watch>(
+    wiring: &Wiring<C>,
+    bars: &mut Bars,
+    signal: Signal,
+    count: u64,
+    stop: &S,
+    watch: &mut W,
+) -> Signal
+    requires good { IsConfig (rotary_circuit wiring.now) (config_at bars.old signal.place signal.steps) }
+    requires room { signal.steps + count ≤ clock }
+    ensures forward { signal.steps ≤ result.steps }
+    ensures limit { result.steps ≤ signal.steps + count }
+    ensures walked { HasWalked (rotary_circuit wiring.now) (config_at bars.old signal.place signal.steps) (config_at bars.new result.place result.steps) (result.steps - signal.steps) (W.told watch.old) (W.told watch.new) }
+    ensures ended { result.steps < signal.steps + count → IsStuck (rotary_circuit wiring.now) (config_at bars.new result.place result.steps) ⊎ (stops_at (S.stops stop.now) result.place ≡ true) }
+    ensures between { PassesBy (rotary_circuit wiring.now) (S.stops stop.now) (result.steps - signal.steps) (config_at bars.old signal.place signal.steps) (config_at bars.new result.place result.steps) }
+    ensures moves { 0 < count → signal.steps < result.steps ⊎ IsStuck (rotary_circuit wiring.now) (config_at bars.old signal.place signal.steps) }
 {
     let _elements = wiring.len();
     let Place::Enter { element, line } = signal.place else {
@@ -50,6 +74,12 @@ pub(crate) fn walk<C: Cell, W: Watch>(
         };
         watch.enter(&entering(to));
         at_line = to;
+        if stop.stops(to) {
+            return Signal {
+                place: entering(to),
+                steps: signal.steps + made + 1,
+            };
+        }
     }
     Signal {
         place: entering(at_line),

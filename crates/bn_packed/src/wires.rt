@@ -1,15 +1,17 @@
 //! The wires of a net in numbers of the size that its lines need.
 
-ghost use Rattle.std.specs.Prelude.{◌≡◌, ◌+◌, ◌-◌, ◌<◌, ◌≤◌, length, IfOk};
+ghost use Rattle.std.specs.Prelude.{◌≡◌, ◌⊎◌, ◌+◌, ◌-◌, ◌<◌, ◌≤◌, true, length, IfOk};
 ghost use Rattle.bn_theory.specs.Circuits.{IsCircuit, IsConfig, IsOutput, IsStuck, IsFirst, target, clock};
 ghost use Rattle.bn_net.specs.Walking.{HasWalked, HasWalkedBack};
 ghost use Rattle.bn_column.specs.Nets.{rotary_circuit};
 ghost use Rattle.bn_packed.specs.PackedNets.{net_in, config_at};
+ghost use Rattle.bn_packed.specs.Stopping.{PassesBy, stops_at};
 
 use crate::bars::Bars;
 use crate::cells::NARROW;
 use crate::signal::Signal;
-use crate::walk::{walk, walk_back};
+use crate::stop::Stop;
+use crate::walk::{walk, walk_back, walk_until};
 use crate::wiring::Wiring;
 use bn_element::Rotary;
 use bn_net::{Line, Net, NoMemory, Watch};
@@ -85,6 +87,31 @@ impl Wires {
         match self {
             Wires::Narrow(wiring) => walk(wiring, bars, signal, count, watch),
             Wires::Wide(wiring) => walk(wiring, bars, signal, count, watch),
+        }
+    }
+
+    /// Makes at most `count` steps, for which the clock has room, and tells the watch the place after
+    /// each; it ends early where the signal is about to enter a line of `stop`.
+    pub(crate) fn walk_until<S: Stop, W: Watch>(
+        &self,
+        bars: &mut Bars,
+        signal: Signal,
+        count: u64,
+        stop: &S,
+        watch: &mut W,
+    ) -> Signal
+        requires good { IsConfig (rotary_circuit (net_in self.now)) (config_at bars.old signal.place signal.steps) }
+        requires room { signal.steps + count ≤ clock }
+        ensures forward { signal.steps ≤ result.steps }
+        ensures limit { result.steps ≤ signal.steps + count }
+        ensures walked { HasWalked (rotary_circuit (net_in self.now)) (config_at bars.old signal.place signal.steps) (config_at bars.new result.place result.steps) (result.steps - signal.steps) (W.told watch.old) (W.told watch.new) }
+        ensures ended { result.steps < signal.steps + count → IsStuck (rotary_circuit (net_in self.now)) (config_at bars.new result.place result.steps) ⊎ (stops_at (S.stops stop.now) result.place ≡ true) }
+        ensures between { PassesBy (rotary_circuit (net_in self.now)) (S.stops stop.now) (result.steps - signal.steps) (config_at bars.old signal.place signal.steps) (config_at bars.new result.place result.steps) }
+        ensures moves { 0 < count → signal.steps < result.steps ⊎ IsStuck (rotary_circuit (net_in self.now)) (config_at bars.old signal.place signal.steps) }
+    {
+        match self {
+            Wires::Narrow(wiring) => walk_until(wiring, bars, signal, count, stop, watch),
+            Wires::Wide(wiring) => walk_until(wiring, bars, signal, count, stop, watch),
         }
     }
 

@@ -1,0 +1,22 @@
+-- Runs that stop on their way, where the signal is about to enter one of some lines.
+use Rattle.std.specs.Prelude.{Bool, false, not, ℕ}
+use Rattle.bn_theory.specs.Runs.{Passes}
+use Rattle.bn_theory.specs.Circuits.{Circuit, Goes}
+use Rattle.bn_theory.specs.declared.line.Line.{Line}
+use Rattle.bn_theory.specs.declared.place.Place.{Place}
+use Rattle.bn_theory.specs.declared.place.Place.TheVariants.{Enter, Left}
+use Rattle.bn_theory.specs.declared.config.Config.{Config}
+
+-- the signal is about to enter one of these lines
+abbrev pub stops_at : (Line → Bool) → Place → Bool
+stops_at stops (Enter e l) = stops (record { element = e; line = l })
+stops_at stops (Left e l) = false
+
+-- it is about to enter another
+abbrev pub passes_by : (Line → Bool) → Place → Bool
+passes_by stops (Enter e l) = not (stops (record { element = e; line = l }))
+passes_by stops (Left e l) = false
+
+-- exactly so many steps led from c to d, and strictly between the two the signal was about to enter none of these lines
+abbrev pub PassesBy : Circuit → (Line → Bool) → ℕ → Config → Config → Type 0
+PassesBy k stops made c d = Passes (Goes k) (λ (x : Config). passes_by stops x.place) made c d
