@@ -1,5 +1,5 @@
 -- The moments of a run, counted step by step.
-use Rattle.std.specs.Prelude.{◌≡◌, ℕ, ◌+◌, ◌-◌, ◌<◌, ◌≤◌, Bool, true, false, not, ◌&&◌, ◌||◌, ◌==◌, nat_lt, is_some, List, [], ◌∷◌, ◌++◌, Option, None, refl, ◌⊎◌}
+use Rattle.std.specs.Prelude.{◌≡◌, ℕ, ◌+◌, ◌-◌, ◌<◌, ◌≤◌, Bool, true, false, not, ◌&&◌, ◌||◌, ◌==◌, nat_lt, is_some, List, [], ◌∷◌, ◌++◌, Option, None, refl}
 use Rattle.std.proofs.Common.{zero, suc, arith, sym, ap, subst, ◌∙◌, inl, inr, append-nil}
 use Rattle.bn_theory.specs.Runs.{Reaches, Passes, passes_run, runs_join}
 use Rattle.bn_theory.proofs.RunPartLemmas.{passes_weaker}
@@ -24,7 +24,7 @@ use Rattle.bn_packed.specs.Stopping.{PassesBy, passes_by}
 use Rattle.bn_flat.specs.declared.first_rows.FirstRows.{FirstRows}
 use Rattle.bn_flat.specs.Moments.{AreFirstRows, enters_first, is_among}
 use Rattle.bn_flat.proofs.MomentLemmas.{IsCommandOf, no_tape, off_west, off_commands}
-use Rattle.bn_flat.specs.Flattened.{Flattened, IsSameBoard, IsBoardKept, IsLayoutKept, origin}
+use Rattle.bn_flat.specs.Flattened.{Flattened, IsSameBoard, IsBoardKept, IsLayoutKept}
 
 -- So many steps were made from one configuration to another, and the test held after so many of them.
 pub record HasTallied (test : Config → Bool) (k : Circuit) (c d : Config) (made count : ℕ) (old new : Option (List Place)) : Type 0 where

@@ -1,4 +1,5 @@
--- A board: a net of rotary elements in a configuration that was reached from its start, with the layout by which it is read (this project's own profile).
+-- A board: a net of rotary elements in a configuration that was reached from its start, with the layout by which it
+-- is read (this project's own profile).
 use Rattle.std.specs.Prelude.{◌≡◌, ℕ, ◌-◌, ◌<◌, ◌≤◌, ◌^◌, List, All, length, Option, Some, None}
 use Rattle.bn_theory.specs.Runs.{Reaches}
 use Rattle.bn_theory.specs.Circuits.{Circuit, Goes, IsCircuit, IsConfig}
@@ -22,7 +23,8 @@ use Rattle.bn_layout.specs.Layouts.{Layout, IsLayout, lines_at, elements_of}
 use Rattle.bn_assembly.specs.Assembled.{Assembled, AreSmall, IsAssembled, network_of}
 use Rattle.bn_assembly.specs.declared.make.TheConstants.{MOST_ELEMENTS}
 
--- a net, a configuration of it, the line by which the signal enters at the start, the line by which it leaves at the end, and the layout
+-- a net, a configuration of it, the line by which the signal enters at the start, the line by which it leaves at the
+-- end, and the layout
 pub record Flattened : Type 0 where
   pub net : Parts Rotary
   pub config : Config
@@ -59,7 +61,8 @@ abbrev pub IsFirstWithin : ℕ → ℕ → Option (ℕ × ℕ) → Type 0
 IsFirstWithin states lines None = Unit {0}
 IsFirstWithin states lines (Some f) = (f.0 < states) × (1 ≤ f.1) × (f.1 < lines)
 
--- The window isn't too large, each tape has a symbol and not too many, the control has a state, the board hasn't too many elements, and first commands and awaited reads are within these numbers.
+-- The window isn't too large, each tape has a symbol and not too many, the control has a state, the board hasn't too
+-- many elements, and first commands and awaited reads are within these numbers.
 pub record IsLayoutKept (b : Layout) : Type 0 where
   pub small : AreSmall b.limits
   pub tapes : length b.symbols ≡ 3
@@ -82,14 +85,16 @@ pub record IsBoardKept (b : Flattened) : Type 0 where
 
 -- ---- the board of a network
 
--- the line by which the signal enters at the start: the control's from outside; and the one by which it leaves at the end: the control's to the outside
+-- the line by which the signal enters at the start: the control's from outside; and the one by which it leaves at
+-- the end: the control's to the outside
 abbrev pub start_line : Line
 start_line = input_line 0 0
 
 abbrev pub end_line : Layout → Line
 end_line b = line_at (column_at 0 (lines_at b) (b.states - 1)) east
 
--- The board of an assembled network: for the machine, window and word for which the network was assembled, it is the network's board at the start, and the layout is the machine's.
+-- The board of an assembled network: for the machine, window and word for which the network was assembled, it is the
+-- network's board at the start, and the layout is the machine's.
 pub record IsFlattened (a : Assembled) (b : Flattened) : Type 0 where
   pub board : IsBoard (network_of a) (rotary_circuit b.net)
   pub layout : (m : Quadruples) (word : List ℕ) (names : List ControlState) → IsAssembled m a.limits word names a

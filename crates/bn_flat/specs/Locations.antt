@@ -9,7 +9,8 @@ use Rattle.bn_layout.specs.Layouts.{Layout, letters_at, lines_at, cell_element}
 use Rattle.bn_flat.specs.declared.located.Located.{Located}
 use Rattle.bn_flat.specs.declared.located.Located.TheVariants.{Control, Cell, Outside}
 
--- The signal enters line l of element e: of a bank with so many lines that begins at this element it is input line i, exactly where it is the west of row i of the first column.
+-- The signal enters line l of element e: of a bank with so many lines that begins at this element it is input line
+-- i, exactly where it is the west of row i of the first column.
 abbrev pub IsInputLine : ℕ → ℕ → ℕ → ℕ → Option ℕ → Type 0
 IsInputLine first lines e l line = (i : ℕ) → (line ≡ Some i) ↔ ((i < lines) × (e ≡ first + i) × (l ≡ west))
 

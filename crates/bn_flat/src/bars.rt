@@ -1,6 +1,7 @@
 //! The bars of a board at the start.
 
-ghost use Rattle.std.specs.Prelude.{◌≡◌, ℕ, ◌+◌, ◌<◌, ◌≤◌, ◌++◌, length, replicate, slice_set, Some, slice_get, IfOk, OnOk};
+ghost use Rattle.std.specs.Prelude.{◌≡◌, ℕ, ◌+◌, ◌<◌, ◌≤◌, ◌++◌, length, replicate, slice_set, Some, slice_get};
+ghost use Rattle.std.specs.Prelude.{IfOk, OnOk};
 ghost use Rattle.bn_theory.specs.Tables.{Table};
 ghost use Rattle.bn_element.specs.Rotary.{horizontal, vertical};
 ghost use Rattle.bn_realise.specs.Banks.{bottom_at};
@@ -23,7 +24,8 @@ pub(crate) fn start_bars(
     requires modules { AreModules (module_circuit net.now) }
     requires few { size (module_circuit net.now).tables ≤ MOST_ELEMENTS }
     requires counted { length states.now ≡ length net.now.elements }
-    requires within { (m q : ℕ) (t : Table) → slice_get states.now m ≡ Some q → slice_get (module_circuit net.now).tables m ≡ Some t → q < t.states }
+    requires within { (m q : ℕ) (t : Table) → slice_get states.now m ≡ Some q
+        → slice_get (module_circuit net.now).tables m ≡ Some t → q < t.states }
     ensures { IfOk result (λ v. v.items ≡ bars_of (module_circuit net.now).tables states.now) }
 {
     let mut bars = Vec::new(alloc);
@@ -38,7 +40,8 @@ fn push_bank(bars: &mut Vec<u32>, bank: &Module, state: u32) -> Result<(), NoMem
     requires some { 0 < (module_table bank.now).states }
     requires few { length bars.old.items + size_of (module_table bank.now) ≤ MOST_ELEMENTS }
     requires state { state < (module_table bank.now).states }
-    ensures { OnOk result (bars.new.items ≡ bars.old.items ++ slice_set (replicate (size_of (module_table bank.now)) vertical) (bottom_at 0 (module_table bank.now).inputs state) horizontal) }
+    ensures { OnOk result (bars.new.items ≡ bars.old.items
+        ++ slice_set (replicate (size_of (module_table bank.now)) vertical) (bottom_at 0 (module_table bank.now).inputs state) horizontal) }
 {
     let lines = bank.lines_in();
     let first = bars.len();

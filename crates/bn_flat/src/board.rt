@@ -36,16 +36,40 @@ impl Model for Board {
 
     ghost Value = { Flattened };
 
-    ghost view = { λ b. record { net = b.packed.net; config = b.packed.config; start = b.start; end = b.end; layout = b.layout } };
+    ghost view = { λ b. record {
+      net = b.packed.net;
+      config = b.packed.config;
+      start = b.start;
+      end = b.end;
+      layout = b.layout;
+    } };
 
-    ghost invariant = { λ b. IsBoardKept (record { net = b.packed.net; config = b.packed.config; start = b.start; end = b.end; layout = b.layout }) };
+    ghost invariant = { λ b. IsBoardKept (record {
+      net = b.packed.net;
+      config = b.packed.config;
+      start = b.start;
+      end = b.end;
+      layout = b.layout;
+    }) };
 }
 
 impl Board {
     // The board of these parts.
     pub(crate) fn new(packed: Packed, start: Line, end: Line, layout: Layout) -> Board
-        requires { IsBoardKept (record { net = packed.net; config = packed.config; start = start; end = end; layout = layout }) }
-        ensures { result ≡ record { net = packed.net; config = packed.config; start = start; end = end; layout = layout } }
+        requires { IsBoardKept (record {
+          net = packed.net;
+          config = packed.config;
+          start = start;
+          end = end;
+          layout = layout;
+        }) }
+        ensures { result ≡ record {
+          net = packed.net;
+          config = packed.config;
+          start = start;
+          end = end;
+          layout = layout;
+        } }
     {
         Board {
             packed,
@@ -177,12 +201,13 @@ impl Board {
         self.packed.run_back(e)
     }
 
-    // Makes at most `e` element steps, and stops after a step where the signal is about to enter a line of `stop`; tells
-    // the watch the place after each.
+    // Makes at most `e` element steps, and stops after a step where the signal is about to enter a line of `stop`;
+    // tells the watch the place after each.
     pub(crate) fn run_until<S: Stop, W: Watch>(&mut self, e: u64, stop: &S, watch: &mut W) -> u64
         ensures bound { result ≤ e }
         ensures made { Reaches (Goes (rotary_circuit self.old.net)) result self.old.config self.new.config }
-        ensures between { PassesBy (rotary_circuit self.old.net) (S.stops stop.now) result self.old.config self.new.config }
+        ensures between { PassesBy (rotary_circuit self.old.net)
+            (S.stops stop.now) result self.old.config self.new.config }
         ensures moves { 0 < e → (0 < result) ⊎ IsStuck (rotary_circuit self.old.net) self.old.config }
         ensures kept { IsBoardKept self.new }
         ensures same { IsSameBoard self.old self.new }

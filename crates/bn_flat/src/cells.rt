@@ -5,7 +5,8 @@ ghost use Rattle.std.specs.List.{range_with_len};
 ghost use Rattle.std.specs.Option.{option_map};
 ghost use Rattle.bn_realise.specs.Banks.{column_at};
 ghost use Rattle.bn_modules.specs.Networks.{cells_in};
-ghost use Rattle.bn_layout.specs.Layouts.{spelled_by, spelled_tape, cells_shown, head_shown, has_head, symbol_by, marked_column, cell_state_at, letters_at, elements_of};
+ghost use Rattle.bn_layout.specs.Layouts.{spelled_by, spelled_tape, cells_shown, head_shown, has_head, symbol_by};
+ghost use Rattle.bn_layout.specs.Layouts.{marked_column, cell_state_at, letters_at, elements_of};
 
 use crate::board::Board;
 use bn_layout::{Cells, Spelled, SpelledTape};

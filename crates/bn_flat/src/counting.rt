@@ -18,7 +18,8 @@ impl Board {
         ensures moments { result ≡ tally (is_moment self.old.layout) (rotary_circuit self.old.net) e self.old.config }
         ensures run { self.new.config ≡ run (rotary_circuit self.old.net) self.old.config e }
         ensures same { IsSameBoard self.old self.new }
-        ensures told { Hears (W.told watch.old) (places (rotary_circuit self.old.net) e self.old.config) (W.told watch.new) }
+        ensures told { Hears (W.told watch.old) (places (rotary_circuit self.old.net) e self.old.config)
+            (W.told watch.new) }
     {
         // What every board keeps.
         let _elements = self.len();

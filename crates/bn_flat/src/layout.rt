@@ -36,9 +36,21 @@ impl Model for Layout {
 
     ghost Value = { Numbers };
 
-    ghost view = { λ b. record { limits = limits_of b.windows; symbols = b.symbols; states = b.states; firsts = b.firsts.items; awaited = b.awaited.items } };
+    ghost view = { λ b. record {
+      limits = limits_of b.windows;
+      symbols = b.symbols;
+      states = b.states;
+      firsts = b.firsts.items;
+      awaited = b.awaited.items;
+    } };
 
-    ghost invariant = { λ b. IsLayoutKept (record { limits = limits_of b.windows; symbols = b.symbols; states = b.states; firsts = b.firsts.items; awaited = b.awaited.items }) };
+    ghost invariant = { λ b. IsLayoutKept (record {
+      limits = limits_of b.windows;
+      symbols = b.symbols;
+      states = b.states;
+      firsts = b.firsts.items;
+      awaited = b.awaited.items;
+    }) };
 }
 
 impl Layout {
@@ -50,8 +62,20 @@ impl Layout {
         firsts: Vec<Option<(u32, u32)>>,
         awaited: Vec<Option<(u32, u32)>>,
     ) -> Layout
-        requires { IsLayoutKept (record { limits = limits_of windows; symbols = symbols; states = states; firsts = firsts.items; awaited = awaited.items }) }
-        ensures { result ≡ record { limits = limits_of windows; symbols = symbols; states = states; firsts = firsts.items; awaited = awaited.items } }
+        requires { IsLayoutKept (record {
+          limits = limits_of windows;
+          symbols = symbols;
+          states = states;
+          firsts = firsts.items;
+          awaited = awaited.items;
+        }) }
+        ensures { result ≡ record {
+          limits = limits_of windows;
+          symbols = symbols;
+          states = states;
+          firsts = firsts.items;
+          awaited = awaited.items;
+        } }
     {
         Layout {
             windows,

@@ -41,7 +41,8 @@ const START: Line = Line {
 fn packed_of(alloc: Global, assembly: &Assembly, count: u32) -> Result<Packed, NoMemory>
     requires { count ≡ size (network_of assembly.now).tables }
     ensures board { IfOk result (λ p. IsBoard (network_of assembly.now) (rotary_circuit p.net)) }
-    ensures config { IfOk result (λ p. p.config ≡ start_by (network_of assembly.now).tables assembly.now.config.states) }
+    ensures config { IfOk result (λ p. p.config ≡ start_by
+        (network_of assembly.now).tables assembly.now.config.states) }
     ensures elements { IfOk result (λ p. length p.net.elements ≡ count) }
     ensures order { IfOk result (λ p. AreInOrder p.net.wires) }
 {

@@ -65,7 +65,8 @@ fn net_of(alloc: Global, packed: &Packed) -> Result<Net<Rotary>, NoMemory>
 
 // The wires of a packed net, one for each output line from which one leads.
 fn wires_of(alloc: Global, packed: &Packed) -> Result<Vec<Wire>, NoMemory>
-    ensures wires { IfOk result (λ v. AreWiresOf (IsTargetBefore packed.now.net.wires (length packed.now.net.elements) 0) v.items) }
+    ensures wires { IfOk result (λ v. AreWiresOf (IsTargetBefore packed.now.net.wires
+        (length packed.now.net.elements) 0) v.items) }
     ensures few { IfOk result (λ v. length v.items ≤ 4 * length packed.now.net.elements) }
 {
     let mut wires = Vec::new(alloc);
@@ -94,7 +95,8 @@ fn push_line(wires: &mut Vec<Wire>, packed: &Packed, from: Line) -> Result<(), N
     requires element { from.element < length packed.now.net.elements }
     requires line { from.line < 4 }
     requires earlier { AreWiresOf (IsTargetBefore packed.now.net.wires from.element from.line) wires.old.items }
-    ensures wires { OnOk result (AreWiresOf (IsTargetBefore packed.now.net.wires from.element (from.line + 1)) wires.new.items) }
+    ensures wires { OnOk result (AreWiresOf (IsTargetBefore packed.now.net.wires from.element
+        (from.line + 1)) wires.new.items) }
     ensures few { OnOk result (length wires.new.items ≤ length wires.old.items + 1) }
 {
     let _elements = packed.len();

@@ -64,7 +64,8 @@ fn own_wires(alloc: Global, net: &Net<Module>, bases: &[u32]) -> Result<Vec<Wire
     requires modules { AreModules (module_circuit net.now) }
     requires few { size (module_circuit net.now).tables ≤ MOST_ELEMENTS }
     requires bases { AreBases (module_circuit net.now).tables bases.now }
-    ensures wires { IfOk result (λ v. AreWiresOf (IsOwnWire (module_circuit net.now) (length net.now.elements)) v.items) }
+    ensures wires { IfOk result (λ v. AreWiresOf (IsOwnWire (module_circuit net.now)
+        (length net.now.elements)) v.items) }
     ensures few { IfOk result (λ v. length v.items ≤ 4 * size (module_circuit net.now).tables) }
 {
     let mut wires = Vec::new(alloc);
@@ -88,7 +89,8 @@ fn push_bank(
     requires within { number < length net.now.elements }
     requires earlier { AreWiresOf (IsOwnWire (module_circuit net.now) number) wires.old.items }
     ensures wires { OnOk result (AreWiresOf (IsOwnWire (module_circuit net.now) (number + 1)) wires.new.items) }
-    ensures few { OnOk result (length wires.new.items + 4 * base (module_circuit net.now).tables number ≤ length wires.old.items + 4 * base (module_circuit net.now).tables (number + 1)) }
+    ensures few { OnOk result (length wires.new.items + 4 * base (module_circuit net.now).tables number
+        ≤ length wires.old.items + 4 * base (module_circuit net.now).tables (number + 1)) }
 {
     let Ok(own) = bank_wires(alloc, net.element(number), bases[number as usize]) else {
         return Err(NoMemory);
@@ -112,7 +114,8 @@ fn push_leaving(
     requires within { number < length net.now.elements }
     requires earlier { AreWiresOf (IsWireBefore (module_circuit net.now) number 0) wires.old.items }
     ensures wires { OnOk result (AreWiresOf (IsWireBefore (module_circuit net.now) (number + 1) 0) wires.new.items) }
-    ensures few { OnOk result (length wires.new.items + base (module_circuit net.now).tables number ≤ length wires.old.items + base (module_circuit net.now).tables (number + 1)) }
+    ensures few { OnOk result (length wires.new.items + base (module_circuit net.now).tables number
+        ≤ length wires.old.items + base (module_circuit net.now).tables (number + 1)) }
 {
     for line in 0..net.element(number).lines_out() {
         push_between(wires, net, bases, number, line)?;
