@@ -4,3 +4,4 @@ pub mod PieceLemmas
 pub mod CellTextLemmas
 pub mod ShownLemmas
 pub mod RunTextLemmas
+pub mod AnsweredLemmas
