@@ -5,3 +5,5 @@ pub mod CellTextLemmas
 pub mod ShownLemmas
 pub mod RunTextLemmas
 pub mod AnsweredLemmas
+pub mod NameLemmas
+pub mod RunLemmas
