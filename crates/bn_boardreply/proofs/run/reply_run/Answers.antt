@@ -15,18 +15,18 @@ returns-in-Ok-Refused-clause-replied g c =
     (answered_reply (RunReplies c.args.given c.args.word.now (limits_of c.args.windows.now) c.args.bytes.now) c.in-Ok-Refused.reply (g.W.Watch.told c.args.watch.now)
     (faulty refused.1 refused.0 refl)).replied
 
-answered : (g : Over) (c : goal.After-run_table g)
-    → IsAnswered (RunReplies c.args.given c.args.word.now (limits_of c.args.windows.now) c.args.bytes.now) c.run_table.result (g.W.Watch.told c.args.watch.now)
-    (g.W.Watch.told c.run_table.new.watch)
-answered g c =
+pub returns-in-Ok-Read-clause-replied : goal.returns-in-Ok-Read-clause-replied
+returns-in-Ok-Read-clause-replied g c =
     let t = c.in-Ok-Read.table in
     let reads = subst (IsOpenedTable c.args.bytes.now) c.in-Ok-Read.field-0-is c.in-Ok-Read.ensures in
-    answered_as (JudgedReplies (WordReplies (BoardReplies (TellsRun c.args.given t) t.machine (limits_of c.args.windows.now)) t c.args.word.now) t)
+    (answered_as (JudgedReplies (WordReplies (BoardReplies (TellsRun c.args.given t) t.machine (limits_of c.args.windows.now)) t c.args.word.now) t)
     (RunReplies c.args.given c.args.word.now (limits_of c.args.windows.now) c.args.bytes.now) (λ s text told h. read t reads h) c.run_table.result
-    (g.W.Watch.told c.args.watch.now) (g.W.Watch.told c.run_table.new.watch) c.run_table.ensures
-
-pub returns-in-Ok-Read-clause-replied : goal.returns-in-Ok-Read-clause-replied
-returns-in-Ok-Read-clause-replied g c = ?
+    (g.W.Watch.told c.args.watch.now) (g.W.Watch.told c.run_table.new.watch) c.run_table.ensures).replied
 
 pub returns-in-Ok-Read-clause-interrupted : goal.returns-in-Ok-Read-clause-interrupted
-returns-in-Ok-Read-clause-interrupted g c = ?
+returns-in-Ok-Read-clause-interrupted g c =
+    let t = c.in-Ok-Read.table in
+    let reads = subst (IsOpenedTable c.args.bytes.now) c.in-Ok-Read.field-0-is c.in-Ok-Read.ensures in
+    (answered_as (JudgedReplies (WordReplies (BoardReplies (TellsRun c.args.given t) t.machine (limits_of c.args.windows.now)) t c.args.word.now) t)
+    (RunReplies c.args.given c.args.word.now (limits_of c.args.windows.now) c.args.bytes.now) (λ s text told h. read t reads h) c.run_table.result
+    (g.W.Watch.told c.args.watch.now) (g.W.Watch.told c.run_table.new.watch) c.run_table.ensures).interrupted
