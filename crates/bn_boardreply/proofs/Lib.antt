@@ -4,3 +4,6 @@ pub mod PieceLemmas
 pub mod CellTextLemmas
 pub mod ShownLemmas
 pub mod RunTextLemmas
+pub mod AnsweredLemmas
+pub mod NameLemmas
+pub mod RunLemmas

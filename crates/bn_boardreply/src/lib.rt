@@ -4,7 +4,9 @@
 mod compile;
 mod opening;
 mod pieces;
+mod run;
 mod run_text;
 mod tape_text;
 
 pub use compile::reply_compile;
+pub use run::reply_run;

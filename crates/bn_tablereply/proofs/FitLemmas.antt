@@ -20,9 +20,9 @@ use Rattle.bn_tablereply.specs.declared.machine_run.Ending.{Ending}
 use Rattle.bn_tablereply.specs.declared.machine_run.Ending.TheVariants.{Halted, Stuck, Running}
 
 -- the moment's state and all its symbols are the machine's
-record Fits (p : Program) (c : Moment) : Type 0 where
-  state : c.state < p.states
-  symbols : (q : ℤ) → cell c.tape q < p.symbols
+pub record Fits (p : Program) (c : Moment) : Type 0 where
+  pub state : c.state < p.states
+  pub symbols : (q : ℤ) → cell c.tape q < p.symbols
 
 -- each of the word's symbols is the machine's
 pub record AreSymbols (p : Program) (word : List ℕ) : Type 0 where
@@ -46,7 +46,7 @@ letter_fits p word blank h (pos (suc k)) = by_place (cases_lt k (length word))
     by_place (inl inside) = h.each k inside
     by_place (inr past) = subst (λ (s : ℕ). s < p.symbols) (sym (get_or_past word k 0 past)) blank
 
-start_fits : (p : Program) (word : List ℕ) → IsMachine p → AreSymbols p word → Fits p (start p word)
+pub start_fits : (p : Program) (word : List ℕ) → IsMachine p → AreSymbols p word → Fits p (start p word)
 start_fits p word m h =
     let first = first_fits p.states p.symbols p.quints m.some m.in_range in
     record { state = first.0; symbols = λ q. subst (λ (s : ℕ). s < p.symbols) (sym (cell-word word q)) (letter_fits p word first.1 h q) }
@@ -68,7 +68,7 @@ step_fits room p c d m h goes =
           (h.symbols q));
     }
 
-run_fits : (room : Room) (p : Program) (i : ℕ) (c d : Moment) → IsMachine p → Fits p c → Reaches (Goes room p) i c d → Fits p d
+pub run_fits : (room : Room) (p : Program) (i : ℕ) (c d : Moment) → IsMachine p → Fits p c → Reaches (Goes room p) i c d → Fits p d
 run_fits room p zero c d m h run = subst (Fits p) run h
 run_fits room p (suc i) c d m h run = run_fits room p i run.0 d m (step_fits room p c run.0 m h run.1) run.2
 

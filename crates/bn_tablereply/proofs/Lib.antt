@@ -3,7 +3,7 @@ pub mod MachineLemmas
 mod RunLemmas
 mod OutputLemmas
 mod WholeRunLemmas
-mod FitLemmas
+pub mod FitLemmas
 mod ClashOrNot
 pub mod ReversibleLemmas
 pub mod BennettLemmas
