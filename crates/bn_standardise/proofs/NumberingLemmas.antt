@@ -41,7 +41,7 @@ same_is Last Last e = refl
 -- ---- places
 
 -- a name that is in the list stands at its place
-place_stands : (ms : List Name) (n : Name) → IsIn ms n → slice_get ms (place_of ms n) ≡ Some n
+pub place_stands : (ms : List Name) (n : Name) → IsIn ms n → slice_get ms (place_of ms n) ≡ Some n
 place_stands [] n h = absurd h
 place_stands (m ∷ ms) n h = elim (cases_Bool (is_same m n)) [
   | inl hit ↦ rw hit (ap Some (same_is m n hit))
@@ -83,7 +83,7 @@ kept test (m ∷ ms) n (inr h) e = elim (cases_Bool (test m)) [
 ]
 
 -- a name of the list appears in it a first time
-first_appears : (ns : List Name) (n : Name) → IsIn ns n → IsIn (firsts_by is_same ns) n
+pub first_appears : (ns : List Name) (n : Name) → IsIn ns n → IsIn (firsts_by is_same ns) n
 unfolding firsts_by
 first_appears [] n h = absurd h
 first_appears (m ∷ ms) n (inl e) = inl e
@@ -139,7 +139,7 @@ tells_apart p = record {
 -- ---- numbers by first appearance
 
 -- the test decides whether two names are one
-same_decides : (a b : Name) → Decides (is_same a b) (a ≡ b)
+pub same_decides : (a b : Name) → Decides (is_same a b) (a ≡ b)
 same_decides a b = (same_is a b, λ e. ap (is_same a) (sym e) ∙ same_itself a)
 
 -- the numbers in the quintuples are those of the names in the rules
@@ -155,7 +155,7 @@ pub numbered_by_first : (p : Program) → AreNumberedByFirst (states_in (standar
 numbered_by_first p = numbered-by-first is_same same_decides (states_in (standardised p).quints) (names_of (rules_of p)) (numbers_are (rules_of p) (rules_of p) (λ r h. h))
 
 -- each rule has two names
-names_counted : (rs : List Rule) → length (names_of rs) ≡ 2 * length rs
+pub names_counted : (rs : List Rule) → length (names_of rs) ≡ 2 * length rs
 names_counted [] = refl
 names_counted (r ∷ rs) = let rest = names_counted rs in omega (arith, rest)
 

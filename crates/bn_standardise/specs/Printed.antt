@@ -35,7 +35,14 @@ standard_lines t = lines_of (map (rule_entry t.letters) (rules_of t.machine))
 abbrev pub standard_table : Named → Named
 standard_table t = named (standardised t.machine) (map name_text (distinct_names (rules_of t.machine))) t.letters
 
--- a rule whose entry the table's letters suffice for
+-- a name whose number is that of a state of a table, which has at most 8,000
+abbrev pub IsSmall : Name → Type 0
+IsSmall (Own s) = s < 8000
+IsSmall other = Unit {0}
+
+-- a rule whose entry can be written with these letters
 pub record IsWritable (t : Named) (r : Rule) : Type 0 where
-  pub reads : r.read < t.machine.symbols
-  pub writes : r.write < t.machine.symbols
+  pub state : IsSmall r.state
+  pub read : r.read < t.machine.symbols
+  pub write : r.write < t.machine.symbols
+  pub next : IsSmall r.next

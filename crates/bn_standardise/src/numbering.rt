@@ -1,6 +1,6 @@
 //! Numbers in place of names, by first appearance.
 
-ghost use Rattle.std.specs.Prelude.{◌≡◌, ◌<◌, ◌-◌, ◌^◌, Some, OnOk, IfOk, length, map, slice_get};
+ghost use Rattle.std.specs.Prelude.{◌≡◌, ◌<◌, ◌-◌, ◌^◌, ◌++◌, ◌∷◌, [], Some, OnOk, IfOk, length, map, slice_get};
 ghost use Rattle.bn_standardise.specs.Numbering as numbers;
 ghost use Rattle.bn_standardise.specs.Standardised.{numbered};
 
@@ -30,6 +30,16 @@ fn number_of(names: &mut IndexSet<Name>, name: Name) -> Result<u32, NoMemory>
     }
 }
 
+// Adds a quintuple.
+fn add(quints: &mut Vec<Quint>, quint: Quint) -> Result<(), NoMemory>
+    ensures { OnOk result (quints.new.items ≡ quints.old.items ++ quint ∷ []) }
+{
+    match quints.push(quint) {
+        Ok(()) => Ok(()),
+        Err(_) => Err(NoMemory),
+    }
+}
+
 /// The quintuples of rules.
 pub(crate) fn number_rules(alloc: Global, rules: &[Rule]) -> Result<Numbered, NoMemory>
     requires few { length rules.now < 2 ^ 30 }
@@ -48,9 +58,7 @@ pub(crate) fn number_rules(alloc: Global, rules: &[Rule]) -> Result<Numbered, No
             shift: rule.shift,
             next,
         };
-        if quints.push(quint).is_err() {
-            return Err(NoMemory);
-        }
+        add(&mut quints, quint)?;
     }
     let states = names.len() as u32;
     Ok(Numbered { quints, states })

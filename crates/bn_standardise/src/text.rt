@@ -4,6 +4,7 @@ ghost use Rattle.std.specs.Prelude.{◌≡◌, ◌++◌, ◌∷◌, [], true, Al
 ghost use Rattle.bn_entries.specs.Lines.{is_plain_entry, line_of, lines_of};
 ghost use Rattle.bn_table.specs.Entry.{shift_text};
 ghost use Rattle.bn_table.specs.Reading.{Reads};
+ghost use Rattle.bn_table.specs.Rows.{IsTable};
 ghost use Rattle.bn_standardise.specs.Rules.{rules_of};
 ghost use Rattle.bn_standardise.specs.Printed.{IsWritable, rule_entry, standard_lines, standard_table};
 ghost use Rattle.bn_standardise.specs.Refusals.{IsAccepted, IsLooseRefusal};
@@ -51,7 +52,8 @@ fn write_rule(
     table: &Table,
     rule: &Rule,
 ) -> Result<(), NoMemory>
-    requires { IsWritable table.now rule.now }
+    requires table { IsTable table.now }
+    requires writable { IsWritable table.now rule.now }
     ensures { OnOk result (writer.new ≡ writer.old ++ line_of (rule_entry table.now.letters rule.now)) }
 {
     let state = text_of(alloc, rule.state)?;
@@ -70,7 +72,8 @@ fn write_rule(
 
 // Writes the entries of rules.
 fn write_rules(alloc: Global, table: &Table, rules: &[Rule]) -> Result<Vec<u8>, NoMemory>
-    requires { All (IsWritable table.now) rules.now }
+    requires table { IsTable table.now }
+    requires writable { All (IsWritable table.now) rules.now }
     ensures { IfOk result (λ text. text.items ≡ lines_of (map (rule_entry table.now.letters) rules.now)) }
 {
     let mut writer = EntryWriter::new(alloc);
