@@ -1,12 +1,11 @@
 -- Names that are numbered rule by rule, and the numbers that they keep.
-use Rattle.std.proofs.Common.{◌≡◌, ◌∙◌, ◌≤◌, ◌<◌, ◌+◌, ◌-◌, ◌*◌, ◌^◌, ◌++◌, ◌∷◌, ℕ, zero, suc, Some, List, [], length, map, take, drop, get_or, refl, sym, ap, arith, append_assoc, slice_get, length-append, inl, inr}
+use Rattle.std.proofs.Common.{◌≡◌, ◌∙◌, ◌≤◌, ◌<◌, ◌+◌, ◌*◌, ◌++◌, ◌∷◌, ℕ, suc, Some, List, [], length, map, take, drop, get_or, refl, sym, ap, arith, append_assoc, slice_get, length-append, inl, inr}
 use Rattle.std.proofs.lemmas.Bool.{cases_Bool}
-use Rattle.std.proofs.lemmas.List.{length-take-le, map-append, take-append-drop, take_all, take_more}
+use Rattle.std.proofs.lemmas.List.{length-take-le, map-append, take-append-drop, take_more}
 use Rattle.std.specs.List.{list_any}
 use Rattle.bn_entries.specs.Numbering.{firsts_by}
 use Rattle.bn_entries.specs.NumberingLaws.{apart-firsts, firsts-append, firsts-push, length-firsts, number_stays, one_number}
 use Rattle.bn_machine.specs.declared.quint.Quint.{Quint}
-use Rattle.bn_standardise.specs.Lists.{IsIn}
 use Rattle.bn_standardise.specs.Numbering.{distinct_names, is_same, names_of, number_of, with_name}
 use Rattle.bn_standardise.specs.Standardised.{numbered}
 use Rattle.bn_standardise.specs.declared.name.Name.{Name}

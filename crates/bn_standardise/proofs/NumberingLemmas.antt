@@ -93,7 +93,7 @@ first_appears (m ∷ ms) n (inr h) = elim (cases_Bool (is_same m n)) [
 ]
 
 -- both names of a rule are among the rules' names
-names_in : (rs : List Rule) (r : Rule) → IsIn rs r → IsIn (names_of rs) r.state × IsIn (names_of rs) r.next
+pub names_in : (rs : List Rule) (r : Rule) → IsIn rs r → IsIn (names_of rs) r.state × IsIn (names_of rs) r.next
 names_in [] r h = absurd h
 names_in (s ∷ rs) r (inl e) = (inl (ap (λ (t : Rule). t.state) e), inr (inl (ap (λ (t : Rule). t.next) e)))
 names_in (s ∷ rs) r (inr h) = let rest = names_in rs r h in (inr (inr rest.0), inr (inr rest.1))

@@ -13,12 +13,12 @@ use Rattle.bn_standardise.proofs.NumberingLemmas.{numbers_inside}
 use Rattle.bn_standardise.proofs.RunLemmas.{in_range}
 
 -- a rule reads and writes known symbols
-record KnowsSymbols (symbols : ℕ) (r : Rule) : Type 0 where
-  read : r.read < symbols
-  write : r.write < symbols
+pub record KnowsSymbols (symbols : ℕ) (r : Rule) : Type 0 where
+  pub read : r.read < symbols
+  pub write : r.write < symbols
 
 -- every rule does
-rule_knows : (p : Program) (r : Rule) → IsMachine p → IsIn (rules_of p) r → KnowsSymbols p.symbols r
+pub rule_knows : (p : Program) (r : Rule) → IsMachine p → IsIn (rules_of p) r → KnowsSymbols p.symbols r
 rule_knows p r machine (inl e) = let some = some_symbol p machine in subst (KnowsSymbols p.symbols) (sym e) (record { read = some; write = some })
 rule_knows p r machine (inr h) = elim (in_append_cases (middle_of p) (leaving (final_of p.quints) ∷ []) r h) [
   | inl mid ↦ elim (in_append_cases (map renamed p.quints) (back_over_all (final_of p.quints) 1 (p.symbols - 1)) r mid) [

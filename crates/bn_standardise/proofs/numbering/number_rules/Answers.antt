@@ -1,9 +1,7 @@
 -- One rule after another.
-use Rattle.std.proofs.Common.{◌≡◌, ◌+◌, ◌*◌, ◌≤◌, ◌∙◌, length, arith, take, ap, map, get_or, refl, List}
-use Rattle.bn_machine.specs.declared.quint.Quint.{Quint}
+use Rattle.std.proofs.Common.{◌≡◌, ◌*◌, ◌≤◌, length, arith, ap, get_or}
 use Rattle.bn_machine.specs.declared.quint.Shift.TheVariants.{Left}
-use Rattle.bn_standardise.specs.Numbering.{distinct_names, number_of, with_name}
-use Rattle.bn_standardise.specs.Standardised.{numbered}
+use Rattle.bn_standardise.specs.Numbering.{with_name}
 use Rattle.bn_standardise.specs.declared.name.Name.TheVariants.{First}
 use Rattle.bn_standardise.specs.declared.rule.Rule.{Rule}
 use Rattle.bn_standardise.proofs.GrowingLemmas.{NumbersRule, after_is, few_names, length-with_name, none_numbered, quint_is, quints_more}
@@ -40,14 +38,13 @@ loop-rule-preserved c =
       second = c.in_ok-next.ensures.names;
       state_is = c.in_ok-state.ensures.number;
       next_is = c.in_ok-next.ensures.number;
-    } in
-    (
+    } in (
       after_is rules i blank names middle after c.in_ok-state.state c.in_ok-next.next h,
       quints_more rules i blank c.loop-rule.quints.items c.add.new.quints.items
-      (record { state = c.in_ok-state.state; read = (get_or rules i blank).read; write = (get_or rules i blank).write; shift = (get_or rules i blank).shift; next = c.in_ok-next.next })
-      c.loop-rule-test.true c.loop-rule.invariant.1
-      (quint_is rules i blank names middle after c.in_ok-state.state c.in_ok-next.next h)
-      c.in_ok-add.ensures,
+          (record { state = c.in_ok-state.state; read = (get_or rules i blank).read; write = (get_or rules i blank).write; shift = (get_or rules i blank).shift; next = c.in_ok-next.next })
+          c.loop-rule-test.true c.loop-rule.invariant.1
+          (quint_is rules i blank names middle after c.in_ok-state.state c.in_ok-next.next h)
+          c.in_ok-add.ensures,
     )
 
 pub overflow_cast-states : goal.overflow_cast-states
