@@ -5,7 +5,7 @@ use Rattle.bn_theory.specs.declared.place.Place.{Place}
 use Rattle.bn_words.specs.Forms.{most_number, row_of}
 use Rattle.bn_words.specs.Requests.{AreWithin, HasForm, Request, letters_at, number_at}
 use Rattle.bn_words.specs.declared.form.Form.{Form}
-use Rattle.bn_words.specs.declared.form.Form.TheVariants.{Step, Back, Check, Machine, Reversible, Bennett, Realise}
+use Rattle.bn_words.specs.declared.form.Form.TheVariants.{Step, Back, Check, Machine, Reversible, Bennett, Realise, Standard}
 use Rattle.bn_words.specs.declared.kind.Kind.TheVariants.{Ordinal}
 use Rattle.bn_words.proofs.ArgumentLemmas.{form-AreWithin, ordinal_least}
 use Rattle.bn_reply.specs.Answering.{IsSettled}
@@ -18,6 +18,8 @@ use Rattle.bn_netreply.specs.CircuitReply.{BackReplies, StepReplies}
 use Rattle.bn_netreply.specs.RealiseReply.{RealiseReplies}
 use Rattle.bn_netreply.proofs.CircuitLemmas.{back_settled, step_settled}
 use Rattle.bn_netreply.proofs.RealiseLemmas.{realise_settled}
+use Rattle.bn_standardreply.specs.StandardReply.{StandardTableReplies}
+use Rattle.bn_standardreply.proofs.StandardLemmas.{standard_settled}
 use Rattle.bn_tablereply.specs.BennettReply.{BennettReplies}
 use Rattle.bn_tablereply.specs.CheckReply.{CheckReplies}
 use Rattle.bn_tablereply.specs.MachineReply.{MachineReplies}
@@ -38,6 +40,7 @@ settled_by Check request within = check_settled
 settled_by Machine request within = machine_settled (letters_at request 0) (number_at request 1)
 settled_by Reversible request within = reversible_settled
 settled_by Bennett request within = bennett_settled
+settled_by Standard request within = standard_settled
 settled_by Realise request within = λ bytes.
     let kinds = (row_of Realise).kinds in
     let least : (n : ℕ) → slice_get kinds n ≡ Some (Ordinal most_number) → 1 ≤ number_at request n =
@@ -86,6 +89,9 @@ module _ (request : Request) (form : Form) (of : form ≡ request.form) (bytes :
     pub bennett_reply : form ≡ Bennett → Silent result (BennettReplies bytes) → Replied result told told (Replies request bytes)
     bennett_reply is h = silent_by Bennett is h
 
+    pub standard_reply : form ≡ Standard → Silent result (StandardTableReplies bytes) → Replied result told told (Replies request bytes)
+    standard_reply is h = silent_by Standard is h
+
     pub realise_reply : (q i : ℕ) → form ≡ Realise → q ≡ number_at request 0 → i ≡ number_at request 1 →
         Silent result (RealiseReplies q i bytes) → Replied result told told (Replies request bytes)
     realise_reply q i is q_is i_is h =
@@ -113,4 +119,4 @@ module _ (request : Request) (form : Form) (of : form ≡ request.form) (bytes :
     back_part is n_is h =
         by_form Back is (Unfinished result told heard) (subst (λ m. Unfinished result told heard (BackReplies m bytes)) n_is h)
 
-pub ruleset replies = (step_reply, step_part, back_reply, back_part, check_reply, machine_reply, reversible_reply, bennett_reply, realise_reply)
+pub ruleset replies = (step_reply, step_part, back_reply, back_part, check_reply, machine_reply, reversible_reply, bennett_reply, realise_reply, standard_reply)

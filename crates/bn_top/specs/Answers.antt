@@ -4,9 +4,10 @@ use Rattle.std.specs.Prelude.{◌≡◌, ℕ, ◌<◌, ◌≤◌, List, [], ◌�
 use Rattle.bn_theory.specs.declared.place.Place.{Place}
 use Rattle.bn_words.specs.Requests.{Request, HasForm, HasNoForm, letters_at, number_at}
 use Rattle.bn_words.specs.declared.form.Form.{Form}
-use Rattle.bn_words.specs.declared.form.Form.TheVariants.{Step, Back, Check, Machine, Reversible, Bennett, Realise}
+use Rattle.bn_words.specs.declared.form.Form.TheVariants.{Step, Back, Check, Machine, Reversible, Bennett, Realise, Standard}
 use Rattle.bn_netreply.specs.CircuitReply.{BackReplies, StepReplies}
 use Rattle.bn_netreply.specs.RealiseReply.{RealiseReplies}
+use Rattle.bn_standardreply.specs.StandardReply.{StandardTableReplies}
 use Rattle.bn_tablereply.specs.BennettReply.{BennettReplies}
 use Rattle.bn_tablereply.specs.CheckReply.{CheckReplies}
 use Rattle.bn_tablereply.specs.MachineReply.{MachineReplies}
@@ -38,6 +39,7 @@ RepliesBy Machine request = MachineReplies (letters_at request 0) (number_at req
 RepliesBy Reversible request = ReversibleReplies
 RepliesBy Bennett request = BennettReplies
 RepliesBy Realise request = RealiseReplies (number_at request 0) (number_at request 1)
+RepliesBy Standard request = StandardTableReplies
 
 abbrev pub Replies : Request → List ℕ → Status → List ℕ → List Place → Type 0
 Replies request = RepliesBy request.form request

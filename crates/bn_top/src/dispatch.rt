@@ -7,6 +7,7 @@ ghost use Rattle.bn_top.specs.Answers.{Replies};
 use bn_net::Watch;
 use bn_netreply::{reply_back, reply_realise, reply_step};
 use bn_reply::{NoMemory, Reply};
+use bn_standardreply::reply_standard;
 use bn_tablereply::{reply_bennett, reply_check, reply_machine, reply_reversible};
 use bn_words::{Form, Request};
 use std::alloc::Global;
@@ -37,5 +38,6 @@ pub(crate) fn reply_to<W: Watch>(
             request.number(1) as u32,
             bytes,
         ),
+        Form::Standard => reply_standard(alloc, bytes),
     }
 }

@@ -29,6 +29,8 @@ pub enum Form {
     Bennett,
     /// `realise Q I`: the text of a bank in state Q with the signal at line I.
     Realise,
+    /// `standard`: a machine that starts on the first letter, brought into standard form.
+    Standard,
 }
 
 /// A row of the table: a name, and the kinds of the words behind it.
@@ -40,7 +42,7 @@ pub(crate) struct Row {
 
 impl Form {
     /// All forms.
-    pub const ALL: [Form; 7] = [
+    pub const ALL: [Form; 8] = [
         Form::Step,
         Form::Back,
         Form::Check,
@@ -48,6 +50,7 @@ impl Form {
         Form::Reversible,
         Form::Bennett,
         Form::Realise,
+        Form::Standard,
     ];
 
     // The form's row.
@@ -63,6 +66,7 @@ impl Form {
             Form::Reversible => Row::new("reversible", &[]),
             Form::Bennett => Row::new("bennett", &[]),
             Form::Realise => Row::new("realise", &[Ordinal(MOST_NUMBER), Ordinal(MOST_NUMBER)]),
+            Form::Standard => Row::new("standard", &[]),
         }
     }
 }
