@@ -6,10 +6,12 @@ use Rattle.bn_machine.specs.Run.{After}
 use Rattle.bn_machine.specs.declared.quint.Quint.{Quint}
 use Rattle.bn_machine.specs.declared.quint.Shift.{Shift}
 use Rattle.bn_machine.specs.declared.quint.Shift.TheVariants.{Left, Stay, Right}
-use Rattle.bn_table.specs.Rows.{FitsTable}
+use Rattle.bn_table.specs.Reading.{Reads}
+use Rattle.bn_table.specs.Rows.{FitsTable, IsTable, Named}
 use Rattle.bn_standard.specs.Standard.{IsStandard}
 use Rattle.bn_standardise.specs.Standardised.{standardised, numbering_of, IsLoose, TellsApart}
 use Rattle.bn_standardise.specs.Refusals.{IsAccepted, IsLooseRefusal, count_of}
+use Rattle.bn_standardise.specs.Printed.{standard_lines, standard_table}
 use Rattle.bn_standardise.specs.Loose.{Loose, IsWord, HasTail, behind, LooseHalts, Halts}
 use Rattle.bn_standardise.specs.declared.name.Name.TheVariants.{Own}
 use Rattle.bn_standardise.specs.declared.refusal.LooseRefusal.{LooseRefusal}
@@ -37,12 +39,21 @@ IsInStandardForm = (p : Program) → IsLoose p → IsStandard (standardised p).q
 abbrev pub FitsTableAgain : Type 0
 FitsTableAgain = (p : Program) → IsMachine p → count_of p ≤ 4000 → p.symbols ≤ 91 → FitsTable (standardised p)
 
+-- ---- the text
+
+-- the lines of the list are read as the table of the machine in standard form
+abbrev pub TextsAreRead : Type 0
+TextsAreRead =
+    (t : Named) → IsTable t → IsAccepted t.machine
+    → Reads (standard_lines t) (standard_table t) × IsStandard (standard_table t).machine.quints
+
 -- ---- the refusals
 
 -- one refusal beside want of memory fits a machine, and none but that fits one that is accepted
 abbrev pub RefusalsAreOne : Type 0
 RefusalsAreOne =
-    ((p : Program) (a b : LooseRefusal) → a ≢ NoMemory → b ≢ NoMemory → IsLooseRefusal p a → IsLooseRefusal p b → a ≡ b)
+    ((p : Program) (a b : LooseRefusal) → a ≢ NoMemory → b ≢ NoMemory
+    → IsLooseRefusal p a → IsLooseRefusal p b → a ≡ b)
     × ((p : Program) (a : LooseRefusal) → IsAccepted p → IsLooseRefusal p a → a ≡ NoMemory)
 
 -- ---- the runs

@@ -4,7 +4,8 @@ ghost use Rattle.std.specs.Prelude.{◌≡◌, ◌↔◌, ◌<◌, ◌≤◌, �
 ghost use Rattle.bn_machine.specs.Machine.{final_of};
 ghost use Rattle.bn_standard.specs.Standard.{IsUnambiguous};
 ghost use Rattle.bn_standardise.specs.Standardised.{HasNoHalting};
-ghost use Rattle.bn_standardise.specs.Refusals.{IsAccepted, IsLeastHalting, IsLooseRefusal, IsRepeatRefusal};
+ghost use Rattle.bn_standardise.specs.Refusals.{IsAccepted, IsLeastHalting};
+ghost use Rattle.bn_standardise.specs.Refusals.{IsLooseRefusal, IsRepeatRefusal};
 
 use crate::refusal::LooseRefusal;
 use bn_machine::{Machine, Quint};

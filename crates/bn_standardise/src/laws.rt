@@ -1,5 +1,7 @@
 //! Laws on the machine in standard form. Each function does nothing; its contract is the law.
-ghost use Rattle.bn_standardise.specs.Laws.{CountsRules, NumbersTellApart, IsMachineAgain, IsInStandardForm, HasOneTail, HaltsBehind, SticksAlike, HaltsTogether, FitsTableAgain, SticksTogether, InvertsExample, RefusalsAreOne};
+ghost use Rattle.bn_standardise.specs.Laws.{CountsRules, FitsTableAgain, HaltsBehind, HaltsTogether, HasOneTail};
+ghost use Rattle.bn_standardise.specs.Laws.{InvertsExample, IsInStandardForm, IsMachineAgain, NumbersTellApart};
+ghost use Rattle.bn_standardise.specs.Laws.{RefusalsAreOne, SticksAlike, SticksTogether, TextsAreRead};
 
 /// Of N quintuples and z symbols come N + z + 1 quintuples.
 pub fn counts_rules()
@@ -19,6 +21,11 @@ pub fn is_machine_again()
 /// The machine that is made is in standard form.
 pub fn is_in_standard_form()
     ensures { IsInStandardForm }
+{}
+
+/// The text of the list is read as the table of the machine that is made, which is in standard form.
+pub fn texts_are_read()
+    ensures { TextsAreRead }
 {}
 
 /// One refusal beside want of memory fits a machine, and none but that fits one that is accepted.

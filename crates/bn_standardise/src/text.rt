@@ -40,7 +40,8 @@ fn write_fields<'a>(
     next: &'a [u8],
 ) -> Result<(), NoMemory>
     requires { is_plain_entry (state.now ∷ read.now ∷ write.now ∷ shift.now ∷ next.now ∷ []) ≡ true }
-    ensures { OnOk result (writer.new ≡ writer.old ++ line_of (state.now ∷ read.now ∷ write.now ∷ shift.now ∷ next.now ∷ [])) }
+    ensures { OnOk result (writer.new ≡ writer.old
+        ++ line_of (state.now ∷ read.now ∷ write.now ∷ shift.now ∷ next.now ∷ [])) }
 {
     writer.write_entry(&[state, read, write, shift, next])
 }
