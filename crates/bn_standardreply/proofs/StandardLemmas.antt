@@ -4,7 +4,6 @@ use Rattle.std.proofs.Common.{refl, sym, subst, ap, ◌∙◌, arith, inl, inr, 
 use Rattle.std.proofs.lemmas.Bool.{cases_lt}
 use Rattle.std.proofs.lemmas.Bool.Decides.{eqb_tells}
 use Rattle.bn_theory.specs.declared.place.Place.{Place}
-use Rattle.bn_entries.specs.Entries.{entries_of}
 use Rattle.bn_machine.specs.Machine.{Program, IsMachine, final_of, nth-get_or}
 use Rattle.bn_machine.specs.declared.quint.Quint.{Quint}
 use Rattle.bn_machine.specs.declared.quint.Shift.TheVariants.{Stay}
@@ -23,12 +22,11 @@ use Rattle.bn_standardise.specs.declared.refusal.LooseRefusal.{LooseRefusal}
 use Rattle.bn_standardise.specs.declared.refusal.LooseRefusal.TheVariants as refusals
 use Rattle.bn_standardise.proofs.AcceptLemmas.{Leaves, least_halting, no_halting}
 use Rattle.bn_standardise.proofs.AcceptedLemmas.{refusals_once}
-use Rattle.bn_reply.specs.Answering.{AgreeInAll, HasAnswer, IsDone, IsOneAnswer, IsSettled}
+use Rattle.bn_reply.specs.Answering.{HasAnswer, IsOneAnswer, IsSettled}
 use Rattle.bn_reply.specs.Codes.{IsReplyStatus}
 use Rattle.bn_reply.specs.declared.status.Status.{Status}
-use Rattle.bn_reply.specs.declared.status.Status.TheVariants as statuses
 use Rattle.bn_reply.proofs.SettledLemmas.{done_settled, table_settled}
-use Rattle.bn_reply.proofs.StandardOrNot.{Fails, standard_or_not}
+use Rattle.bn_reply.proofs.StandardOrNot.{standard_or_not}
 use Rattle.bn_standardreply.specs.StandardReply.{StandardIsSettled, TellsStandard, accepted, refused, refusal_line, refusal_status}
 
 -- ---- a machine is accepted, or there is a refusal
