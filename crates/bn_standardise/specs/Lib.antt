@@ -1,4 +1,5 @@
 pub mod Lists
+pub mod Limits
 pub mod Rules
 pub mod Numbering
 pub mod Standardised

@@ -4,6 +4,7 @@ use Rattle.std.specs.Prelude.{ℕ, ◌+◌, ◌<◌, List, [], ◌∷◌, map, s
 use Rattle.bn_entries.specs.Lines.{lines_of}
 use Rattle.bn_table.specs.Entry.{entry_of}
 use Rattle.bn_table.specs.Rows.{Named, named}
+use Rattle.bn_standardise.specs.Limits.{most_states}
 use Rattle.bn_standardise.specs.Rules.{rules_of}
 use Rattle.bn_standardise.specs.Numbering.{distinct_names}
 use Rattle.bn_standardise.specs.Standardised.{standardised}
@@ -35,9 +36,9 @@ standard_lines t = lines_of (map (rule_entry t.letters) (rules_of t.machine))
 abbrev pub standard_table : Named → Named
 standard_table t = named (standardised t.machine) (map name_text (distinct_names (rules_of t.machine))) t.letters
 
--- a name whose number is that of a state of a table, which has at most 8,000
+-- a name whose number may be that of a state of a table
 abbrev pub IsSmall : Name → Type 0
-IsSmall (Own s) = s < 8000
+IsSmall (Own s) = s < most_states
 IsSmall other = Unit {0}
 
 -- a rule whose entry can be written with these letters

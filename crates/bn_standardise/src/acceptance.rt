@@ -3,6 +3,7 @@
 ghost use Rattle.std.specs.Prelude.{◌≡◌, ◌↔◌, ◌<◌, ◌≤◌, ◌^◌, IsTrue, MatchOption, IfErr, OnOk, length};
 ghost use Rattle.bn_machine.specs.Machine.{final_of};
 ghost use Rattle.bn_standard.specs.Standard.{IsUnambiguous};
+ghost use Rattle.bn_standardise.specs.Limits.{most_quints, most_symbols};
 ghost use Rattle.bn_standardise.specs.Standardised.{HasNoHalting};
 ghost use Rattle.bn_standardise.specs.Refusals.{IsAccepted, IsLeastHalting};
 ghost use Rattle.bn_standardise.specs.Refusals.{IsLooseRefusal, IsRepeatRefusal};
@@ -12,8 +13,8 @@ use bn_machine::{Machine, Quint};
 use bn_standard::{Why, check};
 use std::alloc::Global;
 
-/// The most quintuples of the machine in standard form, as many as a table may have.
-pub const MOST_QUINTUPLES: u32 = 4_000;
+// The most quintuples of the machine in standard form, as many as a table may have.
+const MOST_QUINTUPLES: u32 = 4_000;
 
 // Whether no two quintuples share state and scanned symbol: this is the first demand of standard form, so the test of
 // standard form tells where it isn't met. What the other demands come to says nothing here.
@@ -51,8 +52,8 @@ fn first_halting(quints: &[Quint], halt: u32) -> Option<u32>
 
 /// Tests the machine: `Repeat` comes before `Halting`, and `Halting` before `Many`.
 pub(crate) fn accept(alloc: Global, machine: &Machine) -> Result<(), LooseRefusal>
-    requires few { length machine.now.quints ≤ 4000 }
-    requires letters { machine.now.symbols ≤ 91 }
+    requires few { length machine.now.quints ≤ most_quints }
+    requires letters { machine.now.symbols ≤ most_symbols }
     ensures ok { OnOk result (IsAccepted machine.now) }
     ensures refused { IfErr result (IsLooseRefusal machine.now) }
 {

@@ -2,6 +2,7 @@
 
 ghost use Rattle.std.specs.Prelude.{◌≡◌, ◌≤◌, IfOk, IfErr, OnOk, length};
 ghost use Rattle.bn_standard.specs.Standard.{IsStandard};
+ghost use Rattle.bn_standardise.specs.Limits.{most_quints, most_symbols};
 ghost use Rattle.bn_standardise.specs.Standardised.{standardised};
 ghost use Rattle.bn_standardise.specs.Refusals.{IsAccepted, IsLooseRefusal};
 
@@ -34,8 +35,8 @@ fn build(alloc: Global, machine: &Machine) -> Result<Machine, NoMemory>
 /// where a quintuple leaves the halting state, else `Many` exactly where the list would have more than 4,000
 /// quintuples.
 pub fn standardise(alloc: Global, machine: &Machine) -> Result<Machine, LooseRefusal>
-    requires few { length machine.now.quints ≤ 4000 }
-    requires letters { machine.now.symbols ≤ 91 }
+    requires few { length machine.now.quints ≤ most_quints }
+    requires letters { machine.now.symbols ≤ most_symbols }
     ensures made { IfOk result (λ made. made ≡ standardised machine.now) }
     ensures standard { OnOk result (IsStandard (standardised machine.now).quints) }
     ensures accepted { OnOk result (IsAccepted machine.now) }
