@@ -20,3 +20,5 @@ mod machines;
 mod quadruples;
 #[cfg(test)]
 mod reversed;
+#[cfg(test)]
+mod standard;

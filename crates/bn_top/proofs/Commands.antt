@@ -6,7 +6,7 @@ use Rattle.bn_machine.specs.Outcome.{Limits}
 use Rattle.bn_words.specs.Forms.{most_limit, most_number, row_of}
 use Rattle.bn_words.specs.Requests.{AreWithin, HasForm, Request, letters_at, number_at}
 use Rattle.bn_words.specs.declared.form.Form.{Form}
-use Rattle.bn_words.specs.declared.form.Form.TheVariants.{Step, Back, Check, Machine, Reversible, Bennett, Realise}
+use Rattle.bn_words.specs.declared.form.Form.TheVariants.{Step, Back, Check, Machine, Reversible, Bennett, Realise, Standard}
 use Rattle.bn_words.specs.declared.form.Form.TheVariants.{Compile, Run, RunWithin}
 use Rattle.bn_words.specs.declared.kind.Kind.{Kind}
 use Rattle.bn_words.specs.declared.kind.Kind.TheVariants.{Count, Ordinal}
@@ -21,6 +21,8 @@ use Rattle.bn_netreply.specs.CircuitReply.{BackReplies, StepReplies}
 use Rattle.bn_netreply.specs.RealiseReply.{RealiseReplies}
 use Rattle.bn_netreply.proofs.CircuitLemmas.{back_settled, step_settled}
 use Rattle.bn_netreply.proofs.RealiseLemmas.{realise_settled}
+use Rattle.bn_standardreply.specs.StandardReply.{StandardTableReplies}
+use Rattle.bn_standardreply.proofs.StandardLemmas.{standard_settled}
 use Rattle.bn_tablereply.specs.BennettReply.{BennettReplies}
 use Rattle.bn_tablereply.specs.CheckReply.{CheckReplies}
 use Rattle.bn_tablereply.specs.MachineReply.{MachineReplies}
@@ -56,6 +58,7 @@ settled_by Check request within = check_settled
 settled_by Machine request within = machine_settled (letters_at request 0) (number_at request 1)
 settled_by Reversible request within = reversible_settled
 settled_by Bennett request within = bennett_settled
+settled_by Standard request within = standard_settled
 settled_by Realise request within = λ bytes.
     let kinds = (row_of Realise).kinds in
     let least : (n : ℕ) → slice_get kinds n ≡ Some (Ordinal most_number) → 1 ≤ number_at request n =
@@ -110,6 +113,9 @@ module _ (request : Request) (form : Form) (of : form ≡ request.form) (bytes :
 
     pub bennett_reply : form ≡ Bennett → Silent result (BennettReplies bytes) → Replied result told told (Replies request bytes)
     bennett_reply is h = silent_by Bennett is h
+
+    pub standard_reply : form ≡ Standard → Silent result (StandardTableReplies bytes) → Replied result told told (Replies request bytes)
+    standard_reply is h = silent_by Standard is h
 
     pub realise_reply : (q i : ℕ) → form ≡ Realise → q ≡ number_at request 0 → i ≡ number_at request 1 →
         Silent result (RealiseReplies q i bytes) → Replied result told told (Replies request bytes)
@@ -184,6 +190,7 @@ pub ruleset replies = (
   reversible_reply,
   bennett_reply,
   realise_reply,
+  standard_reply,
   compile_reply,
   run_reply,
   run_part,

@@ -5,13 +5,14 @@ use Rattle.bn_theory.specs.declared.place.Place.{Place}
 use Rattle.bn_machine.specs.Outcome.{Limits}
 use Rattle.bn_words.specs.Requests.{Request, HasForm, HasNoForm, letters_at, number_at}
 use Rattle.bn_words.specs.declared.form.Form.{Form}
-use Rattle.bn_words.specs.declared.form.Form.TheVariants.{Step, Back, Check, Machine, Reversible, Bennett, Realise}
+use Rattle.bn_words.specs.declared.form.Form.TheVariants.{Step, Back, Check, Machine, Reversible, Bennett, Realise, Standard}
 use Rattle.bn_words.specs.declared.form.Form.TheVariants.{Compile, Run, RunWithin}
 use Rattle.bn_boardanswers.specs.CompileReply.{CompileReplies}
 use Rattle.bn_boardanswers.specs.Headline.{most_bytes}
 use Rattle.bn_boardanswers.specs.RunReply.{RunReplies}
 use Rattle.bn_netreply.specs.CircuitReply.{BackReplies, StepReplies}
 use Rattle.bn_netreply.specs.RealiseReply.{RealiseReplies}
+use Rattle.bn_standardreply.specs.StandardReply.{StandardTableReplies}
 use Rattle.bn_tablereply.specs.BennettReply.{BennettReplies}
 use Rattle.bn_tablereply.specs.CheckReply.{CheckReplies}
 use Rattle.bn_tablereply.specs.MachineReply.{MachineReplies}
@@ -59,6 +60,7 @@ RepliesBy Machine request = MachineReplies (letters_at request 0) (number_at req
 RepliesBy Reversible request = ReversibleReplies
 RepliesBy Bennett request = BennettReplies
 RepliesBy Realise request = RealiseReplies (number_at request 0) (number_at request 1)
+RepliesBy Standard request = StandardTableReplies
 RepliesBy Compile request = CompileReplies (letters_at request 0) (limits_at request)
 RepliesBy Run request = RunReplies None (letters_at request 0) (limits_at request)
 RepliesBy RunWithin request = RunReplies (Some (number_at request 5)) (letters_at request 0) (limits_at request)

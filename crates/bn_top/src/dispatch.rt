@@ -10,6 +10,7 @@ use bn_boardreply::{reply_compile, reply_run};
 use bn_net::Watch;
 use bn_netreply::{reply_back, reply_realise, reply_step};
 use bn_reply::{NoMemory, Reply};
+use bn_standardreply::reply_standard;
 use bn_tablereply::{reply_bennett, reply_check, reply_machine, reply_reversible};
 use bn_words::{Form, Request};
 use std::alloc::Global;
@@ -40,6 +41,7 @@ pub(crate) fn reply_to<W: Watch>(
             request.number(1) as u32,
             bytes,
         ),
+        Form::Standard => reply_standard(alloc, bytes),
         Form::Compile => reply_compile(alloc, request.letters(0), &windows_of(request), bytes),
         Form::Run => reply_run(
             alloc,

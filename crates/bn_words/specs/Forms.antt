@@ -4,7 +4,7 @@ use Rattle.bn_base.specs.Number.{greatest}
 use Rattle.bn_words.specs.declared.kind.Kind.{Kind}
 use Rattle.bn_words.specs.declared.kind.Kind.TheVariants.{Count, Ordinal, Letters}
 use Rattle.bn_words.specs.declared.form.Form.{Form}
-use Rattle.bn_words.specs.declared.form.Form.TheVariants.{Step, Back, Check, Machine, Reversible, Bennett, Realise}
+use Rattle.bn_words.specs.declared.form.Form.TheVariants.{Step, Back, Check, Machine, Reversible, Bennett, Realise, Standard}
 use Rattle.bn_words.specs.declared.form.Form.TheVariants.{Compile, Run, RunWithin}
 
 -- a row: the command's name, and the kinds of the words behind it
@@ -35,6 +35,7 @@ row_of Machine = row (codes "machine") (Letters ∷ Count most_number ∷ [])
 row_of Reversible = row (codes "reversible") []
 row_of Bennett = row (codes "bennett") []
 row_of Realise = row (codes "realise") (Ordinal most_number ∷ Ordinal most_number ∷ [])
+row_of Standard = row (codes "standard") []
 row_of Compile = row (codes "compile") (window_kinds [])
 row_of Run = row (codes "run") (window_kinds [])
 row_of RunWithin = row (codes "run") (window_kinds (Count greatest ∷ []))

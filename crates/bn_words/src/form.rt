@@ -51,6 +51,8 @@ pub enum Form {
     Bennett,
     /// `realise Q I`: the text of a bank in state Q with the signal at line I.
     Realise,
+    /// `standard`: a machine that starts on the first letter, brought into standard form.
+    Standard,
     /// `compile =W l1 r1 n r3`: the text of the board of a machine and the word W in a window. Tape 1 reaches from -l1
     /// to r1, the history holds n steps, and the output tape reaches from 0 to r3.
     Compile,
@@ -69,7 +71,7 @@ pub(crate) struct Row {
 
 impl Form {
     /// All forms.
-    pub const ALL: [Form; 10] = [
+    pub const ALL: [Form; 11] = [
         Form::Step,
         Form::Back,
         Form::Check,
@@ -77,6 +79,7 @@ impl Form {
         Form::Reversible,
         Form::Bennett,
         Form::Realise,
+        Form::Standard,
         Form::Compile,
         Form::Run,
         Form::RunWithin,
@@ -95,6 +98,7 @@ impl Form {
             Form::Reversible => Row::new("reversible", &[]),
             Form::Bennett => Row::new("bennett", &[]),
             Form::Realise => Row::new("realise", &[Ordinal(MOST_NUMBER), Ordinal(MOST_NUMBER)]),
+            Form::Standard => Row::new("standard", &[]),
             Form::Compile => Row::new("compile", &WINDOW),
             Form::Run => Row::new("run", &WINDOW),
             Form::RunWithin => Row::new("run", &WINDOW_AND_STEPS),

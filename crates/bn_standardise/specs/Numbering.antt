@@ -1,0 +1,40 @@
+-- Numbers for the states' names, by first appearance.
+use Rattle.std.specs.Prelude.{ℕ, suc, Bool, true, false, ◌==◌, cond, List, [], ◌∷◌, ◌++◌, length, if◌then◌else◌}
+use Rattle.std.specs.List.{list_any}
+use Rattle.bn_entries.specs.Numbering.{firsts_by}
+use Rattle.bn_standardise.specs.declared.name.Name.{Name}
+use Rattle.bn_standardise.specs.declared.name.Name.TheVariants.{First, Own, Last}
+use Rattle.bn_standardise.specs.declared.rule.Rule.{Rule}
+
+-- whether two names are one
+abbrev pub is_same : Name → Name → Bool
+is_same First First = true
+is_same (Own s) (Own t) = s == t
+is_same Last Last = true
+is_same a b = false
+
+-- the names in the order in which they appear: in each rule its state, then its next
+abbrev pub names_of : List Rule → List Name
+names_of [] = []
+names_of (r ∷ rs) = r.state ∷ r.next ∷ names_of rs
+
+-- the distinct names, each at its number
+abbrev pub distinct_names : List Rule → List Name
+distinct_names rs = firsts_by is_same (names_of rs)
+
+-- these names and, where it is new, one more at the end
+abbrev pub with_name : List Name → Name → List Name
+with_name names name = if list_any (is_same name) names then names else names ++ name ∷ []
+
+-- the place of a name among others, counted from 0
+abbrev pub place_of : List Name → Name → ℕ
+place_of [] n = 0
+place_of (m ∷ ms) n = cond (is_same m n) 0 (suc (place_of ms n))
+
+-- the number of a name by first appearance in the rules
+abbrev pub number_of : List Rule → Name → ℕ
+number_of rs n = place_of (distinct_names rs) n
+
+-- how many states the rules have
+abbrev pub states_of : List Rule → ℕ
+states_of rs = length (distinct_names rs)

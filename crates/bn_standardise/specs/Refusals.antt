@@ -1,0 +1,38 @@
+-- Which machines are accepted, and why the others aren't (this project's own profile).
+use Rattle.std.specs.Prelude.{◌≡◌, ℕ, ◌+◌, ◌<◌, ◌≤◌, List, length, ⊤}
+use Rattle.bn_machine.specs.Machine.{Program}
+use Rattle.bn_machine.specs.declared.quint.Quint.{Quint}
+use Rattle.bn_standard.specs.Standard.{IsUnambiguous}
+use Rattle.bn_standard.specs.Verdict.{IsLeastRepeat}
+use Rattle.bn_standardise.specs.Limits.{most_quints}
+use Rattle.bn_standardise.specs.Standardised.{IsLoose, LeavesHalting}
+use Rattle.bn_standardise.specs.declared.refusal.LooseRefusal.{LooseRefusal}
+use Rattle.bn_standardise.specs.declared.refusal.LooseRefusal.TheVariants.{Repeat, Halting, Many, NoMemory}
+
+-- i is the least quintuple that leaves the halting state
+pub record IsLeastHalting (qs : List Quint) (i : ℕ) : Type 0 where
+  pub leaves : LeavesHalting qs i
+  pub least : (m : ℕ) → m < i → LeavesHalting qs m → ⊥
+
+-- how many quintuples the machine in standard form has: those of the machine, one for each symbol, and one more
+abbrev pub count_of : Program → ℕ
+count_of p = length p.quints + p.symbols + 1
+
+-- A machine that is accepted: it has an equivalent one in standard form, which has at most as many quintuples as a
+-- table may have.
+pub record IsAccepted (p : Program) : Type 0 where
+  pub loose : IsLoose p
+  pub few : count_of p ≤ most_quints
+
+-- When each refusal comes: all tests before its own are passed. Want of memory is free.
+abbrev pub IsLooseRefusal : Program → LooseRefusal → Type 0
+IsLooseRefusal p (Repeat i j) = IsLeastRepeat p.quints i j
+IsLooseRefusal p (Halting i) = IsUnambiguous p.quints × IsLeastHalting p.quints i
+IsLooseRefusal p (Many count) = IsLoose p × (count ≡ count_of p) × (most_quints < count)
+IsLooseRefusal p NoMemory = ⊤
+
+-- why the first test isn't passed
+abbrev pub IsRepeatRefusal : List Quint → LooseRefusal → Type 0
+IsRepeatRefusal qs (Repeat i j) = IsLeastRepeat qs i j
+IsRepeatRefusal qs NoMemory = ⊤
+IsRepeatRefusal qs other = ⊥

@@ -1,0 +1,70 @@
+//! The tests of a machine that is to be brought into standard form.
+
+ghost use Rattle.std.specs.Prelude.{◌≡◌, ◌↔◌, ◌<◌, ◌≤◌, ◌^◌, IsTrue, MatchOption, IfErr, OnOk, length};
+ghost use Rattle.bn_machine.specs.Machine.{final_of};
+ghost use Rattle.bn_standard.specs.Standard.{IsUnambiguous};
+ghost use Rattle.bn_standardise.specs.Limits.{most_quints, most_symbols};
+ghost use Rattle.bn_standardise.specs.Standardised.{HasNoHalting};
+ghost use Rattle.bn_standardise.specs.Refusals.{IsAccepted, IsLeastHalting};
+ghost use Rattle.bn_standardise.specs.Refusals.{IsLooseRefusal, IsRepeatRefusal};
+
+use crate::refusal::LooseRefusal;
+use bn_machine::{Machine, Quint};
+use bn_standard::{Why, check};
+use std::alloc::Global;
+
+// The most quintuples of the machine in standard form, as many as a table may have.
+const MOST_QUINTUPLES: u32 = 4_000;
+
+// Whether no two quintuples share state and scanned symbol: this is the first demand of standard form, so the test of
+// standard form tells where it isn't met. What the other demands come to says nothing here.
+fn test_repeats(alloc: Global, machine: &Machine) -> Result<(), LooseRefusal>
+    ensures ok { OnOk result (IsUnambiguous machine.now.quints) }
+    ensures refused { IfErr result (IsRepeatRefusal machine.now.quints) }
+{
+    match check(alloc, machine) {
+        Err(Why::Repeat { i, j }) => Err(LooseRefusal::Repeat { i, j }),
+        Err(Why::NoMemory) => Err(LooseRefusal::NoMemory),
+        _ => Ok(()),
+    }
+}
+
+// Whether the quintuple leaves this state.
+fn leaves(quint: &Quint, state: u32) -> bool
+    ensures { IsTrue result ↔ (quint.now.state ≡ state) }
+{
+    quint.state == state
+}
+
+// The least quintuple that leaves the halting state.
+fn first_halting(quints: &[Quint], halt: u32) -> Option<u32>
+    requires few { length quints.now < 2 ^ 32 }
+    requires state { halt ≡ final_of quints.now }
+    ensures { MatchOption result (HasNoHalting quints.now) (IsLeastHalting quints.now) }
+{
+    for (index, quint) in quints.iter().enumerate() {
+        if leaves(quint, halt) {
+            return Some(index as u32 + 1);
+        }
+    }
+    None
+}
+
+/// Tests the machine: `Repeat` comes before `Halting`, and `Halting` before `Many`.
+pub(crate) fn accept(alloc: Global, machine: &Machine) -> Result<(), LooseRefusal>
+    requires few { length machine.now.quints ≤ most_quints }
+    requires letters { machine.now.symbols ≤ most_symbols }
+    ensures ok { OnOk result (IsAccepted machine.now) }
+    ensures refused { IfErr result (IsLooseRefusal machine.now) }
+{
+    test_repeats(alloc, machine)?;
+    let quints = machine.quints();
+    if let Some(i) = first_halting(quints, machine.final_state()) {
+        return Err(LooseRefusal::Halting { i });
+    }
+    let count = quints.len() as u32 + machine.symbols() + 1;
+    if count > MOST_QUINTUPLES {
+        return Err(LooseRefusal::Many { count });
+    }
+    Ok(())
+}

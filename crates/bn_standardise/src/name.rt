@@ -1,0 +1,54 @@
+//! The states of the machine in standard form, by name.
+
+ghost use Rattle.std.specs.Prelude.{◌≡◌, ◌∷◌, [], IfOk};
+ghost use Rattle.bn_standardise.specs.Printed.{name_text};
+
+use bn_base::push_u64;
+use bn_entries::NoMemory;
+use std::alloc::Global;
+
+/// A state of the machine in standard form.
+#[derive(Clone, Copy, PartialEq, Eq, Hash, Debug)]
+pub enum Name {
+    /// The new start state, with the head on the blank before the word. Printed `I`.
+    First,
+    /// A state of the machine's own, counted from 0. State s is printed `Q` and s + 1.
+    Own(u32),
+    /// The new final state. Printed `O`.
+    Last,
+}
+
+// The text of a name that has a number.
+fn own_text(alloc: Global, state: u32) -> Result<Vec<u8>, NoMemory>
+    ensures { IfOk result (λ text. text.items ≡ name_text (Name.Own state)) }
+{
+    let mut text = Vec::new(alloc);
+    if text.push(b'Q').is_err() {
+        return Err(NoMemory);
+    }
+    match push_u64(&mut text, u64::from(state) + 1) {
+        Ok(()) => Ok(text),
+        Err(_) => Err(NoMemory),
+    }
+}
+
+// The text of a name without a number.
+fn letter_text(alloc: Global, letter: u8) -> Result<Vec<u8>, NoMemory>
+    ensures { IfOk result (λ text. text.items ≡ letter ∷ []) }
+{
+    match Vec::from_slice(alloc, &[letter]) {
+        Ok(text) => Ok(text),
+        Err(_) => Err(NoMemory),
+    }
+}
+
+/// The printed text of a name.
+pub(crate) fn text_of(alloc: Global, name: Name) -> Result<Vec<u8>, NoMemory>
+    ensures { IfOk result (λ text. text.items ≡ name_text name) }
+{
+    match name {
+        Name::First => letter_text(alloc, b'I'),
+        Name::Own(state) => own_text(alloc, state),
+        Name::Last => letter_text(alloc, b'O'),
+    }
+}
