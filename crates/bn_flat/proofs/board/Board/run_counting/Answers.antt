@@ -25,12 +25,12 @@ loop-made-preserved g c =
 pub returns : goal.returns
 returns g c =
     let all = counted_all c.args.self.now c.loop-made.self c.loop-made.made c.loop-made.moments c.args.e (g.W.Watch.told c.args.watch.now)
-        (g.W.Watch.told c.loop-made.watch) c.loop-made.invariant c.loop-made.auto.made-end (λ fewer. absurd (let h = c.loop-made-test.false in omega arith)) in
+    (g.W.Watch.told c.loop-made.watch) c.loop-made.invariant c.loop-made.auto.made-end (λ fewer. absurd (let h = c.loop-made-test.false in omega arith)) in
     record { moments = all.counted; run = all.ran; same = c.loop-made.invariant.same; told = all.told }
 
 pub returns-then-not-step : goal.returns-then-not-step
 returns-then-not-step g c =
     let step = c.if-not-step.ensures in
     let all = counted_ended c.args.self.now c.loop-made.self c.step.new.self c.loop-made.made c.loop-made.moments c.args.e (g.W.Watch.told c.args.watch.now)
-        (g.W.Watch.told c.loop-made.watch) c.loop-made.invariant c.loop-made.auto.made-end step.kept step.stuck in
+    (g.W.Watch.told c.loop-made.watch) c.loop-made.invariant c.loop-made.auto.made-end step.kept step.stuck in
     record { moments = all.tallied.counted; run = all.tallied.ran; same = all.same; told = all.tallied.told }
