@@ -35,7 +35,8 @@ abbrev pub end_by : Flattened → Option ℕ → Config
 end_by b given = run (rotary_circuit b.net) b.config (steps_for b.layout given)
 
 -- the run of f by an exit and by the moments that its layout finds
-pub record TellsFound (given : Option ℕ) (t : Named) (f : Flat) (status : Status) (text : List ℕ) (told : List Place) : Type 0 where
+pub record TellsFound (given : Option ℕ) (t : Named) (f : Flat) (status : Status) (text : List ℕ)
+    (told : List Place) : Type 0 where
   pub exit : Exit
   pub is_exit : IsExit f.layout (reached f given).place exit
   pub status_is : status ≡ status_of exit
@@ -43,6 +44,7 @@ pub record TellsFound (given : Option ℕ) (t : Named) (f : Flat) (status : Stat
   pub told_is : told ≡ places f.circuit (budget f given) (flat_start f)
 
 -- the reply of a command, or none for want of memory, and what a watch has heard then
-pub record IsAnswered (replies : Status → List ℕ → List Place → Type 0) (result : Result Reply NoMemory) (told heard : Option (List Place)) : Type 0 where
+pub record IsAnswered (replies : Status → List ℕ → List Place → Type 0) (result : Result Reply NoMemory)
+    (told heard : Option (List Place)) : Type 0 where
   pub replied : IfOk result (λ r. IsReplied replies r told heard)
   pub interrupted : OnErr result (IsUnfinished replies told heard)

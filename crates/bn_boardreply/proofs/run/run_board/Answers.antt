@@ -26,10 +26,10 @@ run_text-requires-clause-three g c = ap (λ (x : Layout). letters_at x 3) c.run_
 pub returns-in-Ok : goal.returns-in-Ok
 returns-in-Ok g c = λ f start.
     let ran = board_ran c.args.given f c.args.translated.now c.args.board.now start c.run_counting-moments.new.self c.budget_of-budget.result
-        c.run_counting-moments.result (one_if (is_some c.moment-first.result)) c.exit_of-exit.result c.less_one-quadruple_steps.result
-        (g.W.Watch.told c.args.watch.now) (g.W.Watch.told c.run_counting-moments.new.watch) c.budget_of-budget.ensures c.run_counting-moments.ensures.same
-        c.run_counting-moments.ensures.run c.run_counting-moments.ensures.moments (ap (λ o. one_if (is_some o)) c.moment-first.ensures)
-        c.less_one-quadruple_steps.ensures c.exit_of-exit.ensures c.run_counting-moments.ensures.told in
+    c.run_counting-moments.result (one_if (is_some c.moment-first.result)) c.exit_of-exit.result c.less_one-quadruple_steps.result
+    (g.W.Watch.told c.args.watch.now) (g.W.Watch.told c.run_counting-moments.new.watch) c.budget_of-budget.ensures c.run_counting-moments.ensures.same
+    c.run_counting-moments.ensures.run c.run_counting-moments.ensures.moments (ap (λ o. one_if (is_some o)) c.moment-first.ensures)
+    c.less_one-quadruple_steps.ensures c.exit_of-exit.ensures c.run_counting-moments.ensures.told in
     answered_told (TellsFound c.args.given c.args.table.now f) (record { text = c.in-Ok.text; status = c.status_of.result })
     (places f.circuit (budget f c.args.given) (flat_start f)) (g.W.Watch.told c.args.watch.now) (g.W.Watch.told c.run_counting-moments.new.watch)
     (ran_tells c.args.given f c.args.translated.now c.args.board.now start c.args.table.now c.run_counting-moments.new.self c.exit_of-exit.result
@@ -40,10 +40,10 @@ returns-in-Ok g c = λ f start.
 pub returns-in-Err : goal.returns-in-Err
 returns-in-Err g c = λ f start.
     let ran = board_ran c.args.given f c.args.translated.now c.args.board.now start c.run_counting-moments.new.self c.budget_of-budget.result
-        c.run_counting-moments.result (one_if (is_some c.moment-first.result)) c.exit_of-exit.result c.less_one-quadruple_steps.result
-        (g.W.Watch.told c.args.watch.now) (g.W.Watch.told c.run_counting-moments.new.watch) c.budget_of-budget.ensures c.run_counting-moments.ensures.same
-        c.run_counting-moments.ensures.run c.run_counting-moments.ensures.moments (ap (λ o. one_if (is_some o)) c.moment-first.ensures)
-        c.less_one-quadruple_steps.ensures c.exit_of-exit.ensures c.run_counting-moments.ensures.told in
+    c.run_counting-moments.result (one_if (is_some c.moment-first.result)) c.exit_of-exit.result c.less_one-quadruple_steps.result
+    (g.W.Watch.told c.args.watch.now) (g.W.Watch.told c.run_counting-moments.new.watch) c.budget_of-budget.ensures c.run_counting-moments.ensures.same
+    c.run_counting-moments.ensures.run c.run_counting-moments.ensures.moments (ap (λ o. one_if (is_some o)) c.moment-first.ensures)
+    c.less_one-quadruple_steps.ensures c.exit_of-exit.ensures c.run_counting-moments.ensures.told in
     answered_late (TellsFound c.args.given c.args.table.now f) (record {}) (status_of c.exit_of-exit.result)
     (found_text c.args.given c.args.table.now f c.exit_of-exit.result) (places f.circuit (budget f c.args.given) (flat_start f))
     (g.W.Watch.told c.args.watch.now) (g.W.Watch.told c.run_counting-moments.new.watch)

@@ -50,7 +50,7 @@ returns-in-Ok-Made g c =
     let made = subst (IsOpenedBoard t.machine l symbols) c.in-Ok-Made.field-0-is c.in-Ok-Made.ensures in
     let f : Flat = made.0 in
     let accepted : IsAccepted t.machine symbols l f = accepts t l symbols c.in-Ok-Made.translated c.in-Ok-Made.board c.tables_are_machines.ensures
-        c.machine-machine.ensures.valid c.requires.fit c.requires.windows c.requires.symbols made in
+    c.machine-machine.ensures.valid c.requires.fit c.requires.windows c.requires.symbols made in
     answered_as (TellsFound c.args.given t f) (BoardReplies (TellsRun c.args.given t) t.machine l symbols)
     (made_replies c.args.given t l symbols f c.in-Ok-Made.translated c.in-Ok-Made.board made.1 accepted c.exits_are_named.ensures c.moments_are_counted.ensures)
     c.run_board.result (g.W.Watch.told c.args.watch.now) (g.W.Watch.told c.run_board.new.watch)
