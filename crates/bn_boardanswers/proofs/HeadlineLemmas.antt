@@ -67,6 +67,8 @@ module _ (machines : TablesAreMachines) (ones : FlatsAreOne) (counted : BoardsAr
         flat = f;
         comes = comes;
         counted = λ g holds. counted.0 t.machine l (size g.network.tables) count (counted.1 t.machine symbols l g holds.flat) on.counts;
+        runs = λ g holds. boards t.machine symbols l g holds.flat
+            (given_accepted machines bytes letters l t symbols g on.given holds) i o on.outcome;
         tells = λ g holds. given_tells number bytes letters l t symbols count i o g status text told on holds
             (boards-tell_alike machines ones bytes letters l t symbols f g number status text told on.given comes holds tells);
       }

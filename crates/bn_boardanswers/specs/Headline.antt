@@ -14,6 +14,7 @@ use Rattle.bn_layout.specs.declared.exit.Exit.TheVariants as exit
 use Rattle.bn_layout.specs.Layouts.{config_tape}
 use Rattle.bn_layout.specs.Flats.{Flat}
 use Rattle.bn_headline.specs.Costs.{HasCost, bound_of}
+use Rattle.bn_headline.specs.Headline.{RunsToExit}
 use Rattle.bn_reply.specs.Lines.{line}
 use Rattle.bn_reply.specs.TableReply.{ReadsStandard}
 use Rattle.bn_reply.specs.Words.{IsSpelledBy}
@@ -103,7 +104,7 @@ pub record ComesOutOn (bytes letters : List ℕ) (l : Limits) (t : Named) (symbo
 -- ---- the headline
 
 -- The sink took a text. The machine, the word and the limits have a board; and of every board that they have, which is
--- of so many elements, the text tells this.
+-- of so many elements, its signal comes in exactly its cost to the exit of this outcome, and the text tells this.
 pub record TookOutcome (given : Option ℕ) (t : Named) (l : Limits) (symbols : List ℕ) (count i : ℕ) (o : Outcome)
     (status : Status) (taken took : Option (List ℕ)) : Type 0 where
   pub text : List ℕ
@@ -111,6 +112,7 @@ pub record TookOutcome (given : Option ℕ) (t : Named) (l : Limits) (symbols : 
   pub flat : Flat
   pub comes : ComesTo t.machine l symbols flat
   pub counted : (f : Flat) → ComesTo t.machine l symbols f → size f.network.tables ≡ count
+  pub runs : (f : Flat) → ComesTo t.machine l symbols f → RunsToExit t.machine f i o
   pub tells : (f : Flat) → ComesTo t.machine l symbols f → Tells given t l symbols f i o status text
 
 -- the greatest number of bytes of an input: 64 MiB

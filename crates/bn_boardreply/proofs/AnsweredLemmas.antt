@@ -1,9 +1,9 @@
 -- Answers of a command by answers of a part of it, and what a watch has heard by then.
-use Rattle.std.specs.Prelude.{◌≡◌, ℕ, List, [], ◌++◌, Option, Result, Ok, Err}
+use Rattle.std.specs.Prelude.{ℕ, List, [], Option, Result, Ok, Err}
 use Rattle.std.proofs.Common.{sym, append-nil}
 use Rattle.bn_theory.specs.declared.place.Place.{Place}
 use Rattle.bn_net.specs.Watching.{Hears}
-use Rattle.bn_reply.specs.Replying.{IsReplied, IsUnfinished, untold, told_some}
+use Rattle.bn_reply.specs.Replying.{IsUnfinished, untold, told_some}
 use Rattle.bn_reply.specs.declared.reply.Reply.{Reply}
 use Rattle.bn_reply.specs.declared.reply.NoMemory.{NoMemory}
 use Rattle.bn_reply.specs.declared.status.Status.{Status}

@@ -1,6 +1,6 @@
 -- A board that was made from a machine, a word and limits: it may be compiled, and its configuration has a text.
-use Rattle.std.specs.Prelude.{◌≡◌, ◌≢◌, ◌↔◌, ℕ, ◌≤◌, List, [], All, length, replicate, Option, Some, None, refl}
-use Rattle.std.proofs.Common.{arith, sym, ap, subst, ◌∙◌}
+use Rattle.std.specs.Prelude.{◌≡◌, ◌↔◌, ℕ, List, [], All, length, replicate, Option, Some, None, refl}
+use Rattle.std.proofs.Common.{arith, sym, subst, ◌∙◌}
 use Rattle.bn_theory.specs.Circuits.{Circuit, IsCircuit, IsConfig, IsInput, IsOutput, target, source}
 use Rattle.bn_theory.specs.declared.line.Line.{Line}
 use Rattle.bn_theory.specs.declared.line.Wire.{Wire}
@@ -13,8 +13,8 @@ use Rattle.bn_table.specs.Rows.{Named}
 use Rattle.bn_bennett.specs.Translation.{Translation}
 use Rattle.bn_netlist.specs.Spelling.{Spelling, circuit_of, Admits, text_of}
 use Rattle.bn_element.specs.Rotary.{rotary}
-use Rattle.bn_boards.specs.Boards.{IsBoard, IsBoardWire, size}
-use Rattle.bn_layout.specs.Flats.{Flat, IsFlatOf, IsAccepted}
+use Rattle.bn_boards.specs.Boards.{IsBoard, IsBoardWire}
+use Rattle.bn_layout.specs.Flats.{Flat, IsAccepted}
 use Rattle.bn_flat.specs.Flattened.{Flattened, IsBoardKept}
 use Rattle.bn_reply.specs.Words.{IsLetterSymbol}
 use Rattle.bn_reply.specs.declared.status.Status.TheVariants as statuses

@@ -1,8 +1,7 @@
 -- The line of the exit to which a run comes names a state and a symbol of the table.
-use Rattle.std.specs.Prelude.{◌≡◌, ◌≢◌, ℕ, ◌<◌, ◌≤◌, ◌⊎◌, List, [], ◌∷◌, All, length, Some, slice_get, slice_index, slice_index_or, refl}
+use Rattle.std.specs.Prelude.{◌≡◌, ℕ, ◌<◌, List, [], ◌∷◌, length, slice_index_or}
 use Rattle.std.proofs.Common.{zero, suc, arith, inl, inr, sym, ap, subst, ◌∙◌}
 use Rattle.std.proofs.lemmas.Bool.{cases_lt}
-use Rattle.std.proofs.lemmas.Option.{slice_get_within}
 use Rattle.bn_theory.specs.declared.place.Place.{Place}
 use Rattle.bn_theory.specs.declared.config.Config.{Config}
 use Rattle.bn_machine.specs.Machine.{IsMachine, Moment, Program, start}
@@ -15,7 +14,7 @@ use Rattle.bn_table.specs.Rows.{Named}
 use Rattle.bn_stages.specs.declared.name.Name.{Name}
 use Rattle.bn_stages.specs.declared.name.Name.TheVariants.{Compute, GoRight}
 use Rattle.bn_bennett.specs.Meaning.{machine_state_by}
-use Rattle.bn_bennett.specs.Translation.{IsTranslation, Translation, name_of}
+use Rattle.bn_bennett.specs.Translation.{name_of}
 use Rattle.bn_bennett.specs.declared.translated.MachineState.TheVariants.{AtState}
 use Rattle.bn_layout.specs.declared.exit.Exit.{Exit}
 use Rattle.bn_layout.specs.declared.exit.Exit.TheVariants as exit

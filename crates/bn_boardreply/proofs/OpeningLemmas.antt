@@ -1,11 +1,9 @@
 -- A translation meets what is asked of a machine that is assembled, and what is assembled and flattened is the board.
-use Rattle.std.specs.Prelude.{◌≡◌, ◌≢◌, ℕ, ◌+◌, ◌*◌, ◌<◌, ◌≤◌, List, [], ◌∷◌, All, length, map, replicate, refl}
+use Rattle.std.specs.Prelude.{◌≡◌, ◌≢◌, ℕ, ◌+◌, ◌*◌, ◌<◌, ◌≤◌, List, [], ◌∷◌, All, length, refl}
 use Rattle.std.proofs.Common.{zero, suc, arith, sym, ap, subst, ◌∙◌}
 use Rattle.std.proofs.lemmas.List.{length-map, length-replicate}
-use Rattle.bn_theory.specs.Tables.{Table}
 use Rattle.bn_theory.specs.Circuits.{Circuit}
 use Rattle.bn_theory.specs.declared.line.Line.{Line}
-use Rattle.bn_theory.specs.declared.config.Config.{Config}
 use Rattle.bn_theory.specs.declared.place.Place.TheVariants.{Enter, Left}
 use Rattle.bn_element.specs.Rotary.{rotary}
 use Rattle.bn_element.specs.declared.rotary.Rotary.{Rotary}
@@ -13,24 +11,21 @@ use Rattle.bn_net.specs.Parts.{Parts}
 use Rattle.bn_column.specs.Nets.{rotary_circuit}
 use Rattle.bn_machine.specs.Machine.{Program, IsMachine}
 use Rattle.bn_machine.specs.Outcome.{Limits}
-use Rattle.bn_quad.specs.Quadruples.{Quadruples}
-use Rattle.bn_stages.specs.List.{symbols_of}
 use Rattle.bn_bennett.specs.Translation.{Translation, IsTranslation}
 use Rattle.bn_table.specs.Rows.{FitsTable, Named}
 use Rattle.bn_netlist.specs.Spelling.{most_elements}
-use Rattle.bn_modules.specs.Controls.{ControlState, IsNumbering, letters}
-use Rattle.bn_modules.specs.Networks.{elements_by, network_start}
+use Rattle.bn_modules.specs.Controls.{ControlState, letters}
+use Rattle.bn_modules.specs.Networks.{network_start}
 use Rattle.bn_control.specs.Controlled.{IsWithinLimits}
 use Rattle.bn_boards.specs.Boards.{IsBoard, size, board_start}
-use Rattle.bn_layout.specs.Layouts.{IsLayout, end_place}
-use Rattle.bn_layout.specs.Flats.{Flat, IsFlatOf, flat_start}
+use Rattle.bn_layout.specs.Layouts.{IsLayout}
+use Rattle.bn_layout.specs.Flats.{Flat, IsFlatOf}
 use Rattle.bn_layout.proofs.LetterLemmas.{some_symbols}
 use Rattle.bn_assembly.specs.Assembled as assembled
 use Rattle.bn_assembly.specs.Assembled.{Assembled, IsAssembled, IsWordOf, network_of}
-use Rattle.bn_assembly.specs.declared.make.TheConstants.{MOST_ELEMENTS}
-use Rattle.bn_flat.specs.Flattened.{Flattened, IsFlattened, IsBoardKept, end_line}
+use Rattle.bn_flat.specs.Flattened.{Flattened, IsFlattened, IsBoardKept}
 use Rattle.bn_reply.specs.Words.{IsLetterSymbol}
-use Rattle.bn_boardanswers.specs.Windows.{ComesTo, CountsElements}
+use Rattle.bn_boardanswers.specs.Windows.{CountsElements}
 use Rattle.bn_boardreply.specs.Opened.{IsMade}
 
 -- three numbers with a property have it all

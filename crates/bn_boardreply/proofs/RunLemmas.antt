@@ -1,7 +1,6 @@
 -- The run of a board at its start is what its layout tells, and what is told of the machine's board.
-use Rattle.std.specs.Prelude.{◌≡◌, ℕ, ◌+◌, ◌-◌, List, [], Option, Some, None, length, refl}
-use Rattle.std.proofs.Common.{arith, sym, ap, subst, ◌∙◌}
-use Rattle.bn_theory.specs.Circuits.{Circuit}
+use Rattle.std.specs.Prelude.{◌≡◌, ℕ, ◌+◌, ◌-◌, List, Option, Some, None, length, refl}
+use Rattle.std.proofs.Common.{sym, ap, subst, ◌∙◌}
 use Rattle.bn_theory.specs.Counting.{one_if, tally}
 use Rattle.bn_theory.specs.Stepping.{places, run}
 use Rattle.bn_theory.specs.declared.place.Place.{Place}
@@ -13,16 +12,15 @@ use Rattle.bn_machine.specs.Machine.{Program}
 use Rattle.bn_machine.specs.Outcome.{Limits}
 use Rattle.bn_table.specs.Rows.{Named}
 use Rattle.bn_bennett.specs.Translation.{Translation}
-use Rattle.bn_boards.specs.Boards.{IsBoard, size}
+use Rattle.bn_boards.specs.Boards.{IsBoard}
 use Rattle.bn_headline.specs.Costs.{bound_of}
 use Rattle.bn_layout.specs.declared.exit.Exit.{Exit}
-use Rattle.bn_layout.specs.declared.exit.Exit.TheVariants as exits_of
 use Rattle.bn_layout.specs.Layouts.{IsExit, IsNamedExit, Layout, is_moment, letters_at, moments, named, unnamed}
 use Rattle.bn_layout.specs.Flats.{Flat, IsAccepted, IsFlatOf, flat_start}
 use Rattle.bn_layout.specs.Laws.{ExitsAreOne}
 use Rattle.bn_layout.proofs.LetterLemmas.{symbols_are}
 use Rattle.bn_headline.specs.Laws.{BoardsRunToTheirExit}
-use Rattle.bn_flat.specs.Flattened.{Flattened, IsBoardKept, IsSameBoard}
+use Rattle.bn_flat.specs.Flattened.{Flattened, IsSameBoard}
 use Rattle.bn_net.specs.Watching.{Hears}
 use Rattle.bn_reply.specs.declared.status.Status.{Status}
 use Rattle.bn_boardanswers.specs.Counts.{Counts}
@@ -30,7 +28,6 @@ use Rattle.bn_boardanswers.specs.Windows.{BoardReplies, board}
 use Rattle.bn_boardanswers.specs.RunReply.{HasMoment, TellsRun, after, budget, reached, status_of}
 use Rattle.bn_boardanswers.specs.RunText.{run_text}
 use Rattle.bn_boardanswers.specs.Laws.{ExitsAreNamed, MomentsAreCounted, found_text}
-use Rattle.bn_boardanswers.proofs.RunLemmas.{named_apart, named_of}
 use Rattle.bn_boardreply.specs.Opened.{IsMade}
 use Rattle.bn_boardreply.specs.Running.{IsAtStart, TellsFound, end_by, steps_for}
 use Rattle.bn_boardreply.specs.Shown.{HasNames, IsShown}

@@ -9,7 +9,7 @@ use Rattle.bn_layout.specs.declared.exit.Exit.TheVariants.{Inside, End, Stuck, W
 use Rattle.bn_layout.specs.declared.spelled.Spelled.{Spelled}
 use Rattle.bn_layout.specs.Flats.{Flat}
 use Rattle.bn_layout.specs.Layouts.{Layout, spelled_by}
-use Rattle.bn_boardanswers.specs.RunText.{elements_line, exit_line, output_from, output_line, quadruple_line, rest_text, run_text, shown_lines, steps_line, tape_lines}
+use Rattle.bn_boardanswers.specs.RunText.{elements_line, exit_line, output_from, output_line, quadruple_line, rest_text, run_text, steps_line, tape_lines}
 use Rattle.bn_boardreply.proofs.PieceLemmas.{three_pieces}
 
 -- the lines of what a board shows, and those behind the steps at an end

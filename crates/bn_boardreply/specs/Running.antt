@@ -1,12 +1,11 @@
 -- What comes of a board that runs, as the layout tells it.
-use Rattle.std.specs.Prelude.{◌≡◌, ℕ, List, [], Option, Some, None, Result, IfOk, OnErr}
+use Rattle.std.specs.Prelude.{◌≡◌, ℕ, List, Option, Some, None, Result, IfOk, OnErr}
 use Rattle.bn_theory.specs.Stepping.{run, places}
 use Rattle.bn_theory.specs.declared.place.Place.{Place}
 use Rattle.bn_theory.specs.declared.config.Config.{Config}
 use Rattle.bn_column.specs.Nets.{rotary_circuit}
 use Rattle.bn_table.specs.Rows.{Named}
 use Rattle.bn_bennett.specs.Translation.{Translation}
-use Rattle.bn_boards.specs.Boards.{size}
 use Rattle.bn_layout.specs.declared.exit.Exit.{Exit}
 use Rattle.bn_layout.specs.Layouts.{IsExit, Layout}
 use Rattle.bn_layout.specs.Flats.{Flat, flat_start}

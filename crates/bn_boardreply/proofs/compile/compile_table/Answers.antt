@@ -1,4 +1,4 @@
-use Rattle.std.proofs.Common.{rules, subst}
+use Rattle.std.proofs.Common.{subst}
 use Rattle.bn_assembly.specs.Assembled.{limits_of}
 use Rattle.bn_boardanswers.specs.Windows.{BoardReplies}
 use Rattle.bn_boardanswers.specs.CompileReply.{TellsStart}

@@ -1,12 +1,10 @@
-use Rattle.std.proofs.Common.{rules, arith, ◌≡◌, ◌≤◌, sym, subst, ap, ◌∙◌, length, refl}
+use Rattle.std.proofs.Common.{rules, ◌≤◌, sym, subst, length}
 use Rattle.bn_machine.specs.Machine.{IsMachine}
-use Rattle.bn_table.specs.Rows.{FitsTable, Named}
-use Rattle.bn_bennett.specs.Translation.{Translation, IsTranslation}
+use Rattle.bn_table.specs.Rows.{FitsTable}
+use Rattle.bn_bennett.specs.Translation.{IsTranslation}
 use Rattle.bn_assembly.specs.Assembled.{CountsElements, IsAssembled, IsRefusal, limits_of}
 use Rattle.bn_assembly.specs.declared.refusal.AssembleRefusal.TheVariants.{Elements}
-use Rattle.bn_control.specs.Controlled.{IsWithinLimits}
-use Rattle.bn_layout.specs.Flats.{Flat}
-use Rattle.bn_boardreply.specs.Opened.{IsMade, IsTooLarge, large}
+use Rattle.bn_boardreply.specs.Opened.{large}
 use Rattle.bn_boardreply.proofs.OpeningLemmas.{within_limits, word_of, counted, as_flat, is_made}
 use Rattle.bn_boardreply.proofs.opening.open_board.Goals as goal
 

@@ -3,10 +3,8 @@ use Rattle.bn_assembly.specs.Assembled.{limits_of}
 use Rattle.bn_boardanswers.specs.RunReply.{RunReplies, TellsRun}
 use Rattle.bn_boardanswers.specs.Windows.{BoardReplies}
 use Rattle.bn_reply.specs.Opened.{IsOpenedTable}
-use Rattle.bn_reply.specs.TableReply.{JudgedReplies, TableReplies, WordReplies, faulty, read}
-use Rattle.bn_boardreply.specs.Running.{IsAnswered}
+use Rattle.bn_reply.specs.TableReply.{JudgedReplies, WordReplies, faulty, read}
 use Rattle.bn_boardreply.proofs.AnsweredLemmas.{answered_as, answered_reply}
-use Rattle.bn_boardreply.proofs.run.reply_run.Given.{Over}
 use Rattle.bn_boardreply.proofs.run.reply_run.Goals as goal
 
 pub returns-in-Ok-Refused-clause-replied : goal.returns-in-Ok-Refused-clause-replied

@@ -1,15 +1,13 @@
-use Rattle.std.proofs.Common.{◌≡◌, ap, sym, refl, ◌∙◌, is_some}
+use Rattle.std.proofs.Common.{ap, ◌∙◌, is_some}
 use Rattle.bn_theory.specs.Counting.{one_if}
 use Rattle.bn_theory.specs.Stepping.{places}
-use Rattle.bn_layout.specs.Layouts.{Layout, is_moment, letters_at}
-use Rattle.bn_layout.specs.Flats.{Flat, flat_start}
-use Rattle.bn_reply.specs.declared.reply.NoMemory.{NoMemory}
+use Rattle.bn_layout.specs.Layouts.{Layout, letters_at}
+use Rattle.bn_layout.specs.Flats.{flat_start}
 use Rattle.bn_boardanswers.specs.RunReply.{budget, status_of}
 use Rattle.bn_boardanswers.specs.Laws.{found_text}
-use Rattle.bn_boardreply.specs.Running.{IsAtStart, TellsFound}
+use Rattle.bn_boardreply.specs.Running.{TellsFound}
 use Rattle.bn_boardreply.proofs.AnsweredLemmas.{answered_told, answered_late}
-use Rattle.bn_boardreply.proofs.RunLemmas.{HasRun, board_ran, found_at, ran_tells, ran_told}
-use Rattle.bn_boardreply.proofs.run.run_board.Given.{Over}
+use Rattle.bn_boardreply.proofs.RunLemmas.{board_ran, found_at, ran_tells, ran_told}
 use Rattle.bn_boardreply.proofs.run.run_board.Goals as goal
 
 pub run_text-requires-clause-names : goal.run_text-requires-clause-names

@@ -1,5 +1,4 @@
 use Rattle.std.proofs.Common.{subst}
-use Rattle.bn_machine.specs.Outcome.{Limits}
 use Rattle.bn_assembly.specs.Assembled.{limits_of}
 use Rattle.bn_layout.specs.Flats.{Flat, IsAccepted}
 use Rattle.bn_boardanswers.specs.RunReply.{TellsRun}

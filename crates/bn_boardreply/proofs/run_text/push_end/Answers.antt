@@ -1,4 +1,4 @@
-use Rattle.std.proofs.Common.{◌≡◌, ◌++◌, drop, ap, subst, ◌∙◌}
+use Rattle.std.proofs.Common.{◌++◌, drop, ap, ◌∙◌}
 use Rattle.bn_boardanswers.specs.RunText.{output_from, output_line, quadruple_line, tape_lines}
 use Rattle.bn_boardreply.proofs.PieceLemmas.{three_pieces, when_done}
 use Rattle.bn_boardreply.proofs.run_text.push_end.Goals as goal

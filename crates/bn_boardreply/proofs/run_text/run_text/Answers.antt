@@ -1,5 +1,5 @@
 use Rattle.std.proofs.Common.{◌≡◌, ◌++◌, sym, ap, ◌∙◌}
-use Rattle.bn_boardanswers.specs.RunText.{elements_line, exit_line, steps_line}
+use Rattle.bn_boardanswers.specs.RunText.{exit_line, steps_line}
 use Rattle.bn_boardreply.proofs.ShownLemmas.{line_within}
 use Rattle.bn_boardreply.proofs.RunTextLemmas.{run_joined}
 use Rattle.bn_boardreply.proofs.run_text.run_text.Goals as goal

@@ -1,4 +1,4 @@
-use Rattle.std.proofs.Common.{rules, ◌≡◌, ◌++◌, ◌∷◌, [], None, Some, get_or, refl, sym, subst}
+use Rattle.std.proofs.Common.{rules, ◌≡◌, ◌++◌, ◌∷◌, [], None, get_or, refl, sym, subst}
 use Rattle.bn_boardreply.proofs.CellTextLemmas.{IsNoLetter, shows_none, shows_blank, symbol_found, none_behind, output_ended}
 use Rattle.bn_boardreply.proofs.tape_text.output_of.Goals as goal
 use Rattle.bn_boardreply.proofs.tape_text.output_of.Goals.{in_default-via-in-Some+else-symbol-ne0, in_default-via-in_default}
