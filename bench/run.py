@@ -1,0 +1,94 @@
+#!/usr/bin/env python3
+"""Times `compile` and `run` beside a bare run of the same circuit by `step`. It proves nothing and is no part of rt ci.
+
+Usage: bench/run.py [PROGRAM]
+PROGRAM is the built program, as for bench.py. The machine increments a binary number k times, one time after another, on
+the word 1011 with a history just as long as it needs. The loop of `run` is the time of a whole run less that of a run of
+no steps; that of `step`, on the compiled text, likewise. All times are of the processor, the best of three.
+"""
+import os
+import subprocess
+import sys
+import tempfile
+
+sys.dont_write_bytecode = True
+from bench import TOP
+
+
+def increments(rounds):
+    """The table of quintuples of a machine that goes over its word, adds one and comes back, so many times."""
+    entries = ["S,_,_,+,R1"]
+    for number in range(1, rounds + 1):
+        right, carry, left = f"R{number}", f"P{number}", f"L{number}"
+        after = f"+,R{number + 1}" if number < rounds else "0,F"
+        entries += [
+            f"{right},0,0,+,{right}", f"{right},1,1,+,{right}", f"{right},_,_,-,{carry}",
+            f"{carry},1,0,-,{carry}", f"{carry},0,1,-,{left}", f"{carry},_,1,-,{left}",
+            f"{left},0,0,-,{left}", f"{left},1,1,-,{left}", f"{left},_,_,{after}",
+        ]
+    return ("\n".join(entries) + "\n").encode()
+
+
+def once(program, words, text, wanted):
+    """Seconds of the processor, peak memory in bytes, and the output of one run with this status."""
+    with tempfile.TemporaryFile() as source, tempfile.TemporaryFile() as sink:
+        source.write(text)
+        source.seek(0)
+        child = subprocess.Popen([program, *words], stdin=source, stdout=sink)
+        _, status, usage = os.wait4(child.pid, 0)
+        child.returncode = os.waitstatus_to_exitcode(status)
+        sink.seek(0)
+        out = sink.read()
+    if child.returncode != wanted:
+        sys.exit(f"{' '.join(words)}: status {child.returncode}: {out[:80]!r}")
+    return usage.ru_utime + usage.ru_stime, usage.ru_maxrss * 1024, out
+
+
+def best(program, words, text, wanted=0):
+    """The quickest of three runs."""
+    return min((once(program, words, text, wanted) for _ in range(3)), key=lambda found: found[0])
+
+
+def number_behind(word, out):
+    """The number behind a word at the beginning of a line of the answer."""
+    return next(int(line.split()[-1]) for line in out.decode().splitlines() if line.startswith(word + " "))
+
+
+def time_increments(program, rounds):
+    """A whole run, its loop, and the loop of `step` on the compiled text up to the same exit."""
+    table, words = increments(rounds), ["=1011", "0", "5", str(10 * rounds + 1), "5"]
+    whole, memory, out = best(program, ["run", *words], table)
+    elements, steps = number_behind("elements", out), number_behind("steps", out)
+    opened, _, _ = best(program, ["run", *words, "0"], table, 10)
+    _, _, compiled = best(program, ["compile", *words], table)
+    stepped, _, last = best(program, ["step", str(steps)], compiled)
+    read, _, _ = best(program, ["step", "0"], compiled)
+    assert f"\nsteps {steps}\n" in last[:200].decode() and b"\nexit end\n" in out
+    loop, bare = whole - opened, stepped - read
+    print(f"increments, k = {rounds}: {elements} elements, {steps} steps, run {whole:.2f} s,"
+          f" peak {memory / elements:.0f} bytes an element")
+    if bare > 0.05:
+        print(f"  loop of run: {steps / loop / 1e6:.0f} million steps a second; step: {steps / bare / 1e6:.0f};"
+              f" run makes {bare / loop:.2f} of its speed")
+
+
+def time_widest(program):
+    """One increment in the widest window that a circuit of 1,048,576 elements has."""
+    table, words = increments(1), ["=1011", "0", "5", "1527", "5"]
+    for command in ("compile", "run"):
+        seconds, memory, _ = best(program, [command, *words], table)
+        print(f"{command} {' '.join(words)}, 1048048 elements: {seconds:.2f} s,"
+              f" peak {memory / 1048048:.0f} bytes an element")
+
+
+def main():
+    program = sys.argv[1] if len(sys.argv) > 1 else os.path.join(TOP, "crates/bn_main/out/bn_main")
+    if not os.path.exists(program):
+        sys.exit("build the program first: cd crates/bn_main && rt run")
+    time_widest(program)
+    for rounds in range(1, 5):
+        time_increments(program, rounds)
+
+
+if __name__ == "__main__":
+    main()
