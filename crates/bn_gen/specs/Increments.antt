@@ -2,14 +2,15 @@
 -- machine in standard form.
 use Rattle.std.specs.Prelude.{ℕ, zero, suc, ◌+◌, ◌*◌, ◌-◌, ◌≤◌, ◌++◌, ◌∷◌, [], List}
 use Rattle.bn_machine.specs.Machine.{Program, program_of}
+use Rattle.bn_gen.specs.declared.machine.TheConstants.{MOST_INCREMENTS}
 use Rattle.bn_machine.specs.declared.quint.Quint.{Quint}
 use Rattle.bn_machine.specs.declared.quint.Shift.{Shift}
 use Rattle.bn_machine.specs.declared.quint.Shift.TheVariants.{Left, Stay, Right}
 
--- k is from 1 to 4
+-- there is a round, and there are not too many
 pub record IsRoundCount (k : ℕ) : Type 0 where
   pub some : 1 ≤ k
-  pub few : k ≤ 4
+  pub few : k ≤ MOST_INCREMENTS
 
 -- the symbols by number: the blank, the digit 0, the digit 1
 abbrev pub blank : ℕ

@@ -5,15 +5,15 @@ use Rattle.bn_table.specs.Rows.{FitsTable}
 use Rattle.bn_gen.specs.Increments.{IsRoundCount, incrementer}
 
 -- k increments have 9k + 1 quintuples and 3k + 2 states
-abbrev pub CountsQuintuples : Type 0
-CountsQuintuples =
+abbrev pub AreCounted : Type 0
+AreCounted =
     (k : ℕ) → IsRoundCount k
     → (length (incrementer k).quints ≡ 9 * k + 1) × ((incrementer k).states ≡ 3 * k + 2)
 
 -- the machine is in standard form
-abbrev pub IsInStandardForm : Type 0
-IsInStandardForm = (k : ℕ) → IsRoundCount k → IsStandard (incrementer k).quints
+abbrev pub AreStandard : Type 0
+AreStandard = (k : ℕ) → IsRoundCount k → IsStandard (incrementer k).quints
 
 -- it is a machine as tables have it: its states are numbered by first appearance and each of them appears
-abbrev pub FitsTables : Type 0
-FitsTables = (k : ℕ) → IsRoundCount k → FitsTable (incrementer k)
+abbrev pub FitTables : Type 0
+FitTables = (k : ℕ) → IsRoundCount k → FitsTable (incrementer k)

@@ -1,17 +1,17 @@
 //! Laws on the machine of k increments. Each function does nothing; its contract is the law.
-ghost use Rattle.bn_gen.specs.Laws.{CountsQuintuples, FitsTables, IsInStandardForm};
+ghost use Rattle.bn_gen.specs.Laws.{AreCounted, AreStandard, FitTables};
 
 /// The machine of k increments has 9k + 1 quintuples and 3k + 2 states.
-pub fn counts_quintuples()
-    ensures { CountsQuintuples }
+pub fn increments_are_counted()
+    ensures { AreCounted }
 {}
 
 /// It is in standard form.
-pub fn is_in_standard_form()
-    ensures { IsInStandardForm }
+pub fn increments_are_standard()
+    ensures { AreStandard }
 {}
 
 /// It is a machine as tables have it: its states are numbered by first appearance and each appears.
-pub fn fits_table()
-    ensures { FitsTables }
+pub fn increments_fit_tables()
+    ensures { FitTables }
 {}

@@ -8,5 +8,5 @@ mod rounds;
 mod tests;
 
 pub use bn_entries::NoMemory;
-pub use laws::{counts_quintuples, fits_table, is_in_standard_form};
-pub use machine::increments;
+pub use laws::{increments_are_counted, increments_are_standard, increments_fit_tables};
+pub use machine::{MOST_INCREMENTS, increments};

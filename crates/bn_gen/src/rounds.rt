@@ -3,6 +3,7 @@ ghost use Rattle.std.specs.Prelude.{◌≡◌, ◌≤◌, ◌-◌, ◌++◌, ◌
 ghost use Rattle.bn_gen.specs.Increments as list;
 ghost use Rattle.bn_gen.specs.Increments.{IsRoundCount};
 
+use crate::machine::MOST_INCREMENTS;
 use bn_entries::NoMemory;
 use bn_machine::{Quint, Shift};
 use std::alloc::Global;
@@ -30,7 +31,7 @@ fn rule(state: u32, read: u32, write: u32, shift: Shift, next: u32) -> Quint
 // The nine quintuples of a round, counted from 1, whose last one shifts and leads on as said.
 fn round_of(round: u32, shift: Shift, next: u32) -> [Quint; 9]
     requires some { 1 ≤ round }
-    requires few { round ≤ 4 }
+    requires few { round ≤ MOST_INCREMENTS }
     ensures { result ≡ list.round round shift next }
 {
     let (right, carry, left) = (3 * round - 2, 3 * round - 1, 3 * round);
