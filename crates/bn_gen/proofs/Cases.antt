@@ -1,5 +1,5 @@
 -- What holds of 1 to 4 increments holds of each number of increments.
-use Rattle.std.proofs.Common.{ℕ, zero, suc, ◌≤◌, arith}
+use Rattle.std.proofs.Common.{ℕ, zero, suc, arith}
 use Rattle.bn_gen.specs.Increments.{IsRoundCount}
 
 pub by_cases : (P : ℕ → Type 0) → P 1 → P 2 → P 3 → P 4 → (k : ℕ) → IsRoundCount k → P k

@@ -1,10 +1,10 @@
 -- Standard form by tests of each quintuple with its number.
 use Rattle.std.specs.Prelude.{◌⊎◌, Some, slice_get, length}
-use Rattle.std.proofs.Common.{◌≡◌, ◌∙◌, ◌≤◌, ◌<◌, ◌+◌, ◌*◌, ◌-◌, ◌++◌, ◌∷◌, [], ℕ, zero, suc, List, Bool, true, false, ◌&&◌, ◌||◌, eqb, ltb, sym, ap, subst, arith, refl, inl, inr}
+use Rattle.std.proofs.Common.{◌≡◌, ◌∙◌, ◌<◌, ◌+◌, ◌∷◌, [], ℕ, zero, suc, List, Bool, true, ◌&&◌, ◌||◌, eqb, ltb, sym, ap, subst, arith, inl, inr}
 use Rattle.std.proofs.lemmas.Bool.{and_parts, or_cases, eqb-true, ltb-true}
 use Rattle.bn_machine.specs.Machine.{nth, start_of, final_of}
 use Rattle.bn_machine.specs.declared.quint.Quint.{Quint}
-use Rattle.bn_standard.specs.Standard.{Repeats, NamesStart, NamesFinal, IsUnambiguous, HasLoneStart, HasLoneFinal}
+use Rattle.bn_standard.specs.Standard.{NamesStart, NamesFinal, IsUnambiguous, HasLoneStart, HasLoneFinal}
 
 -- each quintuple passes the test with its number, the first one's as said
 abbrev pub passes : (ℕ → Quint → Bool) → ℕ → List Quint → Bool

@@ -1,12 +1,12 @@
 -- The machine of k increments, for k from 1 to 4: it is a machine, in standard form, as tables have it.
 use Rattle.std.specs.Prelude.{Some, length, All, nat_eq}
 use Rattle.std.specs.List.{list_all}
-use Rattle.std.proofs.Common.{◌≡◌, ◌≢◌, ◌∙◌, ◌≤◌, ◌<◌, ◌+◌, ◌*◌, ◌-◌, ◌^◌, ◌++◌, ◌∷◌, [], ℕ, zero, suc, List, Bool, true, false, ◌&&◌, ltb, get_or, sym, ap, subst, arith, refl}
+use Rattle.std.proofs.Common.{◌≡◌, ◌≢◌, ◌∙◌, ◌<◌, ◌+◌, ◌*◌, ◌^◌, ℕ, zero, suc, List, Bool, true, ◌&&◌, ltb, get_or, sym, ap, subst, arith, refl}
 use Rattle.std.proofs.lemmas.Bool.{and_parts, ltb-true}
 use Rattle.std.proofs.lemmas.Option.{slice_get_within, get_or_from_slice_get}
 use Rattle.std.proofs.lemmas.List.Sums.{AllPass-from_list_all}
 use Rattle.bn_entries.specs.Numbering.{firsts_by, numbers_from}
-use Rattle.bn_machine.specs.Machine.{nth, start_of, final_of, IsInRange, IsMachine, IsFirstFault}
+use Rattle.bn_machine.specs.Machine.{nth, final_of, IsInRange, IsFirstFault}
 use Rattle.bn_machine.specs.declared.quint.Quint.{Quint}
 use Rattle.bn_machine.specs.declared.quint.Shift.TheVariants.{Stay, Right}
 use Rattle.bn_standard.specs.Standard.{IsStandard}
