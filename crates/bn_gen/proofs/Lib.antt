@@ -1,0 +1,4 @@
+mod Cases
+mod RoundLemmas
+pub mod FormLemmas
+pub mod MachineLemmas

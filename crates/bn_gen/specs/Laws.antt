@@ -1,0 +1,19 @@
+-- What the laws of this crate say, each the contract of a function with an empty body.
+use Rattle.std.specs.Prelude.{◌≡◌, ℕ, ◌+◌, ◌*◌, length}
+use Rattle.bn_standard.specs.Standard.{IsStandard}
+use Rattle.bn_table.specs.Rows.{FitsTable}
+use Rattle.bn_gen.specs.Increments.{IsRoundCount, incrementer}
+
+-- k increments have 9k + 1 quintuples and 3k + 2 states
+abbrev pub AreCounted : Type 0
+AreCounted =
+    (k : ℕ) → IsRoundCount k
+    → (length (incrementer k).quints ≡ 9 * k + 1) × ((incrementer k).states ≡ 3 * k + 2)
+
+-- the machine is in standard form
+abbrev pub AreStandard : Type 0
+AreStandard = (k : ℕ) → IsRoundCount k → IsStandard (incrementer k).quints
+
+-- it is a machine as tables have it: its states are numbered by first appearance and each of them appears
+abbrev pub FitTables : Type 0
+FitTables = (k : ℕ) → IsRoundCount k → FitsTable (incrementer k)
