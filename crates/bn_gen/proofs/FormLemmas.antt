@@ -11,12 +11,14 @@ abbrev pub passes : (ℕ → Quint → Bool) → ℕ → List Quint → Bool
 passes test first [] = true
 passes test first (q ∷ qs) = test first q && passes test (suc first) qs
 
-passes_at : (test : ℕ → Quint → Bool) (first : ℕ) (qs : List Quint) (i : ℕ) (q : Quint) → passes test first qs ≡ true → slice_get qs i ≡ Some q → test (first + i) q ≡ true
+passes_at : (test : ℕ → Quint → Bool) (first : ℕ) (qs : List Quint) (i : ℕ) (q : Quint) →
+    passes test first qs ≡ true → slice_get qs i ≡ Some q → test (first + i) q ≡ true
 passes_at test first [] i q all here = absurd (cc)
 passes_at test first (r ∷ qs) zero q all here =
     let number : first + 0 ≡ first = omega arith in
     let same : r ≡ q = cc in
-    subst (λ (n : ℕ). test n q ≡ true) (sym number) (subst (λ (x : Quint). test first x ≡ true) same (and_parts (test first r) (passes test (suc first) qs) all).0)
+    let here_passes = (and_parts (test first r) (passes test (suc first) qs) all).0 in
+    subst (λ (n : ℕ). test n q ≡ true) (sym number) (subst (λ (x : Quint). test first x ≡ true) same here_passes)
 passes_at test first (r ∷ qs) (suc i) q all here =
     let number : suc first + i ≡ first + suc i = omega arith in
     subst (λ (n : ℕ). test n q ≡ true) number (passes_at test (suc first) qs i q (and_parts (test first r) (passes test (suc first) qs) all).1 here)
@@ -75,6 +77,7 @@ names_no_final final count n q passed (inr early) = by_next (or_cases _ _ (and_p
 pub lone_final : (qs : List Quint) (final count : ℕ) → final_of qs ≡ final → length qs ≡ count → passes (avoids_final final count) 1 qs ≡ true → HasLoneFinal qs
 lone_final qs final count end counted all = record {
   none = λ i u.
-      let names : NamesFinal final count i u.quint = subst (λ (c : ℕ). NamesFinal final c i u.quint) counted (subst (λ (f : ℕ). NamesFinal f (length qs) i u.quint) end u.names) in
+      let names : NamesFinal final count i u.quint =
+      subst (λ (c : ℕ). NamesFinal final c i u.quint) counted (subst (λ (f : ℕ). NamesFinal f (length qs) i u.quint) end u.names) in
       names_no_final final count i u.quint (passes_nth (avoids_final final count) qs i u.quint all u.stands) names;
 }

@@ -33,7 +33,8 @@ all_range : (k : ℕ) → IsRoundCount k → list_all (ranges (3 * k + 2)) (quin
 all_range = by_cases (λ k. list_all (ranges (3 * k + 2)) (quints_of k) ≡ true) refl refl refl refl
 
 pub in_range : (k : ℕ) → IsRoundCount k → All (IsInRange (3 * k + 2) 3) (quints_of k)
-in_range k h = λ i d inside. in_range_by (3 * k + 2) (get_or (quints_of k) i d) (AllPass-from_list_all (ranges (3 * k + 2)) (quints_of k) (all_range k h) i d inside)
+in_range k h = λ i d inside.
+    in_range_by (3 * k + 2) (get_or (quints_of k) i d) (AllPass-from_list_all (ranges (3 * k + 2)) (quints_of k) (all_range k h) i d inside)
 
 pub few : (k : ℕ) (quints : List Quint) → IsRoundCount k → quints ≡ quints_of k → length quints < 2 ^ 32
 few k quints h same = let count : length quints ≡ 9 * k + 1 = ap length same ∙ counted k h in omega (arith, count, h.few)

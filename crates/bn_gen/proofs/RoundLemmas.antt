@@ -9,7 +9,8 @@ pub rounds_none : (list : List Quint) → list ≡ list ++ rounds (1 - 1)
 rounds_none list = sym (append-nil list)
 
 -- one round more
-pub rounds_more : (old list new : List Quint) (i : ℕ) → 1 ≤ i → list ≡ old ++ rounds (i - 1) → new ≡ list ++ round i Right (3 * i + 1) → new ≡ old ++ rounds (i + 1 - 1)
+pub rounds_more : (old list new : List Quint) (i : ℕ) → 1 ≤ i →
+    list ≡ old ++ rounds (i - 1) → new ≡ list ++ round i Right (3 * i + 1) → new ≡ old ++ rounds (i + 1 - 1)
 rounds_more old list new zero some before now = absurd (omega (arith, some))
 rounds_more old list new (suc i) some before now =
     let next : 3 * suc i + 1 ≡ goes_right (suc i + 1) = omega arith in

@@ -1,6 +1,6 @@
-//! That memory which is there is used, and the one table of a single increment, line by line.
+//! What no clause says: that memory which is there is used, the table of one increment, and whole runs.
 use super::*;
-use bn_machine::{Quint, Shift};
+use bn_machine::{Machine, Quint, Shift, Tape, Turn};
 use std::test::Fail;
 
 fn quint(state: u32, read: u32, write: u32, shift: Shift, next: u32) -> Quint {
@@ -35,10 +35,41 @@ fn one_increment_has_its_ten_quintuples(rt: HostRuntime) -> Result<(), Fail> {
     Ok(())
 }
 
+// How many steps the machine makes on 1011, in a window of as many cells as it needs, and the number that it leaves.
+fn run(rt: &HostRuntime, machine: &Machine) -> Result<(u32, [Option<u32>; 4]), Fail> {
+    let Ok(mut tape) = Tape::try_new(rt.alloc(), 0, 5, &[2, 1, 2, 2]) else {
+        return Err(Fail::from("no tape"));
+    };
+    let mut state = machine.start_state();
+    let mut steps = 0u32;
+    for _ in 0..50 {
+        if machine.step(&mut state, &mut tape) == Turn::Moved {
+            steps = steps.saturating_add(1);
+        }
+    }
+    let number = [
+        tape.symbol(1),
+        tape.symbol(2),
+        tape.symbol(3),
+        tape.symbol(4),
+    ];
+    Ok((steps, number))
+}
+
 #[test]
-fn there_is_a_machine_for_each_number_of_increments(rt: HostRuntime) -> Result<(), Fail> {
-    assert!(rt; increments(rt.alloc(), 2).is_ok());
-    assert!(rt; increments(rt.alloc(), 3).is_ok());
-    assert!(rt; increments(rt.alloc(), 4).is_ok());
+fn k_increments_of_eleven_take_10k_plus_1_steps(rt: HostRuntime) -> Result<(), Fail> {
+    let (zero, one) = (Some(1), Some(2));
+    let wanted = [
+        (11, [one, one, zero, zero]),
+        (21, [one, one, zero, one]),
+        (31, [one, one, one, zero]),
+        (41, [one, one, one, one]),
+    ];
+    for k in 1..5 {
+        let Ok(machine) = increments(rt.alloc(), k) else {
+            return Err(Fail::from("no machine"));
+        };
+        assert!(rt; run(&rt, &machine)? == wanted[k as usize - 1]);
+    }
     Ok(())
 }
