@@ -36,6 +36,7 @@ pub fn reply_step<W: Watch>(
     let Ok(config) = packed.to_config(alloc) else {
         return Err(NoMemory);
     };
+    drop(packed);
     read.config = config;
     match write_config(alloc, &read) {
         Ok(text) => Ok(Reply {
@@ -70,6 +71,7 @@ pub fn reply_back<W: Watch>(
     let Ok(config) = packed.to_config(alloc) else {
         return Err(NoMemory);
     };
+    drop(packed);
     read.config = config;
     match write_config(alloc, &read) {
         Ok(text) => Ok(Reply {
