@@ -10,7 +10,6 @@ import random
 import subprocess
 import sys
 import tempfile
-import time
 
 TOP = os.path.dirname(os.path.dirname(os.path.abspath(__file__)))
 RING = 1048576
@@ -67,21 +66,38 @@ def time_bank(program):
     print(f"bank of {RING} elements, realise: {seconds:.2f} s, peak {memory / RING:.0f} bytes an element")
 
 
-def timed(program, words, text):
-    """Seconds, peak memory in bytes, and the output of one run."""
+# Runs a program and tells its seconds, its seconds of the processor, its peak memory in kilobytes and its status. It is
+# a small process of its own, since a child's peak begins with what its parent had in memory.
+LAUNCH = """
+import os, subprocess, sys, time
+begin = time.perf_counter()
+child = subprocess.Popen(sys.argv[1:])
+_, status, usage = os.wait4(child.pid, 0)
+seconds = time.perf_counter() - begin
+told = seconds, usage.ru_utime + usage.ru_stime, usage.ru_maxrss, os.waitstatus_to_exitcode(status)
+print(*told, file=sys.stderr)
+"""
+
+
+def launched(program, words, text, wanted=0):
+    """Seconds, seconds of the processor, peak memory in bytes, and the output of one run with this status."""
     with tempfile.TemporaryFile() as source, tempfile.TemporaryFile() as sink:
         source.write(text)
         source.seek(0)
-        begin = time.perf_counter()
-        child = subprocess.Popen([program, *words], stdin=source, stdout=sink)
-        _, status, usage = os.wait4(child.pid, 0)
-        seconds = time.perf_counter() - begin
-        child.returncode = os.waitstatus_to_exitcode(status)
+        ran = subprocess.run([sys.executable, "-c", LAUNCH, program, *words], stdin=source, stdout=sink,
+                             stderr=subprocess.PIPE, check=True)
         sink.seek(0)
         out = sink.read()
-    if child.returncode != 0:
-        sys.exit(f"{' '.join(words)}: status {child.returncode}: {out[:80]!r}")
-    return seconds, usage.ru_maxrss * 1024, out
+    seconds, processor, kilobytes, status = ran.stderr.split()
+    if int(status) != wanted:
+        sys.exit(f"{' '.join(words)}: status {int(status)}: {out[:80]!r}")
+    return float(seconds), float(processor), int(kilobytes) * 1024, out
+
+
+def timed(program, words, text):
+    """Seconds, peak memory in bytes, and the output of one run."""
+    seconds, _, memory, out = launched(program, words, text)
+    return seconds, memory, out
 
 
 def main():

@@ -4,7 +4,8 @@
 Usage: bench/packed.py [PROGRAM]
 PROGRAM is the built program, as for bench.py. The C loop is written, compiled by `gcc -O2` and run here: one bit a bar,
 and one 32-bit number an output line and an input line, with branches on bar and line and no table of moves. Each pair of
-figures is measured side by side, three times over, and the best of each is shown: other work on the machine slows both.
+figures is measured side by side, three times over, in seconds of the processor, and the best of each is shown: other
+work on the machine slows both.
 """
 import os
 import random
@@ -13,7 +14,7 @@ import sys
 import tempfile
 
 sys.dont_write_bytecode = True
-from bench import RING, TOP, one_element, ring, timed
+from bench import RING, TOP, launched, one_element, ring
 
 C_LOOP = r"""
 #include <stdint.h>
@@ -83,7 +84,7 @@ static uint64_t backward(const uint32_t *sources, uint64_t *bars, uint32_t *plac
 
 static double now(void) {
     struct timespec t;
-    clock_gettime(CLOCK_MONOTONIC, &t);
+    clock_gettime(CLOCK_PROCESS_CPUTIME_ID, &t);
     return t.tv_sec + t.tv_nsec / 1e9;
 }
 
@@ -133,10 +134,10 @@ def c_figures(loop, order, count):
 
 def program_figures(program, text, count):
     """Millions of steps a second of the program, forward and backward: what `step 0` takes is taken off."""
-    base, _, same = timed(program, ["step", "0"], text)
+    _, base, _, same = launched(program, ["step", "0"], text)
     assert same == text
-    longer, _, there = timed(program, ["step", str(count)], text)
-    again, _, back = timed(program, ["back", str(count)], there)
+    _, longer, _, there = launched(program, ["step", str(count)], text)
+    _, again, _, back = launched(program, ["back", str(count)], there)
     assert back == text
     return count / (longer - base) / 1e6, count / (again - base) / 1e6
 

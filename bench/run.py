@@ -7,12 +7,13 @@ the word 1011 with a history just as long as it needs. The loop of `run` is the 
 no steps; that of `step`, on the compiled text, likewise. All times are of the processor, the best of three.
 """
 import os
-import subprocess
 import sys
-import tempfile
 
 sys.dont_write_bytecode = True
-from bench import TOP
+from bench import TOP, launched
+
+# The exit status where the signal is still inside.
+INSIDE = 12
 
 
 def increments(rounds):
@@ -29,24 +30,9 @@ def increments(rounds):
     return ("\n".join(entries) + "\n").encode()
 
 
-def once(program, words, text, wanted):
-    """Seconds of the processor, peak memory in bytes, and the output of one run with this status."""
-    with tempfile.TemporaryFile() as source, tempfile.TemporaryFile() as sink:
-        source.write(text)
-        source.seek(0)
-        child = subprocess.Popen([program, *words], stdin=source, stdout=sink)
-        _, status, usage = os.wait4(child.pid, 0)
-        child.returncode = os.waitstatus_to_exitcode(status)
-        sink.seek(0)
-        out = sink.read()
-    if child.returncode != wanted:
-        sys.exit(f"{' '.join(words)}: status {child.returncode}: {out[:80]!r}")
-    return usage.ru_utime + usage.ru_stime, usage.ru_maxrss * 1024, out
-
-
 def best(program, words, text, wanted=0):
-    """The quickest of three runs."""
-    return min((once(program, words, text, wanted) for _ in range(3)), key=lambda found: found[0])
+    """Seconds of the processor, peak memory in bytes, and the output of the quickest of three runs with this status."""
+    return min((launched(program, words, text, wanted)[1:] for _ in range(3)), key=lambda found: found[0])
 
 
 def number_behind(word, out):
@@ -59,7 +45,7 @@ def time_increments(program, rounds):
     table, words = increments(rounds), ["=1011", "0", "5", str(10 * rounds + 1), "5"]
     whole, memory, out = best(program, ["run", *words], table)
     elements, steps = number_behind("elements", out), number_behind("steps", out)
-    opened, _, _ = best(program, ["run", *words, "0"], table, 10)
+    opened, _, _ = best(program, ["run", *words, "0"], table, INSIDE)
     _, _, compiled = best(program, ["compile", *words], table)
     stepped, _, last = best(program, ["step", str(steps)], compiled)
     read, _, _ = best(program, ["step", "0"], compiled)
