@@ -3,20 +3,23 @@ use Rattle.std.specs.Prelude.{◌≡◌, ℕ, ◌≤◌, List, [], Option, Some,
 use Rattle.std.proofs.Common.{sym, subst, ◌∙◌}
 use Rattle.bn_theory.specs.declared.place.Place.{Place}
 use Rattle.bn_machine.specs.Outcome.{Limits}
-use Rattle.bn_words.specs.Forms.{most_limit, most_number, row_of}
+use Rattle.bn_words.specs.Forms.{most_increments, most_limit, most_number, row_of}
 use Rattle.bn_words.specs.Requests.{AreWithin, HasForm, Request, letters_at, number_at}
 use Rattle.bn_words.specs.declared.form.Form.{Form}
 use Rattle.bn_words.specs.declared.form.Form.TheVariants.{Step, Back, Check, Machine, Reversible, Bennett, Realise, Standard}
-use Rattle.bn_words.specs.declared.form.Form.TheVariants.{Compile, Run, RunWithin}
+use Rattle.bn_words.specs.declared.form.Form.TheVariants.{Compile, Run, RunWithin, Generate}
 use Rattle.bn_words.specs.declared.kind.Kind.{Kind}
 use Rattle.bn_words.specs.declared.kind.Kind.TheVariants.{Count, Ordinal}
-use Rattle.bn_words.proofs.ArgumentLemmas.{count_most, form-AreWithin, ordinal_least}
+use Rattle.bn_words.proofs.ArgumentLemmas.{count_most, form-AreWithin, ordinal_least, ordinal_most}
 use Rattle.bn_reply.specs.Answering.{IsSettled}
 use Rattle.bn_reply.specs.Replying.{IsReplied, IsUnfinished}
 use Rattle.bn_reply.specs.declared.reply.Reply.{Reply}
 use Rattle.bn_reply.specs.declared.status.Status.{Status}
 use Rattle.bn_reply.specs.declared.reply.NoMemory.{NoMemory as WantOfMemory}
 use Rattle.bn_reply.proofs.ReplyLemmas.{silent}
+use Rattle.bn_gen.specs.Increments.{IsRoundCount}
+use Rattle.bn_genreply.specs.GenerateReply.{GenerateReplies}
+use Rattle.bn_genreply.proofs.GenerateLemmas.{generate_settled}
 use Rattle.bn_netreply.specs.CircuitReply.{BackReplies, StepReplies}
 use Rattle.bn_netreply.specs.RealiseReply.{RealiseReplies}
 use Rattle.bn_netreply.proofs.CircuitLemmas.{back_settled, step_settled}
@@ -50,6 +53,13 @@ small_limits kinds request within a b c d = (
   count_most kinds request.arguments 4 most_limit within d,
 )
 
+-- an ordinal up to the most increments is a number of increments
+round_count : (request : Request) → AreWithin (row_of Generate).kinds request.arguments → IsRoundCount (number_at request 0)
+round_count request within = record {
+  some = ordinal_least (row_of Generate).kinds request.arguments 0 most_increments within refl;
+  few = ordinal_most (row_of Generate).kinds request.arguments 0 most_increments within refl;
+}
+
 settled_by : (form : Form) (request : Request) → AreWithin (row_of form).kinds request.arguments →
     (bytes : List ℕ) → IsSettled (RepliesBy form request bytes)
 settled_by Step request within = step_settled (number_at request 0)
@@ -71,6 +81,7 @@ settled_by Run request within = λ bytes.
 settled_by RunWithin request within = λ bytes.
     run_settled (Some (number_at request 5)) (letters_at request 0) (limits_at request) bytes
     (small_limits (row_of RunWithin).kinds request within refl refl refl refl)
+settled_by Generate request within = λ bytes. generate_settled (number_at request 0) (round_count request within)
 
 -- what is asked for has one answer and only one
 pub settled : (words : List (List ℕ)) (request : Request) → HasForm words request → (bytes : List ℕ) → IsSettled (Replies request bytes)
@@ -180,6 +191,16 @@ module _ (request : Request) (form : Form) (of : form ≡ request.form) (bytes :
     back_part is n_is h =
         by_form Back is (Unfinished result told heard) (subst (λ m. Unfinished result told heard (BackReplies m bytes)) n_is h)
 
+    pub generate_reply : form ≡ Generate → n ≡ number_at request 0 → Replied result told heard (GenerateReplies n) →
+        Replied result told heard (Replies request bytes)
+    generate_reply is n_is h =
+        by_form Generate is (Replied result told heard) (subst (λ m. Replied result told heard (GenerateReplies m)) n_is h)
+
+    pub generate_part : form ≡ Generate → n ≡ number_at request 0 → Unfinished result told heard (GenerateReplies n) →
+        Unfinished result told heard (Replies request bytes)
+    generate_part is n_is h =
+        by_form Generate is (Unfinished result told heard) (subst (λ m. Unfinished result told heard (GenerateReplies m)) n_is h)
+
 pub ruleset replies = (
   step_reply,
   step_part,
@@ -196,4 +217,6 @@ pub ruleset replies = (
   run_part,
   run_within_reply,
   run_within_part,
+  generate_reply,
+  generate_part,
 )

@@ -7,6 +7,7 @@ ghost use Rattle.bn_top.specs.Answers.{HasWindow, Replies, limits_at};
 
 use bn_assembly::Windows;
 use bn_boardreply::{reply_compile, reply_run};
+use bn_genreply::reply_generate;
 use bn_net::Watch;
 use bn_netreply::{reply_back, reply_realise, reply_step};
 use bn_reply::{NoMemory, Reply};
@@ -59,6 +60,7 @@ pub(crate) fn reply_to<W: Watch>(
             bytes,
             watch,
         ),
+        Form::Generate => reply_generate(alloc, request.number(0) as u32, watch),
     }
 }
 
