@@ -1,25 +1,18 @@
 -- A wire that begins takes the least track; and what is kept at the first and behind the last position.
-use Rattle.std.specs.Prelude.{◌≡◌, ◌≢◌, ◌↔◌, ◌⊎◌, ℕ, zero, suc, ◌+◌, ◌<◌, ◌≤◌, max, List, [], ◌∷◌, ◌++◌, length, map, replicate, slice_index, slice_set, eqb}
-use Rattle.std.specs.List.{IsDistinct, count_by}
-use Rattle.std.specs.List.Sorted.{IsPermutation}
+use Rattle.std.specs.Prelude.{◌≡◌, ◌≢◌, ◌↔◌, ◌⊎◌, ℕ, ◌+◌, ◌<◌, ◌≤◌, max, List, [], ◌∷◌, ◌++◌, length, replicate, slice_index, slice_set}
 use Rattle.std.proofs.Common.{refl, sym, subst, ◌∙◌, ap, arith, inl, inr}
 use Rattle.std.proofs.lemmas.Bool.{cases_lt}
 use Rattle.std.proofs.lemmas.Bool.Decides.{eqb_tells}
 use Rattle.std.proofs.lemmas.List.{get_or-replicate, get_or-set_same, get_or-set_other, length-set, length-replicate}
-use Rattle.std.proofs.lemmas.List.Sorted.{IsPermutation-map}
-use Rattle.std.proofs.lemmas.Map.Keys.{IsDistinct-IsPermutation}
 use Rattle.bn_theory.specs.declared.line.Wire.{Wire}
 use Rattle.bn_plan.specs.declared.tracked.Tracked.{Tracked}
 use Rattle.bn_plan.specs.Lists.{IsIn, Pairwise}
-use Rattle.bn_plan.specs.Wires.{lesser, greater, Covers, density, IsDensest, AreRotary}
-use Rattle.bn_plan.specs.Plans.{wire_of, wires_of, IsFree, TakesLeast, TakeLeast, tracks_of, IsPlan, IsFloorPlan}
-use Rattle.bn_plan.specs.Sweeping.{Swept, IsWidest, IsSwept, BeginsAt, TakesFree, TakesNew, TakesTrack, placed, floor_of}
-use Rattle.bn_plan.proofs.ListLemmas.{in_map, in_map_cases, down_from, down_from_in, length-down_from, distinct_pairwise, pairwise_weaker, pairwise_both, pairwise_map, pairwise_unmap, eqb_flips}
-use Rattle.bn_plan.proofs.DensityLemmas.{densest, densest_is, starts_are_apart}
-use Rattle.bn_plan.proofs.TrackLemmas.{tracks_fit, all_counted, track_bound, cover_bound, covers_at, density_of, plans_use_no_more, below_tracks_of}
-use Rattle.bn_plan.proofs.PlanLemmas.{InOrder, in_order, same_sorted, moves_in}
+use Rattle.bn_plan.specs.Wires.{lesser, greater, AreRotary}
+use Rattle.bn_plan.specs.Plans.{wire_of, wires_of, IsFree, TakeLeast, tracks_of}
+use Rattle.bn_plan.specs.Sweeping.{Swept, IsWidest, IsSwept, TakesFree, TakesNew, TakesTrack, placed}
+use Rattle.bn_plan.proofs.ListLemmas.{in_map, in_map_cases}
 use Rattle.bn_plan.proofs.PositionLemmas.{lesser_below, greaters_apart, lessers_apart, ends_apart}
-use Rattle.bn_plan.proofs.SweepLemmas.{in_push, push_old, push_new, pairwise_push, tracks_of-push, moved_in, moved_back, moved_apart, take_least_push, known, counted, within}
+use Rattle.bn_plan.proofs.SweepLemmas.{in_push, push_old, push_new, pairwise_push, tracks_of-push, moved_in, moved_back, moved_apart, take_least_push, known, within}
 
 -- ---- a wire that begins
 

@@ -1,12 +1,12 @@
 -- The wires of a circuit of rotary elements.
-use Rattle.std.specs.Prelude.{◌≡◌, ◌≢◌, ℕ, zero, suc, ◌<◌, ◌≤◌, true, false, ◌+◌, ◌*◌, List, [], ◌∷◌, length, map, Some, None, ◌⊎◌}
+use Rattle.std.specs.Prelude.{◌≡◌, ◌≢◌, ℕ, zero, suc, ◌<◌, ◌≤◌, ◌*◌, List, [], ◌∷◌, length, map, Some, None}
 use Rattle.std.proofs.Common.{refl, sym, subst, ◌∙◌, ap, arith, inl, inr}
 use Rattle.bn_element.specs.Rotary.{rotary}
 use Rattle.bn_element.specs.declared.rotary.Rotary.{Rotary}
 use Rattle.bn_net.specs.Parts.{Parts, circuit}
 use Rattle.bn_net.specs.Order.{ComesBefore, ComesFirst, AreInOrder}
 use Rattle.bn_net.specs.WireLaws.{line_tells}
-use Rattle.bn_theory.specs.Circuits.{Circuit, IsCircuit, IsInput, IsOutput, same_line, target, source, inputs_of, outputs_of}
+use Rattle.bn_theory.specs.Circuits.{Circuit, IsCircuit, IsInput, IsOutput, target, source, inputs_of, outputs_of}
 use Rattle.bn_theory.specs.declared.line.Line.{Line}
 use Rattle.bn_theory.specs.declared.line.Wire.{Wire}
 use Rattle.bn_plan.specs.Lists.{IsIn, Pairwise}

@@ -1,12 +1,11 @@
 -- Lemmas on positions: no two ends of wires stand at one.
-use Rattle.std.specs.Prelude.{◌≡◌, ◌≢◌, ℕ, ◌+◌, ◌*◌, ◌<◌, ◌≤◌, List, [], ◌∷◌, Some, None, ◌⊎◌}
-use Rattle.std.proofs.Common.{refl, sym, subst, ◌∙◌, ap, arith, inl, inr}
+use Rattle.std.specs.Prelude.{◌≡◌, ◌≢◌, ◌<◌, List, [], ◌∷◌, Some}
+use Rattle.std.proofs.Common.{sym, subst, ◌∙◌, ap, arith, inl, inr}
 use Rattle.std.proofs.lemmas.Bool.{cases_lt}
-use Rattle.bn_theory.specs.Circuits.{target, source, IsOneToOne, same_line}
+use Rattle.bn_theory.specs.Circuits.{target}
 use Rattle.bn_theory.specs.Laws.{same_lines}
 use Rattle.bn_theory.specs.declared.line.Line.{Line}
 use Rattle.bn_theory.specs.declared.line.Wire.{Wire}
-use Rattle.bn_net.specs.WireLaws.{line_tells}
 use Rattle.bn_plan.specs.Lists.{IsIn, Pairwise}
 use Rattle.bn_plan.specs.Wires.{output_position, input_position, lesser, greater, AreRotary, AreWiresOf}
 use Rattle.bn_plan.specs.Sweeping.{BeginsAt}

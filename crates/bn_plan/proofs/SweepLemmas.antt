@@ -1,6 +1,5 @@
 -- What is kept of the wires that have begun stays so from one position to the next.
-use Rattle.std.specs.Prelude.{◌≡◌, ◌≢◌, ◌↔◌, ◌⊎◌, ℕ, zero, suc, ◌+◌, ◌<◌, ◌≤◌, max, List, [], ◌∷◌, ◌++◌, length, map, replicate, slice_index, slice_set, eqb, get_or}
-use Rattle.std.specs.List.{IsDistinct}
+use Rattle.std.specs.Prelude.{◌≡◌, ◌≢◌, ◌↔◌, ◌⊎◌, ℕ, zero, suc, ◌+◌, ◌<◌, ◌≤◌, max, List, [], ◌∷◌, ◌++◌, length, slice_index, eqb, get_or}
 use Rattle.std.specs.List.Sorted.{IsPermutation}
 use Rattle.std.proofs.Common.{refl, sym, subst, ◌∙◌, ap, arith, inl, inr}
 use Rattle.std.proofs.lemmas.Bool.{cases_lt}
@@ -13,10 +12,9 @@ use Rattle.bn_plan.specs.declared.tracked.Tracked.{Tracked}
 use Rattle.bn_plan.specs.Lists.{IsIn, Pairwise}
 use Rattle.bn_plan.specs.Wires.{lesser, greater, Covers, Fit, AreRotary}
 use Rattle.bn_plan.specs.Plans.{wire_of, wires_of, IsFree, TakesLeast, TakeLeast, tracks_of}
-use Rattle.bn_plan.specs.Sweeping.{Swept, IsWidest, IsSwept, BeginsAt, TakesFree, TakesNew, TakesTrack, placed}
-use Rattle.bn_plan.proofs.ListLemmas.{in_map, in_map_cases, in_contains, contains_in, distinct_pairwise, pairwise_distinct, eqb_flips}
+use Rattle.bn_plan.specs.Sweeping.{Swept, IsSwept, BeginsAt}
+use Rattle.bn_plan.proofs.ListLemmas.{in_map, in_contains, contains_in, distinct_pairwise, pairwise_distinct, eqb_flips}
 use Rattle.bn_plan.proofs.TrackLemmas.{tracks_fit, below_tracks_of, all_counted}
-use Rattle.bn_plan.proofs.PositionLemmas.{lesser_below, greaters_apart, ends_apart}
 
 -- ---- lists with one element more at their end
 

@@ -9,8 +9,8 @@ use Rattle.bn_plan.specs.Wires.{density, IsDensest, AreRotary, AreWiresOf}
 use Rattle.bn_plan.specs.Plans.{FloorPlan, IsPlan, IsFloorPlan, IsAssignment, TracksFit, HasTracks, tracks_of, wires_of}
 use Rattle.bn_plan.specs.Assigned.{assigned}
 
--- the wires of a circuit of elements with at most four lines each way have a floor plan, and only one, in whatever order
--- they are listed
+-- the wires of a circuit of elements with at most four lines each way have a floor plan, and only one, in whatever
+-- order they are listed
 abbrev pub HasOneFloorPlan : Type 0
 HasOneFloorPlan = ((ws : List Wire) → (f : FloorPlan) × IsFloorPlan ws f)
     × ((ws vs : List Wire) (f g : FloorPlan) → AreRotary ws → AreRotary vs → ((w : Wire) → IsIn ws w ↔ IsIn vs w)
@@ -30,12 +30,12 @@ abbrev pub NoneHasFewer : Type 0
 NoneHasFewer = (ws : List Wire) (f : FloorPlan) (ts : List Tracked) (used : List ℕ) → IsFloorPlan ws f
     → IsAssignment ws ts → HasTracks used ts → f.tracks ≤ length used
 
--- the plan of some wires uses the tracks from 1 to the greatest density, and no others
-abbrev pub PlansUseNoMore : Type 0
-PlansUseNoMore = (ws : List Wire) (plan : List Tracked) (d p : ℕ) → IsPlan ws plan → IsDensest ws d p
-    → (tracks_of plan ≡ d)
-    × ((t : Tracked) → IsIn plan t → (0 < t.track) × (t.track ≤ d))
-    × ((n : ℕ) → 0 < n → n ≤ d → (t : Tracked) × IsIn plan t × (t.track ≡ n))
+-- a plan has as many tracks as wires cover its densest position, and it uses those tracks and no others
+abbrev pub TracksAreTheDensity : Type 0
+TracksAreTheDensity = (ws : List Wire) (f : FloorPlan) → IsFloorPlan ws f
+    → (density ws f.densest ≡ f.tracks)
+    × ((t : Tracked) → IsIn f.wires t → (0 < t.track) × (t.track ≤ f.tracks))
+    × ((n : ℕ) → 0 < n → n ≤ f.tracks → (t : Tracked) × IsIn f.wires t × (t.track ≡ n))
 
 -- a plan is what the function makes of its wires
 abbrev pub PlansCompute : Type 0

@@ -47,8 +47,8 @@ pub record FloorPlan : Type 0 where
   pub tracks : ℕ
   pub densest : ℕ
 
--- It is the plan of these wires. Its number of tracks is the greatest track of a wire, and the greatest density too, and
--- its position is the least of that density.
+-- It is the plan of these wires. Its number of tracks is the greatest track of a wire, and the greatest density too,
+-- and its position is the least of that density.
 pub record IsFloorPlan (ws : List Wire) (f : FloorPlan) : Type 0 where
   pub plan : IsPlan ws f.wires
   pub tracks : tracks_of f.wires ≡ f.tracks

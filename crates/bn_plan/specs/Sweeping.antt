@@ -24,7 +24,9 @@ pub record IsWidest (ts : List Tracked) (n p : ℕ) : Type 0 where
   pub begins : lesser (wire_of first) ≡ p
   pub before : (t : Tracked) → IsIn ts t → lesser (wire_of t) < p → t.track < n
 
--- This is kept of the wires that begin before position p.
+-- This is kept before position p of the wires that begin before it. They stand in order, each on its least track; the
+-- free tracks are those whose wires all end before p, each there once; and at each position from p on the track is kept
+-- of the wire that ends there.
 pub record IsSwept (ws : List Wire) (p : ℕ) (s : Swept) : Type 0 where
   pub order : Pairwise (λ (t u : Tracked). lesser (wire_of t) < lesser (wire_of u)) s.wires
   pub least : TakeLeast [] s.wires
@@ -33,8 +35,10 @@ pub record IsSwept (ws : List Wire) (p : ℕ) (s : Swept) : Type 0 where
   pub few : s.tracks ≤ p
   pub free : (n : ℕ) → IsIn s.free n ↔ (0 < n) × (n ≤ s.tracks) × IsFree s.wires n p
   pub once : Pairwise (λ (m n : ℕ). m ≢ n) s.free
-  pub ends : (t : Tracked) → IsIn s.wires t → p ≤ greater (wire_of t) → slice_index s.ending (greater (wire_of t)) ≡ t.track
-  pub ended : (q : ℕ) → p ≤ q → q < length s.ending → 0 < slice_index s.ending q → (t : Tracked) × IsIn s.wires t × (greater (wire_of t) ≡ q)
+  pub ends : (t : Tracked) → IsIn s.wires t → p ≤ greater (wire_of t) →
+      slice_index s.ending (greater (wire_of t)) ≡ t.track
+  pub ended : (q : ℕ) → p ≤ q → q < length s.ending → 0 < slice_index s.ending q →
+      (t : Tracked) × IsIn s.wires t × (greater (wire_of t) ≡ q)
   pub densest : ((s.tracks ≡ 0) × (s.densest ≡ 0)) ⊎ IsWidest s.wires s.tracks s.densest
 
 -- this wire of the list begins at this position, or none does

@@ -1,6 +1,6 @@
 -- Wires as spans of positions, where the elements of a circuit stand in one line, and how many wires cover a position
 -- (this project's own profile).
-use Rattle.std.specs.Prelude.{◌≡◌, ◌≢◌, ◌↔◌, ℕ, ◌+◌, ◌*◌, ◌<◌, ◌≤◌, min, max, leb, ◌&&◌, Bool, List, [], ◌∷◌, Some}
+use Rattle.std.specs.Prelude.{◌≡◌, ◌≢◌, ◌↔◌, ℕ, ◌+◌, ◌*◌, ◌<◌, ◌≤◌, min, max, leb, ◌&&◌, Bool, List, Some}
 use Rattle.std.specs.List.{count_by}
 use Rattle.bn_theory.specs.Circuits.{target}
 use Rattle.bn_theory.specs.declared.line.Line.{Line}

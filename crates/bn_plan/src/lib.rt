@@ -13,7 +13,7 @@ mod tracked;
 pub use floor::Plan;
 pub use laws::{
     bank_example, circuits_are_rotary, floor_plan_is_one, none_has_fewer, plans_compute,
-    plans_use_no_more, tracks_are_needed, wires_of_one_track_fit,
+    tracks_are_needed, tracks_are_the_density, wires_of_one_track_fit,
 };
 pub use make::plan;
 pub use positions::MOST_ELEMENTS;

@@ -31,7 +31,13 @@ impl Model for Sweep {
 
     ghost Value = { Swept };
 
-    ghost view = { λ s. record { wires = s.wires.items; free = s.free; ending = s.ending.items; tracks = s.tracks; densest = s.densest } };
+    ghost view = { λ s. record {
+      wires = s.wires.items;
+      free = s.free;
+      ending = s.ending.items;
+      tracks = s.tracks;
+      densest = s.densest;
+    } };
 }
 
 impl Sweep {
@@ -84,7 +90,8 @@ impl Sweep {
     fn end(&mut self, position: u32) -> Result<(), NoMemory>
         requires { position < length self.old.ending }
         ensures positions { OnOk result (length self.new.ending ≡ length self.old.ending) }
-        ensures swept { OnOk result ((ws : List Wire) → AreRotary ws → ((w : Wire) → BeginsAt ws position w → ⊥) → IsSwept ws position self.old → IsSwept ws (position + 1) self.new) }
+        ensures swept { OnOk result ((ws : List Wire) → AreRotary ws → ((w : Wire) → BeginsAt ws position w → ⊥) →
+            IsSwept ws position self.old → IsSwept ws (position + 1) self.new) }
     {
         let track = self.ending[position as usize];
         if track == 0 {
@@ -101,7 +108,8 @@ impl Sweep {
         requires position { greater wire < length self.old.ending }
         requires tracks { self.old.tracks + 1 < 2 ^ 32 }
         ensures positions { OnOk result (length self.new.ending ≡ length self.old.ending) }
-        ensures swept { OnOk result ((ws : List Wire) → AreRotary ws → IsIn ws wire → IsSwept ws (lesser wire) self.old → IsSwept ws (lesser wire + 1) self.new) }
+        ensures swept { OnOk result ((ws : List Wire) → AreRotary ws → IsIn ws wire →
+            IsSwept ws (lesser wire) self.old → IsSwept ws (lesser wire + 1) self.new) }
     {
         let Wire { from, to } = wire;
         let output = output_position(from);

@@ -1,4 +1,4 @@
-use Rattle.std.proofs.Common.{◌∙◌, subst, sym, arith}
+use Rattle.std.proofs.Common.{subst, sym, arith}
 use Rattle.bn_plan.specs.Plans.{IsFloorPlan}
 use Rattle.bn_plan.proofs.EndLemmas.{net_floor}
 use Rattle.bn_plan.proofs.make.plan.Goals as goal

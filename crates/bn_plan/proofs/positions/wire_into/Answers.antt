@@ -1,6 +1,6 @@
 use Rattle.std.proofs.Common.{◌∙◌, sym, arith}
 use Rattle.bn_plan.specs.declared.positions.TheConstants.{MOST_ELEMENTS}
-use Rattle.bn_plan.proofs.CircuitLemmas.{output_near, input_near, from_input, no_input, late_input, from_near}
+use Rattle.bn_plan.proofs.CircuitLemmas.{input_near, from_input, no_input, late_input, from_near}
 use Rattle.bn_plan.proofs.positions.wire_into.Goals as goal
 
 pub returns-in-None-clause-none : goal.returns-in-None-clause-none

@@ -1,6 +1,5 @@
-use Rattle.std.proofs.Common.{◌≡◌, ◌∷◌, map}
+use Rattle.std.proofs.Common.{◌∷◌}
 use Rattle.std.specs.BinaryHeap.{heap_items}
-use Rattle.std.specs.List.Sorted.{IsPermutation}
 use Rattle.std.proofs.lemmas.List.Sorted.{IsPermutation-map}
 use Rattle.bn_plan.proofs.FreeLemmas.{least_of}
 use Rattle.bn_plan.proofs.free_tracks.FreeTracks.take_least.Goals as goal

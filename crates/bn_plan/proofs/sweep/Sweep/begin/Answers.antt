@@ -1,6 +1,6 @@
-use Rattle.std.proofs.Common.{◌<◌, ◌≡◌, ◌∙◌, ℕ, List, refl, sym, subst, ap, length, arith}
+use Rattle.std.proofs.Common.{◌≡◌, refl, sym, subst, arith}
 use Rattle.bn_plan.specs.Wires.{lesser, greater}
-use Rattle.bn_plan.specs.Sweeping.{Swept, IsSwept, TakesTrack}
+use Rattle.bn_plan.specs.Sweeping.{TakesTrack}
 use Rattle.bn_plan.proofs.BeginLemmas.{begin_swept, still_within}
 use Rattle.bn_plan.proofs.sweep.Sweep.begin.Goals as goal
 

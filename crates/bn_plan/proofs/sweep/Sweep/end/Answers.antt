@@ -1,4 +1,4 @@
-use Rattle.std.proofs.Common.{◌<◌, ◌≡◌, ◌∙◌, sym, subst, length}
+use Rattle.std.proofs.Common.{◌<◌, ◌∙◌, sym, subst, length}
 use Rattle.std.proofs.lemmas.Result.{on_ok_weaker}
 use Rattle.bn_plan.specs.Sweeping.{Swept, IsSwept}
 use Rattle.bn_plan.proofs.SweepLemmas.{swept_none, swept_end, read_is, positive}
