@@ -254,8 +254,8 @@ begin_swept w s new n p g first last takes inside wires ending all track ws r me
     subst (λ ts. IsSwept ws (lesser w + 1) (record { wires = ts; free = new.free; ending = ending; tracks = new.tracks; densest = new.densest })) wires_are
     (subst (λ xs. IsSwept ws (lesser w + 1) (record { wires = s.wires ++ placed w n ∷ []; free = new.free; ending = xs; tracks = new.tracks; densest = new.densest })) tracks_are done)
 
--- the greater end is still a position
-pub still_within : (s new : Swept) (p n end g : ℕ) → g ≡ end → TakesTrack s p n new → end < length s.ending → g < length new.ending
+-- a position up to the greater end is still one
+pub still_within : (s new : Swept) (p n end g : ℕ) → g ≤ end → TakesTrack s p n new → end < length s.ending → g < length new.ending
 still_within s new p n end g last takes inside =
     let size : length new.ending ≡ length s.ending = ap (λ (xs : List ℕ). length xs) takes.ending in
     omega (arith, inside, size, last)

@@ -1,5 +1,7 @@
 -- The wires of a circuit of rotary elements.
-use Rattle.std.specs.Prelude.{◌≡◌, ◌≢◌, ℕ, zero, suc, ◌<◌, ◌≤◌, ◌*◌, List, [], ◌∷◌, length, map, Some, None}
+use Rattle.std.specs.Prelude.{◌≡◌, ◌≢◌, ℕ, zero, suc, ◌<◌, ◌≤◌, ◌*◌, List, [], ◌∷◌, length, map, Some, None, Option, IfSome, IfNone, Bool, true, false, not, ◌↔◌}
+use Rattle.std.specs.Bool.{then_some}
+use Rattle.std.proofs.lemmas.Bool.{cases_lt}
 use Rattle.std.proofs.Common.{refl, sym, subst, ◌∙◌, ap, arith, inl, inr}
 use Rattle.bn_element.specs.Rotary.{rotary}
 use Rattle.bn_element.specs.declared.rotary.Rotary.{Rotary}
@@ -12,7 +14,7 @@ use Rattle.bn_theory.specs.declared.line.Wire.{Wire}
 use Rattle.bn_plan.specs.Lists.{IsIn, Pairwise}
 use Rattle.bn_plan.specs.Wires.{output_position, input_position, greater, AreRotary, AreWiresOf}
 use Rattle.bn_plan.specs.Sweeping.{BeginsAt}
-use Rattle.bn_plan.proofs.PositionLemmas.{begins_out, begins_in, out_only, in_only}
+use Rattle.bn_plan.proofs.PositionLemmas.{output_input, begins_out, begins_in, out_only, in_only}
 
 -- where no two wires leave one line, each is the wire of its line
 target_of_wire : (ws : List Wire) → Pairwise (λ (v w : Wire). v.from ≢ w.from) ws → (w : Wire) → IsIn ws w → target ws w.from ≡ Some w.to
@@ -169,6 +171,36 @@ module _ (net : Parts Rotary) (k : IsCircuit (circuit (λ _. rotary) net)) (orde
       let place : output_position w.from ≡ output_position from = ap output_position same in
       let early = only.1 in
       absurd (omega (arith, early, place, late))
+
+  -- whether the wire of an output line begins there, by the test
+  pub output_choice : (from to : Line) → from.line < 4 → target net.wires from ≡ Some to → (b : Bool) → (b ≡ true) ↔ (output_position from < input_position to)
+      → (r : Option Wire) → r ≡ then_some b (record { from = from; to = to })
+      → IfSome r (BeginsAt net.wires (output_position from)) × IfNone r ((w : Wire) → BeginsAt net.wires (output_position from) w → ⊥)
+  output_choice from to low is true test r e = subst (λ x. IfSome x (BeginsAt net.wires (output_position from)) × IfNone x ((w : Wire) → BeginsAt net.wires (output_position from) w → ⊥)) (sym e)
+      (from_output from to is (test.0 refl), tt)
+  output_choice from to low is false test r e = subst (λ x. IfSome x (BeginsAt net.wires (output_position from)) × IfNone x ((w : Wire) → BeginsAt net.wires (output_position from) w → ⊥)) (sym e)
+      (tt, late_output from to low is late)
+    where
+      late : input_position to ≤ output_position from
+      late = elim (cases_lt (output_position from) (input_position to)) [
+        | inl h ↦ let clash : false ≡ true = test.1 h in absurd (cc)
+        | inr h ↦ h
+      ]
+
+  -- and of an input line
+  pub input_choice : (from to : Line) → from.line < 4 → to.line < 4 → source net.wires to ≡ Some from → (b : Bool) → (b ≡ true) ↔ (output_position from < input_position to)
+      → (r : Option Wire) → r ≡ then_some (not b) (record { from = from; to = to })
+      → IfSome r (BeginsAt net.wires (input_position to)) × IfNone r ((w : Wire) → BeginsAt net.wires (input_position to) w → ⊥)
+  input_choice from to low below is true test r e = subst (λ x. IfSome x (BeginsAt net.wires (input_position to)) × IfNone x ((w : Wire) → BeginsAt net.wires (input_position to) w → ⊥)) (sym e)
+      (tt, late_input from to below is (let early = test.0 refl in omega (arith, early)))
+  input_choice from to low below is false test r e = subst (λ x. IfSome x (BeginsAt net.wires (input_position to)) × IfNone x ((w : Wire) → BeginsAt net.wires (input_position to) w → ⊥)) (sym e)
+      (from_input from to is late, tt)
+    where
+      late : input_position to < output_position from
+      late = elim (cases_lt (output_position from) (input_position to)) [
+        | inl h ↦ let clash : false ≡ true = test.1 h in absurd (cc)
+        | inr h ↦ let apart = output_input from to low below in omega (arith, h, apart)
+      ]
 
   -- the lines of a wire are there
   pub ends_near : (most : ℕ) → length net.elements ≤ most → (w : Wire) → IsIn net.wires w → IsNear most w.from × IsNear most w.to

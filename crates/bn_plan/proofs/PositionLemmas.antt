@@ -21,7 +21,7 @@ same_input : (a b : Line) → a.line < 4 → b.line < 4 → input_position a ≡
 same_input a b h k e = same_lines a b (omega (arith, e, h, k)) (omega (arith, e, h, k))
 
 -- and not of both
-output_input : (a b : Line) → a.line < 4 → b.line < 4 → output_position a ≢ input_position b
+pub output_input : (a b : Line) → a.line < 4 → b.line < 4 → output_position a ≢ input_position b
 output_input a b h k e = absurd (omega (arith, e, h, k))
 
 -- ---- ends of wires

@@ -1,10 +1,10 @@
 //! Positions of lines, and the wire that begins at a position.
 
-ghost use Rattle.std.specs.Prelude.{◌≡◌, ◌*◌, ◌<◌, ◌≤◌, length, map, IfSome, IfNone};
+ghost use Rattle.std.specs.Prelude.{◌≡◌, ◌↔◌, ◌*◌, ◌<◌, ◌≤◌, length, map, IfSome, IfNone, IsTrue};
 ghost use Rattle.bn_theory.specs.Circuits.{IsInput, IsOutput};
 ghost use Rattle.bn_theory.specs.declared.line.Wire.{Wire};
 ghost use Rattle.bn_element.specs.Rotary.{rotary};
-ghost use Rattle.bn_plan.specs.Wires.{output_position, input_position};
+ghost use Rattle.bn_plan.specs.Wires.{output_position, input_position, HasFourLines};
 ghost use Rattle.bn_plan.specs.Sweeping.{BeginsAt};
 
 use bn_element::Rotary;
@@ -66,11 +66,8 @@ fn wire_out_of(net: &Net<Rotary>, from: Line) -> Option<Wire>
     match net.target(from) {
         None => None,
         Some(to) => {
-            if output_position(from) < input_position(to) {
-                Some(Wire { from, to })
-            } else {
-                None
-            }
+            let wire = Wire { from, to };
+            begins_at_output(wire).then_some(wire)
         }
     }
 }
@@ -87,11 +84,18 @@ fn wire_into(net: &Net<Rotary>, to: Line) -> Option<Wire>
     match net.source(to) {
         None => None,
         Some(from) => {
-            if input_position(to) < output_position(from) {
-                Some(Wire { from, to })
-            } else {
-                None
-            }
+            let wire = Wire { from, to };
+            (!begins_at_output(wire)).then_some(wire)
         }
     }
+}
+
+// Whether the wire begins at its output line: that has the lesser position.
+fn begins_at_output(wire: Wire) -> bool
+    requires from { wire.from.element < MOST_ELEMENTS }
+    requires to { wire.to.element < MOST_ELEMENTS }
+    requires lines { HasFourLines wire }
+    ensures { IsTrue result ↔ (output_position wire.from < input_position wire.to) }
+{
+    output_position(wire.from) < input_position(wire.to)
 }
