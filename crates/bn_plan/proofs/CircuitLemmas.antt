@@ -7,7 +7,7 @@ use Rattle.bn_element.specs.Rotary.{rotary}
 use Rattle.bn_element.specs.declared.rotary.Rotary.{Rotary}
 use Rattle.bn_net.specs.Parts.{Parts, circuit}
 use Rattle.bn_net.specs.Order.{ComesBefore, ComesFirst, AreInOrder}
-use Rattle.bn_net.specs.WireLaws.{line_tells}
+use Rattle.bn_net.proofs.WireListLemmas.{line_tells}
 use Rattle.bn_theory.specs.Circuits.{Circuit, IsCircuit, IsInput, IsOutput, target, source, inputs_of, outputs_of}
 use Rattle.bn_theory.specs.declared.line.Line.{Line}
 use Rattle.bn_theory.specs.declared.line.Wire.{Wire}
