@@ -1,9 +1,8 @@
 -- The reply of the command `plan`, of which there is one and only one.
-use Rattle.std.specs.Prelude.{◌≡◌, ◌≢◌, ◌↔◌, ◌⊎◌, ℕ, zero, suc, ◌≤◌, Bool, true, false, not, List, [], ◌∷◌, Some, None, Result, Ok, Err, IfOk, replicate, refl}
+use Rattle.std.specs.Prelude.{◌≡◌, ◌≢◌, ◌⊎◌, ℕ, zero, suc, ◌≤◌, true, not, List, [], ◌∷◌, Some, Result, Ok, Err, IfOk, replicate, refl}
 use Rattle.std.specs.List.{filter}
 use Rattle.std.proofs.Common.{inl, inr, sym, ap, subst, ◌∙◌, arith}
-use Rattle.bn_theory.specs.Circuits.{Circuit, IsCircuit, target, same_line, inputs_of, outputs_of}
-use Rattle.bn_theory.specs.declared.line.Line.{Line}
+use Rattle.bn_theory.specs.Circuits.{target, same_line, inputs_of, outputs_of}
 use Rattle.bn_theory.specs.declared.line.Wire.{Wire}
 use Rattle.bn_theory.specs.declared.place.Place.{Place}
 use Rattle.bn_element.specs.Rotary.{rotary}
@@ -18,13 +17,12 @@ use Rattle.bn_netlist.proofs.FaultLemmas.{faults-agree}
 use Rattle.bn_netlist.proofs.DecideLemmas.{texts-spell-or-fault}
 use Rattle.bn_plan.specs.Lists.{IsIn, Pairwise}
 use Rattle.bn_plan.specs.Wires.{AreRotary, AreWiresOf}
-use Rattle.bn_plan.specs.Plans.{FloorPlan, IsFloorPlan}
 use Rattle.bn_plan.proofs.ListLemmas.{in_filter, filter_in, pairwise_filter}
 use Rattle.bn_plan.proofs.CircuitLemmas.{circuits_are_rotary}
 use Rattle.bn_plan.proofs.FloorLemmas.{floor_exists, floor_once}
 use Rattle.bn_netreply.specs.CircuitReply.{Misspelled, fault_text}
 use Rattle.bn_netreply.specs.Refused.{IsRefused}
-use Rattle.bn_reply.specs.Answering.{HasAnswer, IsOneAnswer, IsSettled}
+use Rattle.bn_reply.specs.Answering.{HasAnswer, IsOneAnswer}
 use Rattle.bn_reply.specs.Codes.{IsReplyStatus}
 use Rattle.bn_reply.specs.declared.reply.Reply.{Reply}
 use Rattle.bn_reply.specs.declared.reply.NoMemory.{NoMemory as WantOfMemory}

@@ -1,5 +1,5 @@
 -- Lemmas on the text of a floor plan.
-use Rattle.std.specs.Prelude.{◌≡◌, ℕ, zero, suc, ◌+◌, ◌<◌, ◌≤◌, List, [], ◌∷◌, ◌++◌, length, take, get_or}
+use Rattle.std.specs.Prelude.{◌≡◌, ℕ, zero, suc, ◌+◌, ◌<◌, List, [], ◌∷◌, ◌++◌, length, take, get_or}
 use Rattle.std.proofs.Common.{refl, inl, inr, sym, ap, ◌∙◌, arith, append_assoc, append-nil}
 use Rattle.bn_theory.specs.declared.line.Wire.{Wire}
 use Rattle.std.proofs.lemmas.List.Sorted.{IsPermutation-sym}

@@ -2,6 +2,8 @@
 #![tactic(auto)]
 
 mod reply;
+#[cfg(test)]
+mod tests;
 mod text;
 
 pub use reply::{plan_has_one_reply, reply_plan};
