@@ -1,5 +1,5 @@
 -- Wires have a floor plan, and only one; none has fewer tracks.
-use Rattle.std.specs.Prelude.{◌≡◌, ◌↔◌, ℕ, ◌≤◌, List, length}
+use Rattle.std.specs.Prelude.{◌≡◌, ◌↔◌, ℕ, ◌≤◌, List, [], length}
 use Rattle.std.specs.List.{count_by}
 use Rattle.std.proofs.Common.{sym, ◌∙◌, ap, arith}
 use Rattle.bn_theory.specs.declared.line.Wire.{Wire}
@@ -7,7 +7,7 @@ use Rattle.bn_plan.specs.declared.tracked.Tracked.{Tracked}
 use Rattle.bn_plan.specs.Lists.{IsIn}
 use Rattle.bn_plan.specs.Wires.{density, IsDensest, AreRotary}
 use Rattle.bn_plan.specs.Plans.{FloorPlan, IsPlan, IsFloorPlan, IsAssignment, HasTracks}
-use Rattle.bn_plan.proofs.DensityLemmas.{densest, densest_is, densest_once, starts_are_apart}
+use Rattle.bn_plan.proofs.DensityLemmas.{densest, densest_is, densest_once, densest_none, starts_are_apart}
 use Rattle.bn_plan.proofs.TrackLemmas.{density_of, covers_at, plans_use_no_more, tracks_are_needed}
 use Rattle.bn_plan.proofs.PlanLemmas.{plan_exists, plan_once}
 
@@ -44,3 +44,7 @@ pub none_has_fewer : (ws : List Wire) (f : FloorPlan) (ts : List Tracked) (used 
 none_has_fewer ws f ts used a b has =
     let needed = tracks_are_needed ws ts used f.densest b has in
     omega (arith, needed, a.densest.reached)
+
+-- without wires there are no tracks
+pub no_wires : (f : FloorPlan) → IsFloorPlan [] f → (f.tracks ≡ 0) × (f.densest ≡ 0)
+no_wires f a = densest_once [] f.tracks 0 f.densest 0 a.densest densest_none

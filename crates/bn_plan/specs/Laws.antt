@@ -37,6 +37,10 @@ TracksAreTheDensity = (ws : List Wire) (f : FloorPlan) → IsFloorPlan ws f
     × ((t : Tracked) → IsIn f.wires t → (0 < t.track) × (t.track ≤ f.tracks))
     × ((n : ℕ) → 0 < n → n ≤ f.tracks → (t : Tracked) × IsIn f.wires t × (t.track ≡ n))
 
+-- without wires there are no tracks, and the densest position is the first
+abbrev pub NoWiresNoTracks : Type 0
+NoWiresNoTracks = (f : FloorPlan) → IsFloorPlan [] f → (f.tracks ≡ 0) × (f.densest ≡ 0)
+
 -- a plan is what the function makes of its wires
 abbrev pub PlansCompute : Type 0
 PlansCompute = (ws : List Wire) (plan : List Tracked) → IsPlan ws plan → plan ≡ assigned [] (wires_of plan)

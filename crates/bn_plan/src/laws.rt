@@ -1,5 +1,5 @@
 //! Laws on floor plans. Each function does nothing; its contract is the law.
-ghost use Rattle.bn_plan.specs.Laws.{BankExample, CircuitsAreRotary, HasOneFloorPlan, NoneHasFewer, PlansCompute, PlansFit, TracksAreNeeded, TracksAreTheDensity};
+ghost use Rattle.bn_plan.specs.Laws.{BankExample, CircuitsAreRotary, HasOneFloorPlan, NoWiresNoTracks, NoneHasFewer, PlansCompute, PlansFit, TracksAreNeeded, TracksAreTheDensity};
 
 /// The wires of a circuit of rotary elements have a floor plan, and only one.
 pub fn floor_plan_is_one()
@@ -25,6 +25,11 @@ pub fn none_has_fewer()
 /// The plan uses as many tracks as the greatest density says.
 pub fn tracks_are_the_density()
     ensures { TracksAreTheDensity }
+{}
+
+/// Without wires there are no tracks, and the densest position is 0.
+pub fn no_wires_no_tracks()
+    ensures { NoWiresNoTracks }
 {}
 
 /// A plan is what the function of its wires computes.

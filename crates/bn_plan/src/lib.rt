@@ -12,8 +12,8 @@ mod tracked;
 
 pub use floor::Plan;
 pub use laws::{
-    bank_example, circuits_are_rotary, floor_plan_is_one, none_has_fewer, plans_compute,
-    tracks_are_needed, tracks_are_the_density, wires_of_one_track_fit,
+    bank_example, circuits_are_rotary, floor_plan_is_one, no_wires_no_tracks, none_has_fewer,
+    plans_compute, tracks_are_needed, tracks_are_the_density, wires_of_one_track_fit,
 };
 pub use make::plan;
 pub use positions::MOST_ELEMENTS;
