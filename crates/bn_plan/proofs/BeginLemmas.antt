@@ -1,5 +1,5 @@
 -- A wire that begins takes the least track; and what is kept at the first and behind the last position.
-use Rattle.std.specs.Prelude.{◌≡◌, ◌≢◌, ◌↔◌, ◌⊎◌, ℕ, ◌+◌, ◌<◌, ◌≤◌, max, List, [], ◌∷◌, ◌++◌, length, replicate, slice_index, slice_set}
+use Rattle.std.specs.Prelude.{◌≡◌, ◌≢◌, ◌↔◌, ◌⊎◌, ℕ, ◌+◌, ◌<◌, ◌≤◌, max, List, [], ◌∷◌, ◌++◌, length, replicate, slice_set, get_or, Option, Some, None}
 use Rattle.std.proofs.Common.{refl, sym, subst, ◌∙◌, ap, arith, inl, inr}
 use Rattle.std.proofs.lemmas.Bool.{cases_lt}
 use Rattle.std.proofs.lemmas.Bool.Decides.{eqb_tells}
@@ -67,20 +67,20 @@ module _ (ws : List Wire) (r : AreRotary ws) (w : Wire) (s : Swept) (is : IsSwep
 
     -- the positions at which wires end
     ends_more : greater w < length s.ending → (t : Tracked) → IsIn (s.wires ++ placed w n ∷ []) t → lesser w + 1 ≤ greater (wire_of t)
-        → slice_index (slice_set s.ending (greater w) n) (greater (wire_of t)) ≡ t.track
+        → get_or (slice_set s.ending (greater w) (Some n)) (greater (wire_of t)) None ≡ Some t.track
     ends_more inside t h reach = elim (more_cases t h) [
-      | inl k ↦ get_or-set_other s.ending (greater w) (greater (wire_of t)) n 0 (ends_elsewhere t k) ∙ is.ends t k (omega (arith, reach))
-      | inr e ↦ subst (λ (x : Tracked). slice_index (slice_set s.ending (greater w) n) (greater (wire_of x)) ≡ x.track) (sym e) (get_or-set_same s.ending (greater w) n 0 inside)
+      | inl k ↦ get_or-set_other s.ending (greater w) (greater (wire_of t)) (Some n) None (ends_elsewhere t k) ∙ is.ends t k (omega (arith, reach))
+      | inr e ↦ subst (λ (x : Tracked). get_or (slice_set s.ending (greater w) (Some n)) (greater (wire_of x)) None ≡ Some x.track) (sym e) (get_or-set_same s.ending (greater w) (Some n) None inside)
     ]
 
-    ended_more : greater w < length s.ending → (q : ℕ) → lesser w + 1 ≤ q → q < length (slice_set s.ending (greater w) n) → 0 < slice_index (slice_set s.ending (greater w) n) q
+    ended_more : (q m : ℕ) → lesser w + 1 ≤ q → q < length (slice_set s.ending (greater w) (Some n)) → get_or (slice_set s.ending (greater w) (Some n)) q None ≡ Some m
         → (t : Tracked) × IsIn (s.wires ++ placed w n ∷ []) t × (greater (wire_of t) ≡ q)
-    ended_more inside q reach more some = elim (eqb_tells q (greater w)) [
+    ended_more q m reach more some = elim (eqb_tells q (greater w)) [
       | inl same ↦ (placed w n, push_new s.wires (placed w n), sym same.1)
       | inr other ↦
-          let stays : slice_index (slice_set s.ending (greater w) n) q ≡ slice_index s.ending q = get_or-set_other s.ending (greater w) q n 0 other.1 in
-          let size : length (slice_set s.ending (greater w) n) ≡ length s.ending = length-set s.ending (greater w) n in
-          let found = is.ended q (omega (arith, reach)) (omega (arith, more, size)) (omega (arith, some, stays)) in
+          let stays : get_or (slice_set s.ending (greater w) (Some n)) q None ≡ get_or s.ending q None = get_or-set_other s.ending (greater w) q (Some n) None other.1 in
+          let size : length (slice_set s.ending (greater w) (Some n)) ≡ length s.ending = length-set s.ending (greater w) (Some n) in
+          let found = is.ended q m (omega (arith, reach)) (omega (arith, more, size)) (sym stays ∙ some) in
           (found.0, push_old s.wires (placed w n) found.0 found.1, found.2)
     ]
 
@@ -106,7 +106,7 @@ module _ (ws : List Wire) (r : AreRotary ws) (w : Wire) (s : Swept) (is : IsSwep
 
   -- on a track that was free
   swept_free : (n : ℕ) (new : Swept) → greater w < length s.ending → TakesFree s n new
-      → IsSwept ws (lesser w + 1) (record { wires = s.wires ++ placed w n ∷ []; free = new.free; ending = slice_set s.ending (greater w) n; tracks = new.tracks; densest = new.densest })
+      → IsSwept ws (lesser w + 1) (record { wires = s.wires ++ placed w n ∷ []; free = new.free; ending = slice_set s.ending (greater w) (Some n); tracks = new.tracks; densest = new.densest })
   swept_free n new inside takes = record {
     order = order_more n;
     least = least_more n was.0 was.2 lesser_taken;
@@ -116,7 +116,7 @@ module _ (ws : List Wire) (r : AreRotary ws) (w : Wire) (s : Swept) (is : IsSwep
     free = λ m. (there m, back m);
     once = apart.1;
     ends = ends_more n inside;
-    ended = ended_more n inside;
+    ended = ended_more n;
     densest = still is.densest;
   }
     where
@@ -168,7 +168,7 @@ module _ (ws : List Wire) (r : AreRotary ws) (w : Wire) (s : Swept) (is : IsSwep
 
   -- on a new track
   swept_new : (n : ℕ) (new : Swept) → greater w < length s.ending → TakesNew s (lesser w) n new
-      → IsSwept ws (lesser w + 1) (record { wires = s.wires ++ placed w n ∷ []; free = new.free; ending = slice_set s.ending (greater w) n; tracks = new.tracks; densest = new.densest })
+      → IsSwept ws (lesser w + 1) (record { wires = s.wires ++ placed w n ∷ []; free = new.free; ending = slice_set s.ending (greater w) (Some n); tracks = new.tracks; densest = new.densest })
   swept_new n new inside takes = record {
     order = order_more n;
     least = least_more n (let next = takes.is_next in omega (arith, next)) unused lesser_taken;
@@ -178,7 +178,7 @@ module _ (ws : List Wire) (r : AreRotary ws) (w : Wire) (s : Swept) (is : IsSwep
     free = λ m. ((λ h. absurd (subst (λ x. IsIn x m) takes.none_left h)), back m);
     once = subst (Pairwise (λ (x y : ℕ). x ≢ y)) (sym takes.none_left) tt;
     ends = ends_more n inside;
-    ended = ended_more n inside;
+    ended = ended_more n;
     densest = inr (record { first = placed w n; stands = push_new s.wires (placed w n); track = sym takes.tracks; begins = sym takes.densest; before = before });
   }
     where
@@ -213,12 +213,12 @@ module _ (ws : List Wire) (r : AreRotary ws) (w : Wire) (s : Swept) (is : IsSwep
       ]
 
   pub swept_begin : (n : ℕ) (new : Swept) → greater w < length s.ending → TakesTrack s (lesser w) n new
-      → IsSwept ws (lesser w + 1) (record { wires = s.wires ++ placed w n ∷ []; free = new.free; ending = slice_set s.ending (greater w) n; tracks = new.tracks; densest = new.densest })
+      → IsSwept ws (lesser w + 1) (record { wires = s.wires ++ placed w n ∷ []; free = new.free; ending = slice_set s.ending (greater w) (Some n); tracks = new.tracks; densest = new.densest })
   swept_begin n new inside t = elim t.takes [ inl free ↦ swept_free n new inside free | inr next ↦ swept_new n new inside next ]
 
 -- ---- the first position
 
-pub swept_start : (ws : List Wire) (n : ℕ) → IsSwept ws 0 (record { wires = []; free = []; ending = replicate n 0; tracks = 0; densest = 0 })
+pub swept_start : (ws : List Wire) (n : ℕ) → IsSwept ws 0 (record { wires = []; free = []; ending = replicate n None; tracks = 0; densest = 0 })
 swept_start ws n = record {
   order = tt;
   least = tt;
@@ -228,34 +228,35 @@ swept_start ws n = record {
   free = λ m. ((λ h. absurd h), λ h. let some = h.0 in let low = h.1 in absurd (omega (arith, some, low)));
   once = tt;
   ends = λ t h reach. absurd h;
-  ended = λ q reach more some. absurd (unended q more some);
+  ended = λ q m reach more some. absurd (unended q m more some);
   densest = inl (refl, refl);
 }
   where
-    unended : (q : ℕ) → q < length {A = ℕ} (replicate n 0) → 0 < slice_index (replicate n 0) q → ⊥
-    unended q more some =
-        let size : length {A = ℕ} (replicate n 0) ≡ n = length-replicate n 0 in
-        let none : slice_index (replicate n 0) q ≡ 0 = get_or-replicate n q 0 0 (omega (arith, more, size)) in
-        absurd (omega (arith, some, none))
+    unended : (q m : ℕ) → q < length {A = Option ℕ} (replicate n None) → get_or {A = Option ℕ} (replicate n None) q None ≡ Some m → ⊥
+    unended q m more some =
+        let size : length {A = Option ℕ} (replicate n None) ≡ n = length-replicate n None in
+        let none : get_or {A = Option ℕ} (replicate n None) q None ≡ None = get_or-replicate n q None None (omega (arith, more, size)) in
+        let clash : None ≡ Some m = sym none ∙ some in
+        absurd (cc)
 
 -- ---- as the code has it
 
 -- a wire that takes this track is written behind the others, and its track where it ends
 pub begin_swept : (w : Wire) (s new : Swept) (n p g : ℕ) → p ≡ lesser w → g ≡ greater w → TakesTrack s p n new → g < length new.ending
-    → (wires : List Tracked) (ending : List ℕ) → wires ≡ new.wires ++ placed w n ∷ [] → ending ≡ slice_set new.ending g n
+    → (wires : List Tracked) (ending : List (Option ℕ)) → wires ≡ new.wires ++ placed w n ∷ [] → ending ≡ slice_set new.ending g (Some n)
     → (ws : List Wire) → AreRotary ws → IsIn ws w → IsSwept ws (lesser w) s
     → IsSwept ws (lesser w + 1) (record { wires = wires; free = new.free; ending = ending; tracks = new.tracks; densest = new.densest })
 begin_swept w s new n p g first last takes inside wires ending all track ws r member is =
     let old : TakesTrack s (lesser w) n new = subst (λ x. TakesTrack s x n new) first takes in
-    let size : length s.ending ≡ length new.ending = ap (λ (xs : List ℕ). length xs) (sym takes.ending) in
+    let size : length s.ending ≡ length new.ending = ap (λ (xs : List (Option ℕ)). length xs) (sym takes.ending) in
     let done = swept_begin ws r w s is member n new (omega (arith, inside, size, last)) old in
     let wires_are : s.wires ++ placed w n ∷ [] ≡ wires = ap (λ ts. ts ++ placed w n ∷ []) (sym takes.wires) ∙ sym all in
-    let tracks_are : slice_set s.ending (greater w) n ≡ ending = ap (λ xs. slice_set xs (greater w) n) (sym takes.ending) ∙ ap (λ x. slice_set new.ending x n) (sym last) ∙ sym track in
+    let tracks_are : slice_set s.ending (greater w) (Some n) ≡ ending = ap (λ xs. slice_set xs (greater w) (Some n)) (sym takes.ending) ∙ ap (λ x. slice_set new.ending x (Some n)) (sym last) ∙ sym track in
     subst (λ ts. IsSwept ws (lesser w + 1) (record { wires = ts; free = new.free; ending = ending; tracks = new.tracks; densest = new.densest })) wires_are
     (subst (λ xs. IsSwept ws (lesser w + 1) (record { wires = s.wires ++ placed w n ∷ []; free = new.free; ending = xs; tracks = new.tracks; densest = new.densest })) tracks_are done)
 
 -- a position up to the greater end is still one
 pub still_within : (s new : Swept) (p n end g : ℕ) → g ≤ end → TakesTrack s p n new → end < length s.ending → g < length new.ending
 still_within s new p n end g last takes inside =
-    let size : length new.ending ≡ length s.ending = ap (λ (xs : List ℕ). length xs) takes.ending in
+    let size : length new.ending ≡ length s.ending = ap (λ (xs : List (Option ℕ)). length xs) takes.ending in
     omega (arith, inside, size, last)

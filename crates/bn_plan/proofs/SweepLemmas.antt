@@ -1,10 +1,9 @@
 -- What is kept of the wires that have begun stays so from one position to the next.
-use Rattle.std.specs.Prelude.{◌≡◌, ◌≢◌, ◌↔◌, ◌⊎◌, ℕ, zero, suc, ◌+◌, ◌<◌, ◌≤◌, max, List, [], ◌∷◌, ◌++◌, length, slice_index, eqb, get_or}
+use Rattle.std.specs.Prelude.{◌≡◌, ◌≢◌, ◌↔◌, ◌⊎◌, ℕ, zero, suc, ◌+◌, ◌<◌, ◌≤◌, max, List, [], ◌∷◌, ◌++◌, length, eqb, get_or, Some, None}
 use Rattle.std.specs.List.Sorted.{IsPermutation}
 use Rattle.std.proofs.Common.{refl, sym, subst, ◌∙◌, ap, arith, inl, inr}
 use Rattle.std.proofs.lemmas.Bool.{cases_lt}
 use Rattle.std.proofs.lemmas.Bool.Decides.{eqb_tells}
-use Rattle.std.proofs.lemmas.Grind.{get_or_default_zero}
 use Rattle.std.proofs.lemmas.List.Sorted.{IsPermutation-sym, Contains-permutation}
 use Rattle.std.proofs.lemmas.Map.Keys.{IsDistinct-IsPermutation}
 use Rattle.bn_theory.specs.declared.line.Wire.{Wire}
@@ -152,8 +151,8 @@ module _ (ws : List Wire) (r : AreRotary ws) (p : ℕ) (s : Swept) (is : IsSwept
   -- ---- a position at which no wire begins
 
   -- nor ends
-  pub swept_none : ((w : Wire) → BeginsAt ws p w → ⊥) → p < length s.ending → slice_index s.ending p ≡ 0 → IsSwept ws (p + 1) s
-  swept_none none inside empty = record {
+  pub swept_none : ((w : Wire) → BeginsAt ws p w → ⊥) → get_or s.ending p None ≡ None → IsSwept ws (p + 1) s
+  swept_none none empty = record {
     order = is.order;
     least = is.least;
     begun = begun_still none;
@@ -162,7 +161,7 @@ module _ (ws : List Wire) (r : AreRotary ws) (p : ℕ) (s : Swept) (is : IsSwept
     free = λ n. ((λ h. let k = (is.free n).0 h in (k.0, k.1, λ t l e. let early = k.2 t l e in omega (arith, early))), λ h. (is.free n).1 (h.0, h.1, λ t l e. passed t l (h.2 t l e)));
     once = is.once;
     ends = λ t h reach. is.ends t h (omega (arith, reach));
-    ended = λ q reach more some. is.ended q (omega (arith, reach)) more some;
+    ended = λ q n reach more some. is.ended q n (omega (arith, reach)) more some;
     densest = is.densest;
   }
     where
@@ -171,76 +170,74 @@ module _ (ws : List Wire) (r : AreRotary ws) (p : ℕ) (s : Swept) (is : IsSwept
         | inl less ↦ less
         | inr high ↦
             let here : greater (wire_of t) ≡ p = omega (arith, low, high) in
-            let track : slice_index s.ending (greater (wire_of t)) ≡ t.track = is.ends t h high in
-            let also : slice_index s.ending (greater (wire_of t)) ≡ slice_index s.ending p = ap (slice_index s.ending) here in
-            let some = counted t h in
-            absurd (omega (arith, track, also, some, empty))
+            let clash : Some t.track ≡ None = sym (is.ends t h high) ∙ ap (λ q. get_or s.ending q None) here ∙ empty in
+            absurd (cc)
       ]
 
   -- but one ends
-  pub swept_end : (free : List ℕ) → ((w : Wire) → BeginsAt ws p w → ⊥) → p < length s.ending → 0 < slice_index s.ending p → IsPermutation (slice_index s.ending p ∷ s.free) free
+  pub swept_end : (free : List ℕ) (x : ℕ) → ((w : Wire) → BeginsAt ws p w → ⊥) → p < length s.ending → get_or s.ending p None ≡ Some x → IsPermutation (x ∷ s.free) free
       → IsSwept ws (p + 1) (record { wires = s.wires; free = free; ending = s.ending; tracks = s.tracks; densest = s.densest })
-  swept_end free none inside some moved = record {
+  swept_end free x none inside some moved = record {
     order = is.order;
     least = is.least;
     begun = begun_still none;
     tracks = is.tracks;
     few = let few = is.few in omega (arith, few);
     free = λ n. (there n, back n);
-    once = moved_apart (slice_index s.ending p ∷ s.free) free moved ((λ n h e. not_free (last.0) last.1 (omega (arith, last.2)) (subst (IsIn s.free) (sym e ∙ track) h)), is.once);
+    once = moved_apart (x ∷ s.free) free moved ((λ n h e. not_free (last.0) last.1 (omega (arith, last.2)) (subst (IsIn s.free) (sym e ∙ track) h)), is.once);
     ends = λ t h reach. is.ends t h (omega (arith, reach));
-    ended = λ q reach more some_there. is.ended q (omega (arith, reach)) more some_there;
+    ended = λ q n reach more some_there. is.ended q n (omega (arith, reach)) more some_there;
     densest = is.densest;
   }
     where
       last : (t : Tracked) × IsIn s.wires t × (greater (wire_of t) ≡ p)
-      last = is.ended p (omega arith) inside some
+      last = is.ended p x (omega arith) inside some
 
-      track : slice_index s.ending p ≡ last.0.track
-      track = ap (slice_index s.ending) (sym last.2) ∙ is.ends last.0 last.1 (let here = last.2 in omega (arith, here))
+      -- the wire that ends at the position has the track that is kept there
+      track_there : (t : Tracked) → IsIn s.wires t → greater (wire_of t) ≡ p → x ≡ t.track
+      track_there t h here =
+          let both : Some x ≡ Some t.track = sym some ∙ ap (λ q. get_or s.ending q None) (sym here) ∙ is.ends t h (omega (arith, here)) in
+          cc
 
-      freed : (n : ℕ) → n ≡ slice_index s.ending p → (0 < n) × (n ≤ s.tracks) × IsFree s.wires n (p + 1)
-      freed n e = (omega (arith, e, some), let low = within last.0 last.1 in omega (arith, e, track, low), ends_here)
+      track : x ≡ last.0.track
+      track = track_there last.0 last.1 last.2
+
+      freed : (n : ℕ) → n ≡ x → (0 < n) × (n ≤ s.tracks) × IsFree s.wires n (p + 1)
+      freed n e = ((let low = counted last.0 last.1 in omega (arith, e, track, low)), (let high = within last.0 last.1 in omega (arith, e, track, high)), ends_here)
         where
           ends_here : IsFree s.wires n (p + 1)
           ends_here u h f = elim (cases_lt (greater (wire_of u)) p) [
             | inl less ↦ omega (arith, less)
             | inr high ↦
                 let same : u ≡ last.0 = one_reaches u last.0 h last.1 (f ∙ e ∙ track) high (let here = last.2 in omega (arith, here)) in
-                let place : greater (wire_of u) ≡ greater (wire_of last.0) = ap (λ (x : Tracked). greater (wire_of x)) same in
+                let place : greater (wire_of u) ≡ greater (wire_of last.0) = ap (λ (y : Tracked). greater (wire_of y)) same in
                 let here = last.2 in
                 omega (arith, place, here)
           ]
 
-      sides : (n : ℕ) → IsIn (slice_index s.ending p ∷ s.free) n → (0 < n) × (n ≤ s.tracks) × IsFree s.wires n (p + 1)
+      sides : (n : ℕ) → IsIn (x ∷ s.free) n → (0 < n) × (n ≤ s.tracks) × IsFree s.wires n (p + 1)
       sides n (inl e) = freed n e
       sides n (inr h) = let k = (is.free n).0 h in (k.0, k.1, λ t l e. let early = k.2 t l e in omega (arith, early))
 
       there : (n : ℕ) → IsIn free n → (0 < n) × (n ≤ s.tracks) × IsFree s.wires n (p + 1)
-      there n h = sides n (moved_back (slice_index s.ending p ∷ s.free) free moved n h)
+      there n h = sides n (moved_back (x ∷ s.free) free moved n h)
 
-      earlier : (n : ℕ) → n ≢ slice_index s.ending p → IsFree s.wires n (p + 1) → IsFree s.wires n p
+      earlier : (n : ℕ) → n ≢ x → IsFree s.wires n (p + 1) → IsFree s.wires n p
       earlier n other ends t h e = elim (cases_lt (greater (wire_of t)) p) [
         | inl less ↦ less
-        | inr high ↦
-            let low = ends t h e in
-            let here : greater (wire_of t) ≡ p = omega (arith, low, high) in
-            absurd (other (sym e ∙ sym (is.ends t h high) ∙ ap (slice_index s.ending) here))
+        | inr high ↦ let low = ends t h e in absurd (other (sym e ∙ sym (track_there t h (omega (arith, low, high)))))
       ]
 
       back : (n : ℕ) → (0 < n) × (n ≤ s.tracks) × IsFree s.wires n (p + 1) → IsIn free n
-      back n h = moved_in (slice_index s.ending p ∷ s.free) free moved n (elim (eqb_tells n (slice_index s.ending p)) [
+      back n h = moved_in (x ∷ s.free) free moved n (elim (eqb_tells n x) [
         | inl same ↦ inl same.1
         | inr other ↦ inr ((is.free n).1 (h.0, h.1, earlier n other.1 h.2))
       ])
 
 -- ---- as the code has it
 
--- what was read at a position
-pub read_is : (xs : List ℕ) (i x : ℕ) → i < length xs → x ≡ get_or xs i x → slice_index xs i ≡ x
-read_is xs i x h e = sym (get_or_default_zero xs i x h) ∙ sym e
-
--- what isn't 0 is above
-pub positive : (n : ℕ) → (n ≡ 0 → ⊥) → 0 < n
-positive zero h = absurd (h refl)
-positive (suc n) h = omega arith
+-- what was read at a position, whatever stands for a position that isn't there
+pub read_is : {X : Type 0} (xs : List X) (i : ℕ) (x d : X) → i < length xs → x ≡ get_or xs i x → get_or xs i d ≡ x
+read_is [] i x d h e = absurd (omega (arith, h))
+read_is (y ∷ ys) zero x d h e = sym e
+read_is (y ∷ ys) (suc i) x d h e = read_is ys i x d (omega (arith, h)) e

@@ -1,5 +1,5 @@
 -- How far a plan has come, where the positions are gone along from 0: what is kept of the wires that have begun.
-use Rattle.std.specs.Prelude.{◌≡◌, ◌≢◌, ◌↔◌, ◌⊎◌, ℕ, ◌+◌, ◌<◌, ◌≤◌, List, [], ◌∷◌, slice_index, length}
+use Rattle.std.specs.Prelude.{◌≡◌, ◌≢◌, ◌↔◌, ◌⊎◌, ℕ, ◌+◌, ◌<◌, ◌≤◌, List, [], ◌∷◌, Option, Some, None, get_or, length}
 use Rattle.std.specs.List.Sorted.{IsPermutation}
 use Rattle.bn_theory.specs.declared.line.Wire.{Wire}
 use Rattle.bn_plan.specs.declared.tracked.Tracked.{Tracked}
@@ -8,11 +8,11 @@ use Rattle.bn_plan.specs.Wires.{lesser, greater}
 use Rattle.bn_plan.specs.Plans.{FloorPlan, wire_of, wires_of, IsFree, TakeLeast, tracks_of}
 
 -- the wires that have begun; the tracks up to the greatest that are free; for each position the track of the wire that
--- has begun and ends there, or 0; the greatest track, and the position at which the first wire begins that has it
+-- has begun and ends there, or none; the greatest track, and the position at which the first wire begins that has it
 pub record Swept : Type 0 where
   pub wires : List Tracked
   pub free : List ℕ
-  pub ending : List ℕ
+  pub ending : List (Option ℕ)
   pub tracks : ℕ
   pub densest : ℕ
 
@@ -36,8 +36,8 @@ pub record IsSwept (ws : List Wire) (p : ℕ) (s : Swept) : Type 0 where
   pub free : (n : ℕ) → IsIn s.free n ↔ (0 < n) × (n ≤ s.tracks) × IsFree s.wires n p
   pub once : Pairwise (λ (m n : ℕ). m ≢ n) s.free
   pub ends : (t : Tracked) → IsIn s.wires t → p ≤ greater (wire_of t) →
-      slice_index s.ending (greater (wire_of t)) ≡ t.track
-  pub ended : (q : ℕ) → p ≤ q → q < length s.ending → 0 < slice_index s.ending q →
+      get_or s.ending (greater (wire_of t)) None ≡ Some t.track
+  pub ended : (q n : ℕ) → p ≤ q → q < length s.ending → get_or s.ending q None ≡ Some n →
       (t : Tracked) × IsIn s.wires t × (greater (wire_of t) ≡ q)
   pub densest : ((s.tracks ≡ 0) × (s.densest ≡ 0)) ⊎ IsWidest s.wires s.tracks s.densest
 

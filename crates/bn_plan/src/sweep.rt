@@ -20,8 +20,8 @@ use std::marker::Model;
 pub(crate) struct Sweep {
     wires: Vec<Tracked>,
     free: FreeTracks,
-    // For each position the track of the wire that ends there, once it has begun, or 0.
-    ending: Vec<u32>,
+    // For each position the track of the wire that ends there, once it has begun.
+    ending: Vec<Option<u32>>,
     tracks: u32,
     densest: u32,
 }
@@ -46,7 +46,7 @@ impl Sweep {
         ensures positions { IfOk result (λ s. length s.ending ≡ positions) }
         ensures swept { IfOk result (λ s. (ws : List Wire) → IsSwept ws 0 s) }
     {
-        let Ok(ending) = vec![in alloc; 0; positions as usize] else {
+        let Ok(ending) = vec![in alloc; None; positions as usize] else {
             return Err(NoMemory);
         };
         Ok(Sweep {
@@ -93,11 +93,10 @@ impl Sweep {
         ensures swept { OnOk result ((ws : List Wire) → AreRotary ws → ((w : Wire) → BeginsAt ws position w → ⊥) →
             IsSwept ws position self.old → IsSwept ws (position + 1) self.new) }
     {
-        let track = self.ending[position as usize];
-        if track == 0 {
-            return Ok(());
+        match self.ending[position as usize] {
+            None => Ok(()),
+            Some(track) => self.free.add(track),
         }
-        self.free.add(track)
     }
 
     // Goes past the position at which this wire begins.
@@ -115,7 +114,7 @@ impl Sweep {
         let output = output_position(from);
         let input = input_position(to);
         let track = self.take_track(output.min(input));
-        self.ending[output.max(input) as usize] = track;
+        self.ending[output.max(input) as usize] = Some(track);
         let Ok(()) = self.wires.push(Tracked { from, to, track }) else {
             return Err(NoMemory);
         };
