@@ -1,11 +1,12 @@
 -- A board that goes back to its last moment.
-use Rattle.std.specs.Prelude.{◌≡◌, ℕ, ◌+◌, ◌<◌, ◌≤◌, ◌⊎◌, Option, Some, None, refl}
-use Rattle.std.proofs.Common.{zero, suc, arith, sym, ap, subst, ◌∙◌, inl, inr}
+use Rattle.std.specs.Prelude.{◌≡◌, ℕ, ◌<◌, ◌≤◌, ◌⊎◌, Bool, true, false, Option, Some, None, refl}
+use Rattle.std.specs.Bool.{OnTrue, OnFalse}
+use Rattle.std.proofs.Common.{zero, suc, arith, sym, subst, ◌∙◌, inl, inr}
 use Rattle.std.proofs.lemmas.Bool.{cases_lt}
 use Rattle.bn_theory.specs.Runs.{Reaches}
 use Rattle.bn_theory.specs.Circuits.{Circuit, Goes, IsFirst}
 use Rattle.bn_theory.specs.Stepping.{run}
-use Rattle.bn_theory.specs.RunLaws.{Reaches-run}
+use Rattle.bn_theory.proofs.RunLemmas.{Reaches-run}
 use Rattle.bn_theory.specs.declared.config.Config.{Config}
 use Rattle.bn_theory.proofs.RunPartLemmas.{runs_split}
 use Rattle.bn_column.specs.Nets.{rotary_circuit}
@@ -39,7 +40,7 @@ no_moment a b gone kept none u low high = by (cases_lt b.config.steps u)
   where
     by : (b.config.steps < u) ⊎ (u ≤ b.config.steps) → IsQuiet (FindsOn a) u
     by (inl more) = gone.quiet u more high
-    by (inr last) e there =
+    by (inr last) = λ e there.
         let same : u ≡ b.config.steps = omega arith in
         let here : FindsOn a b.config.steps e = subst (λ x. FindsOn a x e) same there in
         let both : None ≡ Some e = sym (found_here a b gone.same kept None none) ∙ here in
@@ -88,3 +89,17 @@ pub gone_start : (a b : Flattened) (initial : ℕ) → HasGoneBack a b → IsBoa
 gone_start a b initial gone kept none first =
     let zeroth : b.config.steps ≡ 0 = at_origin (rotary_circuit b.net) b.config.steps (origin b) b.config kept.reached.reaches first in
     start zeroth refl (λ u few. no_moment a b gone kept none u (omega arith) few)
+
+-- where no step was taken back
+pub gone_still : (a b c : Flattened) (initial : ℕ) (stepped : Bool) → HasGoneBack a b → IsBoardKept b → None ≡ moment_at b.layout b.config → stepped ≡ false
+    → OnFalse stepped (IsFirst (rotary_circuit b.net) b.config) → OnFalse stepped (c ≡ b) → IsShown (FindsOn a) initial a.config.steps c.config.steps initial
+gone_still a b c initial stepped gone kept none not first same =
+    let there : c ≡ b = subst (λ r. OnFalse r (c ≡ b)) not same in
+    let begins : IsFirst (rotary_circuit b.net) b.config = subst (λ r. OnFalse r (IsFirst (rotary_circuit b.net) b.config)) not first in
+    subst (λ (x : Flattened). IsShown (FindsOn a) initial a.config.steps x.config.steps initial) (sym there) (gone_start a b initial gone kept none begins)
+
+-- and where one was
+pub gone_on : (a b c : Flattened) (stepped : Bool) → HasGoneBack a b → IsBoardKept b → None ≡ moment_at b.layout b.config → stepped ≡ true → IsSameBoard b c
+    → OnTrue stepped (Goes (rotary_circuit b.net) c.config b.config) → HasGoneBack a c
+gone_on a b c stepped gone kept none is same made =
+    gone_more a b c gone kept none same (subst (λ r. OnTrue r (Goes (rotary_circuit b.net) c.config b.config)) is made)

@@ -3,7 +3,7 @@ use Rattle.std.specs.Prelude.{◌≡◌, ℕ, pos, List, length, refl}
 use Rattle.std.proofs.Common.{suc, arith, sym, subst, ◌∙◌}
 use Rattle.std.proofs.lemmas.Int.{ints}
 use Rattle.bn_machine.specs.Machine.{Program, final_of, start}
-use Rattle.bn_machine.specs.Steps.{follows_run}
+use Rattle.bn_machine.proofs.MachineStepLemmas.{follows_run}
 use Rattle.bn_machine.specs.Tape.{shift}
 use Rattle.bn_machine.specs.Window.{anywhere}
 use Rattle.bn_machine.specs.declared.quint.Shift.TheVariants.{Right}

@@ -1,11 +1,11 @@
 -- The signal is in one module at most, and the module of a location.
-use Rattle.std.specs.Prelude.{◌≡◌, ℕ, ◌+◌, ◌-◌, ◌*◌, ◌<◌, ◌≤◌, ◌⊎◌, ℤ, pos, ◌-ℤ◌, All, length, slice_index, Option, Some, None, refl}
-use Rattle.std.proofs.Common.{zero, suc, arith, sym, ap, subst, ◌∙◌, inl, inr}
+use Rattle.std.specs.Prelude.{◌≡◌, ℕ, ◌+◌, ◌-◌, ◌*◌, ◌<◌, ◌≤◌, ℤ, pos, ◌-ℤ◌, Option, Some, None, refl}
+use Rattle.std.proofs.Common.{zero, suc, arith, sym, ap, subst, ◌∙◌}
 use Rattle.std.proofs.lemmas.Nat.{mul-le}
 use Rattle.bn_theory.specs.declared.place.Place.{Place}
 use Rattle.bn_theory.specs.declared.place.Place.TheVariants.{Enter, Left}
 use Rattle.bn_cell.specs.Sizes.{IsCellSize}
-use Rattle.bn_modules.specs.Cells.{lines_of}
+use Rattle.bn_modules.specs.Cells.{line_of, lines_of}
 use Rattle.bn_modules.specs.Networks.{IsTape, cells_in, left_of, cell_size}
 use Rattle.bn_layout.specs.Layouts.{Layout, letters_at, lines_at, first_element, cell_element}
 use Rattle.bn_flat.specs.Flattened.{IsLayoutKept}
@@ -13,6 +13,13 @@ use Rattle.bn_flat.specs.Locations.{IsLocated, IsInputLine, in_control, in_cell,
 use Rattle.bn_flat.specs.declared.located.Located.{Located}
 use Rattle.bn_flat.specs.declared.located.Located.TheVariants.{Control, Cell, Outside}
 use Rattle.bn_view.specs.Modules.{module_by}
+use Rattle.bn_view.specs.Modules.{in_cell as in_cell_at}
+use Rattle.bn_view.specs.declared.layers.ModuleAt.TheVariants.{CellLine as AtLine, CellInside as AtInside}
+use Rattle.bn_modules.specs.Controls.{letters}
+use Rattle.bn_modules.specs.declared.cell_line.CellLine.{CellLine}
+use Rattle.bn_machine.specs.Machine.{nth}
+use Rattle.bn_quad.specs.Quadruples.{Quadruples}
+use Rattle.std.proofs.lemmas.Option.{get_or_from_slice_get}
 use Rattle.bn_view.specs.Laws.{ModulesAreOne}
 use Rattle.bn_view.proofs.ShownLemmas.{neither_less}
 
@@ -97,7 +104,7 @@ module _ (b : Layout) (t c e l : ℕ) (line : Option ℕ) (is : IsInputLine (cel
       → Cell t (pos c -ℤ pos (left_of b.limits t)) line ≡ Cell u (pos d -ℤ pos (left_of b.limits u)) other
   in_one_cell u d f k tape cell element input other also =
       let there : IsInputLine (cell_element b u d) (lines_of (letters_at b u)) f k line =
-          subst (λ x. x) (λ i. IsInputLine (cell_element b (tape i) (cell i)) (lines_of (letters_at b (tape i))) (element i) (input i) line) is in
+      subst (λ x. x) (λ i. IsInputLine (cell_element b (tape i) (cell i)) (lines_of (letters_at b (tape i))) (element i) (input i) line) is in
       let lines = one_line (cell_element b u d) (lines_of (letters_at b u)) f k line other there also in
       λ i. Cell (tape i) (pos (cell i) -ℤ pos (left_of b.limits (tape i))) (lines i)
 
@@ -162,3 +169,28 @@ cell_size_of b kept (suc t) tape =
     let high = tape.high in
     let three = kept.tapes in
     record { some = kept.some_symbols t 0 (omega arith); few = kept.few_symbols t 0 (omega arith) }
+
+-- ---- the module of a cell
+
+letters_found : (m : Quadruples) (t z : ℕ) → nth m.symbols t ≡ Some z → z ≡ letters m t
+letters_found m zero z at = absurd (cc)
+letters_found m (suc t) z at = sym (get_or_from_slice_get m.symbols t z 0 at)
+
+module _ (b : Layout) (m : Quadruples) (same : (t : ℕ) → IsTape t → letters_at b t ≡ letters m t) (p : Place) (at : Located) (is : IsLocated b p at)
+    (t : ℕ) (position : ℤ) (line : Option ℕ) (there : at ≡ Cell t position line) where
+  -- the symbols of its tape
+  pub cell_letters : (z : ℕ) → nth m.symbols t ≡ Some z → z ≡ letters_at b t
+  cell_letters z found = letters_found m t z found ∙ sym (same t (cell_of b p t position line at there is).tape)
+
+  -- its line is one of a cell's
+  pub line_low : (z i : ℕ) → nth m.symbols t ≡ Some z → line ≡ Some i → i < lines_of z
+  line_low z i found entered = subst (λ x. i < lines_of x) (sym (cell_letters z found)) ((cell_of b p t position line at there is).low i entered)
+
+  pub at_line : (z i : ℕ) (x : ℤ) (entered : CellLine) → nth m.symbols t ≡ Some z → line ≡ Some i → entered ≡ line_of z i → x ≡ position
+      → AtLine t x entered ≡ module_by b at
+  at_line z i x entered found some named place =
+      (λ j. AtLine t (place j) ((named ∙ ap (λ y. line_of y i) (cell_letters z found)) j))
+      ∙ ap (in_cell_at (letters_at b t) t position) (sym some) ∙ sym (ap (module_by b) there)
+
+  pub at_inside : (x : ℤ) → line ≡ None → x ≡ position → AtInside t x ≡ module_by b at
+  at_inside x none place = (λ j. AtInside t (place j)) ∙ ap (in_cell_at (letters_at b t) t position) (sym none) ∙ sym (ap (module_by b) there)

@@ -8,18 +8,17 @@ use Rattle.std.proofs.lemmas.Option.{slice_get_within}
 use Rattle.std.proofs.lemmas.List.{length-replicate}
 use Rattle.bn_theory.specs.Runs.{Reaches}
 use Rattle.bn_theory.specs.Tables.{Table}
-use Rattle.bn_theory.specs.Circuits.{Circuit, Goes, IsCircuit, IsStuck, inputs_of, target, place_at}
+use Rattle.bn_theory.specs.Circuits.{Circuit, Goes, IsCircuit, inputs_of, target, place_at}
 use Rattle.bn_theory.specs.Stepping.{run}
-use Rattle.bn_theory.specs.RunLaws.{Reaches-run}
+use Rattle.bn_theory.proofs.RunLemmas.{Reaches-run}
 use Rattle.bn_theory.specs.declared.line.Line.{Line}
 use Rattle.bn_theory.specs.declared.place.Place.{Place}
 use Rattle.bn_theory.specs.declared.place.Place.TheVariants.{Enter, Left}
 use Rattle.bn_theory.specs.declared.config.Config.{Config}
 use Rattle.bn_theory.proofs.RunPartLemmas.{steps_of_run}
 use Rattle.bn_element.specs.Rotary.{rotary, west}
-use Rattle.bn_machine.specs.Machine.{Program}
-use Rattle.bn_machine.specs.Outcome.{Limits, Outcome}
-use Rattle.bn_machine.specs.OutcomeLaws.{outcome_exists}
+use Rattle.bn_machine.specs.Outcome.{Outcome}
+use Rattle.bn_machine.proofs.OutcomeLemmas.{outcome_exists}
 use Rattle.bn_quad.specs.Quadruples.{initial_of}
 use Rattle.bn_bennett.specs.Translation.{name_of}
 use Rattle.bn_bennett.specs.Meaning.{machine_state_by, stage_by}
@@ -29,8 +28,8 @@ use Rattle.bn_boards.specs.Boards.{base, size, size_of}
 use Rattle.bn_layout.specs.declared.exit.Exit.{Exit}
 use Rattle.bn_layout.specs.declared.exit.Exit.TheVariants as exit
 use Rattle.bn_layout.specs.declared.spelled.Spelled.{Spelled}
-use Rattle.bn_layout.specs.Layouts.{IsExit, IsNamedExit, Layout, cell_element, elements_of, first_element, inside, letters_at, lines_at, moment_at, named, spelled_by, unnamed}
-use Rattle.bn_layout.specs.Flats.{Flat, IsAccepted, IsFlatOf, flat_start, machine_of}
+use Rattle.bn_layout.specs.Layouts.{IsExit, IsNamedExit, Layout, cell_element, elements_of, first_element, inside, letters_at, lines_at, named, spelled_by, unnamed}
+use Rattle.bn_layout.specs.Flats.{flat_start, machine_of}
 use Rattle.bn_layout.specs.Laws.{BoardsRead, ExitsAreOne}
 use Rattle.bn_headline.specs.Headline.{RunsToExit}
 use Rattle.bn_headline.specs.Laws.{BoardsRunToTheirExit}
@@ -38,13 +37,12 @@ use Rattle.bn_headline.proofs.CountLemmas.{before_end}
 use Rattle.bn_flat.specs.Locations.{IsInputLine, IsLocated, in_cell, in_control, left}
 use Rattle.bn_flat.specs.declared.located.Located.{Located}
 use Rattle.bn_flat.specs.declared.located.Located.TheVariants as located
-use Rattle.bn_view.specs.Shown.{IsQuiet, IsShown}
+use Rattle.bn_view.specs.Shown.{IsShown}
 use Rattle.bn_view.specs.Modules.{module_by}
-use Rattle.bn_view.specs.Viewed.{Finds, IsViewOf}
+use Rattle.bn_view.specs.Viewed.{Comes}
 use Rattle.bn_view.specs.Laws.{ShownIsFound, ViewsAreOne, ViewsAreThere, ViewsStand}
-use Rattle.bn_view.specs.declared.layers.Layers.{Layers}
 use Rattle.bn_view.proofs.ModuleLemmas.{modules-one}
-use Rattle.bn_view.proofs.ShownLemmas.{neither_less, shown-once, shown-there}
+use Rattle.bn_view.proofs.ShownLemmas.{neither_less, shown-one, shown-there}
 use Rattle.bn_view.proofs.StandingLemmas.{no_longer}
 use Rattle.bn_view.proofs.ViewLemmas.{one_position}
 
@@ -56,17 +54,13 @@ one_exit b at e x one (unnamed is none) (unnamed also last) = is ∙ sym also
 one_exit b at e x one (named h) (unnamed is none) = absurd (none e h)
 one_exit b at e x one (unnamed is none) (named h) = absurd (none x h)
 
--- the layout finds one moment
-found_once : (b : Layout) (k : Circuit) (c0 : Config) (u a e : ℕ) → Finds b k c0 u a → Finds b k c0 u e → a ≡ e
-found_once b k c0 u a e first second = let both : Some a ≡ Some e = sym first ∙ second in cc
-
 pub views-one : ExitsAreOne → ShownIsFound → ViewsAreOne
 views-one exits found p word l f flat accepted t d path v w one two =
     let initial = initial_of (machine_of f).rules in
     let steps : d.steps ≡ t = steps_of_run f.circuit t (flat_start f) d path ∙ zero-add t in
-    let first = (found p word l f flat accepted t one.step v.state d path).0 (subst (λ n. IsShown _ initial n one.step v.state) steps one.shown) in
-    let second = (found p word l f flat accepted t two.step w.state d path).0 (subst (λ n. IsShown _ initial n two.step w.state) steps two.shown) in
-    let same = shown-once (Finds f.layout f.circuit (flat_start f)) (found_once f.layout f.circuit (flat_start f)) initial t one.step v.state two.step w.state first second in
+    let first = (found p word l f flat accepted t one.step v.state d path).0 (subst (λ n. IsShown (Comes f) initial n one.step v.state) steps one.shown) in
+    let second = (found p word l f flat accepted t two.step w.state d path).0 (subst (λ n. IsShown (Comes f) initial n two.step w.state) steps two.shown) in
+    let same = shown-one f.layout f.circuit (flat_start f) initial t one.step v.state two.step w.state first second in
     let place = one.place ∙ sym two.place in
     let made = one.steps ∙ sym two.steps in
     let exit_is = one_exit f.layout d.place v.exit w.exit (exits p word l f flat accepted d.place) one.exit two.exit in
@@ -175,39 +169,36 @@ module _ (exits : ExitsAreOne) (read : BoardsRead) (boards : BoardsRunToTheirExi
   views-there p word l f flat accepted t d path =
       let initial = initial_of (machine_of f).rules in
       let steps : d.steps ≡ t = steps_of_run f.circuit t (flat_start f) d path ∙ zero-add t in
-      let finds = Finds f.layout f.circuit (flat_start f) in
-      let shown = shown-there finds (λ u. each u (moment_at f.layout (run f.circuit (flat_start f) u)) refl) initial t in
+      let shown = shown-there f.layout f.circuit (flat_start f) initial t in
       let comes = (found p word l f flat accepted t shown.0 shown.1 d path).1 shown.2 in
       let m = stand p word l f flat accepted t shown.0 shown.1 d path comes in
       let place = located_there f.layout d.place within in
-      let out = an_exit d.place refl in
-      (record {
-        place = d.place;
-        steps = d.steps;
-        exit = out.0;
-        «module» = module_by f.layout place.0;
-        state = shown.1;
-        tapes = spelled_by f.layout (run f.circuit (flat_start f) shown.0).states;
-        stage = stage_by (name_of f.translation shown.1);
-        machine = machine_state_by f.translation.final_state (name_of f.translation shown.1);
-        machine_step = m.step;
-      }, record {
-        place = refl;
-        steps = refl;
-        exit = out.1;
-        located = (place.0, place.1, refl);
-        step = shown.0;
-        shown = subst (λ n. IsShown _ initial n shown.0 shown.1) (sym steps) comes;
-        tapes = refl;
-        stage = refl;
-        machine = refl;
-        machine_step = ap (λ (s : Spelled). s.two.head) m.spells ∙ ap Some m.head;
-      })
+      let out = an_exit d.place refl in (
+        record {
+          place = d.place;
+          steps = d.steps;
+          exit = out.0;
+          «module» = module_by f.layout place.0;
+          state = shown.1;
+          tapes = spelled_by f.layout (run f.circuit (flat_start f) shown.0).states;
+          stage = stage_by (name_of f.translation shown.1);
+          machine = machine_state_by f.translation.final_state (name_of f.translation shown.1);
+          machine_step = m.step;
+        },
+        record {
+          place = refl;
+          steps = refl;
+          exit = out.1;
+          located = (place.0, place.1, refl);
+          step = shown.0;
+          shown = subst (λ n. IsShown (Comes f) initial n shown.0 shown.1) (sym steps) comes;
+          tapes = refl;
+          stage = refl;
+          machine = refl;
+          machine_step = ap (λ (s : Spelled). s.two.head) m.spells ∙ ap Some m.head;
+        },
+      )
     where
-      each : (u : ℕ) (o : Option ℕ) → moment_at f.layout (run f.circuit (flat_start f) u) ≡ o → ((a : ℕ) × Finds f.layout f.circuit (flat_start f) u a) ⊎ IsQuiet (Finds f.layout f.circuit (flat_start f)) u
-      each u (Some a) is = inl (a, is)
-      each u None is = inr (λ a there. let both : None ≡ Some a = sym is ∙ there in cc)
-
       within : (e i : ℕ) → d.place ≡ Enter e i → e < elements_of f.layout
       within e i at =
           let by = (read p word l f flat accepted).1 in

@@ -1,19 +1,19 @@
 -- What is shown stands for the machine, and is found by the layout.
-use Rattle.std.specs.Prelude.{◌≡◌, ℕ, ◌+◌, ◌<◌, ◌≤◌, All, List, length, slice_get, slice_index, ◌⊎◌, refl}
-use Rattle.std.proofs.Common.{zero, suc, arith, sym, ap, subst, ◌∙◌, inl, inr}
+use Rattle.std.specs.Prelude.{◌≡◌, ℕ, ◌<◌, ◌≤◌, All, List, slice_get, slice_index, ◌⊎◌, refl}
+use Rattle.std.proofs.Common.{arith, sym, ap, subst, ◌∙◌, inl, inr}
 use Rattle.std.proofs.lemmas.Bool.{cases_lt}
 use Rattle.bn_theory.specs.Runs.{Reaches}
 use Rattle.bn_theory.specs.Circuits.{Circuit, Goes, IsStuck}
-use Rattle.bn_theory.specs.Laws.{slice_get-set_other}
+use Rattle.bn_theory.proofs.StepLemmas.{slice_get-set_other}
 use Rattle.bn_theory.specs.Stepping.{run}
 use Rattle.bn_theory.specs.Situations.{Situation, Turns}
-use Rattle.bn_theory.specs.RunLaws.{Reaches-run, run_stops, run-zero}
+use Rattle.bn_theory.proofs.RunLemmas.{Reaches-run, run_stops, run-zero}
 use Rattle.bn_theory.specs.declared.place.Place.TheVariants.{Enter}
 use Rattle.bn_theory.specs.declared.config.Config.{Config}
 use Rattle.bn_theory.proofs.RunPartLemmas.{steps_of_run}
 use Rattle.bn_machine.specs.Machine.{Program}
 use Rattle.bn_machine.specs.Outcome.{Limits, Outcome}
-use Rattle.bn_machine.specs.OutcomeLaws.{outcome_exists}
+use Rattle.bn_machine.proofs.OutcomeLemmas.{outcome_exists}
 use Rattle.bn_quad.specs.Quadruples.{Configuration, initial_of}
 use Rattle.bn_stages.specs.Renamed.{in_state}
 use Rattle.bn_stages.specs.Stages.{Stands, rooms_of}
@@ -33,7 +33,7 @@ use Rattle.bn_layout.specs.Laws.{BoardsRead}
 use Rattle.bn_headline.specs.Headline.{RunsToExit, Spells}
 use Rattle.bn_headline.specs.Laws.{BoardsRunToTheirExit}
 use Rattle.bn_headline.specs.Moments.{BoardsHaveMoments, HasMoments}
-use Rattle.bn_view.specs.Shown.{IsShown, moment, start}
+use Rattle.bn_view.specs.Shown.{moment, start}
 use Rattle.bn_view.specs.Viewed.{Comes, Finds, MachineIsAt}
 use Rattle.bn_view.specs.Laws.{ShownIsFound, StandsForMachine, ViewsStand}
 use Rattle.bn_view.proofs.MachineLemmas.{IsCounted, counted}
@@ -123,9 +123,9 @@ module _ (boards : BoardsRunToTheirExit) (have : BoardsHaveMoments) (p : Program
 pub shown-found : BoardsRunToTheirExit → BoardsHaveMoments → ShownIsFound
 shown-found boards have p word l f flat accepted t s a d path = (
   shown-agrees (Comes f) (Finds f.layout f.circuit (flat_start f)) (initial_of (machine_of f).rules) t s a
-  (found_moment boards have p word l f flat accepted t d path) (told_moment boards have p word l f flat accepted t d path),
+      (found_moment boards have p word l f flat accepted t d path) (told_moment boards have p word l f flat accepted t d path),
   shown-agrees (Finds f.layout f.circuit (flat_start f)) (Comes f) (initial_of (machine_of f).rules) t s a
-  (told_moment boards have p word l f flat accepted t d path) (found_moment boards have p word l f flat accepted t d path),
+      (told_moment boards have p word l f flat accepted t d path) (found_moment boards have p word l f flat accepted t d path),
 )
 
 -- ---- it stands for the machine

@@ -1,6 +1,6 @@
 -- What a view of a board says, in the words of the machine's board.
-use Rattle.std.specs.Prelude.{◌≡◌, ℕ, ◌+◌, ◌<◌, ◌≤◌, pos, List, length, slice_get, Option, Some, refl}
-use Rattle.std.proofs.Common.{zero, suc, arith, sym, ap, subst, ◌∙◌}
+use Rattle.std.specs.Prelude.{◌≡◌, ℕ, ◌<◌, pos, List, [], ◌∷◌, length, Option, Some, Result, Ok, Err, IfOk, refl}
+use Rattle.std.proofs.Common.{arith, sym, ap, subst, ◌∙◌}
 use Rattle.std.proofs.lemmas.Option.{slice_get_within}
 use Rattle.bn_theory.specs.Runs.{Reaches}
 use Rattle.bn_theory.specs.Circuits.{Goes}
@@ -16,7 +16,7 @@ use Rattle.bn_bennett.specs.Translation.{Translation, name_of}
 use Rattle.bn_bennett.specs.Meaning.{machine_state_by, stage_by}
 use Rattle.bn_modules.specs.Controls.{letters}
 use Rattle.bn_network.proofs.RangeLemmas.{rule_range}
-use Rattle.bn_layout.specs.Layouts.{IsExit, Layout, is_sent, letters_at, moment_at, spelled_by, spelled_config}
+use Rattle.bn_layout.specs.Layouts.{IsExit, Layout, is_sent, letters_at, spelled_by, spelled_config}
 use Rattle.bn_layout.specs.Flats.{Flat, flat_start, machine_of}
 use Rattle.bn_layout.specs.declared.spelled.Spelled.{Spelled}
 use Rattle.bn_layout.proofs.FirstLemmas.{position_holds}
@@ -24,8 +24,9 @@ use Rattle.bn_layout.proofs.LetterLemmas.{letters_are}
 use Rattle.bn_flat.specs.Flattened.{Flattened, IsBoardKept, IsSameBoard, origin}
 use Rattle.bn_view.specs.Shown.{IsShown, moment, start}
 use Rattle.bn_view.specs.Modules.{IsModuleAt}
-use Rattle.bn_view.specs.Viewed.{Comes, Finds, IsBoardFor, IsBoardOf, IsView, IsViewOf, MachineIsAt, ShowsMachine}
+use Rattle.bn_view.specs.Viewed.{Comes, Finds, IsBoardFor, IsBoardOf, IsLastMoment, IsView, IsViewOf, MachineIsAt, ShowsMachine}
 use Rattle.bn_view.specs.Laws.{ShownIsFound, StandsForMachine, ViewsStand}
+use Rattle.bn_view.specs.declared.viewer.LastMoment.{LastMoment}
 use Rattle.bn_view.specs.declared.layers.Layers.{Layers}
 use Rattle.bn_view.proofs.BackLemmas.{FindsOn, board_ran}
 
@@ -35,7 +36,7 @@ initial_low m quad [] is = absurd (let some : 0 < length m.rules = quad.some in 
 initial_low m quad (r ∷ rs) is = (rule_range m quad 1 r (ap (λ (xs : List (Rule ℕ)). nth xs 1) is)).from
 
 -- two positions are one
-one_position : (o : Option _) (x y : ℕ) → o ≡ Some (pos x) → o ≡ Some (pos y) → x ≡ y
+pub one_position : (o : Option _) (x y : ℕ) → o ≡ Some (pos x) → o ≡ Some (pos y) → x ≡ y
 one_position o x y first second = let both : Some (pos x) ≡ Some (pos y) = sym first ∙ second in cc
 
 module _ (p : Program) (word : List ℕ) (l : Limits) (f : Flat) (t : Translation) (b : Flattened) (is : IsBoardFor p word l f t b) where
@@ -87,9 +88,9 @@ module _ (p : Program) (word : List ℕ) (l : Limits) (f : Flat) (t : Translatio
       shows_machine v view =
           let m = machine_at view.step v.state view.shown in
           let step : m.step ≡ v.machine_step = one_position v.tapes.two.head m.step v.machine_step
-              (ap (λ (x : Spelled). x.two.head) (view.tapes ∙ spelled_is view.step ∙ m.spells) ∙ ap Some m.head) view.machine_step in
+          (ap (λ (x : Spelled). x.two.head) (view.tapes ∙ spelled_is view.step ∙ m.spells) ∙ ap Some m.head) view.machine_step in
           let state : machine_state_by f.translation.final_state (name_of f.translation v.state) ≡ v.machine =
-              ap (λ (x : Translation). machine_state_by x.final_state (name_of x v.state)) is.translation ∙ sym view.machine in
+          ap (λ (x : Translation). machine_state_by x.final_state (name_of x v.state)) is.translation ∙ sym view.machine in
           record {
             config = m.config;
             state = m.state;
@@ -119,3 +120,37 @@ module _ (p : Program) (word : List ℕ) (l : Limits) (f : Flat) (t : Translatio
 pub gone_spelled : (a b : Flattened) → IsSameBoard a b → IsBoardKept b
     → spelled_by b.layout b.config.states ≡ spelled_by a.layout (run (rotary_circuit a.net) (origin a) b.config.steps).states
 gone_spelled a b same kept = λ i. spelled_by (same.layout i) (sym (board_ran a b same kept) i).states
+
+-- its place is where the run from its start comes to in its steps
+pub place_from_start : (t : Translation) (b : Flattened) → IsBoardKept b → (v : Layers) → IsView t b v → v.place ≡ (run (rotary_circuit b.net) (origin b) v.steps).place
+place_from_start t b kept v view =
+    view.place ∙ ap (λ (c : Config). c.place) (sym (board_ran b b (record { net = refl; start = refl; end = refl; layout = refl; origin_is = refl }) kept))
+    ∙ ap (λ n. (run (rotary_circuit b.net) (origin b) n).place) (sym view.steps)
+
+-- what is known of a value is known where there is one
+pub when_viewed : {T E : Type 0} (result : Result T E) (P Q : T → Type 0) → IfOk result P → ((v : T) → P v → Q v) → IfOk result Q
+when_viewed (Ok v) P Q holds gives = gives v holds
+when_viewed (Err e) P Q holds gives = tt
+
+-- ---- the last moment
+
+-- what a board that was stepped back from a copy of this one shows
+pub last_moment : (b copy last : Flattened) (initial a : ℕ) (s : Spelled) → copy ≡ b → IsSameBoard copy last → IsBoardKept last
+    → IsShown (FindsOn copy) initial copy.config.steps last.config.steps a → s ≡ spelled_by last.layout last.config.states → IsLastMoment b initial (record { state = a; tapes = s })
+last_moment b copy last initial a s is same kept shown spelled = record {
+  step = last.config.steps;
+  shown = subst (λ x. IsShown (FindsOn x) initial x.config.steps last.config.steps a) is shown;
+  tapes = spelled ∙ gone_spelled b last (subst (λ x. IsSameBoard x last) is same) kept;
+}
+
+module _ (t : Translation) (b : Flattened) (initial : ℕ) (m : LastMoment) (begins : initial ≡ initial_of t.machine.rules) (at : IsLastMoment b initial m) where
+  pub last_shown : IsShown (FindsOn b) (initial_of t.machine.rules) b.config.steps at.step m.state
+  last_shown = subst (λ n. IsShown (FindsOn b) n b.config.steps at.step m.state) begins at.shown
+
+  pub last_state : IsBoardOf t b → m.state < t.machine.states
+  last_state is = state_low is.0 is.1 is.2 is.3 t b is.4 at.step m.state last_shown
+
+  pub last_head : ShownIsFound → ViewsStand → IsBoardKept b → IsBoardOf t b → (i : ℕ) × (m.tapes.two.head ≡ Some (pos i))
+  last_head found stand kept is =
+      let there = head_there is.0 is.1 is.2 is.3 t b is.4 found kept stand at.step m.state last_shown in
+      (there.0, ap (λ (x : Spelled). x.two.head) at.tapes ∙ there.1)

@@ -1,7 +1,7 @@
 -- What the laws of this crate say, each the contract of a function that only names the laws below it.
-use Rattle.std.specs.Prelude.{◌≡◌, ◌↔◌, ◌⊎◌, ℕ, pos, List}
+use Rattle.std.specs.Prelude.{◌≡◌, ◌↔◌, ℕ, pos, List}
 use Rattle.bn_theory.specs.Runs.{Reaches}
-use Rattle.bn_theory.specs.Circuits.{Goes}
+use Rattle.bn_theory.specs.Circuits.{Circuit, Goes}
 use Rattle.bn_theory.specs.Stepping.{run}
 use Rattle.bn_theory.specs.declared.config.Config.{Config}
 use Rattle.bn_theory.specs.declared.place.Place.{Place}
@@ -17,23 +17,22 @@ use Rattle.bn_layout.specs.Flats.{Flat, IsAccepted, IsFlatOf, flat_start, machin
 use Rattle.bn_headline.specs.Headline.{Spells}
 use Rattle.bn_view.specs.declared.layers.Layers.{Layers}
 use Rattle.bn_view.specs.declared.layers.ModuleAt.{ModuleAt}
-use Rattle.bn_view.specs.Shown.{IsQuiet, IsShown}
+use Rattle.bn_view.specs.Shown.{IsShown}
 use Rattle.bn_view.specs.Modules.{IsModuleAt}
 use Rattle.bn_view.specs.Viewed.{Comes, Finds, IsViewOf, MachineIsAt}
 
 -- ---- what is shown
 
--- one step and one state are shown, where a step has one moment
+-- by what a layout finds, one step and one state are shown
 abbrev pub ShownIsOne : Type 0
 ShownIsOne =
-    (at : ℕ → ℕ → Type 0) → ((u a e : ℕ) → at u a → at u e → a ≡ e)
-    → (initial t s a r e : ℕ) → IsShown at initial t s a → IsShown at initial t r e → (s ≡ r) × (a ≡ e)
+    (b : Layout) (k : Circuit) (c0 : Config) (initial t s a r e : ℕ) → IsShown (Finds b k c0) initial t s a
+    → IsShown (Finds b k c0) initial t r e → (s ≡ r) × (a ≡ e)
 
--- and something is shown, where it is known of each step whether it is at a moment
+-- and there is something that is shown
 abbrev pub ShownIsThere : Type 0
 ShownIsThere =
-    (at : ℕ → ℕ → Type 0) → ((u : ℕ) → ((a : ℕ) × at u a) ⊎ IsQuiet at u)
-    → (initial t : ℕ) → (s : ℕ) × (a : ℕ) × IsShown at initial t s a
+    (b : Layout) (k : Circuit) (c0 : Config) (initial t : ℕ) → (s : ℕ) × (a : ℕ) × IsShown (Finds b k c0) initial t s a
 
 -- on the way of a board what is shown by the layout is what is shown by the board's own moments
 abbrev pub ShownIsFound : Type 0

@@ -21,6 +21,7 @@ use Rattle.bn_layout.specs.BoardMoments.{IsBoardMoment}
 use Rattle.bn_layout.specs.Flats.{Flat, IsAccepted, IsFlatOf, flat_start, machine_of}
 use Rattle.bn_flat.specs.Flattened.{Flattened, origin}
 use Rattle.bn_view.specs.declared.layers.Layers.{Layers}
+use Rattle.bn_view.specs.declared.viewer.LastMoment.{LastMoment}
 use Rattle.bn_view.specs.Shown.{IsShown}
 use Rattle.bn_view.specs.Modules.{IsModuleAt}
 
@@ -66,6 +67,12 @@ pub record IsViewOf (f : Flat) (d : Config) (v : Layers) : Type 0 where
   pub stage : v.stage ≡ stage_by (name_of f.translation v.state)
   pub machine : v.machine ≡ machine_state_by f.translation.final_state (name_of f.translation v.state)
   pub machine_step : v.tapes.two.head ≡ Some (pos v.machine_step)
+
+-- the state that is shown of a board, where this is the initial one, and what its cells showed then
+pub record IsLastMoment (b : Flattened) (initial : ℕ) (m : LastMoment) : Type 0 where
+  pub step : ℕ
+  pub shown : IsShown (Finds b.layout (rotary_circuit b.net) (origin b)) initial b.config.steps step m.state
+  pub tapes : m.tapes ≡ spelled_by b.layout (run (rotary_circuit b.net) (origin b) step).states
 
 -- the same of a board and a translation, with the moments that the board's layout finds
 pub record IsView (t : Translation) (b : Flattened) (v : Layers) : Type 0 where

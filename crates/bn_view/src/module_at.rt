@@ -1,6 +1,6 @@
 //! In which module the signal of a board is.
 
-ghost use Rattle.std.specs.Prelude.{ℕ};
+ghost use Rattle.std.specs.Prelude.{◌≡◌, ℕ};
 ghost use Rattle.bn_modules.specs.Controls.{letters};
 ghost use Rattle.bn_modules.specs.Networks.{IsTape};
 ghost use Rattle.bn_layout.specs.Layouts.{letters_at};

@@ -8,14 +8,21 @@ ghost use Rattle.bn_machine.specs.Outcome.{Limits};
 ghost use Rattle.bn_layout.specs.Flats.{Flat};
 ghost use Rattle.bn_flat.specs.Flattened.{IsBoardKept, IsSameBoard, origin};
 ghost use Rattle.bn_view.specs.Shown.{IsShown};
-ghost use Rattle.bn_view.specs.Viewed.{Finds, IsBoardFor, IsBoardOf, IsView, IsViewOf, ShowsMachine};
+ghost use Rattle.bn_view.specs.Viewed.{Finds, IsBoardFor, IsBoardOf, IsLastMoment, IsView, IsViewOf, ShowsMachine};
 
-use crate::layers::Layers;
 use crate::laws::{shown_is_found, views_stand};
+use crate::layers::Layers;
 use crate::module_at::module_at;
 use bn_bennett::Translated;
-use bn_flat::{Board, NoMemory, SpelledTape};
+use bn_flat::{Board, NoMemory, Spelled, SpelledTape};
 use std::alloc::Global;
+
+// The last moment of a board: its state, and what the cells showed then.
+#[derive(Drop)]
+pub(crate) struct LastMoment {
+    pub(crate) state: u32,
+    pub(crate) tapes: Spelled,
+}
 
 /// Every layer of a board's configuration, and of the last moment that it has reached. The board is the one that was
 /// made of the translation's machine, in whatever configuration it has come to. It stays as it is; the last moment is
@@ -49,9 +56,7 @@ fn layers_of(alloc: Global, board: &Board, translated: &Translated) -> Result<La
     views_stand();
     let _elements = board.len();
     let machine = translated.machine().machine();
-    let mut last = board.copy(alloc)?;
-    let state = go_back(&mut last, machine.initial_state());
-    let tapes = last.cells_of(alloc)?;
+    let LastMoment { state, tapes } = last_moment(alloc, board, machine.initial_state())?;
     Ok(Layers {
         place: board.place(),
         steps: board.steps(),
@@ -63,6 +68,16 @@ fn layers_of(alloc: Global, board: &Board, translated: &Translated) -> Result<La
         machine_step: head_of(&tapes.two),
         tapes,
     })
+}
+
+// The last moment that a board has reached, found on a copy; or its start where there is none, with the state given.
+fn last_moment(alloc: Global, board: &Board, initial: u32) -> Result<LastMoment, NoMemory>
+    ensures { IfOk result (IsLastMoment board.now initial) }
+{
+    let mut last = board.copy(alloc)?;
+    let state = go_back(&mut last, initial);
+    let tapes = last.cells_of(alloc)?;
+    Ok(LastMoment { state, tapes })
 }
 
 // Steps back to the last moment, and answers its state; or to the start where there is none, and then the state given.

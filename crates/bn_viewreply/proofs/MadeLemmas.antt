@@ -2,7 +2,7 @@
 use Rattle.std.specs.Prelude.{◌≡◌, ℕ, List, [], refl}
 use Rattle.std.proofs.Common.{sym, ap, subst, ◌∙◌}
 use Rattle.bn_theory.specs.Stepping.{run}
-use Rattle.bn_theory.specs.RunLaws.{back-zero}
+use Rattle.bn_theory.proofs.RunLemmas.{back-zero}
 use Rattle.bn_theory.specs.declared.config.Config.{Config}
 use Rattle.bn_column.specs.Nets.{rotary_circuit}
 use Rattle.bn_machine.specs.Machine.{Program}

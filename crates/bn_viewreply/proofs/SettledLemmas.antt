@@ -3,7 +3,7 @@ use Rattle.std.specs.Prelude.{◌≡◌, ℕ, List, [], ◌++◌, refl}
 use Rattle.std.proofs.Common.{sym, ap, subst, ◌∙◌}
 use Rattle.bn_theory.specs.Runs.{Reaches}
 use Rattle.bn_theory.specs.Circuits.{Goes}
-use Rattle.bn_theory.specs.RunLaws.{run_makes}
+use Rattle.bn_theory.proofs.RunLemmas.{run_makes}
 use Rattle.bn_theory.specs.declared.place.Place.{Place}
 use Rattle.bn_theory.specs.declared.config.Config.{Config}
 use Rattle.bn_machine.specs.Outcome.{Limits}
