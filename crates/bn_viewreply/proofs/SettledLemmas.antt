@@ -56,7 +56,7 @@ module _ (f g : Flat) (same : AreSameFlats f g) (limits : f.limits ≡ g.limits)
     view_there steps v h =
         let configs = after_same f g same limits steps in
         let shown : IsShown (Comes g) (initial_of (machine_of f).rules) (after f steps).steps h.step v.state =
-            shown-agrees (Comes f) (Comes g) (initial_of (machine_of f).rules) (after f steps).steps h.step v.state (λ u e few. comes_there u e) (λ u e few. back u e) h.shown in
+        shown-agrees (Comes f) (Comes g) (initial_of (machine_of f).rules) (after f steps).steps h.step v.state (λ u e few. comes_there u e) (λ u e few. back u e) h.shown in
         record {
           place = h.place ∙ ap (λ (c : Config). c.place) configs;
           steps = h.steps ∙ ap (λ (c : Config). c.steps) configs;
@@ -100,15 +100,19 @@ view_settled machines flats ones counted exits views_one views_some steps word l
         let accepted = given_accepted machines bytes word l t symbols f is comes in
         let made = run_makes f.circuit (flat_start f) steps in
         let v = views_some t.machine symbols l f comes.flat accepted made.made (after f steps) made.reaches in
-        let e = exits t.machine symbols l f comes.flat accepted steps in
-        (statuses.Done, view_text t f v.0, [], record {
-          view = v.0;
-          is_view = v.1;
-          is_named = has_name f.layout (after f steps).place v.0.exit e.0 e.1 v.1.exit;
-          status_is = refl;
-          text_is = refl;
-          silent = refl;
-        })
+        let e = exits t.machine symbols l f comes.flat accepted steps in (
+          statuses.Done,
+          view_text t f v.0,
+          [],
+          record {
+            view = v.0;
+            is_view = v.1;
+            is_named = has_name f.layout (after f steps).place v.0.exit e.0 e.1 v.1.exit;
+            status_is = refl;
+            text_is = refl;
+            silent = refl;
+          },
+        )
 
     one : (t : Named) (symbols : List ℕ) (f g : Flat) → IsGiven bytes word l t symbols → ComesTo t.machine l symbols f → ComesTo t.machine l symbols g →
         (s u : Status) (a b : List ℕ) (x y : List Place) → TellsView steps t f s a x → TellsView steps t g u b y → AgreeInAll s u a b x y

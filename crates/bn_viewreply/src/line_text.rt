@@ -91,12 +91,7 @@ pub(crate) fn push_control_line(
 }
 
 // Appends the name of the line by which a tape of so many symbols gives its answer at this place.
-fn push_answer(
-    text: &mut Vec<u8>,
-    symbols: u32,
-    place: u32,
-    tape: u32,
-) -> Result<(), NoMemory>
+fn push_answer(text: &mut Vec<u8>, symbols: u32, place: u32, tape: u32) -> Result<(), NoMemory>
     requires { symbols < 4294967295 }
     ensures { OnOk result (text.new.items ≡ text.old.items ++ answer_text (answer_line symbols place) tape) }
 {

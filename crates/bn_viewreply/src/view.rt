@@ -1,6 +1,6 @@
 //! The command `view`.
 
-ghost use Rattle.std.specs.Prelude.{◌≡◌, ℕ, [], ×, All, List, IfOk};
+ghost use Rattle.std.specs.Prelude.{◌≡◌, ℕ, [], All, List, IfOk};
 ghost use Rattle.bn_assembly.specs.Assembled.{AreSmall, limits_of};
 ghost use Rattle.bn_standard.specs.Standard.{IsStandard};
 ghost use Rattle.bn_machine.specs.Outcome.{Limits};

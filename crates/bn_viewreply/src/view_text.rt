@@ -95,12 +95,7 @@ fn push_module(
 }
 
 // Appends where a cell is.
-fn push_cell(
-    alloc: Global,
-    text: &mut Vec<u8>,
-    tape: u32,
-    position: i64,
-) -> Result<(), NoMemory>
+fn push_cell(alloc: Global, text: &mut Vec<u8>, tape: u32, position: i64) -> Result<(), NoMemory>
     ensures { OnOk result (text.new.items ≡ text.old.items ++ cell_text tape position) }
 {
     push(text, b"module tape ")?;
