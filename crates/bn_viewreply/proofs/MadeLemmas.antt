@@ -5,13 +5,11 @@ use Rattle.bn_theory.specs.Stepping.{run}
 use Rattle.bn_theory.proofs.RunLemmas.{back-zero}
 use Rattle.bn_theory.specs.declared.config.Config.{Config}
 use Rattle.bn_column.specs.Nets.{rotary_circuit}
-use Rattle.bn_machine.specs.Machine.{Program}
 use Rattle.bn_machine.specs.Outcome.{Limits}
 use Rattle.bn_table.specs.Rows.{Named}
 use Rattle.bn_bennett.specs.Translation.{IsTranslation, Translation}
-use Rattle.bn_layout.specs.declared.exit.Exit.{Exit}
 use Rattle.bn_layout.specs.Layouts.{IsExit, Layout}
-use Rattle.bn_layout.specs.Flats.{Flat, IsAccepted, IsFlatOf, flat_start}
+use Rattle.bn_layout.specs.Flats.{Flat, IsAccepted, flat_start}
 use Rattle.bn_layout.specs.Laws.{ExitsAreOne}
 use Rattle.bn_headline.specs.Laws.{BoardsRunToTheirExit}
 use Rattle.bn_flat.specs.Flattened.{Flattened, IsSameBoard, origin, origin_by}

@@ -1,12 +1,9 @@
 -- What `view` answers is one.
 use Rattle.std.specs.Prelude.{◌≡◌, ℕ, List, [], ◌++◌, refl}
 use Rattle.std.proofs.Common.{sym, ap, subst, ◌∙◌}
-use Rattle.bn_theory.specs.Runs.{Reaches}
-use Rattle.bn_theory.specs.Circuits.{Goes}
 use Rattle.bn_theory.proofs.RunLemmas.{run_makes}
 use Rattle.bn_theory.specs.declared.place.Place.{Place}
 use Rattle.bn_theory.specs.declared.config.Config.{Config}
-use Rattle.bn_machine.specs.Outcome.{Limits}
 use Rattle.bn_quad.specs.Quadruples.{initial_of}
 use Rattle.bn_table.specs.Laws.{TablesAreMachines}
 use Rattle.bn_table.specs.Rows.{Named}

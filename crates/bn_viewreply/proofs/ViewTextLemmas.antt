@@ -1,32 +1,38 @@
 -- The pieces of the text of a view, put together; and that it can be written.
-use Rattle.std.specs.Prelude.{◌≡◌, ◌≢◌, ℕ, ◌<◌, List, [], ◌++◌, length, map, Some, slice_get, refl}
+use Rattle.std.specs.Prelude.{◌≡◌, ℕ, ◌<◌, List, [], ◌++◌, length, Some, slice_get}
 use Rattle.std.specs.Option.{option_map}
 use Rattle.std.proofs.Common.{arith, sym, ap, subst, ◌∙◌, append_assoc}
 use Rattle.std.proofs.lemmas.List.{length-map}
 use Rattle.std.proofs.lemmas.Option.{slice_get-map, slice_get-get_or}
-use Rattle.bn_theory.specs.declared.config.Config.{Config}
 use Rattle.bn_machine.specs.Machine.{Program, start}
 use Rattle.bn_machine.specs.Window.{anywhere}
 use Rattle.bn_machine.specs.Outcome.{Limits}
 use Rattle.bn_table.specs.Rows.{Named}
-use Rattle.bn_stages.specs.List.{symbols_of}
 use Rattle.bn_stages.specs.declared.name.Name.TheVariants.{GoRight}
 use Rattle.bn_bennett.specs.Printed.{names_of, state_text}
 use Rattle.bn_bennett.specs.Translation.{IsTranslation, Translation, name_of}
 use Rattle.bn_bennett.specs.declared.translated.MachineState.{MachineState}
 use Rattle.bn_bennett.specs.declared.translated.MachineState.TheVariants.{AtState, Within}
 use Rattle.bn_layout.specs.declared.spelled.Spelled.{Spelled}
-use Rattle.bn_layout.specs.Layouts.{IsExit, Layout, letters_at, spelled_by}
+use Rattle.bn_layout.specs.Layouts.{IsExit, letters_at}
 use Rattle.bn_layout.specs.Flats.{Flat, IsAccepted, IsFlatOf}
 use Rattle.bn_layout.proofs.LetterLemmas.{symbols_are}
 use Rattle.bn_flat.specs.Flattened.{Flattened, IsBoardKept}
 use Rattle.bn_quad.specs.Names.{Naming}
 use Rattle.bn_tablereply.proofs.FitLemmas.{AreSymbols, run_fits, start_fits}
-use Rattle.bn_boardreply.specs.Shown.{HasNames, HaveLetters}
+use Rattle.bn_boardreply.specs.Shown.{HaveLetters}
+use Rattle.bn_boardreply.proofs.PieceLemmas.{three_pieces}
 use Rattle.bn_boardreply.proofs.ShownLemmas.{line_within, shown_letters}
 use Rattle.bn_view.specs.Viewed.{IsBoardFor, IsViewOf, MachineIsAt, ShowsMachine}
 use Rattle.bn_view.specs.declared.layers.Layers.{Layers}
 use Rattle.bn_viewreply.specs.Showing.{CanBeWritten, IsNamedState, IsTableBoard}
+
+-- four pieces one behind the other
+pub four_pieces : (first a b d e one two three four : List ℕ) → one ≡ first ++ a → two ≡ one ++ b → three ≡ two ++ d → four ≡ three ++ e
+    → four ≡ first ++ (a ++ (b ++ (d ++ e)))
+four_pieces first a b d e one two three four h1 h2 h3 h4 =
+    h4 ∙ ap (λ x. x ++ e) (three_pieces first a b d one two three h1 h2 h3) ∙ append_assoc first (a ++ (b ++ d)) e
+    ∙ ap (λ x. first ++ x) (append_assoc a (b ++ d) e ∙ ap (λ x. a ++ x) (append_assoc b d e))
 
 -- five pieces one behind the other
 pub five_pieces : (first a b d e g one two three four five : List ℕ) → first ≡ [] → one ≡ first ++ a → two ≡ one ++ b → three ≡ two ++ d → four ≡ three ++ e → five ≡ four ++ g

@@ -1,6 +1,6 @@
 -- The text of a view of a board (this project's own profile): seven lines, of where the signal is, and of the last
 -- moment.
-use Rattle.std.specs.Prelude.{◌≡◌, ℕ, ◌+◌, ◌-◌, ◌==◌, nat_lt, if◌then◌else◌, ℤ, List, [], ◌∷◌, ◌++◌, codes, decimal}
+use Rattle.std.specs.Prelude.{ℕ, ◌+◌, ◌-◌, ◌==◌, nat_lt, if◌then◌else◌, ℤ, List, [], ◌∷◌, ◌++◌, codes, decimal}
 use Rattle.std.specs.Prelude.{slice_index, slice_index_or}
 use Rattle.bn_theory.specs.declared.place.Place.{Place}
 use Rattle.bn_netlist.specs.Sentences.{place_text}

@@ -8,3 +8,6 @@ mod view_text;
 
 pub use laws::view_has_one_reply;
 pub use view::reply_view;
+
+#[cfg(test)]
+mod tests;
