@@ -1,0 +1,3 @@
+pub mod ViewText
+pub mod ViewReply
+pub mod Showing
