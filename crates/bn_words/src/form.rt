@@ -63,6 +63,10 @@ pub enum Form {
     Run,
     /// `run =W l1 r1 n r3 E`: the run of that board, of at most E steps.
     RunWithin,
+    /// `view =W l1 r1 n r3 E`: every layer of that board after at most E steps.
+    View,
+    /// `plan`: the floor plan of a circuit, with the least number of tracks.
+    Plan,
     /// `generate k`: the run of the machine of k increments. It reads no input.
     Generate,
 }
@@ -76,7 +80,7 @@ pub(crate) struct Row {
 
 impl Form {
     /// All forms.
-    pub const ALL: [Form; 12] = [
+    pub const ALL: [Form; 14] = [
         Form::Step,
         Form::Back,
         Form::Check,
@@ -88,6 +92,8 @@ impl Form {
         Form::Compile,
         Form::Run,
         Form::RunWithin,
+        Form::View,
+        Form::Plan,
         Form::Generate,
     ];
 
@@ -115,6 +121,8 @@ impl Form {
             Form::Compile => Row::new("compile", &WINDOW),
             Form::Run => Row::new("run", &WINDOW),
             Form::RunWithin => Row::new("run", &WINDOW_AND_STEPS),
+            Form::View => Row::new("view", &WINDOW_AND_STEPS),
+            Form::Plan => Row::new("plan", &[]),
             Form::Generate => Row::new("generate", &[Ordinal(MOST_INCREMENTS)]),
         }
     }
