@@ -15,7 +15,7 @@ const BEFORE: &str = "element at 853.s steps 6539\nmodule control inside\nquadru
                       tape 3 from 0 head 0: _ _\nmachine compute state S step 0\n";
 
 /// At the end of the run.
-const ENDED: &str = "element left 1028.e steps 67300\nexit end\nquadruple C1\n\
+const ENDED: &str = "element left 848.e steps 67300\nexit end\nquadruple C1\n\
                      tape 1 from 0 head 0: _ _ _\ntape 2 from 0 head 0: _ _ _\n\
                      tape 3 from 0 head 0: _ _\nmachine retrace state S step 0\n";
 
