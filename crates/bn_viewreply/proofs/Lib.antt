@@ -1,3 +1,4 @@
 pub mod SettledLemmas
 pub mod ViewTextLemmas
 pub mod MadeLemmas
+pub mod SteppedLemmas
