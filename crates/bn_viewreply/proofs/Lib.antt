@@ -2,3 +2,4 @@ pub mod SettledLemmas
 pub mod ViewTextLemmas
 pub mod MadeLemmas
 pub mod ClosedLemmas
+pub mod SteppedLemmas

@@ -6,7 +6,7 @@ mod line_text;
 mod view;
 mod view_text;
 
-pub use laws::view_has_one_reply;
+pub use laws::{view_has_one_reply, views_show_steps};
 pub use view::reply_view;
 
 #[cfg(test)]
