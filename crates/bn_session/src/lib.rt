@@ -1,0 +1,11 @@
+//! Sessions on a board: scripts of commands, how they are read, and how they are played.
+#![tactic(auto)]
+
+mod command;
+mod label;
+mod refusal;
+mod sentence;
+
+pub use command::Command;
+pub use label::Label;
+pub use refusal::ScriptRefusal;
