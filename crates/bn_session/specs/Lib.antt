@@ -1,2 +1,5 @@
 pub mod Sentences
+pub mod Labels
+pub mod Scripts
 pub mod Reading
+pub mod Progress

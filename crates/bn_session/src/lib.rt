@@ -5,6 +5,8 @@ mod command;
 mod label;
 mod refusal;
 mod sentence;
+mod standing;
+mod states;
 
 pub use command::Command;
 pub use label::Label;
