@@ -1,3 +1,5 @@
 pub mod LabelLemmas
+pub mod LineLemmas
 pub mod ReadingLemmas
+pub mod ScriptLemmas
 pub mod StateLemmas

@@ -171,18 +171,16 @@ run_len (x ∷ label) rest all = both (is_ascii_alphanumeric x) refl (run_len la
     both true e behind rest_all = rw e (let later = behind rest_all in omega arith)
     both false e behind rest_all = absurd (cc)
 
-label_bytes : (label : List ℕ) → is_label label ≡ true → list_all is_ascii_alphanumeric label ≡ true
-label_bytes label form = by (nat_le 1 (length label)) (nat_le (length label) 16) (list_all is_ascii_alphanumeric label) form
-  where
-    by : (a b c : Bool) → (a && b && c) ≡ true → c ≡ true
-    by true true c e = e
-    by true false c e = absurd (cc)
-    by false b c e = absurd (cc)
+-- the last of three tests that all pass
+pub third_of : (a b c : Bool) → (a && b && c) ≡ true → c ≡ true
+third_of true true c e = e
+third_of true false c e = absurd (cc)
+third_of false b c e = absurd (cc)
 
 labelled-again : (label rest : List ℕ) (s : Sentence) → is_label label ≡ true → condition_in label (32 ∷ rest) ≡ Some s → breakpoint_in (label ++ 32 ∷ rest) ≡ Some s
 unfolding breakpoint_in
 labelled-again label rest s form condition =
-    let len : label_len (label ++ 32 ∷ rest) ≡ length label = run_len label rest (label_bytes label form) in
+    let len : label_len (label ++ 32 ∷ rest) ≡ length label = run_len label rest (third_of (nat_le 1 (length label)) (nat_le (length label) 16) (list_all is_ascii_alphanumeric label) form) in
     rw (len, take-append_seam label (32 ∷ rest), drop-append_seam label (32 ∷ rest), form) condition
 
 state-again : (label name : List ℕ) → is_state_name name ≡ true → condition_in label (codes " state " ++ name) ≡ Some (BreakState label name)

@@ -4,6 +4,8 @@
 mod command;
 mod label;
 mod refusal;
+mod scope;
+mod script;
 mod sentence;
 mod standing;
 mod states;
@@ -11,3 +13,4 @@ mod states;
 pub use command::Command;
 pub use label::Label;
 pub use refusal::ScriptRefusal;
+pub use script::{Script, read_script};

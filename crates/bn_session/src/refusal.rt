@@ -1,5 +1,7 @@
 //! Why bytes are no script.
 
+use bn_base::NoMemory;
+
 /// Why bytes are no script: the first line with a fault, counted from 1, and that line's first fault, in this order.
 #[derive(Clone, Copy, PartialEq, Eq, Debug)]
 pub enum ScriptRefusal {
@@ -25,4 +27,15 @@ pub enum ScriptRefusal {
     },
     /// There was no memory.
     NoMemory,
+}
+
+impl From<NoMemory> for ScriptRefusal {
+    ghost use Rattle.std.specs.Prelude.{◌≡◌};
+    ghost use Rattle.bn_session.specs.declared.refusal.ScriptRefusal.TheVariants as refusals;
+
+    ghost from_gives = { λ _ refusal. refusal ≡ refusals.NoMemory };
+
+    fn from(_want: NoMemory) -> ScriptRefusal {
+        ScriptRefusal::NoMemory
+    }
 }
