@@ -1,5 +1,7 @@
 pub mod LabelLemmas
 pub mod LineLemmas
 pub mod ReadingLemmas
+pub mod OneReading
 pub mod ScriptLemmas
+pub mod SomeReading
 pub mod StateLemmas

@@ -144,7 +144,7 @@ shorter names standing left behind x after next = let long : length left ≡ len
 pub all_read : (names : List (List ℕ)) (bytes left : List ℕ) (xs : List Command) → HasRead names bytes left xs → left ≡ [] → IsScript names bytes xs
 all_read names bytes left xs has none = record { sentences = has.sentences; spelled = has.begins ∙ ap (λ r. lines_text has.sentences ++ r) none ∙ append-nil (lines_text has.sentences); asked = has.asked }
 
-first_fault : (names standing : List (List ℕ)) (bytes left : List ℕ) (xs : List Command) → HasRead names bytes left xs → standing ≡ standing_by xs → (line : ℕ) (fault : Fault) → AtLine (length xs + 1) (BeginsWithFault names standing left) line fault → IsFirstFault names bytes line fault
+pub first_fault : (names standing : List (List ℕ)) (bytes left : List ℕ) (xs : List Command) → HasRead names bytes left xs → standing ≡ standing_by xs → (line : ℕ) (fault : Fault) → AtLine (length xs + 1) (BeginsWithFault names standing left) line fault → IsFirstFault names bytes line fault
 first_fault names standing bytes left xs has stand line fault h =
     record { before = has.sentences; commands = xs; left = left; begins = has.begins; counted = h.0 ∙ ap (λ n. n + 1) (sym has.counted); asked = has.asked; here = subst (λ t. BeginsWithFault names t left fault) stand h.1 }
 

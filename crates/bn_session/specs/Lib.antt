@@ -3,3 +3,4 @@ pub mod Labels
 pub mod Scripts
 pub mod Reading
 pub mod Progress
+pub mod Laws

@@ -3,6 +3,7 @@
 
 mod command;
 mod label;
+mod laws;
 mod refusal;
 mod scope;
 mod script;
@@ -12,5 +13,6 @@ mod states;
 
 pub use command::Command;
 pub use label::Label;
+pub use laws::scripts_have_one_reading;
 pub use refusal::ScriptRefusal;
 pub use script::{Script, read_script};
