@@ -3,4 +3,6 @@ pub mod Labels
 pub mod Scripts
 pub mod Reading
 pub mod Progress
+pub mod Breakpoints
+pub mod Kept
 pub mod Laws

@@ -1,7 +1,9 @@
 //! Sessions on a board: scripts of commands, how they are read, and how they are played.
 #![tactic(auto)]
 
+mod breaks;
 mod command;
+mod condition;
 mod label;
 mod laws;
 mod refusal;
