@@ -6,7 +6,8 @@ use Rattle.bn_theory.specs.Circuits.{inputs_of, outputs_of, IsInput, IsOutput}
 use Rattle.bn_theory.specs.declared.line.Line.{Line}
 use Rattle.bn_theory.specs.declared.line.Wire.{Wire}
 use Rattle.bn_net.specs.Faults.{AreFaultless, is_within}
-use Rattle.bn_column.specs.Wirings.{AreApart, AreWiresOf, apart-wire, earlier_target, earlier_source}
+use Rattle.bn_column.specs.Wirings.{AreApart, AreWiresOf}
+use Rattle.bn_column.proofs.WiringsLemmas.{apart-wire, earlier_target, earlier_source}
 
 -- whatever the elements
 pub apart-faultless : (ts : List Table) (ws : List Wire) → AreApart ws → ((n : ℕ) (w : Wire) → slice_get ws n ≡ Some w → is_within ts w ≡ true) → AreFaultless ts ws

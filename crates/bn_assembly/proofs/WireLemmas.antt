@@ -4,7 +4,8 @@ use Rattle.std.proofs.Common.{zero, suc, arith, sym, ap, subst, ◌∙◌, inl, 
 use Rattle.std.proofs.lemmas.Bool.{cases_lt}
 use Rattle.std.proofs.lemmas.Bool.Decides.{eqb_tells}
 use Rattle.bn_theory.specs.declared.line.Line.{Line}
-use Rattle.bn_column.specs.Wirings.{AreWiresOf, IsWire, no_wires, more_wire, joined_wires, same_wires}
+use Rattle.bn_column.specs.Wirings.{AreWiresOf}
+use Rattle.bn_column.proofs.WiringsLemmas.{IsWire, no_wires, more_wire, joined_wires, same_wires}
 use Rattle.bn_machine.specs.Outcome.{Limits}
 use Rattle.bn_quad.specs.Quadruples.{Quadruples}
 use Rattle.bn_modules.specs.declared.cell_line.CellLine.{CellLine}

@@ -1,5 +1,3 @@
 pub mod Number
-pub mod NumberLaws
 pub mod Line
-pub mod LineLaws
 pub mod LentLine

@@ -4,16 +4,18 @@ use Rattle.std.proofs.lemmas.Option.{get_or_from_slice_get, slice_get_within}
 use Rattle.bn_theory.specs.Runs.{Reaches}
 use Rattle.bn_machine.specs.Machine.{Program, nth}
 use Rattle.bn_quad.specs.Quadruples.{Admits, Configuration, Goes, Quadruples, everywhere, IsRuleInRange, Rooms, Rule, final_of, initial_of}
-use Rattle.bn_quad.specs.Steps.{goes_leads}
+use Rattle.bn_quad.proofs.QuadStepLemmas.{goes_leads}
 use Rattle.bn_machine.specs.Tape.{blank_tape, scanned, word_tape}
 use Rattle.bn_machine.specs.Outcome as outcome
 use Rattle.bn_machine.specs.Outcome.{HasOutcome, Limits, Outcome}
 use Rattle.std.specs.Prelude.{◌↔◌}
-use Rattle.bn_stages.specs.In.{IsIn, each_of_two, from_flat_map, in_head, in_tail}
+use Rattle.bn_stages.specs.In.{IsIn}
+use Rattle.bn_stages.proofs.MembershipLemmas.{each_of_two, from_flat_map, in_head, in_tail}
 use Rattle.bn_stages.specs.Laws.{BennettsTheorem, BoundedRunsAgree, HaltsAfter, NumbersPassTests, NumbersRunAlike}
 use Rattle.bn_stages.specs.List.{bennett, initial_name, final_name}
 use Rattle.bn_stages.specs.Names.{states_in}
-use Rattle.bn_stages.specs.Renamed.{KeepsApart, first_read_before, from_in, in_state, names_kept_apart, nth_before, reached_in, rename}
+use Rattle.bn_stages.specs.Renamed.{KeepsApart, in_state, rename}
+use Rattle.bn_stages.proofs.RenamedLemmas.{first_read_before, from_in, names_kept_apart, nth_before, reached_in}
 use Rattle.bn_stages.specs.Stages.{Comes as NamedComes, EndsAs, IsAfter, IsSpelledBy, IsStandardMachine, StepsOf, beginning, ending, rooms_of}
 use Rattle.bn_stages.specs.Steps.{EndsAt, Exit, Finished, HasNoFirstRead, Leaving, Stopped}
 use Rattle.bn_stages.specs.declared.name.Name.{Name}

@@ -11,10 +11,10 @@ use Rattle.bn_quad.specs.Quadruples.{AreAllowed, Configuration, Goes, Quadruples
 use Rattle.bn_quad.specs.Overlap.{IsDeterministic}
 use Rattle.bn_quad.specs.Calls.{AreSameWindows, configuration, rooms_of}
 use Rattle.bn_quad.specs.declared.tapes.Tapes.{Tapes}
-use Rattle.bn_stages.specs.Numbers.{ends_leaving, ends_stuck, leaving_ends, run_of_goes, stuck_ends}
+use Rattle.bn_stages.proofs.NumberLemmas.{ends_leaving, ends_stuck, leaving_ends, run_of_goes, stuck_ends}
 use Rattle.bn_stages.specs.Stages.{rooms_of as rooms_in}
 use Rattle.bn_stages.specs.Steps.{EndsAt, Exit, Finished, Leaving, Stopped, finishes, leaves, stops}
-use Rattle.bn_stages.specs.StepsLaws.{run_allowed}
+use Rattle.bn_stages.proofs.StageStepLemmas.{run_allowed}
 use Rattle.bn_bennett.specs.Translation.{Translation}
 use Rattle.bn_bennett.specs.Runs.{CallsEndAs, Comes, MachineEndsAs, Moves, Stand, beginning_of, ending_of, new_tapes, stand}
 

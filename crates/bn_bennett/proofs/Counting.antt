@@ -5,16 +5,17 @@ use Rattle.std.specs.List.{list_any}
 use Rattle.std.proofs.lemmas.Bool.{cases_Bool, false≢true}
 use Rattle.std.proofs.lemmas.Bool.Decides.{Decides-eqb}
 use Rattle.bn_entries.specs.Numbering.{firsts_by, numbers_from}
-use Rattle.bn_entries.specs.NumberingLaws.{any-at, any-firsts, apart-firsts, one_number, some_number}
+use Rattle.bn_entries.proofs.NumberingLemmas.{any-at, any-firsts, apart-firsts, one_number, some_number}
 use Rattle.bn_machine.specs.Machine.{Program, nth}
 use Rattle.bn_machine.specs.declared.quint.Quint.{Quint}
 use Rattle.bn_quad.specs.Quadruples.{Rule}
-use Rattle.bn_stages.specs.In.{IsIn, in_head, in_tail, each_of_two, from_flat_map}
+use Rattle.bn_stages.specs.In.{IsIn}
+use Rattle.bn_stages.proofs.MembershipLemmas.{in_head, in_tail, each_of_two, from_flat_map}
 use Rattle.bn_stages.specs.Names.{states_in, NumbersStates, Mentions}
 use Rattle.bn_stages.specs.declared.name.Name.{Name}
 use Rattle.bn_table.specs.Rows.{FitsTable, states_in as states_of}
 use Rattle.bn_bennett.specs.Translation.{is_same}
-use Rattle.bn_bennett.specs.NameLaws.{is_same-Decides}
+use Rattle.bn_bennett.proofs.NameLemmas.{is_same-Decides}
 
 module _ {X : Type 0} (same : X → X → Bool) (decides : (a b : X) → Decides (same a b) (a ≡ b)) where
   pub in_from_any : (y : X) (xs : List X) → list_any (same y) xs ≡ true → IsIn xs y

@@ -1,3 +1,4 @@
+pub mod NameLemmas
 pub mod Alike
 pub mod CallByCall
 pub mod Counting

@@ -6,11 +6,12 @@ use Rattle.std.proofs.lemmas.List.{length-map}
 use Rattle.std.proofs.lemmas.Option.{get_or_from_slice_get, slice_get-map, slice_get_within}
 use Rattle.bn_entries.specs.Numbering.{firsts_by}
 use Rattle.bn_machine.specs.declared.quint.Shift.TheVariants.{Stay}
-use Rattle.bn_machine.specs.Machine.{Program, IsMachine, final_of, nth, nth-get_or, nth_once}
+use Rattle.bn_machine.specs.Machine.{Program, IsMachine, final_of, nth}
+use Rattle.bn_machine.proofs.MachineLemmas.{nth-get_or, nth_once}
 use Rattle.bn_quad.specs.Quadruples.{Deed, Rewrite, Move, Rule, Quadruples, IsQuadMachine, IsDeedInRange, AreDeedsInRange, deeds_of}
 use Rattle.bn_quad.specs.Overlap.{HasNoClash, IsLeastClash, HasNoFlaw, IsFirstFlaw, initial_flaw, final_flaw, IsDeterministic, IsReversible, IsUniform}
 use Rattle.bn_quad.specs.Kept.{IsActInRange, IsReadInRange, IsSound, IsFirstFault, Agree, act_of, quad_of, read_of, rule_of, rules_of}
-use Rattle.bn_quad.specs.KeptLaws.{nth-rules_of, quads-apart}
+use Rattle.bn_quad.proofs.KeptLemmas.{nth-rules_of, quads-apart}
 use Rattle.bn_quad.specs.Calls.{IsMadeOf, IsUniformMachine, IsQuadRefusal, IsUniformRefusal, IsNotUniform}
 use Rattle.bn_quad.specs.declared.quad.Quad.{Quad}
 use Rattle.bn_quad.specs.declared.clash.Clash.{Clash}
@@ -23,7 +24,8 @@ use Rattle.bn_quad.specs.declared.refusal.NotUniform.{NotUniform}
 use Rattle.bn_quad.specs.declared.refusal.NotUniform.TheVariants as uneven
 use Rattle.bn_quad.specs.declared.refusal.UniformRefusal.{UniformRefusal}
 use Rattle.bn_quad.specs.declared.refusal.UniformRefusal.TheVariants as uniform
-use Rattle.bn_stages.specs.In.{IsIn, in_map}
+use Rattle.bn_stages.specs.In.{IsIn}
+use Rattle.bn_stages.proofs.MembershipLemmas.{in_map}
 use Rattle.bn_stages.specs.Laws.{ListCountsNames, ListHasLength, ListIsInRange, NumbersPassTests}
 use Rattle.bn_stages.specs.Names.{states_in}
 use Rattle.bn_standard.specs.Standard.{IsStandard}

@@ -11,11 +11,12 @@ use Rattle.std.proofs.lemmas.Grind.{flat_map-append}
 use Rattle.std.proofs.lemmas.Option.{get_or_from_slice_get, slice_get-get_or}
 use Rattle.std.proofs.lemmas.Slice.Eq.{bytes_eq-Decides}
 use Rattle.bn_entries.specs.Numbering.{firsts, firsts_by}
-use Rattle.bn_entries.specs.NumberingLaws.{any-firsts, firsts-push}
+use Rattle.bn_entries.proofs.NumberingLemmas.{any-firsts, firsts-push}
 use Rattle.bn_machine.specs.Machine.{nth}
-use Rattle.bn_stages.specs.In.{IsIn, each_of_two, in_head, in_tail, in_left, in_cases, not_in_empty}
+use Rattle.bn_stages.specs.In.{IsIn}
+use Rattle.bn_stages.proofs.MembershipLemmas.{each_of_two, in_head, in_tail, in_left, in_cases, not_in_empty}
 use Rattle.bn_entries.specs.Forms.{is_symbol}
-use Rattle.bn_entries.specs.FormsLaws.{all-at}
+use Rattle.bn_entries.proofs.FormsLemmas.{all-at}
 use Rattle.std.proofs.Math.Seq.{get_or-append_seam}
 use Rattle.bn_quad.specs.Names.{Naming}
 use Rattle.bn_quad.specs.Quadruples.{Deed, Rewrite, Move, IsDeedInRange, IsRuleInRange, Rule}
@@ -26,14 +27,14 @@ use Rattle.bn_stages.specs.Renamed.{rename, renamed}
 use Rattle.bn_stages.specs.declared.name.Name.{Name}
 use Rattle.bn_machine.specs.Machine.{IsInRange, IsMachine, Program, final_of}
 use Rattle.bn_machine.specs.declared.quint.Quint.{Quint}
-use Rattle.bn_stages.specs.In.{from_flat_map, in_append, in_right, in_map, from_map}
+use Rattle.bn_stages.proofs.MembershipLemmas.{from_flat_map, in_append, in_right, in_map, from_map}
 use Rattle.bn_stages.specs.List.{bennett, begins_copy, compute_pair, compute_rules, copies_letter, copy_rules, ends_copy, goes_left, goes_right, letters, passes_letter, retrace_rules, turns_left}
 use Rattle.bn_table.specs.Rows.{FitsTable, IsTable, Named, letters_in, rows_by as table_rows}
-use Rattle.bn_table.specs.RowsLaws.{blank_first, one_symbol}
+use Rattle.bn_table.proofs.RowsLemmas.{blank_first, one_symbol}
 use Rattle.bn_qtable.specs.Rows.{blank}
 use Rattle.bn_bennett.specs.Printed.{names_of, number_names, one_byte, print_of, state_text}
 use Rattle.bn_bennett.specs.Translation.{IsTranslation, Translation, is_same, name_of}
-use Rattle.bn_bennett.specs.NameLaws.{is_same-Decides}
+use Rattle.bn_bennett.proofs.NameLemmas.{is_same-Decides}
 use Rattle.bn_bennett.proofs.Forms.{all_letters_form, all_numbers_form, all_states_form, count_letters}
 use Rattle.bn_bennett.proofs.Machines.{some_symbols}
 use Rattle.bn_bennett.proofs.Printable.{number_bound}

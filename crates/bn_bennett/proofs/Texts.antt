@@ -12,9 +12,9 @@ use Rattle.std.proofs.lemmas.List.{append_cancel_left, get_or-map, get_or-take, 
 use Rattle.std.proofs.lemmas.Option.{get_or_from_slice_get, slice_get-get_or}
 use Rattle.bn_base.specs.declared.numbers.Digits.{Digits}
 use Rattle.bn_base.specs.Number.{AreDigits, BeginsWithNoDigit, read_number}
-use Rattle.bn_base.specs.NumberLaws.{read_number-again}
+use Rattle.bn_base.proofs.NumberLemmas.{read_number-again}
 use Rattle.bn_table.specs.Rows.{IsTable, Named, blank}
-use Rattle.bn_table.specs.RowsLaws.{one_symbol}
+use Rattle.bn_table.proofs.RowsLemmas.{one_symbol}
 use Rattle.bn_quad.specs.Names.{Naming, naming_of, symbols_on, with_state, with_symbol}
 use Rattle.bn_stages.specs.declared.name.Name.{Name}
 use Rattle.bn_stages.specs.declared.name.Name.TheVariants.{Compute, ComputeWithin, GoRight, CopyLetter, GoLeft, PassLetter, Retrace, RetraceWithin}

@@ -7,20 +7,23 @@ use Rattle.std.proofs.lemmas.Bool.{cases_Bool, false≢true}
 use Rattle.std.proofs.lemmas.List.{length-map}
 use Rattle.std.proofs.lemmas.Option.{get_or_from_slice_get, slice_get_within, slice_get-get_or}
 use Rattle.bn_entries.specs.Numbering.{firsts_by}
-use Rattle.bn_entries.specs.NumberingLaws.{any-at, any-firsts}
-use Rattle.bn_machine.specs.Machine.{Program, IsMachine, final_of, nth, nth-get_or}
+use Rattle.bn_entries.proofs.NumberingLemmas.{any-at, any-firsts}
+use Rattle.bn_machine.specs.Machine.{Program, IsMachine, final_of, nth}
+use Rattle.bn_machine.proofs.MachineLemmas.{nth-get_or}
 use Rattle.bn_machine.specs.declared.quint.Shift.TheVariants.{Stay}
 use Rattle.bn_quad.specs.Quadruples.{Rule, Quadruples, IsQuadMachine, IsRuleInRange}
-use Rattle.bn_stages.specs.In.{IsIn, in_head, in_tail}
+use Rattle.bn_stages.specs.In.{IsIn}
+use Rattle.bn_stages.proofs.MembershipLemmas.{in_head, in_tail}
 use Rattle.bn_stages.specs.Laws.{ListHasLength, ListIsInRange}
 use Rattle.bn_stages.specs.List.{bennett, symbols_of}
 use Rattle.bn_stages.specs.Names.{states_in}
-use Rattle.bn_stages.specs.Renamed.{rename, renamed, name_at, from_in, to_in}
+use Rattle.bn_stages.specs.Renamed.{rename, renamed, name_at}
+use Rattle.bn_stages.proofs.RenamedLemmas.{from_in, to_in}
 use Rattle.bn_stages.specs.Stages.{IsStandardMachine}
 use Rattle.bn_stages.specs.declared.name.Name.{Name}
 use Rattle.bn_stages.specs.declared.name.Name.TheVariants.{GoRight}
 use Rattle.bn_table.specs.Rows.{FitsTable}
-use Rattle.bn_bennett.specs.NameLaws.{is_same-Decides}
+use Rattle.bn_bennett.proofs.NameLemmas.{is_same-Decides}
 use Rattle.bn_bennett.specs.Translation.{Translation, IsTranslation, is_same, name_of}
 use Rattle.bn_bennett.specs.Laws.{TranslationsAreThere}
 

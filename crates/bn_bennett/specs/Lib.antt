@@ -1,6 +1,5 @@
 pub mod Made
 pub mod Translation
-pub mod NameLaws
 pub mod Draft
 pub mod Meaning
 pub mod Printed

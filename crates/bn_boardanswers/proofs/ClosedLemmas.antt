@@ -2,7 +2,7 @@
 use Rattle.std.specs.Prelude.{◌≡◌, ℕ, ◌+◌, ◌-◌, ◌*◌, ◌≤◌}
 use Rattle.std.proofs.Common.{arith, subst}
 use Rattle.std.proofs.Math.Nat.{mul-le-mul}
-use Rattle.bn_machine.specs.OutcomeLaws.{outcome_exists, outcome_once}
+use Rattle.bn_machine.proofs.OutcomeLemmas.{outcome_exists, outcome_once}
 use Rattle.bn_rsm.specs.Costs.{loose_cost, move_cost, pass_cost}
 use Rattle.bn_rsm.specs.Laws.{CostsAreBounded}
 use Rattle.bn_table.proofs.MachineLemmas.{tables_machines}

@@ -3,14 +3,14 @@ use Rattle.std.specs.Prelude.{◌≡◌, ℕ, ◌+◌, List, length, slice_get, 
 use Rattle.std.proofs.Common.{arith, sym, ap, subst, ◌∙◌}
 use Rattle.std.proofs.lemmas.List.{length-replicate}
 use Rattle.bn_theory.specs.Circuits.{Circuit, IsFirst}
-use Rattle.bn_theory.specs.RunLaws.{Reaches-IsConfig, back_stops, run_makes}
+use Rattle.bn_theory.proofs.RunLemmas.{Reaches-IsConfig, back_stops, run_makes}
 use Rattle.bn_theory.specs.Stepping.{back, places, places_back, run}
 use Rattle.bn_theory.specs.declared.place.Place.{Place}
 use Rattle.bn_theory.specs.declared.config.Config.{Config}
 use Rattle.bn_theory.proofs.RunPartLemmas.{places-of_runs, runs-undo_in_part}
 use Rattle.bn_element.specs.Rotary.{rotary}
 use Rattle.bn_machine.specs.Outcome.{Limits}
-use Rattle.bn_netlist.specs.NetLaws.{spellings-move}
+use Rattle.bn_netlist.proofs.NetLemmas.{spellings-move}
 use Rattle.bn_netlist.specs.Spelling.{Spelling, Spelled, circuit_of, moved_to, text_of}
 use Rattle.bn_table.specs.Laws.{TablesAreMachines}
 use Rattle.bn_table.specs.Rows.{Named}

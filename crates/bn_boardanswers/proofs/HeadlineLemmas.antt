@@ -3,7 +3,7 @@ use Rattle.std.specs.Prelude.{◌≡◌, ℕ, List, Option, Some, None}
 use Rattle.std.proofs.Common.{arith}
 use Rattle.bn_theory.specs.declared.place.Place.{Place}
 use Rattle.bn_machine.specs.Outcome.{Limits, Outcome}
-use Rattle.bn_machine.specs.OutcomeLaws.{outcome_exists, outcome_once}
+use Rattle.bn_machine.proofs.OutcomeLemmas.{outcome_exists, outcome_once}
 use Rattle.bn_table.specs.Laws.{TablesAreMachines}
 use Rattle.bn_table.specs.Rows.{Named}
 use Rattle.bn_boards.specs.Boards.{size}

@@ -9,7 +9,7 @@ use Rattle.bn_machine.specs.Tape.{word_tape, blank_tape}
 use Rattle.bn_machine.specs.Machine.{Program}
 use Rattle.bn_machine.specs.Outcome as outcome
 use Rattle.bn_machine.specs.Outcome.{Limits, Outcome, HasOutcome}
-use Rattle.bn_machine.specs.OutcomeLaws.{outcome_exists}
+use Rattle.bn_machine.proofs.OutcomeLemmas.{outcome_exists}
 use Rattle.bn_table.specs.Laws.{TablesAreMachines}
 use Rattle.bn_table.specs.Rows.{Named}
 use Rattle.bn_stages.specs.declared.name.Name.{Name}

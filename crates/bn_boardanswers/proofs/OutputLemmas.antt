@@ -4,7 +4,8 @@ use Rattle.std.specs.List.{range_with_len}
 use Rattle.std.proofs.Common.{zero, suc, arith, sym, ap, subst, ◌∙◌}
 use Rattle.std.proofs.lemmas.Int.{ints}
 use Rattle.std.proofs.lemmas.List.{get_or_past}
-use Rattle.bn_machine.specs.Tape.{cell, cell-word, word_tape}
+use Rattle.bn_machine.specs.Tape.{cell, word_tape}
+use Rattle.bn_machine.proofs.TapeLemmas.{cell-word}
 use Rattle.bn_machine.specs.Machine.{Program, Moment}
 use Rattle.bn_machine.specs.Outcome as outcome
 use Rattle.bn_machine.specs.Outcome.{Limits, HasOutcome, ComesOut, halts, sticks, runs_out, leaves, copied, work_short, output_short}

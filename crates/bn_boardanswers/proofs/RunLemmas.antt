@@ -5,13 +5,13 @@ use Rattle.std.proofs.lemmas.Bool.{cases_lt}
 use Rattle.bn_theory.specs.Runs.{Reaches}
 use Rattle.bn_theory.specs.Circuits.{Circuit, Goes, IsStuck}
 use Rattle.bn_theory.specs.Counting.{one_if, tally}
-use Rattle.bn_theory.specs.RunLaws.{Reaches-run, next-stuck, run-zero}
+use Rattle.bn_theory.proofs.RunLemmas.{Reaches-run, next-stuck, run-zero}
 use Rattle.bn_theory.specs.declared.place.Place.{Place}
 use Rattle.bn_theory.specs.declared.config.Config.{Config}
 use Rattle.bn_theory.proofs.CountingLemmas.{tallies-add, tally-more, tally-zero}
 use Rattle.bn_theory.proofs.RunPartLemmas.{runs_split, steps_of_run}
 use Rattle.bn_machine.specs.Outcome.{Outcome}
-use Rattle.bn_machine.specs.OutcomeLaws.{outcome_exists}
+use Rattle.bn_machine.proofs.OutcomeLemmas.{outcome_exists}
 use Rattle.bn_layout.specs.declared.exit.Exit.{Exit}
 use Rattle.bn_layout.specs.declared.exit.Exit.TheVariants as exit
 use Rattle.bn_layout.specs.BoardMoments.{IsBoardMoment}

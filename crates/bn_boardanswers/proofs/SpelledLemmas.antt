@@ -8,7 +8,7 @@ use Rattle.std.proofs.lemmas.List.{length-replicate, length-set}
 use Rattle.std.proofs.lemmas.Option.{slice_get_within}
 use Rattle.bn_theory.specs.Tables.{Table}
 use Rattle.bn_theory.specs.Circuits.{target, source, IsCircuit, IsConfig}
-use Rattle.bn_theory.specs.Laws.{same_lines, slice_get-set_same, slice_get-set_other}
+use Rattle.bn_theory.proofs.StepLemmas.{same_lines, slice_get-set_same, slice_get-set_other}
 use Rattle.bn_theory.specs.Situations.{Situation}
 use Rattle.bn_theory.specs.declared.line.Line.{Line}
 use Rattle.bn_theory.specs.declared.place.Place.TheVariants.{Enter, Left}
@@ -19,10 +19,10 @@ use Rattle.bn_machine.specs.Machine.{Program}
 use Rattle.bn_machine.specs.Outcome.{Limits}
 use Rattle.bn_netlist.specs.Spelling.{Spelling, Admits, circuit_of, text_of}
 use Rattle.bn_netlist.proofs.SameTexts.{same_text}
-use Rattle.bn_netlist.specs.WireLaws.{rotary_inputs, rotary_outputs, rotary_states}
+use Rattle.bn_netlist.proofs.WireLemmas.{rotary_inputs, rotary_outputs, rotary_states}
 use Rattle.bn_quad.specs.Quadruples.{Quadruples}
 use Rattle.bn_realise.specs.Banks.{IsBankWire, column_at, bottom_at, input_line, output_line}
-use Rattle.bn_realise.specs.BankWires.{bank_wire-IsWithinLines, bank_wire-no_input, output-no_wire}
+use Rattle.bn_realise.proofs.BankWiresLemmas.{bank_wire-IsWithinLines, bank_wire-no_input, output-no_wire}
 use Rattle.bn_modules.specs.Controls.{Tape as to_tape, in_number, out_number}
 use Rattle.bn_modules.specs.Networks.{IsNetWire, commands, replies, rightward, leftward}
 use Rattle.bn_controllaws.proofs.LineLemmas.{lines_some}

@@ -5,7 +5,7 @@ use Rattle.bn_theory.specs.Circuits.{Circuit, IsCircuit, IsConfig, IsInput, IsOu
 use Rattle.bn_theory.specs.declared.line.Line.{Line}
 use Rattle.bn_theory.specs.declared.line.Wire.{Wire}
 use Rattle.bn_column.specs.Nets.{rotary_circuit}
-use Rattle.bn_column.specs.NetLaws.{rotary-tables}
+use Rattle.bn_column.proofs.NetLemmas.{rotary-tables}
 use Rattle.bn_machine.specs.Machine.{Program, IsMachine}
 use Rattle.bn_machine.specs.Outcome.{Limits}
 use Rattle.bn_standard.specs.Standard.{IsStandard}

@@ -7,7 +7,7 @@ use Rattle.bn_theory.specs.declared.config.Config.{Config}
 use Rattle.bn_machine.specs.Machine.{IsMachine, Moment, Program, start}
 use Rattle.bn_machine.specs.Outcome as outcome
 use Rattle.bn_machine.specs.Outcome.{ComesOut, HasOutcome, Limits, Outcome, halts, sticks, runs_out, leaves, copied, work_short, output_short}
-use Rattle.bn_machine.specs.OutcomeLaws.{outcome_exists}
+use Rattle.bn_machine.proofs.OutcomeLemmas.{outcome_exists}
 use Rattle.bn_machine.specs.Tape.{scanned}
 use Rattle.bn_machine.specs.Window.{within}
 use Rattle.bn_table.specs.Rows.{Named}

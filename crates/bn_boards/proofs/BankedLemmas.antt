@@ -4,7 +4,7 @@ use Rattle.std.proofs.Common.{zero, suc, arith, ap, ◌∙◌}
 use Rattle.bn_theory.specs.Tables.{Table}
 use Rattle.bn_element.specs.Rotary.{rotary}
 use Rattle.bn_realise.specs.Banks.{column_at}
-use Rattle.bn_realise.specs.BankCrossing.{later_column}
+use Rattle.bn_realise.proofs.BankCrossingLemmas.{later_column}
 use Rattle.bn_boards.specs.Boards.{own, base, size, size_of}
 use Rattle.bn_boards.specs.Laws.{ModulesAreBanks}
 

@@ -1,7 +1,8 @@
 -- A run of a network is a run of its board.
 use Rattle.std.specs.Prelude.{◌≡◌, ℕ, ◌+◌, ◌<◌, ◌≤◌, Bool, true, refl}
 use Rattle.std.proofs.Common.{zero, suc, arith, sym, subst}
-use Rattle.bn_theory.specs.Runs.{Reaches, Passes, Before, passes_join}
+use Rattle.bn_theory.specs.Runs.{Reaches, Passes, Before}
+use Rattle.bn_theory.proofs.RunsLemmas.{passes_join}
 use Rattle.bn_theory.specs.Circuits.{Circuit, clock, Goes}
 use Rattle.bn_theory.specs.declared.config.Config.{Config}
 use Rattle.bn_theory.specs.Situations.{Situation, Turns}

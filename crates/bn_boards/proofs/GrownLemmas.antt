@@ -5,14 +5,15 @@ use Rattle.std.proofs.lemmas.Bool.{cases_lt}
 use Rattle.std.proofs.lemmas.Option.{slice_get_within}
 use Rattle.bn_theory.specs.Tables.{Table}
 use Rattle.bn_theory.specs.Circuits.{Circuit, target, source, IsCircuit}
-use Rattle.bn_theory.specs.Laws.{same_lines}
+use Rattle.bn_theory.proofs.StepLemmas.{same_lines}
 use Rattle.bn_theory.specs.declared.line.Line.{Line}
 use Rattle.bn_theory.specs.declared.line.Wire.{Wire}
 use Rattle.bn_element.specs.Rotary.{rotary}
 use Rattle.bn_column.specs.Columns.{line_at}
 use Rattle.bn_column.specs.Nets.{rotary_circuit, IsNetOf}
-use Rattle.bn_column.specs.NetLaws.{rotary-tables}
-use Rattle.bn_column.specs.Wirings.{AreWiresOf, AreFitting, IsWire, more_wire, same_wires, apart-wire}
+use Rattle.bn_column.proofs.NetLemmas.{rotary-tables}
+use Rattle.bn_column.specs.Wirings.{AreWiresOf, AreFitting}
+use Rattle.bn_column.proofs.WiringsLemmas.{IsWire, more_wire, same_wires, apart-wire}
 use Rattle.bn_element.specs.declared.rotary.Rotary.{Rotary}
 use Rattle.bn_net.specs.Parts.{Parts}
 use Rattle.bn_realise.specs.Banks.{input_line, output_line}

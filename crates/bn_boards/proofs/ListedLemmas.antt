@@ -9,10 +9,11 @@ use Rattle.bn_theory.specs.Circuits.{Circuit, target, source}
 use Rattle.bn_theory.specs.declared.line.Line.{Line}
 use Rattle.bn_theory.specs.declared.line.Wire.{Wire}
 use Rattle.bn_element.specs.Rotary.{rotary, rotary-IsReversible}
-use Rattle.bn_column.specs.Wirings.{AreWiresOf, IsWire, no_wires, joined_wires, more_wire, same_wires, apart-IsOneToOne, rotary-outputs, rotary-inputs}
+use Rattle.bn_column.specs.Wirings.{AreWiresOf}
+use Rattle.bn_column.proofs.WiringsLemmas.{IsWire, no_wires, joined_wires, more_wire, same_wires, apart-IsOneToOne, rotary-outputs, rotary-inputs}
 use Rattle.bn_realise.specs.Banks.{column_at, IsBankWire, input_line, output_line}
-use Rattle.bn_realise.specs.BankLists.{bank_list}
-use Rattle.bn_realise.specs.BankWires.{bank_wire-IsWithinLines, bank_wire-no_input, output-no_wire}
+use Rattle.bn_realise.proofs.BankListsLemmas.{bank_list}
+use Rattle.bn_realise.proofs.BankWiresLemmas.{bank_wire-IsWithinLines, bank_wire-no_input, output-no_wire}
 use Rattle.bn_boards.specs.Boards.{AreModules, IsBoard, IsBoardWire, own, between, base, size, size_of}
 use Rattle.bn_boards.specs.Laws.{BoardsAreThere}
 use Rattle.bn_boards.proofs.MovedLemmas.{in_bank}

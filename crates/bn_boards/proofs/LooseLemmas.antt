@@ -14,8 +14,8 @@ use Rattle.bn_element.specs.Rotary.{east, west}
 use Rattle.bn_column.specs.Columns.{line_at}
 use Rattle.bn_rsm.specs.Costs.{table_cost}
 use Rattle.bn_realise.specs.Banks.{IsBank, IsBankWire, IsBankEntering, IsResting, IsWithinBank, AreMarked, column_at, turning_line, moved, mark_after, exit_after}
-use Rattle.bn_realise.specs.BankCrossing.{bank_crosses, moved-IsResting, moved-beside}
-use Rattle.bn_realise.specs.BankWires.{bank_wire-IsWithinLines, turning-wire}
+use Rattle.bn_realise.proofs.BankCrossingLemmas.{bank_crosses, moved-IsResting, moved-beside}
+use Rattle.bn_realise.proofs.BankWiresLemmas.{bank_wire-IsWithinLines, turning-wire}
 use Rattle.bn_theory.specs.Situations.{Situation, situation, IsAtEnd}
 use Rattle.bn_rsm.specs.RunCosts.{step_cost, entry_cost}
 use Rattle.bn_boards.specs.Boards.{AreModules, IsBoard, IsBoardWire, own, between, base, on_board, StandsFor, IsAmid, IsLoose}

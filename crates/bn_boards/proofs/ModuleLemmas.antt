@@ -5,10 +5,10 @@ use Rattle.std.proofs.Common.{zero, suc, arith, ap, subst, inl, inr}
 use Rattle.std.proofs.lemmas.Bool.Decides.{eqb_tells}
 use Rattle.bn_theory.specs.Tables.{Table}
 use Rattle.bn_theory.specs.Circuits.{Circuit, target, same_line, inputs_of, outputs_of}
-use Rattle.bn_theory.specs.Laws.{same_lines}
+use Rattle.bn_theory.proofs.StepLemmas.{same_lines}
 use Rattle.bn_theory.specs.declared.line.Line.{Line}
 use Rattle.bn_realise.specs.Banks.{column_at, input_line, output_line}
-use Rattle.bn_realise.specs.BankWires.{column_once}
+use Rattle.bn_realise.proofs.BankWiresLemmas.{column_once}
 use Rattle.bn_boards.specs.Boards.{AreModules, base, size, size_of}
 use Rattle.bn_boards.proofs.MovedLemmas.{in_bank, other_bank}
 

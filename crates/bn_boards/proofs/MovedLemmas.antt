@@ -8,14 +8,14 @@ use Rattle.std.proofs.lemmas.Option.{option_and_then_some, slice_get_within, sli
 use Rattle.bn_theory.specs.Tables.{Table, IsReversible}
 use Rattle.bn_theory.specs.Runs.{Passes}
 use Rattle.bn_theory.specs.Circuits.{Circuit, clock, target, place_at, place_after, Goes, IsPlace}
-use Rattle.bn_theory.specs.Laws.{same_lines, slice_get-set_same, slice_get-set_other, place_after-IsPlace}
+use Rattle.bn_theory.proofs.StepLemmas.{same_lines, slice_get-set_same, slice_get-set_other, place_after-IsPlace}
 use Rattle.bn_theory.specs.declared.line.Line.{Line}
 use Rattle.bn_theory.specs.declared.config.Config.{Config}
 use Rattle.bn_column.specs.Columns.{line_at}
 use Rattle.bn_rsm.specs.Costs.{table_cost}
 use Rattle.bn_realise.specs.Banks.{IsBank, IsBankWire, IsBankEntering, IsBesideBank, IsResting, IsWithinBank, AreMarked, bottom_at, column_at, input_line, output_line, moved, mark_after, states_after, exit_after}
-use Rattle.bn_realise.specs.BankCrossing.{later_column, bank_crosses, moved-IsResting, moved-beside}
-use Rattle.bn_realise.specs.BankWires.{bank_wire-IsWithinLines, output-no_wire}
+use Rattle.bn_realise.proofs.BankCrossingLemmas.{later_column, bank_crosses, moved-IsResting, moved-beside}
+use Rattle.bn_realise.proofs.BankWiresLemmas.{bank_wire-IsWithinLines, output-no_wire}
 use Rattle.bn_theory.specs.Situations.{Situation, Turns}
 use Rattle.bn_rsm.specs.RunCosts.{step_cost, entry_cost}
 use Rattle.bn_boards.specs.Boards.{AreModules, IsBoard, IsBoardWire, own, between, base, size_of, on_board, output_at, StandsFor, IsAmid}

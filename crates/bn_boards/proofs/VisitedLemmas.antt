@@ -2,10 +2,11 @@
 use Rattle.std.specs.Prelude.{◌≡◌, ℕ, ◌+◌, ◌-◌, ◌<◌, ◌≤◌, Bool, true, refl, ◌⊎◌}
 use Rattle.std.proofs.Common.{zero, suc, arith, sym, ap, subst, ◌∙◌, inl, inr}
 use Rattle.std.proofs.lemmas.Bool.{cases_lt}
-use Rattle.bn_theory.specs.Runs.{Reaches, Passes, passes_run}
+use Rattle.bn_theory.specs.Runs.{Reaches, Passes}
+use Rattle.bn_theory.proofs.RunsLemmas.{passes_run}
 use Rattle.bn_theory.specs.Circuits.{Circuit, clock, Goes}
 use Rattle.bn_theory.specs.Stepping.{run}
-use Rattle.bn_theory.specs.RunLaws.{Reaches-run, run-zero, run_composes}
+use Rattle.bn_theory.proofs.RunLemmas.{Reaches-run, run-zero, run_composes}
 use Rattle.bn_theory.specs.declared.config.Config.{Config}
 use Rattle.bn_theory.specs.Situations.{Situation, Turns}
 use Rattle.bn_rsm.specs.RunCosts.{step_cost, run_cost}

@@ -1,2 +1,7 @@
+pub mod CrossingLemmas
+pub mod LadderLemmas
+pub mod NetLemmas
+pub mod Rungs
+pub mod WiringsLemmas
 pub mod CrossLemmas
 pub mod RestLemmas

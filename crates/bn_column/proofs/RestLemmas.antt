@@ -7,7 +7,7 @@ use Rattle.bn_element.specs.declared.rotary.Rotary.{Rotary}
 use Rattle.bn_net.specs.Parts.{Parts}
 use Rattle.bn_column.specs.Columns.{bar, IsAtRest}
 use Rattle.bn_column.specs.Nets.{rotary_circuit, IsColumnNet}
-use Rattle.bn_column.specs.NetLaws.{bars-IsConfig, rotary-table_at}
+use Rattle.bn_column.proofs.NetLemmas.{bars-IsConfig, rotary-table_at}
 
 abbrev resting : ℕ → Bool → List ℕ
 resting k marked = replicate k vertical ++ bar marked ∷ []

@@ -5,7 +5,7 @@ use Rattle.bn_theory.specs.declared.line.Line.{Line}
 use Rattle.bn_theory.specs.declared.line.Wire.{Wire}
 use Rattle.bn_theory.specs.declared.place.Place.TheVariants.{Enter}
 use Rattle.bn_theory.specs.declared.config.Config.{Config}
-use Rattle.bn_element.specs.Rotary.{rotary, vertical, north, south}
+use Rattle.bn_element.specs.Rotary.{rotary, vertical}
 use Rattle.bn_element.specs.declared.rotary.Rotary.{Rotary}
 use Rattle.bn_net.specs.Parts.{Parts, circuit}
 use Rattle.bn_column.specs.Columns.{line_at, IsInner, IsColumn, bar}
@@ -48,8 +48,3 @@ IsNoCount rows = (rows ≡ 0) ⊎ (65535 < rows)
 -- a wire by its four numbers
 abbrev pub wire_of : ℕ → ℕ → ℕ → ℕ → Wire
 wire_of from from_line to to_line = record { from = line_at from from_line; to = line_at to to_line }
-
--- the wires between the first r rows and what is below each
-pub data IsRung (b r : ℕ) (from to : Line) : Type 0 where
-  rung_down : (x : ℕ) → x < r → from ≡ line_at (b + x) south → to ≡ line_at (b + (x + 1)) north → IsRung b r from to
-  rung_up : (x : ℕ) → x < r → from ≡ line_at (b + (x + 1)) north → to ≡ line_at (b + x) south → IsRung b r from to

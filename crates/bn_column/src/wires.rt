@@ -2,7 +2,7 @@
 ghost use Rattle.std.specs.Prelude.{◌≡◌, ◌+◌, ◌*◌, ◌^◌, ◌<◌, ◌≤◌, ◌++◌, ◌∷◌, [], length, IfOk, OnOk};
 ghost use Rattle.bn_column.specs.Wirings.{AreWiresOf, AreApart, AreFitting};
 ghost use Rattle.bn_column.specs.Columns.{IsInner};
-ghost use Rattle.bn_column.specs.Nets.{IsNetOf, IsRung, wire_of};
+ghost use Rattle.bn_column.specs.Nets.{IsNetOf, wire_of};
 
 use crate::refusal::NoMemory;
 use bn_element::{EAST, NORTH, Rotary, SOUTH, WEST};

@@ -13,7 +13,7 @@ use Rattle.bn_cell.proofs.MemberLemmas.{IsMember}
 use Rattle.bn_control.specs.declared.command.Command.{Command}
 use Rattle.bn_control.specs.declared.line.Sending.{Sending}
 use Rattle.bn_control.specs.Commands.{line_of, sending_of, commands_by, read_commands, shift_commands, shift_command, write_commands, moves_by}
-use Rattle.bn_control.specs.Names.{NamedCommand, Going, command_of, going_of, read_names, shift_names, write_names, later_names, names_by, next_name, goings}
+use Rattle.bn_control.proofs.NamesLemmas.{NamedCommand, Going, command_of, going_of, read_names, shift_names, write_names, later_names, names_by, next_name, goings}
 use Rattle.bn_control.specs.States.{name_of}
 
 -- ---- the commands

@@ -5,8 +5,9 @@ use Rattle.std.proofs.lemmas.Bool.Decides.{eqb_tells}
 use Rattle.std.proofs.lemmas.List.{length-map, length-set}
 use Rattle.std.proofs.lemmas.List.FromFn.{get_or-map-range_with_len, length-range_with_len}
 use Rattle.std.proofs.lemmas.Option.{slice_get_within, get_or_from_slice_get}
-use Rattle.bn_theory.specs.Laws.{slice_get-set_same, slice_get-set_other}
-use Rattle.bn_machine.specs.Machine.{nth, nth_within, nth_once}
+use Rattle.bn_theory.proofs.StepLemmas.{slice_get-set_same, slice_get-set_other}
+use Rattle.bn_machine.specs.Machine.{nth}
+use Rattle.bn_machine.proofs.MachineLemmas.{nth_within, nth_once}
 use Rattle.bn_quad.specs.Quadruples.{Rule, Quadruples, IsQuadMachine, final_of}
 use Rattle.bn_quad.specs.Calls.{IsUniformMachine}
 use Rattle.bn_quad.specs.Kept.{quad_of}
@@ -17,7 +18,8 @@ use Rattle.bn_control.specs.declared.line.Sending.{Sending}
 use Rattle.bn_control.specs.declared.command.Command.{Command}
 use Rattle.bn_control.specs.Commands.{commands_by}
 use Rattle.bn_control.proofs.RuleLemmas.{IsRuleAt, rule_at, HasFirst, has_first}
-use Rattle.bn_control.specs.Entries.{waiting, IsFirstSent, AreEntries, IsSoFar, left, not_left, AreSoFar}
+use Rattle.bn_control.specs.Entries.{waiting, IsFirstSent, AreEntries}
+use Rattle.bn_control.proofs.EntriesSoFar.{IsSoFar, left, not_left, AreSoFar}
 
 module _ (m : Quadruples) where
   -- before the first quadruple

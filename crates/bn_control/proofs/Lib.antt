@@ -1,3 +1,6 @@
+pub mod EntriesSoFar
+pub mod MovesSoFar
+pub mod NamesLemmas
 pub mod StuckLemmas
 pub mod OrderedLemmas
 pub mod CommandLemmas

@@ -2,7 +2,8 @@
 use Rattle.std.proofs.Common.{◌≡◌, inl, inr, get_or, ℕ, zero, suc, ◌+◌, ◌*◌, ◌<◌, ◌≤◌, List, [], ◌∷◌, ◌++◌, length, map, Some, refl, sym, ap, subst, ◌∙◌, arith, length-append}
 use Rattle.std.proofs.lemmas.Bool.Decides.{eqb_tells}
 use Rattle.std.proofs.lemmas.Option.{slice_get-get_or}
-use Rattle.bn_machine.specs.Machine.{nth, nth_within, nth_once}
+use Rattle.bn_machine.specs.Machine.{nth}
+use Rattle.bn_machine.proofs.MachineLemmas.{nth_within, nth_once}
 use Rattle.bn_quad.specs.Quadruples.{Rule, Quadruples, IsQuadMachine, initial_of}
 use Rattle.bn_quad.specs.Calls.{IsUniformMachine}
 use Rattle.bn_quad.specs.Kept.{quad_of}
@@ -18,9 +19,10 @@ use Rattle.bn_control.specs.declared.named.NamedMove.{NamedMove}
 use Rattle.bn_control.specs.declared.state.State.TheVariants.{Begin}
 use Rattle.bn_control.specs.States.{IsProper}
 use Rattle.bn_control.specs.Commands.{sending_of, commands_by, moves_by}
-use Rattle.bn_control.specs.Names.{Going, going_of, names_by, goings}
+use Rattle.bn_control.proofs.NamesLemmas.{Going, going_of, names_by, goings}
 use Rattle.bn_control.specs.Entries.{IsFirstSent, AreEntries}
-use Rattle.bn_control.specs.Named.{IsGoing, IsKeptAmong, AreMoves, AreMovesSoFar}
+use Rattle.bn_control.specs.Named.{IsGoing, IsKeptAmong, AreMoves}
+use Rattle.bn_control.proofs.MovesSoFar.{AreMovesSoFar}
 use Rattle.bn_control.proofs.CommandLemmas.{commands_are, moves_are, each_goes, reads_stand, shifts_stand, writes_stand}
 use Rattle.bn_control.proofs.RuleLemmas.{AreProper, commands_proper, commands_few, rule_at}
 

@@ -18,7 +18,7 @@ use Rattle.bn_control.specs.declared.state.Symbols.{Symbols}
 use Rattle.bn_control.specs.States.{IsProper, symbols_of}
 use Rattle.bn_control.specs.Commands.{sending_of, commands_by, read_command, read_commands, shift_command, shift_commands, write_command, write_commands, written}
 use Rattle.bn_control.specs.Entries.{IsFirstSent}
-use Rattle.bn_control.specs.Names.{NamedCommand, command_of, read_names, shift_names, write_names}
+use Rattle.bn_control.proofs.NamesLemmas.{NamedCommand, command_of, read_names, shift_names, write_names}
 use Rattle.bn_control.proofs.CommandLemmas.{commands_are}
 
 -- the quadruple at a place

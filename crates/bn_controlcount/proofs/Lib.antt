@@ -1,3 +1,4 @@
+pub mod Told
 pub mod ApartLemmas
 pub mod AlongLemmas
 pub mod PrefixLemmas

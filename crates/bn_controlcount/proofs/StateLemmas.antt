@@ -5,7 +5,8 @@ use Rattle.std.proofs.lemmas.Bool.{eqb-true}
 use Rattle.std.proofs.lemmas.Bool.Decides.{eqb_tells}
 use Rattle.std.proofs.lemmas.List.{map-append, reverse-append, reverse-reverse}
 use Rattle.std.proofs.lemmas.Option.{slice_get-get_or}
-use Rattle.bn_machine.specs.Machine.{Program, nth, nth-get_or, start_of, final_of as final_state}
+use Rattle.bn_machine.specs.Machine.{Program, nth, start_of, final_of as final_state}
+use Rattle.bn_machine.proofs.MachineLemmas.{nth-get_or}
 use Rattle.bn_machine.specs.declared.quint.Quint.{Quint}
 use Rattle.bn_machine.specs.declared.quint.Shift.TheVariants as way
 use Rattle.bn_machine.specs.declared.quint.Side.{Side}
@@ -19,14 +20,15 @@ use Rattle.bn_controllaws.proofs.UniformLemmas.{same_domain, same_range}
 use Rattle.bn_cell.proofs.MemberLemmas.{IsMember, in_front, behind, of_two}
 use Rattle.bn_stages.specs.In.{IsIn}
 use Rattle.bn_stages.specs.List.{bennett, goes_right, goes_left, writes_ahead, shifts_ahead, begins_copy, turns_left, ends_copy, shifts_back, writes_back}
-use Rattle.bn_stages.specs.ListLaws.{has_goes_right, has_goes_left, has_writes_ahead, has_shifts_ahead, has_begins_copy, has_turns_left, has_ends_copy, has_shifts_back, has_writes_back}
+use Rattle.bn_stages.proofs.ListLemmas.{has_goes_right, has_goes_left, has_writes_ahead, has_shifts_ahead, has_begins_copy, has_turns_left, has_ends_copy, has_shifts_back, has_writes_back}
 use Rattle.bn_stages.proofs.Counts.{list_has_names}
 use Rattle.bn_stages.specs.Names.{NumbersStates, IsNameOf}
-use Rattle.bn_stages.specs.Renamed.{rename, renamed, name_at, nth_renamed, nth_before}
+use Rattle.bn_stages.specs.Renamed.{rename, renamed, name_at}
+use Rattle.bn_stages.proofs.RenamedLemmas.{nth_renamed, nth_before}
 use Rattle.bn_stages.specs.Stages.{IsStandardMachine}
 use Rattle.bn_stages.specs.declared.name.Name.{Name}
 use Rattle.bn_stages.specs.declared.name.Name.TheVariants.{Compute, ComputeWithin, GoRight, CopyLetter, GoLeft, PassLetter, Retrace, RetraceWithin}
-use Rattle.bn_controlcount.specs.Told.{is_reader, is_written, low, later, earlier, ReadsTell, WritesTell, Tells}
+use Rattle.bn_controlcount.proofs.Told.{is_reader, is_written, low, later, earlier, ReadsTell, WritesTell, Tells}
 use Rattle.bn_controlcount.proofs.ApartLemmas.{IsApart, split_at, joined, mapped, from_mapped, apart_mapped, filtered, from_filtered, apart_filtered, range_member, from_range, range_apart}
 use Rattle.bn_controlcount.proofs.AlongLemmas.{along, along_member, from_along, apart_along}
 use Rattle.bn_controlcount.proofs.PrefixLemmas.{inits, inits_apart, init_member, from_init, tails, tail_member, from_tail, tails_apart}

@@ -7,11 +7,11 @@ use Rattle.bn_machine.specs.declared.quint.Quint.{Quint}
 use Rattle.bn_quad.specs.Quadruples.{Rule}
 use Rattle.bn_stages.specs.In.{IsIn}
 use Rattle.bn_stages.specs.List.{bennett}
-use Rattle.bn_stages.specs.ListLaws.{each_rule}
+use Rattle.bn_stages.proofs.ListLemmas.{each_rule}
 use Rattle.bn_stages.specs.Stages.{IsStandardMachine}
 use Rattle.bn_stages.specs.declared.name.Name.{Name}
 use Rattle.bn_controlcount.specs.Laws.{is_left, is_entered}
-use Rattle.bn_controlcount.specs.Told.{Tells}
+use Rattle.bn_controlcount.proofs.Told.{Tells}
 
 pub not_equal : (a b : ℕ) → a ≢ b → (a == b) ≡ false
 not_equal a b h = elim (eqb_tells a b) [ inl same ↦ absurd (h same.1) | inr other ↦ other.0 ]

@@ -23,7 +23,7 @@ use Rattle.bn_cell.proofs.MemberLemmas.{place_of, member_at}
 use Rattle.bn_controllaws.proofs.KeyLemmas.{by_key, keys_ordered}
 use Rattle.bn_controllaws.proofs.SortedLemmas.{one_place}
 use Rattle.bn_controlcount.specs.Laws.{ControlsAreCounted, without_shift, never_entered, never_left}
-use Rattle.bn_controlcount.specs.Told.{is_reader, is_written, low}
+use Rattle.bn_controlcount.proofs.Told.{is_reader, is_written, low}
 use Rattle.bn_controlcount.proofs.ApartLemmas.{same_length, apart_places}
 use Rattle.bn_controlcount.proofs.AlongLemmas.{total, length_along, total_renamed}
 use Rattle.bn_controlcount.proofs.PrefixLemmas.{inits, length_inits, tails, length_tails}

@@ -1,2 +1,6 @@
+pub mod FormsLemmas
+pub mod LinesLemmas
+pub mod NumberingLemmas
+pub mod RecordsFromLemmas
 pub mod PlaceFacts
 pub mod RecordsLeft

@@ -9,7 +9,7 @@ use Rattle.csv.specs.Records.{field_at}
 use Rattle.csv.specs.declared.parser.State.{State}
 use Rattle.csv.specs.declared.reader.Reader.{Reader}
 use Rattle.csv.proofs.ReadFacts.{rows-end, rows-more}
-use Rattle.bn_entries.specs.RecordsFrom.{enough, no_more, none_at_end, one_more, takes}
+use Rattle.bn_entries.proofs.RecordsFromLemmas.{enough, no_more, none_at_end, one_more, takes}
 use Rattle.bn_entries.specs.Left.{IsReading, left_of, records_left, unread}
 
 -- csv's look-up of a field is that of a list

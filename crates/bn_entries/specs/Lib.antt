@@ -1,10 +1,7 @@
 pub mod Entries
 pub mod Forms
-pub mod FormsLaws
 pub mod Left
 pub mod Lines
-pub mod LinesLaws
 pub mod Numbering
 pub mod NumberingLaws
-pub mod RecordsFrom
 pub mod Written

@@ -7,7 +7,8 @@ use Rattle.bn_theory.specs.Tables.{Table, IsReversible}
 use Rattle.bn_theory.specs.Circuits.{Circuit, inputs_of, outputs_of, IsInput, IsOutput}
 use Rattle.bn_theory.specs.declared.line.Line.{Line}
 use Rattle.bn_theory.specs.declared.line.Wire.{Wire}
-use Rattle.bn_column.specs.Wirings.{AreWiresOf, apart-IsOneToOne}
+use Rattle.bn_column.specs.Wirings.{AreWiresOf}
+use Rattle.bn_column.proofs.WiringsLemmas.{apart-IsOneToOne}
 use Rattle.bn_machine.specs.Outcome.{Limits}
 use Rattle.bn_quad.specs.Quadruples.{Quadruples}
 use Rattle.bn_modules.specs.declared.cell_line.CellLine.{CellLine}

@@ -3,10 +3,11 @@ use Rattle.std.specs.Prelude.{◌≡◌, ◌≢◌, true, false, List, [], ◌�
 use Rattle.std.proofs.Common.{sym, ap, subst, ◌∙◌, inl, inr}
 use Rattle.std.proofs.lemmas.Bool.Decides.{eqb_tells}
 use Rattle.bn_theory.specs.Circuits.{same_line, target, source}
-use Rattle.bn_theory.specs.Laws.{same_lines}
+use Rattle.bn_theory.proofs.StepLemmas.{same_lines}
 use Rattle.bn_theory.specs.declared.line.Line.{Line}
 use Rattle.bn_theory.specs.declared.line.Wire.{Wire}
-use Rattle.bn_column.specs.Wirings.{AreApart, AreWiresOf, apart-IsOneToOne}
+use Rattle.bn_column.specs.Wirings.{AreApart, AreWiresOf}
+use Rattle.bn_column.proofs.WiringsLemmas.{apart-IsOneToOne}
 use Rattle.bn_controllaws.proofs.ListedLemmas.{IsMember, Listing}
 
 -- each output line leads to one input line at most, and each input line comes from one output line at most

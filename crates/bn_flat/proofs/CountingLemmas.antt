@@ -1,12 +1,13 @@
 -- The moments of a run, counted step by step.
 use Rattle.std.specs.Prelude.{◌≡◌, ℕ, ◌+◌, ◌-◌, ◌<◌, ◌≤◌, Bool, true, false, not, ◌&&◌, ◌||◌, ◌==◌, nat_lt, is_some, List, [], ◌∷◌, ◌++◌, Option, None, refl}
 use Rattle.std.proofs.Common.{zero, suc, arith, sym, ap, subst, ◌∙◌, inl, inr, append-nil}
-use Rattle.bn_theory.specs.Runs.{Reaches, Passes, passes_run, runs_join}
+use Rattle.bn_theory.specs.Runs.{Reaches, Passes}
+use Rattle.bn_theory.proofs.RunsLemmas.{passes_run, runs_join}
 use Rattle.bn_theory.proofs.RunPartLemmas.{passes_weaker}
 use Rattle.bn_theory.specs.Circuits.{Circuit, IsCircuit, IsConfig, Goes, IsStuck}
 use Rattle.bn_theory.specs.Stepping.{run, places}
-use Rattle.bn_theory.specs.RunLaws.{run_stops, next-stuck, places-zero, places-Goes}
-use Rattle.bn_theory.specs.Laws.{next-IsConfig}
+use Rattle.bn_theory.proofs.RunLemmas.{run_stops, next-stuck, places-zero, places-Goes}
+use Rattle.bn_theory.proofs.StepLemmas.{next-IsConfig}
 use Rattle.bn_theory.specs.Counting.{tally, one_if}
 use Rattle.bn_theory.specs.declared.place.Place.{Place}
 use Rattle.bn_theory.specs.declared.place.Place.TheVariants.{Enter, Left}

@@ -2,10 +2,11 @@
 use Rattle.std.specs.Prelude.{◌≡◌, ℕ, ◌+◌, Bool, true, false, refl}
 use Rattle.std.specs.Bool.{OnTrue, OnFalse}
 use Rattle.std.proofs.Common.{arith, sym, ap, subst, ◌∙◌}
-use Rattle.bn_theory.specs.Runs.{Reaches, runs_join}
+use Rattle.bn_theory.specs.Runs.{Reaches}
+use Rattle.bn_theory.proofs.RunsLemmas.{runs_join}
 use Rattle.bn_theory.specs.Circuits.{Circuit, IsCircuit, IsConfig, Goes}
 use Rattle.bn_theory.specs.Stepping.{back}
-use Rattle.bn_theory.specs.RunLaws.{Reaches-back, back_composes}
+use Rattle.bn_theory.proofs.RunLemmas.{Reaches-back, back_composes}
 use Rattle.bn_theory.specs.declared.config.Config.{Config}
 use Rattle.bn_theory.proofs.RunPartLemmas.{runs_split, steps_of_run}
 use Rattle.bn_element.specs.declared.rotary.Rotary.{Rotary}

@@ -23,13 +23,13 @@ use Rattle.std.specs.Option.{option_map_or}
 use Rattle.bn_theory.specs.Runs.{Reaches}
 use Rattle.bn_theory.specs.Circuits.{IsConfig, Goes}
 use Rattle.bn_theory.specs.Stepping.{back}
-use Rattle.bn_theory.specs.RunLaws.{back-zero}
-use Rattle.bn_theory.specs.Laws.{slice_get-set_same, slice_get-set_other}
+use Rattle.bn_theory.proofs.RunLemmas.{back-zero}
+use Rattle.bn_theory.proofs.StepLemmas.{slice_get-set_same, slice_get-set_other}
 use Rattle.bn_element.specs.Rotary.{west}
 use Rattle.bn_element.specs.declared.rotary.Rotary.{Rotary}
 use Rattle.bn_net.specs.Parts.{Parts}
 use Rattle.bn_column.specs.Nets.{rotary_circuit}
-use Rattle.bn_column.specs.NetLaws.{bars-IsConfig, rotary-table_at}
+use Rattle.bn_column.proofs.NetLemmas.{bars-IsConfig, rotary-table_at}
 use Rattle.bn_boards.proofs.ModuleLemmas.{found, replicated, bank_within}
 use Rattle.bn_layout.proofs.StartedLemmas.{get_left, get_right, bars-length}
 use Rattle.bn_flat.specs.Flattened.{IsReached}

@@ -10,7 +10,8 @@ use Rattle.bn_theory.specs.Circuits.{Circuit, target}
 use Rattle.bn_theory.specs.declared.line.Line.{Line}
 use Rattle.bn_theory.specs.declared.line.Wire.{Wire}
 use Rattle.bn_column.specs.Columns.{line_at}
-use Rattle.bn_column.specs.Wirings.{AreWiresOf, same_wires}
+use Rattle.bn_column.specs.Wirings.{AreWiresOf}
+use Rattle.bn_column.proofs.WiringsLemmas.{same_wires}
 use Rattle.bn_realise.specs.Banks.{IsBankWire, input_line, output_line}
 use Rattle.bn_realise.specs.BankNets.{HasRoom}
 use Rattle.bn_boards.specs.Boards.{AreModules, IsBoardWire, base, size, size_of}

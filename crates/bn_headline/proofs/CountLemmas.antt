@@ -4,7 +4,7 @@ use Rattle.std.proofs.Common.{zero, suc, arith, sym, ap, subst, ◌∙◌}
 use Rattle.bn_theory.specs.Runs.{Reaches}
 use Rattle.bn_theory.specs.Circuits.{Circuit, Goes, IsStuck}
 use Rattle.bn_theory.specs.Stepping.{run, places}
-use Rattle.bn_theory.specs.RunLaws.{places-Goes, places-stuck, Reaches-run}
+use Rattle.bn_theory.proofs.RunLemmas.{places-Goes, places-stuck, Reaches-run}
 use Rattle.bn_theory.specs.declared.place.Place.TheVariants.{Enter}
 use Rattle.bn_theory.specs.declared.config.Config.{Config}
 use Rattle.bn_theory.specs.Situations.{Situation, Turns, IsAtEnd}

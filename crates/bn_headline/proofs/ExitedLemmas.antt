@@ -6,7 +6,7 @@ use Rattle.std.proofs.lemmas.Option.{slice_get-get_or, slice_get_within}
 use Rattle.bn_theory.specs.Runs.{Reaches}
 use Rattle.bn_theory.specs.Circuits.{Circuit, clock, Goes, IsStuck}
 use Rattle.bn_theory.specs.Stepping.{run}
-use Rattle.bn_theory.specs.RunLaws.{Reaches-run}
+use Rattle.bn_theory.proofs.RunLemmas.{Reaches-run}
 use Rattle.bn_theory.specs.declared.place.Place.TheVariants.{Enter, Left}
 use Rattle.bn_theory.specs.declared.config.Config.{Config}
 use Rattle.bn_element.specs.Rotary.{west}
@@ -40,7 +40,8 @@ use Rattle.bn_layout.specs.Flats.{Flat, machine_of, IsFlatOf, IsAccepted, situat
 use Rattle.bn_headline.specs.Costs.{bound_of}
 use Rattle.bn_headline.specs.Headline.{IsExitFor, EndsWith, RunsToExit, SpellsRestored}
 use Rattle.bn_layout.specs.Readings.{elements_in, BoardReads}
-use Rattle.bn_headline.specs.Journeys.{Strides, NetworkComes, NetworkEndsAs, BoardComes}
+use Rattle.bn_headline.specs.Journeys.{Strides, NetworkComes, NetworkEndsAs}
+use Rattle.bn_headline.proofs.JourneysLemmas.{BoardComes}
 use Rattle.bn_layout.specs.Laws.{BoardsRead}
 use Rattle.bn_headline.proofs.JourneyedLemmas.{networks-end}
 use Rattle.bn_headline.proofs.TravelledLemmas.{boards-come}

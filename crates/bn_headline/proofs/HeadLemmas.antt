@@ -5,9 +5,10 @@ use Rattle.std.proofs.Common.{zero, suc, arith, sym, ap, subst, ◌∙◌, inl, 
 use Rattle.std.proofs.lemmas.Bool.Decides.{eqb_tells, Decides-int_eq}
 use Rattle.std.proofs.lemmas.Int.{ints}
 use Rattle.std.proofs.lemmas.Option.{same_Some}
-use Rattle.bn_theory.specs.Runs.{Reaches, runs_more}
+use Rattle.bn_theory.specs.Runs.{Reaches}
+use Rattle.bn_theory.proofs.RunsLemmas.{runs_more}
 use Rattle.bn_theory.specs.Circuits.{Circuit, clock}
-use Rattle.bn_theory.specs.Laws.{slice_get-set_other}
+use Rattle.bn_theory.proofs.StepLemmas.{slice_get-set_other}
 use Rattle.bn_theory.specs.Stepping.{run}
 use Rattle.bn_theory.specs.declared.place.Place.TheVariants.{Enter}
 use Rattle.bn_theory.specs.declared.config.Config.{Config}

@@ -1,3 +1,5 @@
+pub mod JourneysLemmas
+pub mod MomentsLemmas
 pub mod CountLemmas
 pub mod JourneyedLemmas
 pub mod TravelledLemmas

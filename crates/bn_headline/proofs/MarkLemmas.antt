@@ -12,7 +12,7 @@ use Rattle.bn_theory.specs.declared.config.Config.{Config}
 use Rattle.bn_element.specs.Rotary.{horizontal}
 use Rattle.bn_column.specs.Columns.{bar}
 use Rattle.bn_realise.specs.Banks.{AreMarked, bottom_at}
-use Rattle.bn_realise.specs.BankCrossing.{marked-once}
+use Rattle.bn_realise.proofs.BankCrossingLemmas.{marked-once}
 use Rattle.bn_theory.specs.Situations.{Situation, Turns, IsAtEnd}
 use Rattle.bn_rsm.specs.RunCosts.{run_cost}
 use Rattle.bn_boards.specs.Boards.{AreModules, IsBoard, StandsFor, IsAmid, base, IsLoose}

@@ -27,7 +27,8 @@ use Rattle.bn_headline.specs.Costs.{HasCost}
 use Rattle.bn_headline.specs.Journeys.{NetworkComes, NetworkEndsAs}
 use Rattle.bn_layout.proofs.ReadingLemmas.{Readings, flat-Readings, own_flat, own_accepted}
 use Rattle.bn_layout.proofs.LetterLemmas.{letters_are}
-use Rattle.bn_headline.specs.Moments.{MomentsAreTold, BanksHaveOneMark, MomentsStandAtSums, TapesHaveOneHead}
+use Rattle.bn_headline.specs.Moments.{MomentsAreTold}
+use Rattle.bn_headline.proofs.MomentsLemmas.{BanksHaveOneMark, MomentsStandAtSums, TapesHaveOneHead}
 use Rattle.bn_headline.proofs.MarkLemmas.{one_mark}
 use Rattle.bn_headline.proofs.CellLemmas.{cells_lie}
 use Rattle.bn_headline.proofs.HeadLemmas.{heads_at_start, heads_along, one_head}

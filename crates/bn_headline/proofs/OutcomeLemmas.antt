@@ -7,7 +7,7 @@ use Rattle.bn_theory.specs.declared.place.Place.TheVariants.{Enter, Left}
 use Rattle.bn_machine.specs.Machine.{Program}
 use Rattle.bn_machine.specs.Outcome as outcome
 use Rattle.bn_machine.specs.Outcome.{Limits, Outcome, HasOutcome}
-use Rattle.bn_machine.specs.OutcomeLaws.{outcome_exists}
+use Rattle.bn_machine.proofs.OutcomeLemmas.{outcome_exists}
 use Rattle.bn_machine.specs.declared.quint.Side.{Side}
 use Rattle.bn_stages.specs.List.{bennett}
 use Rattle.bn_stages.specs.declared.name.Name.{Name}
@@ -22,7 +22,7 @@ use Rattle.bn_headline.specs.Headline.{IsExitFor, RunsToExit, SpellsRestored}
 use Rattle.bn_headline.specs.Laws.{BoardsRunToTheirExit, ExitsTellOutcomes, BoardsLeaveByOutcomes, EndsInTime, BoardsEndInTime, BoardsAreRestored, BoardsRunBack}
 use Rattle.bn_layout.specs.Laws.{ExitsAreOne}
 use Rattle.bn_theory.proofs.RunPartLemmas.{runs_split, runs-undo_in_part, steps_of_run}
-use Rattle.bn_theory.specs.RunLaws.{run_stops, Reaches-run}
+use Rattle.bn_theory.proofs.RunLemmas.{run_stops, Reaches-run}
 use Rattle.bn_theory.specs.Stepping.{run, back}
 use Rattle.bn_headline.proofs.CountLemmas.{costs-one, before_end}
 

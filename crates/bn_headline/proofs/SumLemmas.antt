@@ -3,7 +3,8 @@ use Rattle.std.specs.Prelude.{◌≡◌, ℕ, ◌+◌, ◌-◌, ◌≤◌, Bool,
 use Rattle.std.proofs.Common.{zero, suc, arith, sym, ap, subst, ◌∙◌, inl, inr}
 use Rattle.std.proofs.lemmas.Bool.Decides.{eqb_tells}
 use Rattle.std.proofs.lemmas.Option.{same_Some}
-use Rattle.bn_theory.specs.Runs.{Reaches, passes_run}
+use Rattle.bn_theory.specs.Runs.{Reaches}
+use Rattle.bn_theory.proofs.RunsLemmas.{passes_run}
 use Rattle.bn_theory.specs.Circuits.{clock}
 use Rattle.bn_theory.specs.Stepping.{run}
 use Rattle.bn_theory.specs.declared.config.Config.{Config}

@@ -1,7 +1,8 @@
 -- The network's run over its moments is a run of the board.
 use Rattle.std.specs.Prelude.{◌≡◌, ◌≢◌, ℕ, ◌+◌, ◌*◌, ◌<◌, ◌≤◌, Bool, true, false, not, refl, ◌⊎◌}
 use Rattle.std.proofs.Common.{zero, suc, arith, sym, ap, subst, ◌∙◌, inl, inr}
-use Rattle.bn_theory.specs.Runs.{Reaches, Passes, passes_run, runs_join}
+use Rattle.bn_theory.specs.Runs.{Reaches, Passes}
+use Rattle.bn_theory.proofs.RunsLemmas.{passes_run, runs_join}
 use Rattle.bn_theory.specs.Circuits.{clock, Goes}
 use Rattle.bn_theory.specs.declared.place.Place.{Place}
 use Rattle.bn_theory.specs.declared.place.Place.TheVariants.{Enter, Left}
@@ -16,7 +17,8 @@ use Rattle.bn_boards.specs.Boards.{AreModules, IsBoard, StandsFor, IsLoose}
 use Rattle.bn_layout.specs.Layouts.{is_moment}
 use Rattle.bn_layout.specs.Flats.{Flat, situation_at_start, flat_start}
 use Rattle.bn_layout.specs.Readings.{elements_in, MomentsAgree}
-use Rattle.bn_headline.specs.Journeys.{Strides, NetworkComes, BoardComes, BoardsComeAlike}
+use Rattle.bn_headline.specs.Journeys.{Strides, NetworkComes}
+use Rattle.bn_headline.proofs.JourneysLemmas.{BoardComes, BoardsComeAlike}
 use Rattle.bn_theory.proofs.CountingLemmas.{tallies-add, tally-zero}
 use Rattle.bn_boards.proofs.FollowedLemmas.{boards-follow}
 use Rattle.bn_rsm.proofs.RunCostLemmas.{cost-none, cost-joins, one_cost, cost_some, left_cost}

@@ -2,10 +2,11 @@
 use Rattle.std.specs.Prelude.{◌≡◌, ℕ, ◌+◌, ◌-◌, ◌<◌, ◌≤◌, Bool, true, refl, ◌⊎◌}
 use Rattle.std.proofs.Common.{zero, suc, arith, sym, ap, subst, ◌∙◌, inl, inr}
 use Rattle.std.proofs.lemmas.Bool.{cases_lt}
-use Rattle.bn_theory.specs.Runs.{Reaches, Passes, Before, passes_run}
+use Rattle.bn_theory.specs.Runs.{Reaches, Passes, Before}
+use Rattle.bn_theory.proofs.RunsLemmas.{passes_run}
 use Rattle.bn_theory.specs.Circuits.{Circuit, clock, Goes}
 use Rattle.bn_theory.specs.Stepping.{run}
-use Rattle.bn_theory.specs.RunLaws.{Reaches-run, run_composes}
+use Rattle.bn_theory.proofs.RunLemmas.{Reaches-run, run_composes}
 use Rattle.bn_theory.specs.declared.place.Place.{Place}
 use Rattle.bn_theory.specs.declared.place.Place.TheVariants.{Enter, Left}
 use Rattle.bn_theory.specs.declared.config.Config.{Config}

@@ -3,7 +3,8 @@ use Rattle.std.specs.Prelude.{◌≡◌, ℕ, ◌+◌, ◌-◌, ◌<◌, ◌≤�
 use Rattle.std.proofs.Common.{zero, suc, arith, sym, ap, subst, ◌∙◌, inl, inr}
 use Rattle.std.proofs.lemmas.Bool.{cases_lt}
 use Rattle.std.proofs.lemmas.Option.{same_Some}
-use Rattle.bn_theory.specs.Runs.{Reaches, Passes, passes_run, runs_end_once}
+use Rattle.bn_theory.specs.Runs.{Reaches, Passes}
+use Rattle.bn_theory.proofs.RunsLemmas.{passes_run, runs_end_once}
 use Rattle.bn_theory.specs.Circuits.{Circuit, clock, Goes as BoardGoes}
 use Rattle.bn_theory.specs.declared.config.Config.{Config}
 use Rattle.bn_quad.specs.Quadruples.{Configuration, Goes}

@@ -5,7 +5,7 @@ use Rattle.std.proofs.lemmas.Bool.{cases_lt}
 use Rattle.bn_theory.specs.Runs.{Reaches}
 use Rattle.bn_theory.specs.Circuits.{Circuit, clock, IsStuck}
 use Rattle.bn_theory.specs.Stepping.{run}
-use Rattle.bn_theory.specs.RunLaws.{run_composes, run-stuck}
+use Rattle.bn_theory.proofs.RunLemmas.{run_composes, run-stuck}
 use Rattle.bn_theory.specs.declared.config.Config.{Config}
 use Rattle.bn_element.specs.Rotary.{horizontal}
 use Rattle.bn_machine.specs.Laws.{HasOneOutcome}
@@ -23,7 +23,8 @@ use Rattle.bn_headline.proofs.ExitedLemmas.{boards-run}
 use Rattle.bn_headline.proofs.JourneyedLemmas.{networks-end}
 use Rattle.bn_layout.proofs.ReadingLemmas.{boards-read, flat-Readings, own_flat, own_accepted}
 use Rattle.bn_layout.proofs.LetterLemmas.{letters_are, some_letters}
-use Rattle.bn_headline.specs.Moments.{MomentsAreByMarks, RunsTellMoments, BoardMomentsAreSums, BoardsHaveMoments}
+use Rattle.bn_headline.specs.Moments.{MomentsAreByMarks, BoardsHaveMoments}
+use Rattle.bn_headline.proofs.MomentsLemmas.{RunsTellMoments, BoardMomentsAreSums}
 use Rattle.bn_headline.proofs.CellLemmas.{cells_lie}
 use Rattle.bn_headline.proofs.TellingLemmas.{commands_lead, found_moment}
 use Rattle.bn_headline.proofs.WalkLemmas.{goes_on}

@@ -1,28 +1,21 @@
 -- A run of the network from its start over the moments to its end, and the same run on the board.
-use Rattle.std.specs.Prelude.{◌≡◌, ◌≢◌, ℕ, ◌+◌, ◌*◌, ◌<◌, ◌≤◌, Bool, true, false, List, length, ◌⊎◌}
+use Rattle.std.specs.Prelude.{◌≡◌, ℕ, ◌+◌, ◌*◌, ◌<◌, ◌≤◌, Bool, true, false, length, ◌⊎◌}
 use Rattle.bn_theory.specs.Runs.{Reaches}
-use Rattle.bn_theory.specs.Circuits.{clock, Goes as BoardGoes}
-use Rattle.bn_theory.specs.declared.place.Place.TheVariants.{Enter}
-use Rattle.bn_theory.specs.declared.config.Config.{Config}
 use Rattle.bn_machine.specs.Tape.{scanned}
-use Rattle.bn_machine.specs.Machine.{Program}
 use Rattle.bn_machine.specs.Outcome as outcome
-use Rattle.bn_machine.specs.Outcome.{Limits, Outcome}
+use Rattle.bn_machine.specs.Outcome.{Outcome}
 use Rattle.bn_quad.specs.Quadruples.{Configuration, Goes}
 use Rattle.bn_stages.specs.Stages.{rooms_of}
 use Rattle.bn_stages.specs.Steps.{HasNoFirstRead, Exit, Finished, Stopped, Leaving}
 use Rattle.bn_stages.specs.declared.name.Name.TheVariants.{Compute}
 use Rattle.bn_bennett.specs.Translation.{name_of}
 use Rattle.bn_bennett.specs.Runs.{beginning_of, ending_of}
-use Rattle.bn_theory.specs.Situations.{Situation, Turns, IsAtEnd}
+use Rattle.bn_theory.specs.Situations.{Situation, IsAtEnd}
 use Rattle.bn_rsm.specs.RunCosts.{run_cost}
-use Rattle.bn_theory.specs.Counting.{tally}
 use Rattle.bn_modules.specs.Moments.{IsMomentOf, Travels}
 use Rattle.bn_network.specs.Ends.{EndsBy}
-use Rattle.bn_boards.specs.Boards.{AreModules, StandsFor, IsLoose}
-use Rattle.bn_layout.specs.Layouts.{is_moment}
-use Rattle.bn_layout.specs.Flats.{Flat, machine_of, IsFlatOf, situation_at_start, flat_start}
-use Rattle.bn_layout.specs.Readings.{elements_in, MomentsAgree}
+use Rattle.bn_layout.specs.Flats.{Flat, machine_of, situation_at_start}
+use Rattle.bn_layout.specs.Readings.{elements_in}
 
 -- one step of the quadruple machine, and the network's moves from its moment to the next one
 pub record Strides (f : Flat) (test : Situation → Bool) (x y : Situation × Configuration ℕ) : Type 0 where
@@ -57,27 +50,3 @@ NetworkEndsAs f test i (outcome.Stuck j c) = (d : Configuration ℕ) × NetworkC
     × HasNoFirstRead (machine_of f).rules d
 NetworkEndsAs f test i (outcome.Outside t side) = (n : ℕ) × (d : Configuration ℕ)
     × NetworkComes f test n d (Leaving t side)
-
--- ---- on the board
-
--- The board's run in its cost: a moment for each of the machine's steps and one more, and where the signal stands at the end.
-pub record BoardComes (f : Flat) (n : ℕ) (d : Configuration ℕ) (e : Exit) : Type 0 where
-  pub moves : ℕ
-  pub last : Situation
-  pub turns : Reaches (Turns f.network) moves (situation_at_start f) last
-  pub ended : IsAtEnd f.network last
-  pub ends : EndsBy (machine_of f) f.limits f.names last d e
-  pub at_end : Config
-  pub run : Reaches (BoardGoes f.circuit) (run_cost f.network (moves + 1) (situation_at_start f)) (flat_start f) at_end
-  pub bounded : run_cost f.network (moves + 1) (situation_at_start f) ≤ 4 * elements_in f + 48 * elements_in f * (n + 1)
-  pub count : tally (is_moment f.layout) f.circuit (run_cost f.network (moves + 1) (situation_at_start f)) (flat_start f) ≡ n + 1
-  pub stands : (StandsFor f.network last at_end
-      × ((e i : ℕ) → last.place ≢ Enter e i)) ⊎ IsLoose f.network last at_end
-
--- the network's run over its moments is a run of its board, which counts them
-abbrev pub BoardsComeAlike : Type 0
-BoardsComeAlike =
-    (p : Program) (word : List ℕ) (l : Limits) (f : Flat) (test : Situation → Bool) → IsFlatOf p word l f
-    → AreModules f.network → StandsFor f.network (situation_at_start f) (flat_start f) → MomentsAgree f test
-    → (n : ℕ) (d : Configuration ℕ) (e : Exit) → NetworkComes f test n d e
-    → 4 * elements_in f + 48 * elements_in f * (n + 1) ≤ clock → BoardComes f n d e

@@ -2,7 +2,6 @@
 use Rattle.std.specs.Prelude.{◌≡◌, ◌↔◌, ℕ, ◌+◌, ◌*◌, ◌<◌, ◌≤◌, List, Some, slice_get}
 use Rattle.bn_theory.specs.Tables.{Table}
 use Rattle.bn_theory.specs.Runs.{Reaches}
-use Rattle.bn_theory.specs.Circuits.{clock}
 use Rattle.bn_theory.specs.Stepping.{run}
 use Rattle.bn_theory.specs.declared.config.Config.{Config}
 use Rattle.bn_element.specs.Rotary.{horizontal}
@@ -46,55 +45,12 @@ pub record MomentOnBoard (f : Flat) (t a : ℕ) : Type 0 where
   pub shows : IsMomentOf (machine_of f) f.limits f.names f.network at config
   pub spells : Spells f (run f.circuit (flat_start f) t).states config
 
--- the board is at a moment exactly at the sums of costs at which the network is at one
-abbrev pub MomentsStandAtSums : Type 0
-MomentsStandAtSums =
-    (p : Program) (word : List ℕ) (l : Limits) (f : Flat) (cost : ℕ) → IsFlatOf p word l f → IsAccepted p word l f
-    → HasCost f cost → cost ≤ clock
-    → (t a : ℕ) → t ≤ cost → (moment_at f.layout (run f.circuit (flat_start f) t) ≡ Some a) ↔ MomentOnBoard f t a
-
--- at no step two columns of a bank are marked
-abbrev pub BanksHaveOneMark : Type 0
-BanksHaveOneMark =
-    (p : Program) (word : List ℕ) (l : Limits) (f : Flat) (cost : ℕ) → IsFlatOf p word l f → IsAccepted p word l f
-    → HasCost f cost → cost ≤ clock
-    → (t m j i : ℕ) (u : Table) → t ≤ cost → slice_get f.network.tables m ≡ Some u → j < u.states → i < u.states
-    → slice_get (run f.circuit (flat_start f) t).states (bottom_at (base f.network.tables m) u.inputs j) ≡ Some horizontal
-    → slice_get (run f.circuit (flat_start f) t).states (bottom_at (base f.network.tables m) u.inputs i) ≡ Some horizontal → i ≡ j
-
--- at no step two cells of a tape show a head
-abbrev pub TapesHaveOneHead : Type 0
-TapesHaveOneHead =
-    (p : Program) (word : List ℕ) (l : Limits) (f : Flat) (cost : ℕ) → IsFlatOf p word l f → IsAccepted p word l f
-    → HasCost f cost → cost ≤ clock
-    → (t tape p q i j : ℕ) → t ≤ cost → 0 < tape → tape ≤ 3 → p < cells_in l tape → q < cells_in l tape
-    → letters_at f.layout tape ≤ i → i < 2 * letters_at f.layout tape → letters_at f.layout tape ≤ j
-    → j < 2 * letters_at f.layout tape
-    → slice_get (run f.circuit (flat_start f) t).states (bottom_at (cell_element f.layout tape p) (lines_of (letters_at f.layout tape)) i) ≡ Some horizontal
-    → slice_get (run f.circuit (flat_start f) t).states (bottom_at (cell_element f.layout tape q) (lines_of (letters_at f.layout tape)) j) ≡ Some horizontal → p ≡ q
-
 -- what is found by the layout is the board's moment
 abbrev pub MomentsAreByMarks : Type 0
 MomentsAreByMarks =
     (p : Program) (word : List ℕ) (l : Limits) (f : Flat) → IsFlatOf p word l f → IsAccepted p word l f
     → (d : Config) (a : ℕ) → HasOneState f d
     → (moment_at f.layout d ≡ Some a) ↔ IsBoardMoment (machine_of f) l f.names f.network d a
-
--- at each step of the board's run
-abbrev pub RunsTellMoments : Type 0
-RunsTellMoments =
-    (p : Program) (word : List ℕ) (l : Limits) (f : Flat) (cost : ℕ) → IsFlatOf p word l f → IsAccepted p word l f
-    → HasCost f cost → cost ≤ clock
-    → (t a : ℕ) → t ≤ cost
-    → (moment_at f.layout (run f.circuit (flat_start f) t) ≡ Some a) ↔ IsBoardMoment (machine_of f) l f.names f.network (run f.circuit (flat_start f) t) a
-
--- so the board is at a moment exactly at the sums of costs at which the network is at one, in words that know no layout
-abbrev pub BoardMomentsAreSums : Type 0
-BoardMomentsAreSums =
-    (p : Program) (word : List ℕ) (l : Limits) (f : Flat) (cost : ℕ) → IsFlatOf p word l f → IsAccepted p word l f
-    → HasCost f cost → cost ≤ clock
-    → (t a : ℕ) → t ≤ cost
-    → IsBoardMoment (machine_of f) l f.names f.network (run f.circuit (flat_start f) t) a ↔ MomentOnBoard f t a
 
 -- Up to its cost a board is at a moment exactly at the sums of costs at which its network is at one, in its own words and by the layout; and at every step, past its end too, no bank has two marked columns and no tape shows two heads.
 pub record HasMoments (l : Limits) (f : Flat) : Type 0 where

@@ -2,7 +2,8 @@
 use Rattle.std.proofs.Common.{◌≡◌, ◌≤◌, ◌<◌, ◌+◌, ◌-◌, ℕ, List, [], ◌++◌, length, take, drop, sym, ◌∙◌, ap, arith, append_assoc, length-append, length-drop, Option, Some, None, IfSome}
 use Rattle.std.proofs.lemmas.List.{append-nil, drop-drop, take-append-drop, take-append-le, length-take-le}
 use Rattle.std.proofs.Math.Seq.{take-length}
-use Rattle.bn_io.specs.Told.{Loses, Loses-joins, ReadsWithin}
+use Rattle.bn_io.specs.Told.{Loses, ReadsWithin}
+use Rattle.bn_io.proofs.ToldLemmas.{Loses-joins}
 
 -- as many as there are is all
 take-all : (n : ℕ) (xs : List ℕ) → n ≡ length xs → take n xs ≡ xs

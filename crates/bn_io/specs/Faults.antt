@@ -2,7 +2,6 @@
 -- stays at its last value once it has reached it. An answer that blames the outside is tied to that count:
 -- it may come only where the count rose, so that it cannot be an excuse.
 use Rattle.std.specs.Prelude.{ℕ, ◌+◌, ◌-◌, ◌^◌, ◌≤◌, min, Result, OnErr}
-use Rattle.std.proofs.Common.{arith}
 
 -- one fault more, or the counter's last value
 abbrev pub counted : ℕ → ℕ
@@ -16,11 +15,3 @@ Rose before now = counted before ≤ now
 pub record HasCause {T E : Type 0} (before now : ℕ) (result : Result T E) : Type 0 where
   pub later : before ≤ now
   pub failed : OnErr result (Rose before now)
-
--- a count that rose early in a call rose in the call
-pub Rose-early : (before middle now : ℕ) → Rose before middle → middle ≤ now → Rose before now
-Rose-early before middle now rose later = omega arith
-
--- a count that rose late in a call rose in the call
-pub Rose-late : (before middle now : ℕ) → before ≤ middle → Rose middle now → Rose before now
-Rose-late before middle now later rose = omega arith

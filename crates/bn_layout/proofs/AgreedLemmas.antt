@@ -6,7 +6,7 @@ use Rattle.std.proofs.lemmas.Bool.Decides.{eqb_tells}
 use Rattle.std.proofs.lemmas.Option.{slice_get_within, get_or_from_slice_get}
 use Rattle.bn_theory.specs.Tables.{Table}
 use Rattle.bn_theory.specs.Circuits.{Circuit, place_after, place_at, IsPlace}
-use Rattle.bn_theory.specs.Laws.{same_lines}
+use Rattle.bn_theory.proofs.StepLemmas.{same_lines}
 use Rattle.bn_theory.specs.declared.place.Place.{Place}
 use Rattle.bn_theory.specs.declared.place.Place.TheVariants.{Enter, Left}
 use Rattle.bn_theory.specs.declared.config.Config.{Config}
@@ -15,7 +15,7 @@ use Rattle.bn_column.specs.Columns.{bar}
 use Rattle.bn_machine.specs.Outcome.{Limits}
 use Rattle.bn_quad.specs.Quadruples.{Rule, Quadruples, Configuration, IsQuadMachine, final_of}
 use Rattle.bn_realise.specs.Banks.{column_at, bottom_at, input_line}
-use Rattle.bn_realise.specs.BankWires.{bank_wire-IsWithinLines, bank_wire-no_input}
+use Rattle.bn_realise.proofs.BankWiresLemmas.{bank_wire-IsWithinLines, bank_wire-no_input}
 use Rattle.bn_theory.specs.Situations.{Situation}
 use Rattle.bn_modules.specs.Cells.{cell_table, line_number, lines_of}
 use Rattle.bn_modules.specs.Controls.{ControlState, End, ControlMove, IsNumbering, is_end, letters, lines_before, out_number, command_offset}

@@ -8,7 +8,7 @@ use Rattle.bn_theory.specs.declared.place.Place.TheVariants.{Enter, Left}
 use Rattle.bn_element.specs.Rotary.{east, west}
 use Rattle.bn_machine.specs.declared.quint.Side.TheVariants as side
 use Rattle.bn_realise.specs.Banks.{column_at}
-use Rattle.bn_realise.specs.BankWires.{column_once}
+use Rattle.bn_realise.proofs.BankWiresLemmas.{column_once}
 use Rattle.bn_layout.specs.declared.exit.Exit.{Exit}
 use Rattle.bn_layout.specs.declared.exit.Exit.TheVariants as exit
 use Rattle.bn_modules.specs.declared.cell_line.CellLine.TheVariants.{TakeRight, TakeLeft}

@@ -4,11 +4,11 @@ use Rattle.std.proofs.Common.{zero, suc, arith, sym, ap, subst, ◌∙◌, inl, 
 use Rattle.std.proofs.lemmas.Bool.Decides.{eqb_tells}
 use Rattle.std.proofs.lemmas.List.{length-replicate, length-set, length-append}
 use Rattle.bn_theory.specs.Tables.{Table}
-use Rattle.bn_theory.specs.Laws.{slice_get-set_same, slice_get-set_other}
+use Rattle.bn_theory.proofs.StepLemmas.{slice_get-set_same, slice_get-set_other}
 use Rattle.bn_element.specs.Rotary.{horizontal, vertical}
 use Rattle.bn_column.specs.Columns.{bar}
 use Rattle.bn_realise.specs.Banks.{column_at, bottom_at, IsResting}
-use Rattle.bn_realise.specs.BankCrossing.{later_column, other_column}
+use Rattle.bn_realise.proofs.BankCrossingLemmas.{later_column, other_column}
 use Rattle.bn_boards.specs.Boards.{base, size, size_of, bars_of}
 use Rattle.bn_boards.proofs.ModuleLemmas.{get_replicate}
 

@@ -13,7 +13,8 @@ use Rattle.std.proofs.lemmas.Option.{same_Some}
 use Rattle.bn_theory.specs.Tables.{Table}
 use Rattle.bn_theory.specs.Circuits.{Circuit}
 use Rattle.bn_theory.specs.declared.place.Place.TheVariants.{Enter}
-use Rattle.bn_machine.specs.Tape.{cell, word_tape, letter_at, cell-word}
+use Rattle.bn_machine.specs.Tape.{cell, word_tape, letter_at}
+use Rattle.bn_machine.proofs.TapeLemmas.{cell-word}
 use Rattle.bn_machine.specs.Outcome.{Limits}
 use Rattle.bn_quad.specs.Quadruples.{Rule, Quadruples}
 use Rattle.bn_theory.specs.Situations.{Situation}

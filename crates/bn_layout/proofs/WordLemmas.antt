@@ -5,7 +5,7 @@ use Rattle.std.proofs.lemmas.Bool.{cases_lt}
 use Rattle.std.proofs.lemmas.List.{append_assoc}
 use Rattle.std.proofs.lemmas.Option.{same_Some}
 use Rattle.bn_theory.specs.Tables.{Table}
-use Rattle.bn_theory.specs.Laws.{slice_get-set_other}
+use Rattle.bn_theory.proofs.StepLemmas.{slice_get-set_other}
 use Rattle.bn_element.specs.Rotary.{horizontal, vertical}
 use Rattle.bn_machine.specs.Machine.{Program}
 use Rattle.bn_machine.specs.Outcome.{Limits}

@@ -1,1 +1,9 @@
+pub mod CutLemmas
+pub mod MachineLemmas
+pub mod OutcomeLemmas
+pub mod OutputLemmas
+pub mod MachineStepLemmas
+pub mod TapeLemmas
+pub mod TurnsLemmas
+pub mod RoomLemmas
 pub mod WindowLemmas

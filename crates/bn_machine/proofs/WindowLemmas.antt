@@ -3,7 +3,7 @@ use Rattle.std.specs.Prelude.{◌≡◌, ℕ, pos, ◌-ℤ◌, List, [], ◌∷�
 use Rattle.std.proofs.Common.{zero, suc, arith, sym, ap, ◌∙◌, get_or}
 use Rattle.std.proofs.lemmas.Int.{ints}
 use Rattle.bn_machine.specs.Tape.{Tape, cell}
-use Rattle.bn_machine.specs.Window.{cell-window_of}
+use Rattle.bn_machine.proofs.RoomLemmas.{cell-window_of}
 use Rattle.bn_machine.specs.Laws.{WindowsHaveOneList}
 
 same_by_cells : (xs ys : List ℕ) → length xs ≡ length ys → ((k : ℕ) → get_or xs k 0 ≡ get_or ys k 0) → xs ≡ ys

@@ -6,8 +6,4 @@ pub mod MachineCalls
 pub mod Run
 pub mod Outcome
 pub mod Steps
-pub mod Output
-pub mod OutcomeLaws
-pub mod Turns
 pub mod Laws
-pub mod Cut

@@ -11,7 +11,7 @@ use Rattle.bn_theory.specs.declared.line.Wire.{Wire}
 use Rattle.bn_net.specs.Faults.{WireFault, out_of_range, second_target, second_source, fault_of, checked, IsFaultless, IsFirstFault, IsRefusal}
 use Rattle.bn_net.specs.declared.refusal.NetRefusal.{NetRefusal}
 use Rattle.bn_net.specs.declared.refusal.NetRefusal.TheVariants.{Range, TwoTargets, TwoSources}
-use Rattle.bn_net.specs.WireLaws.{target-push, source-push}
+use Rattle.bn_net.proofs.WireListLemmas.{target-push, source-push}
 use Rattle.bn_net.proofs.WireLemmas.{free_of}
 
 -- The net has the wires of the list up to place n, and none of these has a fault.

@@ -1,3 +1,4 @@
+pub mod WireListLemmas
 pub mod RowLemmas
 pub mod WireLemmas
 pub mod NetSteps

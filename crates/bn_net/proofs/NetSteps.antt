@@ -3,7 +3,7 @@ use Rattle.std.specs.Prelude.{◌≡◌, ℕ, ◌+◌, ◌-◌, ◌<◌, ◌≤�
 use Rattle.std.proofs.Common.{suc, arith, sym, subst}
 use Rattle.bn_theory.specs.Circuits.{Circuit, IsCircuit, IsConfig, IsPlace, IsOutput, Goes, IsFirst, go_of, back_of, states_of, place_after, clock}
 use Rattle.bn_theory.specs.Stepping.{line_before}
-use Rattle.bn_theory.specs.Laws.{parts-Goes, Goes-Came}
+use Rattle.bn_theory.proofs.StepLemmas.{parts-Goes, Goes-Came}
 use Rattle.bn_theory.specs.declared.line.Line.{Line}
 use Rattle.bn_theory.specs.declared.place.Place.TheVariants.{Enter}
 use Rattle.bn_theory.specs.declared.config.Config.{Config}

@@ -3,13 +3,13 @@ use Rattle.std.specs.Prelude.{◌≡◌, ℕ, ◌<◌, List, [], ◌∷◌, ◌+
 use Rattle.std.proofs.Common.{suc, arith, sym, ap, subst, ◌∙◌, inl, inr}
 use Rattle.std.proofs.lemmas.Bool.Decides.{nat_tests}
 use Rattle.bn_theory.specs.Circuits.{target}
-use Rattle.bn_theory.specs.Laws.{same_lines}
+use Rattle.bn_theory.proofs.StepLemmas.{same_lines}
 use Rattle.bn_theory.specs.declared.line.Line.{Line}
 use Rattle.bn_theory.specs.declared.line.Wire.{Wire}
 use Rattle.bn_net.specs.Rows.{Rows, wires_of_row, wires_of}
 use Rattle.bn_net.specs.Order.{ComesBefore, ComesFirst, AreInOrder}
 use Rattle.bn_net.specs.Parts.{Parts}
-use Rattle.bn_net.specs.WireLaws.{line_tells}
+use Rattle.bn_net.proofs.WireListLemmas.{line_tells}
 
 before_itself : (a : Line) → ComesBefore a a → ⊥
 before_itself a (inl h) = omega arith

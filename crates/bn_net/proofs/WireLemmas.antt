@@ -7,12 +7,12 @@ use Rattle.std.proofs.lemmas.List.{length-replicate}
 use Rattle.std.proofs.lemmas.Option.{option_and_then_some, slice_get_within}
 use Rattle.bn_theory.specs.Tables.{Table, IsReversible}
 use Rattle.bn_theory.specs.Circuits.{same_line, target, source, IsCircuit, IsInput, IsOutput, states_of, inputs_of, outputs_of}
-use Rattle.bn_theory.specs.Laws.{same_lines, slice_get-set_same, slice_get-set_other}
+use Rattle.bn_theory.proofs.StepLemmas.{same_lines, slice_get-set_same, slice_get-set_other}
 use Rattle.bn_theory.specs.declared.line.Line.{Line}
 use Rattle.bn_theory.specs.declared.line.Wire.{Wire}
 use Rattle.bn_net.specs.Rows.{Rows, entry, width, put, wires_of_row, wires_of, IsWired}
 use Rattle.bn_net.specs.Parts.{Parts, circuit}
-use Rattle.bn_net.specs.WireLaws.{line_tells, target-push, source-push}
+use Rattle.bn_net.proofs.WireListLemmas.{line_tells, target-push, source-push}
 use Rattle.bn_net.specs.Faults.{out_of_range, second_target, second_source, fault_of, is_within}
 
 -- ---- the wires of rows, read as targets

@@ -5,4 +5,3 @@ pub mod Faults
 pub mod Watching
 pub mod Walking
 pub mod Heard
-pub mod WireLaws

@@ -7,13 +7,13 @@ use Rattle.bn_theory.specs.Circuits.{same_line, target, source, IsCircuit, IsOne
 use Rattle.bn_theory.specs.declared.line.Line.{Line}
 use Rattle.bn_theory.specs.declared.line.Wire.{Wire}
 use Rattle.bn_theory.specs.declared.place.Place.{Place}
-use Rattle.bn_net.specs.WireLaws.{line_tells, target-push, source-push}
+use Rattle.bn_net.proofs.WireListLemmas.{line_tells, target-push, source-push}
 use Rattle.bn_element.specs.Rotary.{rotary}
 use Rattle.bn_netlist.specs.Sentences.{Sentence, Title, Count, Start, End, Steps, At, Element, lines_text}
 use Rattle.bn_netlist.specs.Spelling.{Spelling, Spelled}
 use Rattle.bn_netlist.specs.Faults.{header_lines, count_in, wires_in, kind_of, AreFaultless}
 use Rattle.bn_netlist.specs.Header.{header_then}
-use Rattle.bn_netlist.specs.WireLaws.{rotary_inputs, rotary_outputs, rotary_reversible, Each}
+use Rattle.bn_netlist.proofs.WireLemmas.{rotary_inputs, rotary_outputs, rotary_reversible, Each}
 use Rattle.bn_netlist.specs.TextLaws.{states_in}
 use Rattle.bn_netlist.specs.Progress.{IsWhole}
 use Rattle.bn_netlist.specs.declared.header.Header.{Header}

@@ -6,7 +6,7 @@ use Rattle.std.proofs.lemmas.List.{append-nil, length-append}
 use Rattle.std.proofs.lemmas.List.Elements.{All-nil, All-cons}
 use Rattle.std.proofs.lemmas.Option.{option_and_then_some, same_Some}
 use Rattle.bn_base.specs.Line.{IsInLine}
-use Rattle.bn_base.specs.LineLaws.{lines-agree, cut-lines-differ}
+use Rattle.bn_base.proofs.LineLemmas.{lines-agree, cut-lines-differ}
 use Rattle.bn_theory.specs.Circuits.{source}
 use Rattle.bn_theory.specs.declared.line.Line.{Line}
 use Rattle.bn_theory.specs.declared.line.Wire.{Wire}
@@ -14,9 +14,10 @@ use Rattle.bn_theory.specs.declared.place.Place.TheVariants.{Enter, Left}
 use Rattle.bn_netlist.specs.Sentences.{Sentence, Title, Count, Start, End, Steps, At, Element, IsSayable, sentence_text, lines_text}
 use Rattle.bn_netlist.specs.Spelling.{Spelling, Spelled, most_elements}
 use Rattle.bn_netlist.specs.Faults.{Fault, malformed, too_many, no_element, out_of_order, end_wired, left_wired, start_fed, second_source, header_lines, count_in, is_end_in, is_left_in, is_start_in, wires_in, wire_fault, or_else, outputs_fault, element_at, fault_of, kind_of, IsNext, IsFaulty, BeginsWithFault, IsFirstFault}
-use Rattle.bn_netlist.specs.Reading.{word_taken, ended, number_after, named_after, row_of, named, row_sentence, title_said, count_said, start_said, end_said, steps_said, place_said_by, place_said, row_said, said}
-use Rattle.bn_netlist.specs.ReadingLaws.{word_taken-takes}
-use Rattle.bn_netlist.specs.SentenceLaws.{number_after-takes, named_after-takes, row_of-takes, said-again, sentence_text-in_line}
+use Rattle.bn_netlist.specs.Reading.{word_taken, ended, number_after, named_after, row_of, named, title_said}
+use Rattle.bn_netlist.proofs.ReaderLemmas.{row_sentence, count_said, start_said, end_said, steps_said, place_said_by, place_said, row_said, said}
+use Rattle.bn_netlist.proofs.LineReadingLemmas.{word_taken-takes}
+use Rattle.bn_netlist.proofs.SentenceLemmas.{number_after-takes, named_after-takes, row_of-takes, said-again, sentence_text-in_line}
 use Rattle.bn_netlist.specs.FaultsOrSpelling.{TextsSpellOrFault}
 use Rattle.bn_netlist.proofs.ProgressLemmas.{HasRead, nothing_read, read_more}
 use Rattle.bn_netlist.proofs.CircuitLemmas.{complete-spells}

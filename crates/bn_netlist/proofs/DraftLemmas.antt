@@ -4,15 +4,15 @@ use Rattle.std.proofs.Common.{zero, suc, arith, sym, ap, subst, ◌∙◌, inl, 
 use Rattle.std.proofs.lemmas.List.{append_assoc, append-nil, length-set}
 use Rattle.std.proofs.lemmas.Option.{same_Some}
 use Rattle.bn_theory.specs.Circuits.{same_line, source}
-use Rattle.bn_theory.specs.Laws.{same_lines, slice_get-set_same, slice_get-set_other}
+use Rattle.bn_theory.proofs.StepLemmas.{same_lines, slice_get-set_same, slice_get-set_other}
 use Rattle.bn_theory.specs.declared.line.Line.{Line}
 use Rattle.bn_theory.specs.declared.line.Wire.{Wire}
 use Rattle.bn_netlist.specs.Sentences.{AreNameable}
 use Rattle.bn_netlist.specs.Reading.{named, named_target, named_targets}
 use Rattle.bn_netlist.specs.Faults.{Fault, wires_from, wire_fault, outputs_fault}
 use Rattle.bn_netlist.specs.Header.{header_then}
-use Rattle.bn_net.specs.WireLaws.{line_tells}
-use Rattle.bn_netlist.specs.WireLaws.{other_line}
+use Rattle.bn_net.proofs.WireListLemmas.{line_tells}
+use Rattle.bn_netlist.proofs.WireLemmas.{other_line}
 use Rattle.bn_netlist.specs.Progress.{tested, RefusesBy, wants_memory_for_wires, finds_by, IsFed, Connects, ConnectsAll}
 use Rattle.bn_netlist.proofs.FitLemmas.{wire_passes}
 use Rattle.bn_netlist.specs.declared.header.Header.{Header}

@@ -9,8 +9,8 @@ use Rattle.bn_theory.specs.declared.line.Wire.{Wire}
 use Rattle.bn_netlist.specs.Sentences.{Sentence, Title, Count, Start, End, Steps, At, Element, AreNameable}
 use Rattle.bn_netlist.specs.Faults.{Fault, header_lines, is_left_by, wires_from, wires_in, wire_fault, or_else, outputs_fault, fault_of, kind_of, IsNext, AreFaultlessAfter}
 use Rattle.bn_netlist.specs.Header.{header_then}
-use Rattle.bn_netlist.specs.WireLaws.{other_lines, Each, each_append, each_weaker, target-none, place_of, wire_within_none}
-use Rattle.bn_netlist.specs.RowLaws.{wires_in-more}
+use Rattle.bn_netlist.proofs.WireLemmas.{other_lines, Each, each_append, each_weaker, target-none, place_of, wire_within_none}
+use Rattle.bn_netlist.proofs.RowLemmas.{wires_in-more}
 use Rattle.bn_netlist.specs.declared.header.Header.{Header}
 
 -- the wire has no fault after the earlier ones, and its numbers are in range

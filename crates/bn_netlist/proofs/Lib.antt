@@ -1,3 +1,11 @@
+pub mod FaultLemmas
+pub mod NetLemmas
+pub mod ReaderLemmas
+pub mod LineReadingLemmas
+pub mod RowLemmas
+pub mod SentenceLemmas
+pub mod NetTextLemmas
+pub mod WireLemmas
 pub mod WriteLemmas
 pub mod FitLemmas
 pub mod WholeLemmas

@@ -5,7 +5,7 @@ use Rattle.std.proofs.lemmas.List.{append_assoc, append-nil}
 use Rattle.bn_netlist.specs.Sentences.{Sentence, sentence_text, lines_text}
 use Rattle.bn_netlist.specs.Faults.{Fault, malformed, too_many, no_element, out_of_order, end_wired, left_wired, start_fed, second_source, fault_of, IsNext, AreFaultlessAfter, AreFaultless, BeginsWithFault, IsFirstFault}
 use Rattle.bn_netlist.specs.NetText.{IsTextRefusal}
-use Rattle.bn_netlist.specs.TextLaws.{lines_text-append}
+use Rattle.bn_netlist.proofs.NetTextLemmas.{lines_text-append}
 use Rattle.bn_netlist.specs.Progress.{refusal_of, Reads, Refuses, wants_memory, finds}
 use Rattle.bn_netlist.specs.declared.refusal.NetlistRefusal.{NetlistRefusal}
 

@@ -3,15 +3,16 @@ use Rattle.std.specs.Prelude.{◌≡◌, ◌≢◌, ℕ, ◌+◌, ◌<◌, ◌�
 use Rattle.std.proofs.Common.{arith, sym, ap, subst, ◌∙◌, inl, inr}
 use Rattle.std.proofs.lemmas.Bool.Decides.{nat_tests, eqb_tells}
 use Rattle.bn_base.specs.Line.{IsInLine}
-use Rattle.bn_base.specs.LineLaws.{lines-agree, cut-lines-differ}
+use Rattle.bn_base.proofs.LineLemmas.{lines-agree, cut-lines-differ}
 use Rattle.bn_theory.specs.declared.line.Line.{Line}
 use Rattle.bn_theory.specs.declared.place.Place.TheVariants.{Enter, Left}
 use Rattle.bn_netlist.specs.Sentences.{Sentence, Title, Count, Start, End, Steps, At, sentence_text}
 use Rattle.bn_netlist.specs.Spelling.{most_elements}
 use Rattle.bn_netlist.specs.Faults.{Fault, malformed, too_many, no_element, header_lines, count_in, IsNext}
-use Rattle.bn_netlist.specs.Reading.{word_taken, ended, number_after, named_after, named, title_said, said}
-use Rattle.bn_netlist.specs.ReadingLaws.{word_taken-takes}
-use Rattle.bn_netlist.specs.SentenceLaws.{said-again, sentence_text-in_line, number_after-takes, named_after-takes}
+use Rattle.bn_netlist.specs.Reading.{word_taken, ended, number_after, named_after, named, title_said}
+use Rattle.bn_netlist.proofs.ReaderLemmas.{said}
+use Rattle.bn_netlist.proofs.LineReadingLemmas.{word_taken-takes}
+use Rattle.bn_netlist.proofs.SentenceLemmas.{said-again, sentence_text-in_line, number_after-takes, named_after-takes}
 use Rattle.bn_netlist.specs.Progress.{Reads, Refuses, finds}
 use Rattle.bn_netlist.specs.declared.refusal.NetlistRefusal.TheVariants.{Syntax, TooMany, Target}
 

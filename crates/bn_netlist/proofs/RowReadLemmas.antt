@@ -7,11 +7,12 @@ use Rattle.bn_theory.specs.Circuits.{same_line, source}
 use Rattle.bn_theory.specs.declared.line.Line.{Line}
 use Rattle.bn_theory.specs.declared.line.Wire.{Wire}
 use Rattle.bn_netlist.specs.Sentences.{Sentence, Title, Count, Start, End, Steps, At, Element, IsSayable, sentence_text}
-use Rattle.bn_netlist.specs.Reading.{named_targets, row_of, row_sentence, said}
-use Rattle.bn_netlist.specs.SentenceLaws.{row_of-takes}
+use Rattle.bn_netlist.specs.Reading.{named_targets, row_of}
+use Rattle.bn_netlist.proofs.ReaderLemmas.{row_sentence, said}
+use Rattle.bn_netlist.proofs.SentenceLemmas.{row_of-takes}
 use Rattle.bn_netlist.specs.Faults.{Fault, malformed, too_many, no_element, out_of_order, end_wired, left_wired, start_fed, second_source, header_lines, is_left_by, wires_from, wires_in, wire_fault, or_else, outputs_fault, fault_of, IsNext, IsFaulty, BeginsWithFault}
 use Rattle.bn_netlist.specs.Header.{header_then}
-use Rattle.bn_netlist.specs.RowLaws.{wires_in-more}
+use Rattle.bn_netlist.proofs.RowLemmas.{wires_in-more}
 use Rattle.bn_netlist.specs.TextLaws.{states_in}
 use Rattle.bn_netlist.specs.Progress.{refusal_of, Refuses, wants_memory, finds, RefusesBy, wants_memory_for_wires, finds_by, ConnectsAll, Holds, ReadsRow, ReadsRows, RefusesRow}
 use Rattle.bn_netlist.specs.declared.header.Header.{Header}

@@ -8,7 +8,7 @@ use Rattle.bn_netlist.specs.Spelling.{Spelling, Admits, Spelled, text_of}
 use Rattle.bn_netlist.specs.Faults.{malformed, too_many, no_element, out_of_order, end_wired, left_wired, start_fed, second_source, header_lines, count_in, AreFaultlessAfter}
 use Rattle.bn_netlist.specs.Header.{header_then}
 use Rattle.bn_netlist.specs.NetText.{IsTextRefusal}
-use Rattle.bn_netlist.specs.TextLaws.{faulty_texts-spell-nothing, lines_text-append}
+use Rattle.bn_netlist.proofs.NetTextLemmas.{faulty_texts-spell-nothing, lines_text-append}
 use Rattle.bn_netlist.specs.Progress.{finds, ReadsHeader, Holds, ReadsRows, RefusesRow, IsWhole, IsWholeDraft}
 use Rattle.bn_netlist.specs.declared.header.Header.{Header}
 use Rattle.bn_netlist.specs.declared.refusal.NetlistRefusal.{NetlistRefusal}

@@ -19,9 +19,9 @@ use Rattle.bn_netlist.specs.Sentences.{Sentence, Title, Count, Start, End, Steps
 use Rattle.bn_netlist.specs.Spelling.{Spelling, Admits, most_elements, targets_of, element_sentences, text_of}
 use Rattle.bn_netlist.specs.Faults.{Fault, is_left_by, wires_from, wires_in, element_at, AreFaultlessAfter}
 use Rattle.bn_netlist.specs.Header.{header_then}
-use Rattle.bn_netlist.specs.NetLaws.{map-replicate}
-use Rattle.bn_net.specs.WireLaws.{line_tells}
-use Rattle.bn_netlist.specs.WireLaws.{rotary_inputs, rotary_outputs, rotary_states, other_line, Each, each_append, each_weaker, target-none, source-none}
+use Rattle.bn_netlist.proofs.NetLemmas.{map-replicate}
+use Rattle.bn_net.proofs.WireListLemmas.{line_tells}
+use Rattle.bn_netlist.proofs.WireLemmas.{rotary_inputs, rotary_outputs, rotary_states, other_line, Each, each_append, each_weaker, target-none, source-none}
 use Rattle.bn_netlist.specs.TextLaws.{states_in}
 use Rattle.bn_netlist.specs.Progress.{IsWhole, Holds}
 use Rattle.bn_netlist.specs.declared.header.Header.{Header}

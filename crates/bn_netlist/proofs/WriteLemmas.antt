@@ -11,9 +11,9 @@ use Rattle.bn_net.specs.Parts.{Parts, circuit}
 use Rattle.bn_element.specs.Rotary.{rotary}
 use Rattle.bn_netlist.specs.Sentences.{Sentence, Element, sentence_text, lines_text}
 use Rattle.bn_netlist.specs.Spelling.{targets_of, element_sentences}
-use Rattle.bn_netlist.specs.NetLaws.{map-replicate}
-use Rattle.bn_netlist.specs.WireLaws.{rotary_outputs, rotary_input}
-use Rattle.bn_netlist.specs.TextLaws.{lines_text-append}
+use Rattle.bn_netlist.proofs.NetLemmas.{map-replicate}
+use Rattle.bn_netlist.proofs.WireLemmas.{rotary_outputs, rotary_input}
+use Rattle.bn_netlist.proofs.NetTextLemmas.{lines_text-append}
 
 -- what follows on success
 pub on_ok : {A E P Q : Type 0} (r : Result A E) → (P → Q) → OnOk r P → OnOk r Q

@@ -2,14 +2,9 @@ pub mod Sentences
 pub mod Spelling
 pub mod Faults
 pub mod NetText
-pub mod NetLaws
 pub mod Reading
-pub mod ReadingLaws
-pub mod SentenceLaws
 pub mod LentLine
 pub mod Header
-pub mod WireLaws
-pub mod RowLaws
 pub mod TextLaws
 pub mod Progress
 pub mod FaultLaws

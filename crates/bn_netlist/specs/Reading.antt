@@ -4,8 +4,7 @@ use Rattle.bn_base.specs.Number.{read_number}
 use Rattle.bn_base.specs.declared.numbers.Digits.{Digits}
 use Rattle.bn_element.specs.Rotary.{horizontal, vertical, north, east, south, west}
 use Rattle.bn_theory.specs.declared.line.Line.{Line}
-use Rattle.bn_theory.specs.declared.place.Place.TheVariants.{Enter, Left}
-use Rattle.bn_netlist.specs.Sentences.{Sentence, Title, Count, Start, End, Steps, At, Element}
+use Rattle.bn_netlist.specs.Sentences.{Sentence, Title}
 use Rattle.bn_netlist.specs.declared.row.Row.{Row}
 
 -- one step after another, where each may find another form
@@ -118,42 +117,3 @@ named_targets (x ∷ xs) = named_target x ∷ named_targets xs
 -- what a line of each kind says
 abbrev pub title_said : List ℕ → Option Sentence
 title_said line = word_taken (codes "rotary 1") line >>= λ behind. ended (Title, behind)
-
-abbrev pub count_said_by : ℕ → Option Sentence
-count_said_by n = if n == 0 then None else Some (Count n)
-
-abbrev pub count_said : List ℕ → Option Sentence
-count_said line = number_after (codes "elements ") line >>= count_said_by
-
-abbrev pub start_said : List ℕ → Option Sentence
-start_said line = option_map (λ l. Start (named l)) (named_after (codes "start ") line)
-
-abbrev pub end_said : List ℕ → Option Sentence
-end_said line = option_map (λ l. End (named l)) (named_after (codes "end ") line)
-
-abbrev pub steps_said : List ℕ → Option Sentence
-steps_said line = option_map Steps (number_after (codes "steps ") line)
-
-abbrev pub place_said_by : Option (ℕ × ℕ) → Option (ℕ × ℕ) → Option Sentence
-place_said_by (Some l) left = Some (At (Enter l.0 l.1))
-place_said_by None left = option_map (λ l. At (Left l.0 l.1)) left
-
-abbrev pub place_said : List ℕ → Option Sentence
-place_said line = place_said_by (named_after (codes "at ") line) (named_after (codes "left ") line)
-
-abbrev pub row_sentence : Row → Sentence
-row_sentence row = Element row.number row.state (named_targets row.targets)
-
-abbrev pub row_said : List ℕ → Option Sentence
-row_said line = option_map row_sentence (row_of line)
-
--- what a line says as one of this kind
-abbrev pub said : ℕ → List ℕ → Option Sentence
-said k line =
-    if k == 0 then title_said line
-    else (if k == 1 then count_said line
-    else (if k == 2 then start_said line
-    else (if k == 3 then end_said line
-    else (if k == 4 then steps_said line
-    else (if k == 5 then place_said line
-    else row_said line)))))

@@ -7,24 +7,24 @@ use Rattle.std.proofs.lemmas.List.{length-replicate}
 use Rattle.std.proofs.lemmas.Option.{slice_get_within}
 use Rattle.bn_theory.specs.Tables.{Table}
 use Rattle.bn_theory.specs.Circuits.{Circuit, target, source, IsCircuit, IsConfig, IsInput, IsOutput, inputs_of, states_of}
-use Rattle.bn_theory.specs.Laws.{slice_get-set_same, slice_get-set_other}
+use Rattle.bn_theory.proofs.StepLemmas.{slice_get-set_same, slice_get-set_other}
 use Rattle.bn_theory.specs.declared.line.Line.{Line}
 use Rattle.bn_element.specs.Rotary.{rotary, horizontal, vertical, west}
 use Rattle.bn_netlist.specs.Spelling.{Spelling, Admits, Spelled, circuit_of, most_elements, text_of}
-use Rattle.bn_netlist.specs.WireLaws.{rotary_inputs, rotary_outputs, rotary_reversible, rotary_states}
+use Rattle.bn_netlist.proofs.WireLemmas.{rotary_inputs, rotary_outputs, rotary_reversible, rotary_states}
 use Rattle.bn_column.specs.Columns.{line_at}
-use Rattle.bn_column.specs.Wirings.{apart-IsOneToOne}
+use Rattle.bn_column.proofs.WiringsLemmas.{apart-IsOneToOne}
 use Rattle.bn_rsm.specs.Machines.{Machine, machine_table, machine_table-IsReversible}
 use Rattle.bn_realise.specs.Banks.{IsBankWire, bottom_at, exit_after, input_line}
-use Rattle.bn_realise.specs.BankEnds.{no_exit_wire}
-use Rattle.bn_realise.specs.BankLists.{bank_list}
+use Rattle.bn_realise.proofs.BankEndsLemmas.{no_exit_wire}
+use Rattle.bn_realise.proofs.BankListsLemmas.{bank_list}
 use Rattle.bn_element.specs.declared.rotary.Rotary.{Rotary}
 use Rattle.bn_net.specs.Parts.{Parts, circuit}
-use Rattle.bn_netlist.specs.NetLaws.{circuits-agree}
+use Rattle.bn_netlist.proofs.NetLemmas.{circuits-agree}
 use Rattle.bn_netlist.specs.NetText.{spelling_of}
 use Rattle.bn_netlist.specs.declared.net_config.NetConfig.{NetConfig}
 use Rattle.bn_realise.specs.BankNets.{Banked, elements_of, IsBankNet, IsBankOf, start_at}
-use Rattle.bn_realise.specs.BankWires.{bank_wire-IsWithinLines, bank_wire-no_input}
+use Rattle.bn_realise.proofs.BankWiresLemmas.{bank_wire-IsWithinLines, bank_wire-no_input}
 use Rattle.bn_netreply.specs.RealiseReply.{IsBankSpelling}
 
 -- ---- the spelling of a bank may be spelled

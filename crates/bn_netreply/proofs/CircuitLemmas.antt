@@ -11,8 +11,8 @@ use Rattle.bn_packed.specs.PackedNets.{PackedNet}
 use Rattle.bn_net.specs.Watching.{Hears}
 use Rattle.bn_theory.specs.Stepping.{run, back, places, places_back}
 use Rattle.bn_netlist.specs.Spelling.{Spelling, Spelled, AreSame, Admits, circuit_of, text_of, moved_to}
-use Rattle.bn_netlist.specs.TextLaws.{spellings-agree, faulty_texts-spell-nothing}
-use Rattle.bn_netlist.specs.FaultLaws.{faults-agree}
+use Rattle.bn_netlist.proofs.NetTextLemmas.{spellings-agree, faulty_texts-spell-nothing}
+use Rattle.bn_netlist.proofs.FaultLemmas.{faults-agree}
 use Rattle.bn_netlist.proofs.DecideLemmas.{texts-spell-or-fault}
 use Rattle.bn_netlist.proofs.SameTexts.{same_text}
 use Rattle.bn_reply.specs.Answering.{HasAnswer, IsOneAnswer, IsSettled}
@@ -21,7 +21,7 @@ use Rattle.bn_reply.specs.declared.status.Status.{Status}
 use Rattle.bn_reply.proofs.SameRuns.{AreAlike, run-alike, back-alike, places-alike, places_back-alike}
 use Rattle.bn_reply.proofs.SettledLemmas.{agree}
 use Rattle.bn_netlist.specs.NetText.{spelling_of, IsTextRefusal}
-use Rattle.bn_netlist.specs.NetLaws.{circuits-agree, spellings-move}
+use Rattle.bn_netlist.proofs.NetLemmas.{circuits-agree, spellings-move}
 use Rattle.bn_netlist.specs.Faults.{Fault, malformed, too_many, no_element, out_of_order, end_wired, left_wired, start_fed, second_source, IsFirstFault}
 use Rattle.bn_netlist.specs.declared.net_config.NetConfig.{NetConfig}
 use Rattle.bn_netlist.specs.declared.refusal.NetlistRefusal.{NetlistRefusal}

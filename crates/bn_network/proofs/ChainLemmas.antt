@@ -3,7 +3,7 @@ use Rattle.std.specs.Prelude.{◌≡◌, ℕ, ◌+◌, ◌*◌, ◌<◌, ◌≤�
 use Rattle.std.proofs.Common.{zero, suc, arith, sym, ap, subst, ◌∙◌, inl}
 use Rattle.std.proofs.lemmas.Option.{slice_get_within}
 use Rattle.bn_theory.specs.Circuits.{Circuit, place_after}
-use Rattle.bn_theory.specs.Laws.{slice_get-set_same, slice_get-set_other}
+use Rattle.bn_theory.proofs.StepLemmas.{slice_get-set_same, slice_get-set_other}
 use Rattle.bn_theory.specs.declared.place.Place.TheVariants.{Enter}
 use Rattle.bn_rsm.specs.Costs.{table_cost, cost_by, move_cost}
 use Rattle.bn_rsm.specs.Laws.{CostsAreBounded}

@@ -11,7 +11,8 @@ use Rattle.std.proofs.lemmas.List.FromFn.{length-map-range_with_len, get_or-map-
 use Rattle.std.proofs.lemmas.Option.{slice_get-get_or, slice_get_within}
 use Rattle.bn_theory.specs.Circuits.{Circuit}
 use Rattle.bn_rsm.specs.Laws.{CostsAreBounded}
-use Rattle.bn_machine.specs.Tape.{word_tape, blank_tape, letter_at, cell-word}
+use Rattle.bn_machine.specs.Tape.{word_tape, blank_tape, letter_at}
+use Rattle.bn_machine.proofs.TapeLemmas.{cell-word}
 use Rattle.bn_machine.specs.Window.{IsBetween}
 use Rattle.bn_machine.specs.Machine.{nth}
 use Rattle.bn_machine.specs.Outcome.{Limits}

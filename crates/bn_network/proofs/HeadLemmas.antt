@@ -6,7 +6,7 @@ use Rattle.std.proofs.lemmas.Option.{slice_get_within}
 use Rattle.std.proofs.lemmas.List.{length-replicate}
 use Rattle.bn_theory.specs.Tables.{Table}
 use Rattle.bn_theory.specs.Circuits.{Circuit, target, go_of, place_after, place_at}
-use Rattle.bn_theory.specs.Laws.{slice_get-set_same, slice_get-set_other}
+use Rattle.bn_theory.proofs.StepLemmas.{slice_get-set_same, slice_get-set_other}
 use Rattle.bn_theory.specs.declared.line.Line.{Line}
 use Rattle.bn_theory.specs.declared.place.Place.TheVariants.{Enter}
 use Rattle.bn_machine.specs.Outcome.{Limits}

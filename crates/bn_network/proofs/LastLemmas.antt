@@ -3,7 +3,7 @@ use Rattle.std.specs.Prelude.{◌≡◌, ◌≢◌, ℕ, ◌+◌, ◌*◌, ◌<�
 use Rattle.std.proofs.Common.{zero, suc, arith, sym, ap, subst, ◌∙◌, inl, inr, length-append}
 use Rattle.std.proofs.lemmas.Nat.{mul-le}
 use Rattle.std.proofs.lemmas.Option.{slice_get_within}
-use Rattle.bn_theory.specs.Runs.{passes_run}
+use Rattle.bn_theory.proofs.RunsLemmas.{passes_run}
 use Rattle.bn_theory.specs.Circuits.{Circuit, go_of, place_after}
 use Rattle.bn_theory.specs.declared.place.Place.TheVariants.{Enter, Left}
 use Rattle.bn_rsm.specs.Costs.{table_cost, cost_by}

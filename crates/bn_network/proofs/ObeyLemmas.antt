@@ -1,7 +1,8 @@
 -- The tapes obey the commands of a quadruple that applies.
 use Rattle.std.specs.Prelude.{◌≡◌, ℕ, ◌+◌, ◌*◌, ◌<◌, ◌≤◌, List, [], ◌∷◌, ◌++◌, reverse, refl, ⊤}
 use Rattle.std.proofs.Common.{suc, arith, sym, ap, subst}
-use Rattle.bn_machine.specs.Tape.{Tape, scanned, write, shift, moved, set_cell-set_cell, at_set_cell}
+use Rattle.bn_machine.specs.Tape.{Tape, scanned, write, shift, moved}
+use Rattle.bn_machine.proofs.TapeLemmas.{set_cell-set_cell, at_set_cell}
 use Rattle.bn_machine.specs.Window.{IsBetween}
 use Rattle.bn_machine.specs.Outcome.{Limits}
 use Rattle.bn_machine.specs.declared.quint.Shift.TheVariants as way

@@ -1,7 +1,7 @@
 -- Paths and their costs.
 use Rattle.std.specs.Prelude.{◌≡◌, ℕ, ◌+◌, ◌<◌, ◌≤◌, Bool, true, false, not, refl}
 use Rattle.std.proofs.Common.{arith, ap}
-use Rattle.bn_theory.specs.Runs.{passes_run, passes_join}
+use Rattle.bn_theory.proofs.RunsLemmas.{passes_run, passes_join}
 use Rattle.bn_theory.specs.Circuits.{Circuit}
 use Rattle.bn_theory.specs.Situations.{Situation, Turns}
 use Rattle.bn_rsm.proofs.RunCostLemmas.{cost-none, one_cost, cost-joins}

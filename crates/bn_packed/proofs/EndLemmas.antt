@@ -6,7 +6,7 @@ use Rattle.std.proofs.lemmas.List.{length-replicate, length-append, length-map}
 use Rattle.std.proofs.lemmas.Option.{slice_get-get_or, slice_get_past}
 use Rattle.bn_theory.specs.Tables.{Table}
 use Rattle.bn_theory.specs.Circuits.{IsCircuit, IsInput, IsOutput, target, source, inputs_of, outputs_of}
-use Rattle.bn_theory.specs.Laws.{same_lines}
+use Rattle.bn_theory.proofs.StepLemmas.{same_lines}
 use Rattle.bn_theory.specs.declared.line.Line.{Line}
 use Rattle.bn_element.specs.Rotary.{rotary, rotary-IsReversible}
 use Rattle.bn_element.specs.declared.rotary.Rotary.{Rotary}

@@ -5,11 +5,12 @@ use Rattle.std.proofs.lemmas.Bool.Decides.{nat_tests, eqb_tells}
 use Rattle.std.proofs.lemmas.Option.{option_and_then_some, slice_get_within}
 use Rattle.std.specs.Bool.{OnFalse}
 use Rattle.bn_theory.specs.Tables.{Table}
-use Rattle.bn_theory.specs.Runs.{Reaches, passes_join}
+use Rattle.bn_theory.specs.Runs.{Reaches}
+use Rattle.bn_theory.proofs.RunsLemmas.{passes_join}
 use Rattle.bn_theory.specs.Circuits.{Circuit, IsCircuit, IsConfig, IsPlace, IsOutput, Goes, IsStuck, IsFirst, clock, go_of, back_of, states_of, place_after}
 use Rattle.bn_theory.specs.Stepping.{run, back, places, places_back, line_before}
-use Rattle.bn_theory.specs.RunLaws.{run_stops, back_stops, Reaches-run, Reaches-back}
-use Rattle.bn_theory.specs.Laws.{same_config, go_arrives, next-IsConfig, previous-IsConfig}
+use Rattle.bn_theory.proofs.RunLemmas.{run_stops, back_stops, Reaches-run, Reaches-back}
+use Rattle.bn_theory.proofs.StepLemmas.{same_config, go_arrives, next-IsConfig, previous-IsConfig}
 use Rattle.bn_theory.specs.declared.line.Line.{Line}
 use Rattle.bn_theory.specs.declared.place.Place.{Place}
 use Rattle.bn_theory.specs.declared.place.Place.TheVariants.{Enter, Left}

@@ -64,7 +64,7 @@ impl Bars {
 
     /// Lets the signal cross an element from this line, and answers the output line. The bar turns
     /// where the signal comes across it.
-    #[tactic(auto, using(bn_column::specs::Crossing::set_same))]
+    #[tactic(auto, using(bn_column::proofs::CrossingLemmas::set_same))]
     pub(crate) fn cross(&mut self, element: usize, line: u32) -> u32
         requires element { element < length self.old }
         requires line { line < 4 }
@@ -99,7 +99,7 @@ impl Bars {
 
     /// Takes the signal's crossing of an element back from the output line, and answers the line by
     /// which it came.
-    #[tactic(auto, using(bn_column::specs::Crossing::set_same))]
+    #[tactic(auto, using(bn_column::proofs::CrossingLemmas::set_same))]
     pub(crate) fn cross_back(&mut self, element: usize, line: u32) -> u32
         requires element { element < length self.old }
         requires line { line < 4 }

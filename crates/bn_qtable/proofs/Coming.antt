@@ -10,7 +10,7 @@ use Rattle.bn_qtable.proofs.Passing.{in-number}
 use Rattle.bn_qtable.proofs.Growing.{rows-count}
 use Rattle.bn_qtable.specs.Draft.{names_of}
 use Rattle.bn_quad.specs.Kept.{rules_of}
-use Rattle.bn_quad.specs.KeptLaws.{length-rules_of}
+use Rattle.bn_quad.proofs.KeptLemmas.{length-rules_of}
 
 -- The draft has the entries before those that are left, and none of them has a fault.
 pub record HasCome (entries : List (List (List ℕ))) (d : Draft) (left : List (List (List ℕ))) : Type 0 where

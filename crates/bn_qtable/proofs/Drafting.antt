@@ -7,7 +7,7 @@ use Rattle.bn_machine.specs.Machine.{nth}
 use Rattle.bn_quad.specs.Names.{Naming}
 use Rattle.bn_quad.specs.Quadruples.{Deed, Rewrite, Move, Rule, Quadruples, IsDeedInRange, IsRuleInRange}
 use Rattle.bn_quad.specs.Kept.{Agree, IsUnmixed, IsActInRange, IsFirstFault, IsReadInRange, IsSound, act_at, act_of, deed_of, quad_of, read_at, read_of, rule_of, rules_of}
-use Rattle.bn_quad.specs.KeptLaws.{length-rules_of, rule_of-quad_of, rules_of-quads}
+use Rattle.bn_quad.proofs.KeptLemmas.{length-rules_of, rule_of-quad_of, rules_of-quads}
 use Rattle.bn_quad.specs.declared.quad.Quad.{Quad}
 use Rattle.bn_quad.specs.declared.quad.Act.{Act}
 use Rattle.bn_quad.specs.declared.quad.Act.TheVariants.{Write, Shift}

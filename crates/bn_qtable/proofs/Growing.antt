@@ -11,7 +11,7 @@ use Rattle.std.proofs.lemmas.Option.{slice_get_within, get_or_from_slice_get}
 use Rattle.std.proofs.lemmas.Slice.Eq.{bytes_eq-Decides}
 use Rattle.bn_entries.specs.Forms.{is_state_name, is_symbol}
 use Rattle.bn_entries.specs.Numbering.{firsts, firsts_by, with_name}
-use Rattle.bn_entries.specs.NumberingLaws.{firsts_push, length-firsts, number_stays, with_name-grows}
+use Rattle.bn_entries.proofs.NumberingLemmas.{firsts_push, length-firsts, number_stays, with_name-grows}
 use Rattle.bn_quad.specs.Names.{Naming, naming_of}
 use Rattle.bn_quad.specs.Quadruples.{Deed, Rewrite, Move, Rule, IsDeedInRange, IsRuleInRange}
 use Rattle.bn_qtable.specs.Entry.{Said, Says, Rewrites, Moves, SaysHasForms, entry_of, read_field, act_field, slash}

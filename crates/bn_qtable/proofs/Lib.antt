@@ -1,3 +1,4 @@
+pub mod RowsLemmas
 pub mod Passing
 pub mod Growing
 pub mod Drafting

@@ -9,9 +9,10 @@ use Rattle.std.proofs.lemmas.List.Folds.{list_any-append}
 use Rattle.std.proofs.lemmas.Option.{slice_get-get_or}
 use Rattle.std.proofs.lemmas.Slice.Eq.{bytes_eq-Decides}
 use Rattle.bn_entries.specs.Forms.{is_state_name, is_symbol}
-use Rattle.bn_entries.specs.FormsLaws.{all-at}
+use Rattle.bn_entries.proofs.FormsLemmas.{all-at}
 use Rattle.bn_entries.specs.Numbering.{with_name}
-use Rattle.bn_entries.specs.NumberingLaws.{AreApart, apart-firsts, one_number, some_number}
+use Rattle.bn_entries.specs.NumberingLaws.{AreApart}
+use Rattle.bn_entries.proofs.NumberingLemmas.{apart-firsts, one_number, some_number}
 use Rattle.bn_machine.specs.declared.quint.Shift.{Shift}
 use Rattle.bn_machine.specs.declared.quint.Shift.TheVariants.{Left, Stay, Right}
 use Rattle.bn_quad.specs.Names.{Naming, naming_of}

@@ -5,4 +5,3 @@ pub mod Rows
 pub mod Reading
 pub mod Draft
 pub mod Named
-pub mod RowsLaws

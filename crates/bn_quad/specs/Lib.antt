@@ -3,12 +3,5 @@ pub mod Overlap
 pub mod Kept
 pub mod Names
 pub mod Calls
-pub mod KeptLaws
-pub mod OverlapKept
 pub mod Search
-pub mod Reversible
-pub mod NamesLaws
-pub mod Backward
-pub mod Steps
 pub mod Laws
-pub mod Answers

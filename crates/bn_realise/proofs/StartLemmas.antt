@@ -3,12 +3,13 @@ use Rattle.std.proofs.Common.{◌≡◌, ◌≢◌, ℕ, zero, suc, ◌+◌, ◌
 use Rattle.std.proofs.lemmas.Bool.Decides.{eqb_tells}
 use Rattle.std.proofs.lemmas.List.{length-replicate}
 use Rattle.std.proofs.lemmas.Option.{slice_get_within}
-use Rattle.bn_theory.specs.Runs.{Reaches, Passes, passes_run}
+use Rattle.bn_theory.specs.Runs.{Reaches, Passes}
+use Rattle.bn_theory.proofs.RunsLemmas.{passes_run}
 use Rattle.bn_theory.specs.Tables.{Table, IsReversible}
 use Rattle.bn_theory.specs.Circuits.{Circuit, clock, target, IsConfig, IsStuck, Goes}
 use Rattle.bn_theory.specs.Stepping.{run}
-use Rattle.bn_theory.specs.Laws.{slice_get-set_same, slice_get-set_other}
-use Rattle.bn_theory.specs.RunLaws.{run_stops}
+use Rattle.bn_theory.proofs.StepLemmas.{slice_get-set_same, slice_get-set_other}
+use Rattle.bn_theory.proofs.RunLemmas.{run_stops}
 use Rattle.bn_theory.specs.declared.line.Line.{Line}
 use Rattle.bn_theory.specs.declared.place.Place.TheVariants.{Enter, Left}
 use Rattle.bn_theory.specs.declared.config.Config.{Config}
@@ -16,13 +17,13 @@ use Rattle.bn_element.specs.Rotary.{horizontal, vertical, east, west}
 use Rattle.bn_element.specs.declared.rotary.Rotary.{Rotary}
 use Rattle.bn_net.specs.Parts.{Parts}
 use Rattle.bn_column.specs.Columns.{line_at, bar}
-use Rattle.bn_column.specs.Crossing.{Reaches-steps}
+use Rattle.bn_column.proofs.CrossingLemmas.{Reaches-steps}
 use Rattle.bn_column.specs.Nets.{rotary_circuit}
-use Rattle.bn_column.specs.NetLaws.{bars-IsConfig, rotary-table_at, ran}
+use Rattle.bn_column.proofs.NetLemmas.{bars-IsConfig, rotary-table_at, ran}
 use Rattle.bn_rsm.specs.Costs.{cost_by, table_cost}
 use Rattle.bn_realise.specs.Banks.{column_at, bottom_at, IsBankWire, across, turning_line, IsResting, IsBank, IsBankEntering, exit_after, moved}
-use Rattle.bn_realise.specs.BankCrossing.{later_column, other_column, bank_crosses}
-use Rattle.bn_realise.specs.BankWires.{column_once, output-no_wire, turning-wire}
+use Rattle.bn_realise.proofs.BankCrossingLemmas.{later_column, other_column, bank_crosses}
+use Rattle.bn_realise.proofs.BankWiresLemmas.{column_once, output-no_wire, turning-wire}
 use Rattle.bn_realise.specs.BankNets.{CanMove, IsMove, IsBankNet, Banked, IsBankOf, CanMoveBank}
 
 abbrev pub resting : ℕ → ℕ → ℕ → List ℕ

@@ -5,14 +5,16 @@ use Rattle.bn_theory.specs.declared.line.Wire.{Wire}
 use Rattle.bn_element.specs.Rotary.{east, west}
 use Rattle.std.proofs.lemmas.List.{length-append}
 use Rattle.bn_column.specs.Columns.{IsInner}
-use Rattle.bn_column.specs.Wirings.{AreWiresOf, AreFitting, apart-wire}
+use Rattle.bn_column.specs.Wirings.{AreWiresOf, AreFitting}
+use Rattle.bn_column.proofs.WiringsLemmas.{apart-wire}
 use Rattle.bn_column.specs.Nets.{wire_of, IsNetOf}
-use Rattle.bn_column.specs.NetLaws.{rotary-table_at}
+use Rattle.bn_column.proofs.NetLemmas.{rotary-table_at}
 use Rattle.bn_element.specs.declared.rotary.Rotary.{Rotary}
 use Rattle.bn_net.specs.Parts.{Parts}
 use Rattle.bn_realise.specs.Banks.{column_at, IsBankWire}
-use Rattle.bn_realise.specs.BankCrossing.{later_column}
-use Rattle.bn_realise.specs.BankWires.{IsEarlier, IsStage, IsHalf, half_with, stage_with, stage_begins, bank_wire-IsWithinLines}
+use Rattle.bn_realise.proofs.BankCrossingLemmas.{later_column}
+use Rattle.bn_realise.specs.BankWires.{IsEarlier, IsStage, IsHalf}
+use Rattle.bn_realise.proofs.BankWiresLemmas.{half_with, stage_with, stage_begins, bank_wire-IsWithinLines}
 use Rattle.bn_realise.specs.BankNets.{HasRoom, IsBankNet}
 
 -- the elements of a bank are below 2^32

@@ -5,9 +5,10 @@ use Rattle.std.specs.Prelude.{Contains, IfSome, IfNone, MatchOption, slice_get}
 use Rattle.std.proofs.lemmas.List.{take_more, map-append}
 use Rattle.std.proofs.lemmas.List.Elements.{All-push}
 use Rattle.std.proofs.lemmas.Option.{slice_get_within, get_or_from_slice_get, slice_get-get_or}
-use Rattle.bn_machine.specs.Machine.{nth, AllBefore, all_before_one, all_before_more}
+use Rattle.bn_machine.specs.Machine.{nth, AllBefore}
+use Rattle.bn_machine.proofs.MachineLemmas.{all_before_one, all_before_more}
 use Rattle.bn_table.specs.Rows.{Named, IsTable, blank}
-use Rattle.bn_table.specs.RowsLaws.{blank_first}
+use Rattle.bn_table.proofs.RowsLemmas.{blank_first}
 use Rattle.bn_reply.specs.Words.{IsLetterOf, IsLetterSymbol, IsSpelledBy, IsFirstForeign, letters_of}
 use Rattle.bn_reply.specs.Letters.{IsSymbolOf}
 

@@ -2,16 +2,18 @@
 use Rattle.std.proofs.Common.{◌≡◌, ◌≢◌, ℕ, zero, suc, ◌+◌, ◌<◌, ◌∷◌, List, [], length, get_or, ◌⊎◌, inl, inr, refl, subst, arith, Some}
 use Rattle.std.proofs.lemmas.Bool.{cases_lt}
 use Rattle.std.proofs.lemmas.Bool.Decides.{eqb_tells}
-use Rattle.bn_machine.specs.Machine.{nth, nth-get_or, start_of, final_of}
+use Rattle.bn_machine.specs.Machine.{nth, start_of, final_of}
+use Rattle.bn_machine.proofs.MachineLemmas.{nth-get_or}
 use Rattle.bn_machine.specs.declared.quint.Quint.{Quint}
 use Rattle.bn_machine.specs.declared.quint.Shift.{Shift}
 use Rattle.bn_machine.specs.declared.quint.Shift.TheVariants.{Left, Stay, Right}
 use Rattle.bn_standard.specs.Standard.{BeginsWell, Clashes, EndsWell, HasLoneFinal, HasLoneStart, IsBeginning, IsEnding, IsStandard, IsUnambiguous, NamesFinal}
 use Rattle.bn_standard.specs.Standard.{NamesStart}
 use Rattle.bn_standard.specs.Verdict.{IsLeastFinal, IsLeastRepeat, IsLeastStart, IsRefusal}
-use Rattle.bn_standard.specs.Search.{NoneBefore, NoneRepeated, beginning_of, begins_well, ending_of, ends_well, least_final, least_repeat, least_second}
-use Rattle.bn_standard.specs.Search.{least_start, lone_final, lone_start, no_repeat, none_before_more, none_before_one, none_repeated_more, none_repeated_one}
-use Rattle.bn_standard.specs.Search.{unambiguous}
+use Rattle.bn_standard.specs.Search.{NoneBefore}
+use Rattle.bn_standard.proofs.SearchLemmas.{NoneRepeated, beginning_of, begins_well, ending_of, ends_well, least_final, least_repeat, least_second}
+use Rattle.bn_standard.proofs.SearchLemmas.{least_start, lone_final, lone_start, no_repeat, none_before_more, none_before_one, none_repeated_more, none_repeated_one}
+use Rattle.bn_standard.proofs.SearchLemmas.{unambiguous}
 use Rattle.bn_standard.specs.declared.why.Why.{Why}
 use Rattle.bn_standard.specs.declared.why.Why.TheVariants as whys
 

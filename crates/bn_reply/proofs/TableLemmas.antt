@@ -8,7 +8,7 @@ use Rattle.bn_table.specs.Rows.{Named, IsTable, IsTableOf}
 use Rattle.bn_table.proofs.ReadingLaws.{no_fault_of, one_reading, reading_of}
 use Rattle.bn_standard.specs.Standard.{IsStandard}
 use Rattle.bn_standard.specs.Verdict.{IsRefusal}
-use Rattle.bn_standard.specs.VerdictLaws.{standard_accepted, verdict_once}
+use Rattle.bn_standard.proofs.VerdictLemmas.{standard_accepted, verdict_once}
 use Rattle.bn_reply.specs.Lines.{fault_line, why_line}
 use Rattle.bn_standard.specs.declared.why.Why.{Why}
 use Rattle.bn_standard.specs.declared.why.Why.TheVariants as whys

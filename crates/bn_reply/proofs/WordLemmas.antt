@@ -9,7 +9,7 @@ use Rattle.std.proofs.lemmas.Option.{slice_get-get_or, slice_get_within, get_or_
 use Rattle.std.proofs.Math.Seq.{take-length}
 use Rattle.bn_machine.specs.Machine.{nth}
 use Rattle.bn_table.specs.Rows.{Named, IsTable, blank}
-use Rattle.bn_table.specs.RowsLaws.{blank_first, one_symbol}
+use Rattle.bn_table.proofs.RowsLemmas.{blank_first, one_symbol}
 use Rattle.bn_reply.specs.Letters.{IsSymbolOf}
 use Rattle.bn_reply.specs.Words.{IsFirstForeign, IsLetterOf, IsSpelledBy}
 use Rattle.bn_reply.proofs.LetterLemmas.{SpelledSoFar, first_foreign, none_so_far, one_more, symbol_found}

@@ -6,7 +6,7 @@ use Rattle.std.proofs.lemmas.List.Elements.{All-cons, All-head, All-tail}
 use Rattle.std.specs.List.{list_all}
 use Rattle.bn_entries.specs.Entries.{entries_of}
 use Rattle.bn_entries.specs.Lines.{is_plain_entry, lines_of}
-use Rattle.bn_entries.specs.LinesLaws.{entries_of-lines_of}
+use Rattle.bn_entries.proofs.LinesLemmas.{entries_of-lines_of}
 use Rattle.bn_rsm.specs.Faults as moves
 use Rattle.bn_rsm.specs.Laws.{MovesAreSoundOrRefused, RefusalsAreOne, SoundMovesAreTaken}
 use Rattle.bn_rsm.specs.Machines.{AreSound, Machine, same_machine}

@@ -5,23 +5,25 @@ use Rattle.std.proofs.lemmas.Int.{ints}
 use Rattle.std.proofs.lemmas.Bool.{cases_lt}
 use Rattle.std.proofs.lemmas.List.{get_or_default, get_or_past}
 use Rattle.std.proofs.lemmas.Grind.{same_number_lists}
-use Rattle.bn_theory.specs.Runs.{Reaches, runs_join, runs_more}
-use Rattle.bn_machine.specs.Tape.{scanned, word_tape, blank_tape, scanned-ahead, ahead}
+use Rattle.bn_theory.specs.Runs.{Reaches}
+use Rattle.bn_theory.proofs.RunsLemmas.{runs_join, runs_more}
+use Rattle.bn_machine.specs.Tape.{scanned, word_tape, blank_tape, ahead}
+use Rattle.bn_machine.proofs.TapeLemmas.{scanned-ahead}
 use Rattle.bn_machine.specs.Window.{anywhere, within, IsBetween, IsBeyond}
 use Rattle.bn_machine.specs.Machine.{Program, Moment, Goes, IsFinal, IsStuck, start}
 use Rattle.bn_machine.specs.Run.{Follows, IsOutput}
 use Rattle.bn_machine.specs.Outcome.{Limits, Outcome, HasOutcome, HasRoom, IsFirstShort, Copies, copied, work_short, output_short, ComesOut, halts, sticks, runs_out, leaves}
 use Rattle.bn_machine.specs.Outcome as outcome
-use Rattle.bn_machine.specs.Steps.{run_follows}
-use Rattle.bn_machine.specs.OutcomeLaws.{outcome_exists}
+use Rattle.bn_machine.proofs.MachineStepLemmas.{run_follows}
+use Rattle.bn_machine.proofs.OutcomeLemmas.{outcome_exists}
 use Rattle.bn_machine.specs.declared.quint.Side.{Side}
 use Rattle.bn_machine.specs.declared.quint.Side.TheVariants.{Right}
 use Rattle.bn_quad.specs.Quadruples.{Configuration}
 use Rattle.bn_stages.specs.List.{bennett, final_name, writes_ahead, shifts_ahead, goes_right}
-use Rattle.bn_stages.specs.ListLaws.{has_writes_ahead, has_shifts_ahead, has_goes_right}
+use Rattle.bn_stages.proofs.ListLemmas.{has_writes_ahead, has_shifts_ahead, has_goes_right}
 use Rattle.bn_stages.specs.Steps.{Steps, IsFirstOutside, HasNoFirstRead, Exit, Finished, Stopped, Leaving, HasExit}
 use Rattle.bn_stages.specs.Steps as quads
-use Rattle.bn_stages.specs.StepsLaws.{no_first_read, exits_once}
+use Rattle.bn_stages.proofs.StageStepLemmas.{no_first_read, exits_once}
 use Rattle.bn_stages.specs.Stages.{IsStandardMachine, IsSpelledBy, history, computing, computing_within, copying, beginning, StepsOf, rooms_of, Comes, IsAfter, EndsAs}
 use Rattle.bn_stages.specs.Laws.{AllowsUpTo, IsReady, BoundedRunsAgree}
 use Rattle.bn_stages.proofs.Tapes.{scanned-word}

@@ -1,3 +1,8 @@
+pub mod MembershipLemmas
+pub mod ListLemmas
+pub mod NumberLemmas
+pub mod RenamedLemmas
+pub mod StageStepLemmas
 pub mod Tapes
 pub mod Moves
 pub mod Runs

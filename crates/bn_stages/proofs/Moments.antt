@@ -7,13 +7,13 @@ use Rattle.bn_machine.specs.Tape.{word_tape, blank_tape}
 use Rattle.bn_machine.specs.Window.{anywhere}
 use Rattle.bn_machine.specs.Machine.{Program, Moment, start, final_of}
 use Rattle.bn_machine.specs.Run.{Follows}
-use Rattle.bn_machine.specs.Output.{output_exists}
-use Rattle.bn_machine.specs.Steps.{final_stuck_or_goes}
+use Rattle.bn_machine.proofs.OutputLemmas.{output_exists}
+use Rattle.bn_machine.proofs.MachineStepLemmas.{final_stuck_or_goes}
 use Rattle.bn_quad.specs.Quadruples.{Rule, Configuration, Leads, Rooms}
 use Rattle.bn_stages.specs.In.{IsIn}
 use Rattle.bn_stages.specs.List.{bennett, final_name, begins_copy, goes_right, copies_letter, turns_left, goes_left, passes_letter, ends_copy, shifts_back, writes_back, writes_ahead, shifts_ahead}
-use Rattle.bn_stages.specs.ListLaws.{has_writes_ahead, has_shifts_ahead, has_begins_copy, has_goes_right, has_copies_letter, has_turns_left, has_goes_left, has_passes_letter, has_ends_copy, has_shifts_back, has_writes_back}
-use Rattle.bn_stages.specs.StepsLaws.{follows_once, no_first_read}
+use Rattle.bn_stages.proofs.ListLemmas.{has_writes_ahead, has_shifts_ahead, has_begins_copy, has_goes_right, has_copies_letter, has_turns_left, has_goes_left, has_passes_letter, has_ends_copy, has_shifts_back, has_writes_back}
+use Rattle.bn_stages.proofs.StageStepLemmas.{follows_once, no_first_read}
 use Rattle.bn_stages.specs.Stages.{IsStandardMachine, IsSpelledBy, Halts, Stands, computes, computes_within, goes_right as going_right, copies_letter as copying_letter, goes_left as going_left, passes_letter as passing_letter, retraces, retraces_within, computing, retracing, copying, beginning, StepsOf}
 use Rattle.bn_stages.specs.Laws.{IsReady, EveryMomentStands}
 use Rattle.bn_stages.proofs.Tapes.{scanned-word}

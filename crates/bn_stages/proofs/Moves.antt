@@ -3,13 +3,14 @@ use Rattle.std.specs.Prelude.{◌≡◌, ℕ, suc, ◌<◌, List, [], ◌∷◌,
 use Rattle.std.proofs.Common.{refl, sym, ap, ◌∙◌, subst, arith, get_or}
 use Rattle.std.proofs.lemmas.List.{take_all, length-take-le}
 use Rattle.std.proofs.Math.Seq.{take-suc}
-use Rattle.bn_machine.specs.Tape.{Tape, scanned, write, shift, ahead, word_tape, blank_tape, write-scanned, scanned-ahead}
+use Rattle.bn_machine.specs.Tape.{Tape, scanned, write, shift, ahead, word_tape, blank_tape}
+use Rattle.bn_machine.proofs.TapeLemmas.{write-scanned, scanned-ahead}
 use Rattle.bn_machine.specs.Machine.{Moment}
 use Rattle.bn_machine.specs.Run.{IsOutput}
 use Rattle.bn_machine.specs.declared.quint.Quint.{Quint}
 use Rattle.bn_machine.specs.declared.quint.Shift.TheVariants.{Right}
 use Rattle.bn_quad.specs.Quadruples.{Rewrite, Move, Rule, Leads}
-use Rattle.bn_quad.specs.Reversible.{same_configuration, turned_leads}
+use Rattle.bn_quad.proofs.ReversibleLemmas.{same_configuration, turned_leads}
 use Rattle.bn_stages.specs.List.{rule, keep, rest, writes_ahead, shifts_ahead, begins_copy, goes_right, copies_letter, turns_left, goes_left, passes_letter, ends_copy, shifts_back, writes_back}
 use Rattle.bn_stages.specs.Stages.{configuration, history, computing, computing_within, retracing, retracing_within, copying}
 use Rattle.bn_stages.proofs.Tapes.{ahead_none, shift-ahead, shift-ahead_back, scanned-word, word_more, scanned-past, history-blank, history-more}

@@ -11,8 +11,9 @@ use Rattle.bn_stages.specs.List.{bennett, initial_name, final_name}
 use Rattle.bn_stages.specs.Names.{states_in, IsUniformFrom}
 use Rattle.bn_stages.specs.In.{IsIn}
 use Rattle.bn_stages.specs.Steps.{Steps, Exit, EndsAt}
-use Rattle.bn_stages.specs.Renamed.{renamed, rename, in_state, to_in, nth_before, no_clash_before, uniform_before, run_renamed, run_before, ends_renamed, ends_before}
-use Rattle.bn_stages.specs.Numbers.{uniform_numbers, run_of_goes, run_of_steps}
+use Rattle.bn_stages.specs.Renamed.{renamed, rename, in_state}
+use Rattle.bn_stages.proofs.RenamedLemmas.{to_in, nth_before, no_clash_before, uniform_before, run_renamed, run_before, ends_renamed, ends_before}
+use Rattle.bn_stages.proofs.NumberLemmas.{uniform_numbers, run_of_goes, run_of_steps}
 use Rattle.bn_stages.specs.Laws.{ListPassesTests, NumbersPassTests, NumbersRunAlike}
 use Rattle.bn_stages.proofs.Tests.{list_deterministic, list_reversible}
 use Rattle.bn_stages.proofs.Uniform.{list_uniform}

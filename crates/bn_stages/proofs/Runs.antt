@@ -2,7 +2,8 @@
 use Rattle.std.specs.Prelude.{◌≡◌, ◌≢◌, ℕ, zero, suc, ◌+◌, ◌*◌, ◌<◌, ◌≤◌, ℤ, pos, ◌+ℤ◌, List, [], ◌∷◌, length, take}
 use Rattle.std.proofs.Common.{refl, sym, ap, ◌∙◌, subst, arith, get_or, inl}
 use Rattle.std.proofs.lemmas.Int.{ints}
-use Rattle.bn_theory.specs.Runs.{Reaches, runs_join, runs_more}
+use Rattle.bn_theory.specs.Runs.{Reaches}
+use Rattle.bn_theory.proofs.RunsLemmas.{runs_join, runs_more}
 use Rattle.bn_machine.specs.Tape.{word_tape, blank_tape}
 use Rattle.bn_machine.specs.Window.{Room, anywhere, Allows}
 use Rattle.bn_machine.specs.Machine.{Program, Moment, GoesBy, start, start_of, final_of}
@@ -11,7 +12,7 @@ use Rattle.bn_quad.specs.Quadruples as quads
 use Rattle.bn_quad.specs.Quadruples.{Rule, Configuration, Leads, Rooms, AreAllowed}
 use Rattle.bn_stages.specs.In.{IsIn}
 use Rattle.bn_stages.specs.List.{bennett, final_name, begins_copy, goes_right, copies_letter, turns_left, goes_left, passes_letter, ends_copy, shifts_back, writes_back, writes_ahead, shifts_ahead}
-use Rattle.bn_stages.specs.ListLaws.{has_writes_ahead, has_shifts_ahead, has_begins_copy, has_goes_right, has_copies_letter, has_turns_left, has_goes_left, has_passes_letter, has_ends_copy, has_shifts_back, has_writes_back}
+use Rattle.bn_stages.proofs.ListLemmas.{has_writes_ahead, has_shifts_ahead, has_begins_copy, has_goes_right, has_copies_letter, has_turns_left, has_goes_left, has_passes_letter, has_ends_copy, has_shifts_back, has_writes_back}
 use Rattle.bn_stages.specs.Stages.{IsStandardMachine, history, computing, computing_within, retracing, retracing_within, copying, beginning, ending, StepsOf}
 use Rattle.bn_stages.specs.Laws.{AllowsUpTo, IsReady, ComputesTwoSteps, CopiesOutput, RetracesTwoSteps}
 use Rattle.bn_stages.proofs.Tapes.{scanned-word}

@@ -8,12 +8,12 @@ use Rattle.bn_machine.specs.Window.{IsBetween}
 use Rattle.bn_machine.specs.Machine.{Program, Moment}
 use Rattle.bn_machine.specs.Outcome.{Limits, Outcome, HasOutcome}
 use Rattle.bn_machine.specs.Outcome as outcome
-use Rattle.bn_machine.specs.OutcomeLaws.{run_goes_on, outcome_exists}
+use Rattle.bn_machine.proofs.OutcomeLemmas.{run_goes_on, outcome_exists}
 use Rattle.bn_quad.specs.Quadruples.{Configuration, AreAllowed}
 use Rattle.bn_quad.specs.Overlap.{IsDeterministic}
 use Rattle.bn_stages.specs.List.{bennett, final_name}
 use Rattle.bn_stages.specs.Steps.{Exit, Finished, Stopped, Leaving}
-use Rattle.bn_stages.specs.StepsLaws.{steps_once, ends_there, run_allowed}
+use Rattle.bn_stages.proofs.StageStepLemmas.{steps_once, ends_there, run_allowed}
 use Rattle.bn_stages.specs.Stages.{IsStandardMachine, IsSpelledBy, beginning, ending, StepsOf, rooms_of, Comes, IsAfter, EndsAs}
 use Rattle.bn_stages.specs.Laws.{BoundedRunsAreShort}
 use Rattle.bn_stages.proofs.Bounded.{at_zero, bounded_forth}

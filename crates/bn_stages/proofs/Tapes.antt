@@ -4,7 +4,8 @@ use Rattle.std.proofs.Common.{refl, sym, ap, ◌∙◌, arith, inl, inr, length-
 use Rattle.std.proofs.lemmas.Int.{ints}
 use Rattle.std.proofs.lemmas.Bool.{cases_lt}
 use Rattle.std.proofs.lemmas.List.{get_or_at, get_or_append_left, get_or_past, length-reverse, reverse-append}
-use Rattle.bn_machine.specs.Tape.{Tape, scanned, write, shift, ahead, word_tape, letter_at, symbol_at, set_cell, at_set_cell, beside_set_cell, same_beside, cell-word, scanned-ahead, scanned-write}
+use Rattle.bn_machine.specs.Tape.{Tape, scanned, write, shift, ahead, word_tape, letter_at, symbol_at, set_cell}
+use Rattle.bn_machine.proofs.TapeLemmas.{at_set_cell, beside_set_cell, same_beside, cell-word, scanned-ahead, scanned-write}
 use Rattle.bn_machine.specs.declared.quint.Shift.TheVariants.{Left, Right}
 use Rattle.bn_stages.specs.Stages.{history}
 

@@ -6,9 +6,9 @@ use Rattle.bn_machine.specs.declared.quint.Quint.{Quint}
 use Rattle.bn_standard.specs.Standard.{IsStandard, IsUnambiguous, HasLoneFinal}
 use Rattle.bn_quad.specs.Quadruples.{Rule}
 use Rattle.bn_quad.specs.Overlap.{OverlapsInDomain, OverlapsInRange, IsDeterministic, IsReversible}
-use Rattle.bn_stages.specs.In.{each_of_one, each_of_two}
+use Rattle.bn_stages.proofs.MembershipLemmas.{each_of_one, each_of_two}
 use Rattle.bn_stages.specs.List.{bennett, writes_ahead, shifts_ahead, begins_copy, goes_right, copies_letter, turns_left, goes_left, passes_letter, ends_copy, shifts_back, writes_back, numbered, letters, compute_rules, copy_rules, retrace_rules}
-use Rattle.bn_stages.specs.ListLaws.{nth_numbered, each_of_letters, each_compute_rule, each_copy_rule, each_retrace_rule}
+use Rattle.bn_stages.proofs.ListLemmas.{nth_numbered, each_of_letters, each_compute_rule, each_copy_rule, each_retrace_rule}
 use Rattle.bn_stages.proofs.Apart.{Apart, Across, apart_append, apart_one, apart_two, apart_pairs, across_append, across_two_two, apart_reverse, apart_places, apart_from_places, apart_map, apart_weaker, range_apart}
 use Rattle.bn_stages.specs.declared.name.Name.{Name}
 

@@ -2,20 +2,21 @@
 use Rattle.std.specs.Prelude.{◌≡◌, ℕ, ◌+◌, ◌*◌, ◌<◌, ◌≤◌, ◌⊎◌, ℤ, pos, List, length}
 use Rattle.std.proofs.Common.{refl, ap, subst, arith, inl, inr}
 use Rattle.std.proofs.lemmas.Bool.{cases_lt}
-use Rattle.bn_theory.specs.Runs.{Reaches, runs_join}
+use Rattle.bn_theory.specs.Runs.{Reaches}
+use Rattle.bn_theory.proofs.RunsLemmas.{runs_join}
 use Rattle.bn_machine.specs.Tape.{Tape, blank_tape}
 use Rattle.bn_machine.specs.Window.{anywhere, Allows}
 use Rattle.bn_machine.specs.Machine.{Program, Moment, GoesBy, Goes, IsFinal, start, nth}
 use Rattle.bn_machine.specs.Machine as machine
 use Rattle.bn_machine.specs.Run.{After, Follows, IsOutput, Ending, EndsAt, halts, sticks, runs}
-use Rattle.bn_machine.specs.Steps.{run_follows}
-use Rattle.bn_machine.specs.OutcomeLaws.{run_goes_on, ending_exists}
+use Rattle.bn_machine.proofs.MachineStepLemmas.{run_follows}
+use Rattle.bn_machine.proofs.OutcomeLemmas.{run_goes_on, ending_exists}
 use Rattle.bn_quad.specs.Quadruples.{Configuration, Admits, Rooms, everywhere}
 use Rattle.bn_quad.specs.Overlap.{IsDeterministic}
 use Rattle.bn_stages.specs.List.{bennett, final_name}
-use Rattle.bn_stages.specs.ListLaws.{each_rule}
+use Rattle.bn_stages.proofs.ListLemmas.{each_rule}
 use Rattle.bn_stages.specs.Steps.{HasNoFirstRead, Finished, Stopped, finishes, stops, HasExit}
-use Rattle.bn_stages.specs.StepsLaws.{no_first_read, steps_once, exits_once}
+use Rattle.bn_stages.proofs.StageStepLemmas.{no_first_read, steps_once, exits_once}
 use Rattle.bn_stages.specs.Stages.{IsStandardMachine, IsSpelledBy, computing, beginning, ending, StepsOf}
 use Rattle.bn_stages.specs.Laws.{AllowsUpTo, HaltsAfter, BennettsTheorem}
 use Rattle.bn_stages.proofs.Runs.{compute_run, copy_run, retrace_run}

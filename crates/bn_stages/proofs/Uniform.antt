@@ -11,7 +11,7 @@ use Rattle.bn_quad.specs.declared.clash.Clash.TheVariants.{Reads, Writes}
 use Rattle.bn_stages.specs.In.{IsIn}
 use Rattle.bn_stages.specs.Names.{IsUniformFrom}
 use Rattle.bn_stages.specs.List.{bennett, initial_name, final_name}
-use Rattle.bn_stages.specs.ListLaws.{each_rule}
+use Rattle.bn_stages.proofs.ListLemmas.{each_rule}
 use Rattle.bn_stages.specs.declared.name.Name.{Name}
 use Rattle.bn_stages.specs.declared.name.Name.TheVariants.{Compute, ComputeWithin, GoRight, CopyLetter, GoLeft, PassLetter, Retrace, RetraceWithin}
 

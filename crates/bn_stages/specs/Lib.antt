@@ -1,10 +1,7 @@
 pub mod In
 pub mod List
-pub mod ListLaws
 pub mod Names
 pub mod Steps
-pub mod StepsLaws
 pub mod Renamed
-pub mod Numbers
 pub mod Stages
 pub mod Laws

@@ -1,7 +1,8 @@
 -- The search for a quintuple that leaves the halting state.
 use Rattle.std.specs.Prelude.{◌≡◌, ℕ, ◌<◌, ◌≤◌, List, length, Some}
 use Rattle.std.proofs.Common.{arith}
-use Rattle.bn_machine.specs.Machine.{nth, nth_within, final_of}
+use Rattle.bn_machine.specs.Machine.{nth, final_of}
+use Rattle.bn_machine.proofs.MachineLemmas.{nth_within}
 use Rattle.bn_machine.specs.declared.quint.Quint.{Quint}
 use Rattle.bn_standard.specs.Search.{NoneBefore}
 use Rattle.bn_standardise.specs.Standardised.{HasNoHalting}

@@ -5,7 +5,7 @@ use Rattle.std.proofs.lemmas.Bool.{cases_lt}
 use Rattle.bn_machine.specs.Machine.{Program}
 use Rattle.bn_machine.specs.declared.quint.Quint.{Quint}
 use Rattle.bn_standard.specs.Verdict.{IsLeastRepeat}
-use Rattle.bn_standard.specs.VerdictLaws.{verdict_once}
+use Rattle.bn_standard.proofs.VerdictLemmas.{verdict_once}
 use Rattle.bn_standard.specs.declared.why.Why.TheVariants as whys
 use Rattle.bn_standardise.specs.Refusals.{IsAccepted, IsLeastHalting, IsLooseRefusal}
 use Rattle.bn_standardise.specs.Laws.{RefusalsAreOne}

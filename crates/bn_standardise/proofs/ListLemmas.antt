@@ -2,7 +2,7 @@
 use Rattle.std.specs.Prelude.{◌≡◌, ℕ, zero, suc, ◌<◌, List, [], ◌∷◌, ◌++◌, length, map, Some, ⊤, ◌⊎◌}
 use Rattle.std.proofs.Common.{refl, sym, subst, ◌∙◌, ap, arith, inl, inr}
 use Rattle.bn_machine.specs.Machine.{nth, final_of, Matches, IsFirstMatch}
-use Rattle.bn_machine.specs.Steps.{first_match_or_none}
+use Rattle.bn_machine.proofs.MachineStepLemmas.{first_match_or_none}
 use Rattle.bn_machine.specs.declared.quint.Quint.{Quint}
 use Rattle.bn_standard.specs.Standard.{Repeats, IsUnambiguous}
 use Rattle.bn_standardise.specs.Lists.{IsIn}

@@ -6,7 +6,7 @@ use Rattle.std.proofs.lemmas.Bool.Decides.{Decides-eqb}
 use Rattle.std.proofs.lemmas.List.{length-map}
 use Rattle.std.specs.Bool.{Decides}
 use Rattle.bn_entries.specs.Numbering.{firsts_by, AreNumberedByFirst}
-use Rattle.bn_entries.specs.NumberingLaws.{AreNumbersOf, numbered-by-first, length-firsts}
+use Rattle.bn_entries.proofs.NumberingLemmas.{AreNumbersOf, numbered-by-first, length-firsts}
 use Rattle.bn_table.specs.Rows.{states_in, FitsTable}
 use Rattle.bn_machine.specs.Machine.{Program, IsMachine, final_of}
 use Rattle.bn_standardise.specs.Lists.{IsIn}

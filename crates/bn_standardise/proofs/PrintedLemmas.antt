@@ -13,11 +13,12 @@ use Rattle.std.proofs.lemmas.Str.Parse.{IsNumeralModel, numerals_by_value, tells
 use Rattle.bn_base.specs.Number.{AreDigits}
 use Rattle.bn_entries.specs.Forms.{is_name_byte, is_state_name}
 use Rattle.bn_entries.specs.Numbering.{firsts, firsts_by}
-use Rattle.bn_entries.specs.NumberingLaws.{any-at, firsts-push}
-use Rattle.bn_machine.specs.Machine.{Program, IsInRange, IsMachine, final_of, nth-get_or}
+use Rattle.bn_entries.proofs.NumberingLemmas.{any-at, firsts-push}
+use Rattle.bn_machine.specs.Machine.{Program, IsInRange, IsMachine, final_of}
+use Rattle.bn_machine.proofs.MachineLemmas.{nth-get_or}
 use Rattle.bn_machine.specs.declared.quint.Quint.{Quint}
 use Rattle.bn_table.specs.Rows.{FitsTable, IsTable, Named, blank, letters_in, names_in, rows_by, rows_of}
-use Rattle.bn_table.specs.RowsLaws.{blank_first}
+use Rattle.bn_table.proofs.RowsLemmas.{blank_first}
 use Rattle.bn_table.proofs.MachineLemmas.{table_machine}
 use Rattle.bn_standardise.specs.Lists.{IsIn}
 use Rattle.bn_standardise.specs.Rules.{back_over_all, leaving, middle_of, renamed, rules_of}

@@ -1,7 +1,8 @@
 -- The machine that is made is a machine: its numbers are in range.
 use Rattle.std.specs.Prelude.{ℕ, suc, ◌+◌, ◌-◌, ◌^◌, ◌<◌, [], ◌∷◌, length, map, get_or}
 use Rattle.std.proofs.Common.{sym, subst, arith, inl, inr}
-use Rattle.bn_machine.specs.Machine.{Program, IsMachine, IsInRange, nth-get_or, final_of}
+use Rattle.bn_machine.specs.Machine.{Program, IsMachine, IsInRange, final_of}
+use Rattle.bn_machine.proofs.MachineLemmas.{nth-get_or}
 use Rattle.bn_machine.specs.declared.quint.Quint.{Quint}
 use Rattle.bn_standardise.specs.Lists.{IsIn}
 use Rattle.bn_standardise.specs.Rules.{renamed, back_over_all, leaving, middle_of, rules_of}

@@ -6,12 +6,15 @@ use Rattle.std.proofs.lemmas.Int.{ints}
 use Rattle.std.proofs.lemmas.Bool.{cases_lt}
 use Rattle.std.proofs.lemmas.List.{get_or_past}
 use Rattle.std.proofs.lemmas.Option.{get_or_from_slice_get}
-use Rattle.bn_theory.specs.Runs.{Reaches, runs_join}
-use Rattle.bn_machine.specs.Tape.{Tape, cell, scanned, write, shift, word_tape, letter_at, cell-word, cell-write, write-scanned}
+use Rattle.bn_theory.specs.Runs.{Reaches}
+use Rattle.bn_theory.proofs.RunsLemmas.{runs_join}
+use Rattle.bn_machine.specs.Tape.{Tape, cell, scanned, write, shift, word_tape, letter_at}
+use Rattle.bn_machine.proofs.TapeLemmas.{cell-word, cell-write, write-scanned}
 use Rattle.bn_machine.specs.Window.{anywhere}
-use Rattle.bn_machine.specs.Machine.{Program, Moment, Matches, Goes, IsFinal, IsStuck, IsMachine, IsInRange, nth, nth_within, start, start_of, final_of}
+use Rattle.bn_machine.specs.Machine.{Program, Moment, Matches, Goes, IsFinal, IsStuck, IsMachine, IsInRange, nth, start, start_of, final_of}
+use Rattle.bn_machine.proofs.MachineLemmas.{nth_within}
 use Rattle.bn_machine.specs.Run.{After}
-use Rattle.bn_machine.specs.Steps.{same_moment, moment_after, applies_once, goes_once, final_stuck_or_goes, final_not_going, stuck_not_going}
+use Rattle.bn_machine.proofs.MachineStepLemmas.{same_moment, moment_after, applies_once, goes_once, final_stuck_or_goes, final_not_going, stuck_not_going}
 use Rattle.bn_machine.specs.declared.quint.Quint.{Quint}
 use Rattle.bn_machine.specs.declared.quint.Shift.TheVariants.{Left, Stay, Right}
 use Rattle.bn_standardise.specs.Lists.{IsIn}

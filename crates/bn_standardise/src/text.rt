@@ -1,8 +1,7 @@
 //! The machine in standard form as the text of a table.
 
-ghost use Rattle.std.specs.Prelude.{◌≡◌, ◌++◌, ◌∷◌, [], true, All, IfOk, IfErr, OnOk, map};
-ghost use Rattle.bn_entries.specs.Lines.{is_plain_entry, line_of, lines_of};
-ghost use Rattle.bn_table.specs.Entry.{shift_text};
+ghost use Rattle.std.specs.Prelude.{◌≡◌, ◌++◌, All, IfOk, IfErr, OnOk, map};
+ghost use Rattle.bn_entries.specs.Lines.{line_of, lines_of};
 ghost use Rattle.bn_table.specs.Reading.{Reads};
 ghost use Rattle.bn_table.specs.Rows.{IsTable};
 ghost use Rattle.bn_standardise.specs.Rules.{rules_of};
@@ -15,36 +14,8 @@ use crate::name::text_of;
 use crate::refusal::LooseRefusal;
 use crate::rule::Rule;
 use bn_entries::{EntryWriter, NoMemory};
-use bn_machine::Shift;
-use bn_table::Table;
+use bn_table::{Table, write_row};
 use std::alloc::Global;
-
-// The text of a shift.
-fn text_of_shift(shift: Shift) -> &'static [u8]
-    ensures { result.now ≡ shift_text shift }
-{
-    match shift {
-        Shift::Left => b"-",
-        Shift::Stay => b"0",
-        Shift::Right => b"+",
-    }
-}
-
-// Writes an entry of five fields that need no quotes.
-fn write_fields<'a>(
-    writer: &mut EntryWriter,
-    state: &'a [u8],
-    read: &'a [u8],
-    write: &'a [u8],
-    shift: &'a [u8],
-    next: &'a [u8],
-) -> Result<(), NoMemory>
-    requires { is_plain_entry (state.now ∷ read.now ∷ write.now ∷ shift.now ∷ next.now ∷ []) ≡ true }
-    ensures { OnOk result (writer.new ≡ writer.old
-        ++ line_of (state.now ∷ read.now ∷ write.now ∷ shift.now ∷ next.now ∷ [])) }
-{
-    writer.write_entry(&[state, read, write, shift, next])
-}
 
 // Writes the entry of a rule.
 fn write_rule(
@@ -59,14 +30,12 @@ fn write_rule(
 {
     let state = text_of(alloc, rule.state)?;
     let next = text_of(alloc, rule.next)?;
-    let read = [table.letter(rule.read)];
-    let write = [table.letter(rule.write)];
-    write_fields(
+    write_row(
         writer,
         state.as_slice(),
-        &read,
-        &write,
-        text_of_shift(rule.shift),
+        table.letter(rule.read),
+        table.letter(rule.write),
+        rule.shift,
         next.as_slice(),
     )
 }

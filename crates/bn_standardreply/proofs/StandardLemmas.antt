@@ -4,13 +4,15 @@ use Rattle.std.proofs.Common.{refl, sym, subst, ap, ◌∙◌, arith, inl, inr, 
 use Rattle.std.proofs.lemmas.Bool.{cases_lt}
 use Rattle.std.proofs.lemmas.Bool.Decides.{eqb_tells}
 use Rattle.bn_theory.specs.declared.place.Place.{Place}
-use Rattle.bn_machine.specs.Machine.{Program, IsMachine, final_of, nth-get_or}
+use Rattle.bn_machine.specs.Machine.{Program, IsMachine, final_of}
+use Rattle.bn_machine.proofs.MachineLemmas.{nth-get_or}
 use Rattle.bn_machine.specs.declared.quint.Quint.{Quint}
 use Rattle.bn_machine.specs.declared.quint.Shift.TheVariants.{Stay}
 use Rattle.bn_table.specs.Reading.{Reads}
 use Rattle.bn_table.specs.Rows.{IsTableOf, Named}
 use Rattle.bn_table.proofs.MachineLemmas.{table_machine}
-use Rattle.bn_standard.specs.Search.{NoneBefore, none_before_more, none_before_one}
+use Rattle.bn_standard.specs.Search.{NoneBefore}
+use Rattle.bn_standard.proofs.SearchLemmas.{none_before_more, none_before_one}
 use Rattle.bn_standard.specs.Standard.{IsUnambiguous}
 use Rattle.bn_standard.specs.Verdict.{IsLeastRepeat, IsRefusal}
 use Rattle.bn_standard.specs.declared.why.Why.{Why}

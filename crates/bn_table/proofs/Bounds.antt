@@ -10,7 +10,7 @@ use Rattle.std.proofs.lemmas.Option.{slice_get-get_or}
 use Rattle.std.proofs.lemmas.Slice.Eq.{bytes_eq-Decides}
 use Rattle.bn_entries.specs.Forms.{is_symbol_byte}
 use Rattle.bn_entries.specs.Numbering.{AreNumberedByFirst, firsts, numbers_from}
-use Rattle.bn_entries.specs.NumberingLaws.{AreNumbersOf, apart-firsts, both_true, length-firsts, no_more_than, numbered-by-first}
+use Rattle.bn_entries.proofs.NumberingLemmas.{AreNumbersOf, apart-firsts, both_true, length-firsts, no_more_than, numbered-by-first}
 use Rattle.bn_machine.specs.Machine.{IsInRange}
 use Rattle.bn_machine.specs.declared.quint.Quint.{Quint}
 use Rattle.bn_table.specs.Rows.{FitsTable, IsTable, Named, Spells, blank, letters_in, names_in, rows_by, rows_of, states_in}

@@ -11,7 +11,7 @@ use Rattle.std.proofs.lemmas.List.Folds.{list_all-append}
 use Rattle.std.proofs.lemmas.Option.{slice_get_within, get_or_from_slice_get}
 use Rattle.bn_entries.specs.Forms.{is_state_name, is_symbol_byte}
 use Rattle.bn_entries.specs.Numbering.{firsts, firsts_by, with_name}
-use Rattle.bn_entries.specs.NumberingLaws.{firsts-push, firsts_push, number_stays, with_name-grows}
+use Rattle.bn_entries.proofs.NumberingLemmas.{firsts-push, firsts_push, number_stays, with_name-grows}
 use Rattle.bn_machine.specs.Machine.{IsInRange}
 use Rattle.bn_machine.specs.declared.quint.Quint.{Quint}
 use Rattle.bn_table.specs.Entry.{Said, entry_of}

@@ -1,3 +1,4 @@
+pub mod RowsLemmas
 pub mod Bounds
 pub mod Coming
 pub mod Growing

@@ -5,19 +5,12 @@ use Rattle.std.proofs.lemmas.Bool.{cases_Bool, false≢true, ltb-false, le-ltb}
 use Rattle.std.proofs.lemmas.Bool.Decides.{Decides-eqb}
 use Rattle.std.proofs.lemmas.Slice.Eq.{bytes_eq-Decides}
 use Rattle.bn_entries.specs.Forms.{is_letter, is_state_name, is_symbol_byte}
-use Rattle.bn_entries.specs.NumberingLaws.{both_true}
+use Rattle.bn_entries.proofs.NumberingLemmas.{both_true}
 use Rattle.bn_machine.specs.declared.quint.Shift.{Shift}
 use Rattle.bn_machine.specs.declared.quint.Shift.TheVariants.{Left, Stay, Right}
-use Rattle.bn_table.specs.Entry.{Said, entry_of, is_shift, shift_text}
+use Rattle.bn_table.specs.Entry.{Said, HasForms, entry_of, is_shift, shift_text}
 use Rattle.bn_table.specs.Faults.{entry_fault, field_fault, form_fault}
 use Rattle.bn_table.specs.declared.refusal.TableRefusal.TheVariants as refusal
-
--- the forms of what an entry says
-pub record HasForms (s : Said) : Type 0 where
-  pub state : is_state_name s.state ≡ true
-  pub read : is_symbol_byte s.read ≡ true
-  pub write : is_symbol_byte s.write ≡ true
-  pub next : is_state_name s.next ≡ true
 
 -- five fields
 pub five_is : (fields : List (List ℕ)) (a b c d e : List ℕ) → length fields ≡ 5 → slice_get fields 0 ≡ Some a → slice_get fields 1 ≡ Some b

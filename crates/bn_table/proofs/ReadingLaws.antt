@@ -10,19 +10,20 @@ use Rattle.std.proofs.lemmas.List.Folds.{list_any-append}
 use Rattle.std.proofs.lemmas.Option.{slice_get-get_or}
 use Rattle.std.proofs.lemmas.Slice.Eq.{bytes_eq-Decides}
 use Rattle.bn_entries.specs.Forms.{is_state_name, is_symbol_byte}
-use Rattle.bn_entries.specs.FormsLaws.{all-at}
+use Rattle.bn_entries.proofs.FormsLemmas.{all-at}
 use Rattle.bn_entries.specs.Numbering.{with_name}
-use Rattle.bn_entries.specs.NumberingLaws.{AreApart, apart-firsts, number_stays, one_number, some_number, with_name-grows}
+use Rattle.bn_entries.specs.NumberingLaws.{AreApart}
+use Rattle.bn_entries.proofs.NumberingLemmas.{apart-firsts, number_stays, one_number, some_number, with_name-grows}
 use Rattle.bn_machine.specs.Machine.{IsInRange, program_of}
 use Rattle.bn_machine.specs.declared.quint.Quint.{Quint}
 use Rattle.bn_machine.specs.declared.quint.Shift.{Shift}
 use Rattle.bn_machine.specs.declared.quint.Shift.TheVariants.{Left, Stay, Right}
-use Rattle.bn_table.specs.Entry.{Said, entry_of, shift_text}
+use Rattle.bn_table.specs.Entry.{Said, HasForms, entry_of, shift_text}
 use Rattle.bn_table.specs.Faults.{else_fault, entry_fault, fault_from, fault_of}
 use Rattle.bn_table.specs.Rows.{IsTableOf, Named, Spells, blank, letters_in, named, names_in, rows_by, said_of, with_letter}
 use Rattle.bn_table.specs.declared.refusal.TableRefusal.{TableRefusal}
 use Rattle.bn_table.proofs.Growing.{Adds, spells-more, spells-none, with_letter-grows}
-use Rattle.bn_table.proofs.Passing.{HasForms, no_fault, says}
+use Rattle.bn_table.proofs.Passing.{no_fault, says}
 
 -- ---- one reading
 

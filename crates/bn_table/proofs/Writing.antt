@@ -5,17 +5,16 @@ use Rattle.std.proofs.lemmas.List.{map-append, take_all, take_more}
 use Rattle.std.proofs.lemmas.List.Elements.{All-head, All-tail}
 use Rattle.bn_entries.specs.Entries.{entries_of}
 use Rattle.bn_entries.specs.Forms.{is_state_name, is_symbol_byte}
-use Rattle.bn_entries.specs.FormsLaws.{plain-state-name, plain-symbol-byte}
+use Rattle.bn_entries.proofs.FormsLemmas.{plain-state-name, plain-symbol-byte}
 use Rattle.bn_entries.specs.Lines.{is_plain, is_plain_entry, line_of, lines_of}
-use Rattle.bn_entries.specs.LinesLaws.{entries_of-lines_of, lines_of-push}
+use Rattle.bn_entries.proofs.LinesLemmas.{entries_of-lines_of, lines_of-push}
 use Rattle.bn_machine.specs.Machine.{IsInRange}
 use Rattle.bn_machine.specs.declared.quint.Quint.{Quint}
 use Rattle.bn_machine.specs.declared.quint.Shift.{Shift}
 use Rattle.bn_machine.specs.declared.quint.Shift.TheVariants.{Left, Stay, Right}
-use Rattle.bn_table.specs.Entry.{Said, entry_of, shift_text}
+use Rattle.bn_table.specs.Entry.{Said, HasForms, entry_of, shift_text}
 use Rattle.bn_table.specs.Reading.{Reads}
 use Rattle.bn_table.specs.Rows.{IsTable, IsTableOf, Named, rows_by, rows_of, said_of}
-use Rattle.bn_table.proofs.Passing.{HasForms}
 use Rattle.bn_table.proofs.ReadingLaws.{row-forms}
 
 pub plain_shift : (s : Shift) → is_plain (shift_text s) ≡ true
@@ -24,7 +23,7 @@ plain_shift Stay = refl
 plain_shift Right = refl
 
 -- an entry in the right forms needs no quotes
-plain-said : (s : Said) → HasForms s → is_plain_entry (entry_of s) ≡ true
+pub plain-said : (s : Said) → HasForms s → is_plain_entry (entry_of s) ≡ true
 plain-said s h =
     rw (plain-state-name s.state h.state, plain-symbol-byte s.read h.read, plain-symbol-byte s.write h.write, plain_shift s.shift, plain-state-name s.next h.next) refl
 

@@ -1,5 +1,6 @@
 -- The five fields of a quintuple's entry (this project's own profile).
-use Rattle.std.specs.Prelude.{ℕ, Bool, ◌||◌, List, [], ◌∷◌, bytes_eq}
+use Rattle.std.specs.Prelude.{◌≡◌, true, ℕ, Bool, ◌||◌, List, [], ◌∷◌, bytes_eq}
+use Rattle.bn_entries.specs.Forms.{is_state_name, is_symbol_byte}
 use Rattle.bn_machine.specs.declared.quint.Shift.{Shift}
 use Rattle.bn_machine.specs.declared.quint.Shift.TheVariants.{Left, Stay, Right}
 
@@ -21,6 +22,16 @@ pub record Said : Type 0 where
   pub shift : Shift
   pub next : List ℕ
 
+abbrev pub said : List ℕ → ℕ → ℕ → Shift → List ℕ → Said
+said state read write shift next = record { state = state; read = read; write = write; shift = shift; next = next }
+
 -- the entry that says so
 abbrev pub entry_of : Said → List (List ℕ)
 entry_of s = s.state ∷ (s.read ∷ []) ∷ (s.write ∷ []) ∷ shift_text s.shift ∷ s.next ∷ []
+
+-- the forms of what an entry says
+pub record HasForms (s : Said) : Type 0 where
+  pub state : is_state_name s.state ≡ true
+  pub read : is_symbol_byte s.read ≡ true
+  pub write : is_symbol_byte s.write ≡ true
+  pub next : is_state_name s.next ≡ true

@@ -3,6 +3,5 @@ pub mod Entry
 pub mod Faults
 pub mod Fields
 pub mod Rows
-pub mod RowsLaws
 pub mod Reading
 pub mod Laws

@@ -16,5 +16,5 @@ pub use crate::laws::{
 };
 pub use crate::refusal::TableRefusal;
 pub use crate::table::Table;
-pub use crate::text::{read_quints, write_quints};
+pub use crate::text::{read_quints, write_quints, write_row};
 pub use bn_entries::NoMemory;

@@ -4,7 +4,7 @@ ghost use Rattle.std.specs.Prelude.{◌≡◌, ◌<◌, ◌++◌, ◌∷◌, [],
 ghost use Rattle.bn_entries.specs.Entries.{entries_of};
 ghost use Rattle.bn_entries.specs.Lines.{is_plain_entry, line_of, lines_of};
 ghost use Rattle.bn_machine.specs.Machine.{IsInRange};
-ghost use Rattle.bn_table.specs.Entry.{entry_of, shift_text};
+ghost use Rattle.bn_table.specs.Entry.{HasForms, entry_of, said, shift_text};
 ghost use Rattle.bn_table.specs.Faults.{fault_of};
 ghost use Rattle.bn_table.specs.Reading.{Reads};
 ghost use Rattle.bn_table.specs.Rows.{IsTable, rows_of, said_of};
@@ -59,20 +59,34 @@ fn write_fields<'a>(
     writer.write_entry(&[state, read, write, shift, next])
 }
 
-// Writes the entry of a quintuple.
+/// Writes the entry of a quintuple, by the names of its states and the letters of its symbols, each in the form that
+/// tables want. After `NoMemory` the text is lost.
+pub fn write_row(
+    writer: &mut EntryWriter,
+    state: &[u8],
+    read: u8,
+    write: u8,
+    shift: Shift,
+    next: &[u8],
+) -> Result<(), NoMemory>
+    requires { HasForms (said state.now read write shift next.now) }
+    ensures { OnOk result (writer.new ≡ writer.old ++ line_of (entry_of (said state.now read write shift next.now))) }
+{
+    write_fields(writer, state, &[read], &[write], text_of_shift(shift), next)
+}
+
+// Writes the entry of a quintuple of a table.
 fn write_quint(writer: &mut EntryWriter, table: &Table, quint: &Quint) -> Result<(), NoMemory>
     requires table { IsTable table.now }
     requires range { IsInRange table.now.machine.states table.now.machine.symbols quint.now }
     ensures { OnOk result (writer.new ≡ writer.old ++ line_of (entry_of (said_of table.now.names table.now.letters quint.now))) }
 {
-    let read = [table.letter(quint.read)];
-    let write = [table.letter(quint.write)];
-    write_fields(
+    write_row(
         writer,
         table.state_name(quint.state),
-        &read,
-        &write,
-        text_of_shift(quint.shift),
+        table.letter(quint.read),
+        table.letter(quint.write),
+        quint.shift,
         table.state_name(quint.next),
     )
 }

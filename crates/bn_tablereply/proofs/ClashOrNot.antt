@@ -1,13 +1,15 @@
 -- Of quadruples no two overlap, or there are a least two that do.
 use Rattle.std.proofs.Common.{◌≡◌, ℕ, zero, suc, ◌+◌, ◌<◌, ◌≤◌, List, length, get_or, ◌⊎◌, inl, inr, arith}
 use Rattle.std.proofs.lemmas.Bool.Decides.{eqb_tells}
-use Rattle.bn_machine.specs.Machine.{nth, nth-get_or}
+use Rattle.bn_machine.specs.Machine.{nth}
+use Rattle.bn_machine.proofs.MachineLemmas.{nth-get_or}
 use Rattle.bn_machine.specs.declared.quint.Shift.TheVariants.{Stay}
 use Rattle.std.specs.Prelude.{Some}
 use Rattle.bn_quad.specs.Quadruples.{Deed, Rewrite, Move, Rule, deeds_of}
 use Rattle.bn_quad.specs.Overlap.{MeetsInDomain, MeetsInRange, OnEachTape, OverlapsInDomain, OverlapsInRange, Clashes, HasNoClash, IsLeastClash}
-use Rattle.bn_quad.specs.Search.{HasNoPartner, HasNoPartnerBefore, IsLeastPartner, HasNoClashBefore, least_clash, least_partner, no_clash, no_clash_before_one}
-use Rattle.bn_quad.specs.Search.{no_clash_more, no_partner, no_partner_at_start, no_partner_more}
+use Rattle.bn_quad.specs.Search.{HasNoPartner, IsLeastPartner}
+use Rattle.bn_quad.proofs.SearchLemmas.{HasNoPartnerBefore, HasNoClashBefore, least_clash, least_partner, no_clash, no_clash_before_one}
+use Rattle.bn_quad.proofs.SearchLemmas.{no_clash_more, no_partner, no_partner_at_start, no_partner_more}
 use Rattle.bn_quad.specs.declared.clash.Clash.{Clash}
 
 -- ---- two quadruples

@@ -7,7 +7,8 @@ use Rattle.std.proofs.lemmas.Bool.{cases_lt}
 use Rattle.std.proofs.lemmas.List.{get_or_past, get_or_default, length-map}
 use Rattle.std.proofs.lemmas.Option.{slice_get_within, get_or_from_slice_get}
 use Rattle.bn_theory.specs.Runs.{Reaches}
-use Rattle.bn_machine.specs.Tape.{cell, cell-write, cell-word, letter_at}
+use Rattle.bn_machine.specs.Tape.{cell, letter_at}
+use Rattle.bn_machine.proofs.TapeLemmas.{cell-write, cell-word}
 use Rattle.bn_machine.specs.Machine.{Program, Moment, Goes, IsInRange, IsMachine, nth, start, start_of}
 use Rattle.bn_machine.specs.Run.{HasEnding, EndsAt}
 use Rattle.bn_machine.specs.Run as free

@@ -2,7 +2,7 @@
 use Rattle.std.specs.Prelude.{Result, Ok, Err, IfOk}
 use Rattle.std.proofs.Common.{◌≡◌, ℕ, List, [], refl, sym, subst, ap, ◌∙◌}
 use Rattle.bn_machine.specs.Run.{Ending, HasEnding, Halted, Stuck, Running}
-use Rattle.bn_machine.specs.OutcomeLaws.{ending_exists, ending_once}
+use Rattle.bn_machine.proofs.OutcomeLemmas.{ending_exists, ending_once}
 use Rattle.bn_table.specs.Rows.{Named}
 use Rattle.bn_reply.specs.Answering.{HasAnswer, IsOneAnswer, IsSettled}
 use Rattle.bn_reply.specs.Codes.{IsReplyStatus}

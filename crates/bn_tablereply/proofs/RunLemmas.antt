@@ -1,6 +1,6 @@
 -- Steps in a window, one after another.
 use Rattle.std.proofs.Common.{◌≡◌, ℕ, ◌+◌, subst, ap, ◌∙◌, arith}
-use Rattle.bn_theory.specs.Runs.{runs_more}
+use Rattle.bn_theory.proofs.RunsLemmas.{runs_more}
 use Rattle.bn_machine.specs.Machine.{Program, Goes, moment}
 use Rattle.bn_machine.specs.MachineCalls.{IsTurn}
 use Rattle.bn_machine.specs.Window.{Room, Windowed, within, with_tape}

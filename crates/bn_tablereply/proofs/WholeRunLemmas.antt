@@ -11,9 +11,10 @@ use Rattle.bn_machine.specs.MachineCalls.{IsTurn}
 use Rattle.bn_machine.specs.Run.{After, AfterWithin, HasEnding, IsOutput}
 use Rattle.bn_machine.specs.Run as free
 use Rattle.bn_machine.specs.Window.{Windowed, IsBetween, within, anywhere, new_window}
-use Rattle.bn_machine.specs.Steps.{AgreesUpTo, agrees_turned, agrees_final, agrees_stuck, agrees_step, agrees_scanned, cut_run, goes_anywhere, head_after}
-use Rattle.bn_machine.specs.Steps.{run_anywhere}
-use Rattle.bn_machine.specs.Cut.{near_not_leaving, output_before, output_beyond}
+use Rattle.bn_machine.specs.Steps.{AgreesUpTo}
+use Rattle.bn_machine.proofs.MachineStepLemmas.{agrees_turned, agrees_final, agrees_stuck, agrees_step, agrees_scanned, cut_run, goes_anywhere, head_after}
+use Rattle.bn_machine.proofs.MachineStepLemmas.{run_anywhere}
+use Rattle.bn_machine.proofs.CutLemmas.{near_not_leaving, output_before, output_beyond}
 use Rattle.bn_machine.specs.declared.machine.Turn.{Turn}
 use Rattle.bn_machine.specs.declared.machine.Turn.TheVariants as turns
 use Rattle.bn_tablereply.specs.MachineRun.{Reached, IsRun, IsWholeOutput, IsEndingOf, StaysInside, ending_of}

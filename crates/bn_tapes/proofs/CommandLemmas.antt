@@ -3,9 +3,9 @@ use Rattle.std.specs.Prelude.{◌≡◌, ◌≢◌, ◌⊎◌, ℕ, ◌+◌, ◌
 use Rattle.std.proofs.Common.{zero, suc, arith, sym, ap, subst, ◌∙◌, inl, inr}
 use Rattle.std.proofs.Math.Nat.{mul-le-mul_right}
 use Rattle.std.proofs.lemmas.Int.{ints}
-use Rattle.bn_theory.specs.Runs.{passes_run}
+use Rattle.bn_theory.proofs.RunsLemmas.{passes_run}
 use Rattle.bn_theory.specs.Circuits.{Circuit}
-use Rattle.bn_theory.specs.Laws.{slice_get-set_other}
+use Rattle.bn_theory.proofs.StepLemmas.{slice_get-set_other}
 use Rattle.bn_theory.specs.declared.place.Place.TheVariants.{Enter, Left}
 use Rattle.bn_machine.specs.Tape.{Tape, scanned, write, shift, moved}
 use Rattle.bn_machine.specs.Window.{IsBetween, IsBeyond}

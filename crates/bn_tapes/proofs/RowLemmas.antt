@@ -5,7 +5,7 @@ use Rattle.std.proofs.lemmas.Bool.Decides.{eqb_tells}
 use Rattle.std.proofs.lemmas.Option.{slice_get_within, get_or_from_slice_get}
 use Rattle.std.proofs.lemmas.List.{set-get_or}
 use Rattle.bn_theory.specs.Circuits.{Circuit, place_after}
-use Rattle.bn_theory.specs.Laws.{slice_get-set_same, slice_get-set_other}
+use Rattle.bn_theory.proofs.StepLemmas.{slice_get-set_same, slice_get-set_other}
 use Rattle.bn_theory.specs.declared.place.Place.TheVariants.{Enter, Left}
 use Rattle.bn_rsm.specs.Costs.{cost_by, move_cost}
 use Rattle.bn_rsm.specs.Laws.{CostsAreBounded}

@@ -4,7 +4,8 @@ use Rattle.std.specs.Ordering.{int_eq}
 use Rattle.std.proofs.Common.{arith, sym, ap, subst, ◌∙◌, inl, inr, true≢false}
 use Rattle.std.proofs.lemmas.Int.{ints}
 use Rattle.std.proofs.lemmas.Bool.Decides.{Decides-int_eq, eqb_tells}
-use Rattle.bn_machine.specs.Tape.{Tape, cell, scanned, write, scanned-write, cell-write_beside}
+use Rattle.bn_machine.specs.Tape.{Tape, cell, scanned, write}
+use Rattle.bn_machine.proofs.TapeLemmas.{scanned-write, cell-write_beside}
 use Rattle.bn_machine.specs.Window.{IsBetween}
 use Rattle.bn_modules.specs.Cells.{Plain, Head, state_number}
 use Rattle.bn_modules.specs.Networks.{ShowsTape, cell_of}

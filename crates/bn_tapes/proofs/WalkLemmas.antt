@@ -1,7 +1,8 @@
 -- Paths of a network with what they cost, one after the other.
 use Rattle.std.specs.Prelude.{◌≡◌, ℕ, ◌+◌, ◌*◌, ◌<◌, ◌≤◌, Bool, true, refl}
 use Rattle.std.proofs.Common.{arith, ap, ◌∙◌}
-use Rattle.bn_theory.specs.Runs.{Reaches, Passes, passes_run, passes_join}
+use Rattle.bn_theory.specs.Runs.{Reaches, Passes}
+use Rattle.bn_theory.proofs.RunsLemmas.{passes_run, passes_join}
 use Rattle.bn_theory.specs.Circuits.{Circuit}
 use Rattle.bn_theory.specs.declared.place.Place.TheVariants.{Left}
 use Rattle.bn_theory.specs.Situations.{Situation, Turns}

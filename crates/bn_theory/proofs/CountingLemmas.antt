@@ -3,7 +3,7 @@ use Rattle.std.specs.Prelude.{◌≡◌, ℕ, ◌+◌, ◌<◌, Bool, true, fals
 use Rattle.std.proofs.Common.{zero, suc, arith, ap, ◌∙◌}
 use Rattle.bn_theory.specs.Runs.{Reaches, Passes}
 use Rattle.bn_theory.specs.Circuits.{Circuit, Goes}
-use Rattle.bn_theory.specs.Laws.{Goes-next}
+use Rattle.bn_theory.proofs.StepLemmas.{Goes-next}
 use Rattle.bn_theory.specs.declared.config.Config.{Config}
 use Rattle.bn_theory.specs.Counting.{tally, one_if, TalliesAdd}
 

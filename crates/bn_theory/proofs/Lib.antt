@@ -1,3 +1,6 @@
+pub mod StepLemmas
+pub mod RunLemmas
+pub mod RunsLemmas
 pub mod RunPartLemmas
 pub mod CountingLemmas
 pub mod SituationLemmas

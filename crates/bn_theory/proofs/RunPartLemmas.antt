@@ -1,10 +1,11 @@
 -- Cuts of runs, claims read off a path, and the places on the way.
 use Rattle.std.specs.Prelude.{◌≡◌, ℕ, ◌+◌, ◌<◌, ◌≤◌, Bool, true, ◌∷◌, length, Some, slice_get, refl}
 use Rattle.std.proofs.Common.{zero, suc, arith, sym, ap, subst, ◌∙◌}
-use Rattle.bn_theory.specs.Runs.{Reaches, Passes, before_by, before_gives}
+use Rattle.bn_theory.specs.Runs.{Reaches, Passes}
+use Rattle.bn_theory.proofs.RunsLemmas.{before_by, before_gives}
 use Rattle.bn_theory.specs.Circuits.{Circuit, Goes, IsStuck}
 use Rattle.bn_theory.specs.Stepping.{run, places}
-use Rattle.bn_theory.specs.RunLaws.{Reaches-run, Reaches-back, run-first, run-zero, run_makes, places-Goes, places-stuck, places-zero}
+use Rattle.bn_theory.proofs.RunLemmas.{Reaches-run, Reaches-back, run-first, run-zero, run_makes, places-Goes, places-stuck, places-zero}
 use Rattle.bn_theory.specs.declared.config.Config.{Config}
 use Rattle.bn_theory.specs.RunParts.{RunsUndoInPart, PathsPassBetween, PlacesAreThoseOfRuns}
 

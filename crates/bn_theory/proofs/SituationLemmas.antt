@@ -3,7 +3,7 @@ use Rattle.std.specs.Prelude.{◌≡◌, ℕ, ◌+◌, ◌≤◌, Bool, Some, sl
 use Rattle.std.proofs.Common.{zero, suc, arith, sym, ap, subst, ◌∙◌}
 use Rattle.bn_theory.specs.Runs.{Passes}
 use Rattle.bn_theory.specs.Circuits.{Circuit, clock, place_after, Goes}
-use Rattle.bn_theory.specs.Laws.{same_config}
+use Rattle.bn_theory.proofs.StepLemmas.{same_config}
 use Rattle.bn_theory.specs.declared.place.Place.TheVariants.{Enter}
 use Rattle.bn_theory.specs.declared.config.Config.{Config}
 use Rattle.bn_theory.specs.Situations.{Situation, situation, situation_of, counted, Turns, turn, turn_from, StepsAreCounted}

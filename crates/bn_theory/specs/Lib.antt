@@ -2,7 +2,6 @@ pub mod Runs
 pub mod Tables
 pub mod Circuits
 pub mod Stepping
-pub mod Laws
 pub mod RunLaws
 pub mod RunParts
 pub mod Situations

@@ -3,7 +3,7 @@ use Rattle.std.specs.Prelude.{◌≡◌, ℕ, ◌<◌, ◌≤◌, List, [], ◌�
 use Rattle.std.specs.Prelude.{Ok, Err, refl, ◌⊎◌}
 use Rattle.std.proofs.Common.{zero, suc, get_or, arith, sym, ap, subst, ◌∙◌, inl, inr}
 use Rattle.bn_base.specs.Number.{read_number}
-use Rattle.bn_base.specs.NumberLaws.{decimal-once, read_number-no_digit}
+use Rattle.bn_base.proofs.NumberLemmas.{decimal-once, read_number-no_digit}
 use Rattle.bn_base.specs.declared.numbers.Digits.TheVariants.{NoDigit}
 use Rattle.bn_words.specs.Arguments.{Argument, Number, Word, IsArgument, IsNoArgument, IsNumber, AreArguments, HaveNoArguments, argument_of}
 use Rattle.bn_words.specs.Forms.{row_of}

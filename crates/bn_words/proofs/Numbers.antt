@@ -2,7 +2,7 @@
 use Rattle.std.specs.Prelude.{◌≡◌, ℕ, ◌+◌, ◌≤◌, List, [], ◌++◌, length, decimal, Result, Ok}
 use Rattle.std.proofs.Common.{arith, sym, ap, subst, ◌∙◌, append-nil}
 use Rattle.bn_base.specs.Number.{read_number, greatest}
-use Rattle.bn_base.specs.NumberLaws.{read_number-again}
+use Rattle.bn_base.proofs.NumberLemmas.{read_number-again}
 use Rattle.bn_base.specs.declared.numbers.Digits.{Digits}
 use Rattle.bn_words.specs.Arguments.{IsNoNumber}
 

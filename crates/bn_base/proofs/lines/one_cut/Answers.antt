@@ -1,4 +1,4 @@
-use Rattle.bn_base.specs.LineLaws.{lines-agree, cut-lines-differ}
+use Rattle.bn_base.proofs.LineLemmas.{lines-agree, cut-lines-differ}
 use Rattle.bn_base.proofs.lines.one_cut.Goals as goal
 
 pub returns : goal.returns

@@ -1,4 +1,4 @@
-use Rattle.bn_base.specs.NumberLaws.{read_number-takes, read_number-again, decimal-once}
+use Rattle.bn_base.proofs.NumberLemmas.{read_number-takes, read_number-again, decimal-once}
 use Rattle.bn_base.proofs.numbers.one_spelling.Goals as goal
 
 pub returns : goal.returns

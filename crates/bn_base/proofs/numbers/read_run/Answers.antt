@@ -1,6 +1,6 @@
 use Rattle.std.proofs.Common.{◌+◌, ◌∙◌, ap, sym, length}
 use Rattle.bn_base.specs.Number.{read_number, number_of, with_place}
-use Rattle.bn_base.specs.NumberLaws.{digits_at-digits}
+use Rattle.bn_base.proofs.NumberLemmas.{digits_at-digits}
 use Rattle.bn_base.proofs.numbers.read_run.Goals as goal
 
 pub number-requires : goal.number-requires

@@ -1,4 +1,4 @@
-use Rattle.bn_column.specs.Crossing.{column_crosses}
+use Rattle.bn_column.proofs.CrossingLemmas.{column_crosses}
 use Rattle.bn_column.proofs.laws.columns_are_crossed.Goals as goal
 
 pub returns : goal.returns

@@ -1,7 +1,7 @@
 use Rattle.std.proofs.Common.{◌+◌, sym, subst}
 use Rattle.bn_column.specs.Wirings.{AreFitting}
 use Rattle.bn_column.specs.Nets.{IsNetOf}
-use Rattle.bn_column.specs.Ladder.{column-AreFitting, net-IsColumnNet}
+use Rattle.bn_column.proofs.LadderLemmas.{column-AreFitting, net-IsColumnNet}
 use Rattle.bn_column.proofs.make.column.Goals as goal
 
 pub rotary_net-requires-clause-fitting : goal.rotary_net-requires-clause-fitting

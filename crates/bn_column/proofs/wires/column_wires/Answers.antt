@@ -1,5 +1,5 @@
 use Rattle.std.proofs.Common.{refl, arith}
-use Rattle.bn_column.specs.Ladder.{ladder_more, ladder_closed}
+use Rattle.bn_column.proofs.LadderLemmas.{ladder_more, ladder_closed}
 use Rattle.bn_column.proofs.wires.column_wires.Goals as goal
 
 pub loop-row-preserved : goal.loop-row-preserved

@@ -1,4 +1,4 @@
-use Rattle.bn_column.specs.Ladder.{IsLadder}
+use Rattle.bn_column.proofs.LadderLemmas.{IsLadder}
 use Rattle.bn_column.proofs.wires.column_wires.Given as goal
 
 abbrev pub invariant-loop-row : goal.invariant-loop-row

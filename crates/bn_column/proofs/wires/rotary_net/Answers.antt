@@ -2,8 +2,8 @@ use Rattle.std.proofs.Common.{◌≡◌, ◌∙◌, List, arith, length, map, re
 use Rattle.bn_theory.specs.Tables.{Table}
 use Rattle.bn_net.specs.Faults.{AreFaultless}
 use Rattle.bn_element.specs.Rotary.{rotary}
-use Rattle.bn_column.specs.Wirings.{apart-AreFaultless, faultless-refusal}
-use Rattle.bn_column.specs.NetLaws.{rotary-tables}
+use Rattle.bn_column.proofs.WiringsLemmas.{apart-AreFaultless, faultless-refusal}
+use Rattle.bn_column.proofs.NetLemmas.{rotary-tables}
 use Rattle.bn_column.proofs.wires.rotary_net.Goals as goal
 
 pub want_of_memory-requires : goal.want_of_memory-requires

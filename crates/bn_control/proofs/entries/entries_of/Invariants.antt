@@ -1,4 +1,4 @@
-use Rattle.bn_control.specs.Entries.{AreSoFar}
+use Rattle.bn_control.proofs.EntriesSoFar.{AreSoFar}
 use Rattle.bn_control.proofs.entries.entries_of.Given as goal
 
 abbrev pub invariant-loop-index : goal.invariant-loop-index

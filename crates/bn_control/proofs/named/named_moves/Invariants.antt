@@ -1,5 +1,5 @@
 use Rattle.std.proofs.Common.{◌≤◌, ◌+◌, ◌*◌, length}
-use Rattle.bn_control.specs.Named.{AreMovesSoFar}
+use Rattle.bn_control.proofs.MovesSoFar.{AreMovesSoFar}
 use Rattle.bn_control.proofs.named.named_moves.Given as goal
 
 abbrev pub invariant-loop-index : goal.invariant-loop-index

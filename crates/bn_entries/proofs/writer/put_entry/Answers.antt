@@ -1,7 +1,7 @@
 -- csv writes a plain entry's line as it is.
 use Rattle.std.proofs.Common.{◌≢◌, map, Bor, List, ℕ, true}
 use Rattle.csv.specs.declared.writer.QuoteStyle.TheVariants as style
-use Rattle.bn_entries.specs.LinesLaws.{row_text-plain}
+use Rattle.bn_entries.proofs.LinesLemmas.{row_text-plain}
 use Rattle.bn_entries.proofs.writer.put_entry.Goals as goal
 use Rattle.bn_entries.proofs.writer.put_entry.Goals.{in-Ok, in-Err}
 

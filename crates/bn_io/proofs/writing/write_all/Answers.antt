@@ -1,5 +1,5 @@
 use Rattle.std.proofs.Common.{refl, ◌++◌, take, arith}
-use Rattle.bn_io.specs.Told.{Grows-joins}
+use Rattle.bn_io.proofs.ToldLemmas.{Grows-joins}
 use Rattle.bn_io.proofs.Pieces.{front-more}
 use Rattle.bn_io.proofs.writing.write_all.Goals as goal
 

@@ -1,4 +1,4 @@
-use Rattle.bn_machine.specs.Steps.{agrees_final, agrees_stuck}
+use Rattle.bn_machine.proofs.MachineStepLemmas.{agrees_final, agrees_stuck}
 use Rattle.bn_machine.proofs.laws.alike_moments_end_alike.Goals as goal
 
 pub returns : goal.returns

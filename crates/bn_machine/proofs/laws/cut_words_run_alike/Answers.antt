@@ -1,4 +1,4 @@
-use Rattle.bn_machine.specs.Steps.{cut_run}
+use Rattle.bn_machine.proofs.MachineStepLemmas.{cut_run}
 use Rattle.bn_machine.proofs.laws.cut_words_run_alike.Goals as goal
 
 pub returns : goal.returns

@@ -1,4 +1,4 @@
-use Rattle.bn_machine.specs.Output.{output_exists, output_once}
+use Rattle.bn_machine.proofs.OutputLemmas.{output_exists, output_once}
 use Rattle.bn_machine.proofs.laws.output_is_one.Goals as goal
 
 pub returns : goal.returns

@@ -1,5 +1,5 @@
-use Rattle.bn_machine.specs.Steps.{run_anywhere}
-use Rattle.bn_machine.specs.Turns.{after_inside}
+use Rattle.bn_machine.proofs.MachineStepLemmas.{run_anywhere}
+use Rattle.bn_machine.proofs.TurnsLemmas.{after_inside}
 use Rattle.bn_machine.proofs.laws.rooms_change_nothing.Goals as goal
 
 pub returns : goal.returns

@@ -1,4 +1,4 @@
-use Rattle.bn_machine.specs.Steps.{steps_are_functions}
+use Rattle.bn_machine.proofs.MachineStepLemmas.{steps_are_functions}
 use Rattle.bn_machine.proofs.laws.steps_are_functions.Goals as goal
 
 pub returns : goal.returns

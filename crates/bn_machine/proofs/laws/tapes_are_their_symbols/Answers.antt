@@ -1,4 +1,4 @@
-use Rattle.bn_machine.specs.Tape.{same_tape}
+use Rattle.bn_machine.proofs.TapeLemmas.{same_tape}
 use Rattle.bn_machine.proofs.laws.tapes_are_their_symbols.Goals as goal
 
 pub returns : goal.returns

@@ -1,4 +1,4 @@
-use Rattle.bn_machine.specs.Turns.{turn_once}
+use Rattle.bn_machine.proofs.TurnsLemmas.{turn_once}
 use Rattle.bn_machine.proofs.laws.turns_are_one.Goals as goal
 
 pub returns : goal.returns

@@ -1,4 +1,4 @@
-use Rattle.bn_netlist.specs.NetLaws.{circuits-agree}
+use Rattle.bn_netlist.proofs.NetLemmas.{circuits-agree}
 use Rattle.bn_netlist.proofs.laws.circuits_agree.Goals as goal
 
 pub returns : goal.returns

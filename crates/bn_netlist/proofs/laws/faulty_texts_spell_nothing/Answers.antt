@@ -1,4 +1,4 @@
-use Rattle.bn_netlist.specs.TextLaws.{faulty_texts-spell-nothing}
+use Rattle.bn_netlist.proofs.NetTextLemmas.{faulty_texts-spell-nothing}
 use Rattle.bn_netlist.proofs.laws.faulty_texts_spell_nothing.Goals as goal
 
 pub returns : goal.returns

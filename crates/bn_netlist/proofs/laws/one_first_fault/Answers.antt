@@ -1,4 +1,4 @@
-use Rattle.bn_netlist.specs.FaultLaws.{faults-agree}
+use Rattle.bn_netlist.proofs.FaultLemmas.{faults-agree}
 use Rattle.bn_netlist.proofs.laws.one_first_fault.Goals as goal
 
 pub returns : goal.returns

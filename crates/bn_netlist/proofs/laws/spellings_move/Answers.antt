@@ -1,4 +1,4 @@
-use Rattle.bn_netlist.specs.NetLaws.{spellings-move}
+use Rattle.bn_netlist.proofs.NetLemmas.{spellings-move}
 use Rattle.bn_netlist.proofs.laws.spellings_move.Goals as goal
 
 pub returns : goal.returns

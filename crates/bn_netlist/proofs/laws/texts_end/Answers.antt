@@ -1,4 +1,4 @@
-use Rattle.bn_netlist.specs.TextLaws.{texts-end}
+use Rattle.bn_netlist.proofs.NetTextLemmas.{texts-end}
 use Rattle.bn_netlist.proofs.laws.texts_end.Goals as goal
 
 pub returns : goal.returns

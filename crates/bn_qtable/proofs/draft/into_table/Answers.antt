@@ -3,7 +3,7 @@ use Rattle.std.proofs.Common.{◌∙◌}
 use Rattle.bn_quad.specs.Kept.{rules_of}
 use Rattle.bn_qtable.specs.Draft.{drafted, names_of}
 use Rattle.bn_qtable.specs.Rows.{table_of}
-use Rattle.bn_qtable.specs.RowsLaws.{table_has_names}
+use Rattle.bn_qtable.proofs.RowsLemmas.{table_has_names}
 use Rattle.bn_qtable.proofs.Drafting.{no-first-fault, table-of-draft}
 use Rattle.bn_qtable.proofs.ReadingLaws.{good}
 use Rattle.bn_qtable.proofs.draft.into_table.Goals as goal

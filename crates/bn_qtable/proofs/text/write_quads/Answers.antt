@@ -3,9 +3,9 @@ use Rattle.std.proofs.Common.{◌≡◌, ◌∙◌, ◌++◌, sym, List, ℕ, []
 use Rattle.std.proofs.lemmas.Result.{IfOk-weaker}
 use Rattle.bn_entries.specs.Entries.{entries_of}
 use Rattle.bn_entries.specs.Lines.{line_of, lines_of}
-use Rattle.bn_entries.specs.LinesLaws.{lines_of-nil}
+use Rattle.bn_entries.proofs.LinesLemmas.{lines_of-nil}
 use Rattle.bn_quad.specs.Kept.{quad_of, rule_of, rules_of}
-use Rattle.bn_quad.specs.KeptLaws.{rules_of-quads}
+use Rattle.bn_quad.proofs.KeptLemmas.{rules_of-quads}
 use Rattle.bn_quad.specs.Names.{Naming}
 use Rattle.bn_quad.specs.Quadruples.{Quadruples, Rule}
 use Rattle.bn_quad.specs.declared.quad.Quad.{Quad}

@@ -1,4 +1,4 @@
-use Rattle.bn_quad.specs.OverlapKept.{domain_of_quads, range_of_quads}
+use Rattle.bn_quad.proofs.OverlapKeptLemmas.{domain_of_quads, range_of_quads}
 use Rattle.bn_quad.proofs.clash.is_clash.Goals as goal
 
 pub returns-in-Domain : goal.returns-in-Domain

@@ -1,4 +1,4 @@
-use Rattle.bn_quad.specs.Reversible.{one_applies}
+use Rattle.bn_quad.proofs.ReversibleLemmas.{one_applies}
 use Rattle.bn_quad.proofs.laws.one_rule_applies.Goals as goal
 
 pub returns : goal.returns

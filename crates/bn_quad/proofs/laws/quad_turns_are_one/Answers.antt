@@ -1,4 +1,4 @@
-use Rattle.bn_quad.specs.Answers.{quad_turn_once}
+use Rattle.bn_quad.proofs.AnswerLemmas.{quad_turn_once}
 use Rattle.bn_quad.proofs.laws.quad_turns_are_one.Goals as goal
 
 pub returns : goal.returns

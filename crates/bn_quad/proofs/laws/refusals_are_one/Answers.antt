@@ -1,4 +1,4 @@
-use Rattle.bn_quad.specs.Answers.{refusals_once}
+use Rattle.bn_quad.proofs.AnswerLemmas.{refusals_once}
 use Rattle.bn_quad.proofs.laws.refusals_are_one.Goals as goal
 
 pub returns : goal.returns

@@ -1,4 +1,4 @@
-use Rattle.bn_quad.specs.KeptLaws.{quads-apart}
+use Rattle.bn_quad.proofs.KeptLemmas.{quads-apart}
 use Rattle.bn_quad.proofs.laws.rules_are_their_quads.Goals as goal
 
 pub returns : goal.returns

@@ -1,5 +1,5 @@
 use Rattle.bn_quad.specs.Quadruples.{everywhere}
-use Rattle.bn_quad.specs.Steps.{goes_leads, leads_goes}
+use Rattle.bn_quad.proofs.QuadStepLemmas.{goes_leads, leads_goes}
 use Rattle.bn_quad.proofs.laws.steps_are_leads.Goals as goal
 
 pub returns : goal.returns

@@ -1,4 +1,4 @@
-use Rattle.bn_quad.specs.Reversible.{turned_leads, turned_leads_back}
+use Rattle.bn_quad.proofs.ReversibleLemmas.{turned_leads, turned_leads_back}
 use Rattle.bn_quad.proofs.laws.turned_rules_lead_back.Goals as goal
 
 pub returns : goal.returns

@@ -1,6 +1,6 @@
 use Rattle.std.proofs.Common.{suc, ◌+◌, arith, add-one}
-use Rattle.bn_quad.specs.KeptLaws.{length-rules_of}
-use Rattle.bn_quad.specs.Search.{least_clash, no_clash_more, no_clash}
+use Rattle.bn_quad.proofs.KeptLemmas.{length-rules_of}
+use Rattle.bn_quad.proofs.SearchLemmas.{least_clash, no_clash_more, no_clash}
 use Rattle.bn_quad.proofs.search.first_clash.Goals as goal
 
 pub returns-in-Some : goal.returns-in-Some

@@ -1,7 +1,7 @@
 use Rattle.std.proofs.Common.{suc, arith, add-one, refl}
 use Rattle.std.proofs.lemmas.Bool.{false≢true}
-use Rattle.bn_quad.specs.KeptLaws.{nth-rules_of, length-rules_of}
-use Rattle.bn_quad.specs.Search.{first_flaw, no_flaw_more, no_flaw}
+use Rattle.bn_quad.proofs.KeptLemmas.{nth-rules_of, length-rules_of}
+use Rattle.bn_quad.proofs.SearchLemmas.{first_flaw, no_flaw_more, no_flaw}
 use Rattle.bn_quad.proofs.search.first_flaw.Goals as goal
 
 pub returns-then-is_flawed : goal.returns-then-is_flawed

@@ -1,6 +1,6 @@
 use Rattle.std.proofs.Common.{suc}
 use Rattle.bn_quad.specs.Kept.{rules_of}
-use Rattle.bn_quad.specs.Search.{HasNoFlawBefore}
+use Rattle.bn_quad.proofs.SearchLemmas.{HasNoFlawBefore}
 use Rattle.bn_quad.proofs.search.first_flaw.Given as goal
 
 abbrev pub invariant-loop-index : goal.invariant-loop-index

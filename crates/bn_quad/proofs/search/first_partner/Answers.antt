@@ -1,7 +1,7 @@
 use Rattle.std.proofs.Common.{suc, arith, add-one, refl}
 use Rattle.std.proofs.lemmas.Bool.{false≢true}
-use Rattle.bn_quad.specs.KeptLaws.{nth-rules_of, nth-rules_of_back, length-rules_of}
-use Rattle.bn_quad.specs.Search.{least_partner, no_partner_more, no_partner}
+use Rattle.bn_quad.proofs.KeptLemmas.{nth-rules_of, nth-rules_of_back, length-rules_of}
+use Rattle.bn_quad.proofs.SearchLemmas.{least_partner, no_partner_more, no_partner}
 use Rattle.bn_quad.proofs.search.first_partner.Goals as goal
 
 pub returns-then-is_clash : goal.returns-then-is_clash

@@ -1,6 +1,6 @@
 use Rattle.std.proofs.Common.{◌∙◌, Some, ap, arith}
 use Rattle.bn_column.specs.Columns.{bar}
-use Rattle.bn_realise.specs.BankCrossing.{eqb_same}
+use Rattle.bn_realise.proofs.BankCrossingLemmas.{eqb_same}
 use Rattle.bn_realise.proofs.cross.marked_column.Goals as goal
 
 pub unreachable-requires : goal.unreachable-requires

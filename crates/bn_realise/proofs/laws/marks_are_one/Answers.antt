@@ -1,4 +1,4 @@
-use Rattle.bn_realise.specs.BankCrossing.{marked-once}
+use Rattle.bn_realise.proofs.BankCrossingLemmas.{marked-once}
 use Rattle.bn_realise.proofs.laws.marks_are_one.Goals as goal
 
 pub returns : goal.returns

@@ -1,4 +1,4 @@
-use Rattle.bn_realise.specs.BankCrossing.{moved-IsResting}
+use Rattle.bn_realise.proofs.BankCrossingLemmas.{moved-IsResting}
 use Rattle.bn_realise.proofs.laws.moved_banks_rest.Goals as goal
 
 pub returns : goal.returns

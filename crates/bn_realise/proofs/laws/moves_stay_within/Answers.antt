@@ -1,4 +1,4 @@
-use Rattle.bn_realise.specs.BankCrossing.{moved-beside}
+use Rattle.bn_realise.proofs.BankCrossingLemmas.{moved-beside}
 use Rattle.bn_realise.proofs.laws.moves_stay_within.Goals as goal
 
 pub returns : goal.returns

@@ -1,4 +1,4 @@
-use Rattle.bn_realise.specs.BankWires.{bank_wire-IsWithinLines, bank_wire-no_input}
+use Rattle.bn_realise.proofs.BankWiresLemmas.{bank_wire-IsWithinLines, bank_wire-no_input}
 use Rattle.bn_realise.proofs.laws.own_wires_stay_inside.Goals as goal
 
 pub returns : goal.returns

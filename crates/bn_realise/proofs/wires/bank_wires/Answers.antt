@@ -1,5 +1,5 @@
 use Rattle.std.proofs.Common.{arith}
-use Rattle.bn_realise.specs.BankWires.{all_earlier}
+use Rattle.bn_realise.proofs.BankWiresLemmas.{all_earlier}
 use Rattle.bn_realise.proofs.wires.bank_wires.Goals as goal
 
 pub returns-clause-wires : goal.returns-clause-wires

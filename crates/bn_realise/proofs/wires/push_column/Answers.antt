@@ -1,5 +1,5 @@
 use Rattle.std.proofs.Common.{◌∙◌, ◌++◌, ap, arith}
-use Rattle.bn_realise.specs.BankWires.{stage_ends}
+use Rattle.bn_realise.proofs.BankWiresLemmas.{stage_ends}
 use Rattle.bn_realise.proofs.WireLemmas.{column_begun, begun_count}
 use Rattle.bn_realise.proofs.wires.push_column.Goals as goal
 

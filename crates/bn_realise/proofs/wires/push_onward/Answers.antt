@@ -1,5 +1,5 @@
 use Rattle.std.proofs.Common.{◌+◌, ◌<◌, ◌≤◌, subst}
-use Rattle.bn_realise.specs.BankWires.{half_without}
+use Rattle.bn_realise.proofs.BankWiresLemmas.{half_without}
 use Rattle.bn_realise.proofs.WireLemmas.{half_pushed}
 use Rattle.bn_realise.proofs.wires.push_onward.Goals as goal
 

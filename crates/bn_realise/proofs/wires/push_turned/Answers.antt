@@ -1,5 +1,5 @@
 use Rattle.std.proofs.Common.{◌∙◌, sym}
-use Rattle.bn_realise.specs.BankWires.{stage_without}
+use Rattle.bn_realise.proofs.BankWiresLemmas.{stage_without}
 use Rattle.bn_realise.proofs.WireLemmas.{stage_pushed, target_fits}
 use Rattle.bn_realise.proofs.wires.push_turned.Goals as goal
 

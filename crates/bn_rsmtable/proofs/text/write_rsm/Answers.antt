@@ -3,7 +3,7 @@ use Rattle.std.proofs.Common.{◌≡◌, ◌∙◌, ◌++◌, ◌∷◌, ◌≤�
 use Rattle.std.proofs.lemmas.List.{map-append, take_all, take_more}
 use Rattle.std.proofs.lemmas.Result.{IfOk-weaker}
 use Rattle.bn_entries.specs.Lines.{line_of, lines_of}
-use Rattle.bn_entries.specs.LinesLaws.{lines_of-nil, lines_of-push}
+use Rattle.bn_entries.proofs.LinesLemmas.{lines_of-nil, lines_of-push}
 use Rattle.bn_rsm.specs.declared.rsm_move.RsmMove.{RsmMove}
 use Rattle.bn_rsmtable.specs.Entry.{entries_by, entry_of}
 use Rattle.bn_rsmtable.specs.Reading.{Reads}

@@ -1,5 +1,5 @@
 use Rattle.std.proofs.Common.{suc, ◌+◌, arith, add-one}
-use Rattle.bn_standard.specs.Search.{none_repeated_more, unambiguous, least_repeat}
+use Rattle.bn_standard.proofs.SearchLemmas.{none_repeated_more, unambiguous, least_repeat}
 use Rattle.bn_standard.proofs.demands.first_repeat.Goals as goal
 
 pub returns-in-Some : goal.returns-in-Some

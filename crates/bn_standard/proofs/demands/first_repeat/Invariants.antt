@@ -1,5 +1,5 @@
 use Rattle.std.proofs.Common.{suc}
-use Rattle.bn_standard.specs.Search.{NoneRepeated}
+use Rattle.bn_standard.proofs.SearchLemmas.{NoneRepeated}
 use Rattle.bn_standard.proofs.demands.first_repeat.Given as goal
 
 abbrev pub invariant-loop-index : goal.invariant-loop-index

@@ -1,4 +1,4 @@
-use Rattle.bn_standard.specs.VerdictLaws.{verdict_once}
+use Rattle.bn_standard.proofs.VerdictLemmas.{verdict_once}
 use Rattle.bn_standard.proofs.laws.verdicts_are_one.Goals as goal
 
 pub returns : goal.returns

@@ -1,4 +1,4 @@
-use Rattle.bn_theory.specs.Laws.{next-IsConfig, previous-IsConfig}
+use Rattle.bn_theory.proofs.StepLemmas.{next-IsConfig, previous-IsConfig}
 use Rattle.bn_theory.proofs.laws.configurations_stay.Goals as goal
 
 pub returns : goal.returns

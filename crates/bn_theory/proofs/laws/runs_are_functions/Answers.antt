@@ -1,4 +1,4 @@
-use Rattle.bn_theory.specs.RunLaws.{Reaches-run}
+use Rattle.bn_theory.proofs.RunLemmas.{Reaches-run}
 use Rattle.bn_theory.proofs.laws.runs_are_functions.Goals as goal
 
 pub returns : goal.returns

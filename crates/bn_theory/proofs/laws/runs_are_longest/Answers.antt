@@ -1,4 +1,4 @@
-use Rattle.bn_theory.specs.RunLaws.{run_makes}
+use Rattle.bn_theory.proofs.RunLemmas.{run_makes}
 use Rattle.bn_theory.proofs.laws.runs_are_longest.Goals as goal
 
 pub returns : goal.returns

@@ -1,5 +1,5 @@
 use Rattle.std.proofs.Common.{◌+◌, refl}
-use Rattle.bn_theory.specs.RunLaws.{run_composes, back_composes}
+use Rattle.bn_theory.proofs.RunLemmas.{run_composes, back_composes}
 use Rattle.bn_theory.proofs.laws.runs_compose.Goals as goal
 
 pub returns : goal.returns

@@ -1,4 +1,4 @@
-use Rattle.bn_theory.specs.RunLaws.{Reaches-back, back_stops}
+use Rattle.bn_theory.proofs.RunLemmas.{Reaches-back, back_stops}
 use Rattle.bn_theory.proofs.laws.runs_undo.Goals as goal
 
 pub returns : goal.returns

@@ -1,4 +1,4 @@
-use Rattle.bn_theory.specs.Laws.{forward_once, backward_once}
+use Rattle.bn_theory.proofs.StepLemmas.{forward_once, backward_once}
 use Rattle.bn_theory.proofs.laws.steps_are_one_to_one.Goals as goal
 
 pub returns : goal.returns

@@ -1,4 +1,4 @@
-use Rattle.bn_theory.specs.Laws.{next-Goes, Goes-next, previous-Goes, Goes-previous}
+use Rattle.bn_theory.proofs.StepLemmas.{next-Goes, Goes-next, previous-Goes, Goes-previous}
 use Rattle.bn_theory.proofs.laws.steps_compute.Goals as goal
 
 pub returns : goal.returns

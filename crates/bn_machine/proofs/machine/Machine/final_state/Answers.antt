@@ -1,5 +1,6 @@
 use Rattle.std.proofs.Common.{◌≡◌, suc, ◌-◌, length, arith, ◌∙◌, ap}
-use Rattle.bn_machine.specs.Machine.{Program, final_of, final_of-last}
+use Rattle.bn_machine.specs.Machine.{Program, final_of}
+use Rattle.bn_machine.proofs.MachineLemmas.{final_of-last}
 use Rattle.bn_machine.specs.declared.quint.Quint.{Quint}
 use Rattle.bn_machine.proofs.machine.Machine.final_state.Goals as goal
 

@@ -1,5 +1,6 @@
 use Rattle.std.proofs.Common.{◌≡◌, ◌∙◌, sym, ap, refl, ℕ, rules}
-use Rattle.bn_machine.specs.Tape.{write, scanned, write-back}
+use Rattle.bn_machine.specs.Tape.{write, scanned}
+use Rattle.bn_machine.proofs.TapeLemmas.{write-back}
 use Rattle.bn_machine.specs.Window.{Windowed, with_tape}
 use Rattle.bn_machine.proofs.machine.Machine.step.Goals as goal
 

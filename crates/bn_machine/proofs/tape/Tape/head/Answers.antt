@@ -1,5 +1,6 @@
 use Rattle.std.proofs.Common.{subst}
-use Rattle.bn_machine.specs.Window.{IsWindowed, stored-windowed}
+use Rattle.bn_machine.specs.Window.{IsWindowed}
+use Rattle.bn_machine.proofs.RoomLemmas.{stored-windowed}
 use Rattle.bn_machine.proofs.tape.Tape.head.Goals as goal
 
 pub returns-clause-valid : goal.returns-clause-valid

@@ -1,6 +1,7 @@
 use Rattle.std.proofs.Common.{◌∙◌, ap}
 use Rattle.bn_machine.specs.Tape.{write}
-use Rattle.bn_machine.specs.Window.{Windowed, with_tape, window_of-set}
+use Rattle.bn_machine.specs.Window.{Windowed, with_tape}
+use Rattle.bn_machine.proofs.RoomLemmas.{window_of-set}
 use Rattle.bn_machine.proofs.tape.Tape.put.Goals as goal
 
 pub returns : goal.returns

@@ -1,7 +1,8 @@
 use Rattle.std.proofs.Common.{◌∙◌, ap, sym}
 use Rattle.std.proofs.lemmas.Grind.{get_or_default_zero}
 use Rattle.bn_machine.specs.Tape.{scanned}
-use Rattle.bn_machine.specs.Window.{Windowed, scanned-window_of}
+use Rattle.bn_machine.specs.Window.{Windowed}
+use Rattle.bn_machine.proofs.RoomLemmas.{scanned-window_of}
 use Rattle.bn_machine.proofs.tape.Tape.scanned.Goals as goal
 
 pub returns : goal.returns

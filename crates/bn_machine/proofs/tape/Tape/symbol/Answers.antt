@@ -2,7 +2,8 @@ use Rattle.std.proofs.Common.{◌≡◌, ◌∙◌, ap, sym, ℕ, ◌<◌, get_o
 use Rattle.std.proofs.lemmas.Grind.{get_or_default_zero}
 use Rattle.std.proofs.lemmas.Int.{ints}
 use Rattle.bn_machine.specs.Tape.{cell}
-use Rattle.bn_machine.specs.Window.{Windowed, window_of, cell-window_of}
+use Rattle.bn_machine.specs.Window.{Windowed, window_of}
+use Rattle.bn_machine.proofs.RoomLemmas.{cell-window_of}
 use Rattle.bn_machine.proofs.tape.Tape.symbol.Goals as goal
 
 -- the cell numbered i, where the position is that of the cell

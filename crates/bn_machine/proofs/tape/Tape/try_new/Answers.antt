@@ -1,5 +1,6 @@
 use Rattle.std.proofs.Common.{◌∙◌, ap, ℕ, List, ◌-◌, length}
-use Rattle.bn_machine.specs.Window.{window_of, window_of-new}
+use Rattle.bn_machine.specs.Window.{window_of}
+use Rattle.bn_machine.proofs.RoomLemmas.{window_of-new}
 use Rattle.bn_machine.proofs.tape.Tape.try_new.Goals as goal
 
 pub returns-clause-made : goal.returns-clause-made

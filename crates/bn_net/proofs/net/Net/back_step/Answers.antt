@@ -1,6 +1,6 @@
 use Rattle.std.proofs.Common.{◌-◌, sym, ap}
 use Rattle.bn_theory.specs.Circuits.{Goes}
-use Rattle.bn_theory.specs.Laws.{previous-IsConfig}
+use Rattle.bn_theory.proofs.StepLemmas.{previous-IsConfig}
 use Rattle.bn_theory.specs.declared.config.Config.{Config}
 use Rattle.bn_theory.specs.declared.place.Place.TheVariants.{Enter}
 use Rattle.bn_net.specs.Parts.{circuit}

@@ -1,6 +1,6 @@
 use Rattle.std.proofs.Common.{◌∙◌, sym, arith}
 use Rattle.std.proofs.lemmas.Result.{IfErr-weaker}
-use Rattle.bn_netlist.specs.SentenceLaws.{row_of-takes}
+use Rattle.bn_netlist.proofs.SentenceLemmas.{row_of-takes}
 use Rattle.bn_netlist.proofs.LentLineLemmas.{none_given, some_given}
 use Rattle.bn_netlist.proofs.RowReadLemmas.{row_cut, row_unsaid, row_order, row_wires_refused, row_reads}
 use Rattle.bn_netlist.proofs.WriteLemmas.{on_ok}

@@ -1,7 +1,7 @@
 use Rattle.std.proofs.Common.{rules, refl}
 use Rattle.std.proofs.lemmas.Bool.{false≢true}
 use Rattle.bn_quad.specs.Overlap.{IsReversible, IsLeastClash}
-use Rattle.bn_quad.specs.Reversible.{one_predecessor, reversible_is_one_to_one}
+use Rattle.bn_quad.proofs.ReversibleLemmas.{one_predecessor, reversible_is_one_to_one}
 use Rattle.bn_quad.specs.declared.clash.Clash.TheVariants.{Range}
 use Rattle.bn_quad.proofs.machine.QuadMachine.check_reversible.Goals as goal
 

@@ -1,6 +1,6 @@
 use Rattle.std.proofs.Common.{◌≡◌, suc, ◌-◌, length, arith, ◌∙◌, ap}
 use Rattle.bn_quad.specs.Quadruples.{Quadruples, final_of}
-use Rattle.bn_quad.specs.KeptLaws.{final_of-last}
+use Rattle.bn_quad.proofs.KeptLemmas.{final_of-last}
 use Rattle.bn_quad.specs.declared.quad.Quad.{Quad}
 use Rattle.bn_quad.proofs.machine.QuadMachine.final_state.Goals as goal
 

@@ -1,8 +1,8 @@
 use Rattle.std.proofs.Common.{◌≡◌, ◌∙◌, ap, map, reverse}
 use Rattle.bn_quad.specs.Quadruples.{Quadruples, inverse_of, turned_list}
 use Rattle.bn_quad.specs.Kept.{turned_quad, rules_of}
-use Rattle.bn_quad.specs.KeptLaws.{kept-machine}
-use Rattle.bn_quad.specs.Backward.{kept_turned, inverse_kept, inverse_steps_back, rules_of-turned_quads}
+use Rattle.bn_quad.proofs.KeptLemmas.{kept-machine}
+use Rattle.bn_quad.proofs.BackwardLemmas.{kept_turned, inverse_kept, inverse_steps_back, rules_of-turned_quads}
 use Rattle.bn_quad.proofs.machine.QuadMachine.inverse.Goals as goal
 
 pub invariant_of-result : goal.invariant_of-result

@@ -1,7 +1,7 @@
 use Rattle.std.proofs.Common.{◌∙◌, sym, ap, subst, map}
 use Rattle.bn_quad.specs.Quadruples.{Quadruples, IsQuadMachine}
 use Rattle.bn_quad.specs.Kept.{quad_of}
-use Rattle.bn_quad.specs.KeptLaws.{quads-rules_of, kept-machine}
+use Rattle.bn_quad.proofs.KeptLemmas.{quads-rules_of, kept-machine}
 use Rattle.bn_quad.proofs.machine.QuadMachine.quads.Goals as goal
 
 pub returns-clause-value : goal.returns-clause-value

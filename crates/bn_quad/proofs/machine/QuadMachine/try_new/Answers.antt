@@ -1,5 +1,5 @@
 use Rattle.std.proofs.Common.{rules, ◌<◌, length}
-use Rattle.bn_quad.specs.KeptLaws.{made_of, kept_if, kept-machine}
+use Rattle.bn_quad.proofs.KeptLemmas.{made_of, kept_if, kept-machine}
 use Rattle.bn_quad.proofs.machine.QuadMachine.try_new.Goals as goal
 
 pub returns-clause-made : goal.returns-clause-made

@@ -1,6 +1,6 @@
 use Rattle.std.proofs.Common.{sym, ap, subst, map}
 use Rattle.bn_quad.specs.Names.{AreNames}
-use Rattle.bn_quad.specs.NamesLaws.{names_pushed}
+use Rattle.bn_quad.proofs.NamesLemmas.{names_pushed}
 use Rattle.bn_quad.proofs.names.NameList.add.Goals as goal
 use Rattle.bn_quad.proofs.names.NameList.add.Goals.{in-Ok-push, in-Err}
 

@@ -2,7 +2,7 @@ use Rattle.std.proofs.Common.{◌≡◌, ◌∙◌, ap, map, arith, sym, length,
 use Rattle.std.proofs.lemmas.List.{length-map}
 use Rattle.std.proofs.lemmas.Bool.{false≢true}
 use Rattle.std.proofs.lemmas.Slice.Eq.{bytes_eq-Decides}
-use Rattle.bn_quad.specs.NamesLaws.{name_at, none_below_more, not_among}
+use Rattle.bn_quad.proofs.NamesLemmas.{name_at, none_below_more, not_among}
 use Rattle.bn_quad.proofs.names.NameList.find.Goals as goal
 
 pub returns-then-eq-clause-found : goal.returns-then-eq-clause-found

@@ -1,4 +1,4 @@
-use Rattle.bn_quad.specs.NamesLaws.{HasNoNumberBelow}
+use Rattle.bn_quad.proofs.NamesLemmas.{HasNoNumberBelow}
 use Rattle.bn_quad.proofs.names.NameList.find.Given as goal
 
 abbrev pub invariant-loop-index : goal.invariant-loop-index
