@@ -8,7 +8,7 @@ use Rattle.std.proofs.lemmas.Fmt.{digits_decimal}
 use Rattle.std.proofs.lemmas.List.Elements.{All-nil, All-cons, All-append, All-from_get_or}
 use Rattle.std.proofs.lemmas.Str.Parse.{IsNumeralModel, numerals_by_value, tells_by_index}
 use Rattle.bn_base.specs.Line.{IsInLine}
-use Rattle.bn_base.specs.LineLaws.{lines-agree}
+use Rattle.bn_base.proofs.LineLemmas.{lines-agree}
 use Rattle.bn_base.specs.Number.{greatest, AreDigits}
 use Rattle.bn_entries.specs.Forms.{is_name_byte, is_state_name}
 use Rattle.bn_session.specs.Sentences.{Sentence, Step, Back, Go, Rev, BreakState, BreakElement, Drop, View, is_label, sentence_text, IsSayable}

@@ -13,8 +13,8 @@ use Rattle.std.proofs.Math.Seq.{drop-append_seam, take-append_seam}
 use Rattle.bn_base.specs.Number.{greatest}
 use Rattle.bn_entries.specs.Forms.{is_state_name}
 use Rattle.bn_netlist.specs.Reading.{word_taken, number_after}
-use Rattle.bn_netlist.specs.ReadingLaws.{word_taken-takes, word_taken-again}
-use Rattle.bn_netlist.specs.SentenceLaws.{number_after-takes, number_after-again}
+use Rattle.bn_netlist.proofs.LineReadingLemmas.{word_taken-takes, word_taken-again}
+use Rattle.bn_netlist.proofs.SentenceLemmas.{number_after-takes, number_after-again}
 use Rattle.bn_session.specs.Sentences.{Sentence, Step, Back, Go, Rev, BreakState, BreakElement, Drop, View, is_label, sentence_text, IsSayable}
 use Rattle.bn_session.specs.Reading.{at_least_one, ordinal_after, label_by, label_after, name_by, name_after, label_len, condition_in, labelled, breakpoint_in, breakpoint_after, view_in, sentence_in}
 

@@ -8,7 +8,7 @@ use Rattle.bn_base.specs.declared.lines.NextLine.{NextLine}
 use Rattle.bn_base.specs.declared.lines.NextLine.TheVariants.{Whole, Cut, End}
 use Rattle.std.specs.Borrow.{Bor}
 use Rattle.bn_session.specs.declared.sentence.Sentence.{Sentence as Kept}
-use Rattle.bn_base.specs.LineLaws.{lines-agree, cut-lines-differ}
+use Rattle.bn_base.proofs.LineLemmas.{lines-agree, cut-lines-differ}
 use Rattle.bn_session.specs.Sentences.{Sentence, Step, Back, Go, Rev, BreakState, BreakElement, Drop, View, IsSayable, sentence_text, lines_text}
 use Rattle.bn_session.specs.Reading.{said, sentence_in}
 use Rattle.bn_session.specs.Labels.{standing_after, standing_by}
