@@ -1,8 +1,10 @@
 pub mod BreakLemmas
 pub mod LabelLemmas
 pub mod LineLemmas
+pub mod PlaceLemmas
 pub mod ReadingLemmas
 pub mod OneReading
 pub mod ScriptLemmas
 pub mod SomeReading
 pub mod StateLemmas
+pub mod WalkLemmas

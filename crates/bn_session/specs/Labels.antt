@@ -1,5 +1,5 @@
 -- The labels of the breakpoints that stand, in the order in which they were set.
-use Rattle.std.specs.Prelude.{bytes_eq, ℕ, Bool, List, [], ◌∷◌, ◌++◌, fold, if◌then◌else◌}
+use Rattle.std.specs.Prelude.{bytes_eq, ◌≡◌, ℕ, Bool, true, false, List, [], ◌∷◌, ◌++◌, fold, if◌then◌else◌}
 use Rattle.std.specs.List.{list_any}
 use Rattle.bn_session.specs.declared.command.Command.{Command}
 use Rattle.bn_session.specs.declared.command.Command.TheVariants.{BreakState, BreakElement, Drop}
@@ -23,3 +23,15 @@ standing_after standing _ = standing
 -- the labels that stand after these commands
 abbrev pub standing_by : List Command → List (List ℕ)
 standing_by commands = fold standing_after [] commands
+
+-- a label that is set is new, and one that goes stands
+abbrev pub IsOrderly : List (List ℕ) → Command → Type 0
+IsOrderly standing (BreakState label state) = stands label standing ≡ false
+IsOrderly standing (BreakElement label element) = stands label standing ≡ false
+IsOrderly standing (Drop label) = stands label standing ≡ true
+IsOrderly standing _ = Unit {0}
+
+-- the same of commands one after another
+abbrev pub AreOrderly : List (List ℕ) → List Command → Type 0
+AreOrderly standing [] = Unit {0}
+AreOrderly standing (x ∷ xs) = IsOrderly standing x × AreOrderly (standing_after standing x) xs

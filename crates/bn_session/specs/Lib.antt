@@ -5,4 +5,7 @@ pub mod Reading
 pub mod Progress
 pub mod Breakpoints
 pub mod Kept
+pub mod Plays
+pub mod Walks
+pub mod Boards
 pub mod Laws
