@@ -2,6 +2,7 @@ pub mod BreakLemmas
 pub mod LabelLemmas
 pub mod LineLemmas
 pub mod PlaceLemmas
+pub mod PlayLemmas
 pub mod ReadingLemmas
 pub mod OneReading
 pub mod ScriptLemmas

@@ -60,3 +60,9 @@ pub record GrowsByFront (old new text : List ℕ) : Type 0 where
   pub rest : List ℕ
   pub cut : text ≡ front ++ rest
   pub written : new ≡ old ++ front
+
+-- the script was played up to this session
+pub record IsPlayedTo (shows : Flattened → List ℕ) (b : Flattened) (xs : List Command) (end : Session) (old new : List ℕ) : Type 0 where
+  pub text : List ℕ
+  pub plays : PlaysOn shows b [] xs end text
+  pub written : new ≡ old ++ text

@@ -11,27 +11,33 @@ use bn_quad::QuadNames;
 use std::alloc::Global;
 use std::marker::Model;
 
-/// A script: commands, one after another. Contracts see the list of them.
+/// A script: commands, one after another. A label that is set is new, and one that is taken away stands. Contracts see
+/// the list of the commands.
 #[derive(Drop)]
 pub struct Script {
     commands: Vec<Command>,
 }
 
 impl Model for Script {
-    ghost use Rattle.std.specs.Prelude.{List};
+    ghost use Rattle.std.specs.Prelude.{List, []};
+    ghost use Rattle.bn_session.specs.Labels.{AreOrderly};
     ghost use Rattle.bn_session.specs.declared.command.Command.{Command};
 
     ghost Value = { List Command };
 
     ghost view = { λ s. s.commands.items };
+
+    ghost invariant = { λ s. AreOrderly [] s.commands.items };
 }
 
 impl Script {
-    ghost use Rattle.std.specs.Prelude.{◌≡◌};
+    ghost use Rattle.std.specs.Prelude.{◌≡◌, []};
+    ghost use Rattle.bn_session.specs.Labels.{AreOrderly};
 
     /// The commands, in the order of their lines. It takes no memory.
     pub fn commands(&self) -> &[Command]
-        ensures { result.now ≡ self.now }
+        ensures commands { result.now ≡ self.now }
+        ensures orderly { AreOrderly [] self.now }
     {
         self.commands.as_slice()
     }
