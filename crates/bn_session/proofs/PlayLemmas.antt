@@ -56,7 +56,7 @@ labels_without label (b ∷ bs) = by (bytes_eq label b.label) (labels_without la
     by false later = ap (λ ls. b.label ∷ ls) later
 
 -- the labels that stand after a command are those that the reading of the script takes to stand
-pub labels_after : (k : Circuit) (moment : Config → Option ℕ) (shows : Config → List ℕ) (x : Command) (s t : Session) (text : List ℕ) → PlaysOne k moment shows x s t text → labels_of t.breaks ≡ standing_after (labels_of s.breaks) x
+pub labels_after : (k : Circuit) (moment : Config → Option ℕ) (shows : Config → List ℕ → Type 0) (x : Command) (s t : Session) (text : List ℕ) → PlaysOne k moment shows x s t text → labels_of t.breaks ≡ standing_after (labels_of s.breaks) x
 labels_after k moment shows (commands.Step e) s t text p = ap (λ u. labels_of u.breaks) p.0
 labels_after k moment shows (commands.Back e) s t text p = ap (λ u. labels_of u.breaks) p.0
 labels_after k moment shows (commands.Go e) s t text p = ap labels_of p.1
@@ -84,7 +84,7 @@ asked_orderly names standing (s ∷ ss) xs (x, more, is, sayable, asks, rest) =
 
 -- ---- a script
 
-plays-more : (k : Circuit) (moment : Config → Option ℕ) (shows : Config → List ℕ) (xs : List Command) (x : Command) (s u t : Session) (text line : List ℕ) → Plays k moment shows xs s u text → PlaysOne k moment shows x u t line → Plays k moment shows (xs ++ x ∷ []) s t (text ++ line)
+plays-more : (k : Circuit) (moment : Config → Option ℕ) (shows : Config → List ℕ → Type 0) (xs : List Command) (x : Command) (s u t : Session) (text line : List ℕ) → Plays k moment shows xs s u text → PlaysOne k moment shows x u t line → Plays k moment shows (xs ++ x ∷ []) s t (text ++ line)
 plays-more k moment shows [] x s u t text line p one =
     let whole : PlaysOne k moment shows x s t line = subst (λ v. PlaysOne k moment shows x v t line) p.0 one in
     (t, line, [], whole, (refl, refl), ap (λ r. r ++ line) p.1 ∙ sym (append-nil line))

@@ -5,7 +5,7 @@ use Rattle.bn_column.specs.Nets.{rotary_circuit}
 use Rattle.bn_layout.specs.Layouts.{moment_at}
 use Rattle.bn_flat.specs.Flattened.{Flattened}
 use Rattle.bn_session.specs.Breakpoints.{Breakpoint}
-use Rattle.bn_session.specs.Plays.{Session, session, PlaysOne, Plays, IsLeftWithin}
+use Rattle.bn_session.specs.Plays.{Session, session, given, PlaysOne, Plays, IsLeftWithin}
 use Rattle.bn_session.specs.declared.command.Command.{Command}
 
 -- the same board in another configuration
@@ -13,8 +13,8 @@ abbrev pub board_at : Flattened → Config → Flattened
 board_at b c = record b { config = c }
 
 -- what views of a board show of its configurations, where they show this of boards
-abbrev pub shown_on : (Flattened → List ℕ) → Flattened → Config → List ℕ
-shown_on shows b c = shows (board_at b c)
+abbrev pub shown_on : (Flattened → List ℕ) → Flattened → Config → List ℕ → Type 0
+shown_on shows b = given (λ c. shows (board_at b c))
 
 -- a command, and a script, lead a board with these breakpoints to this session, and this is the answer
 abbrev pub PlaysOneOn : (Flattened → List ℕ) → Flattened → List Breakpoint → Command → Session → List ℕ → Type 0

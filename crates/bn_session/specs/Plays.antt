@@ -1,5 +1,5 @@
 -- How a script is played on a circuit, where it is known of which state a configuration is the moment, and what a view
--- of it shows (this project's own profile).
+-- of it may show (this project's own profile).
 use Rattle.std.specs.Prelude.{◌≡◌, ℕ, ◌<◌, ◌≤◌, ◌==◌, Bool, true, false, List, [], ◌∷◌, ◌++◌, Option, Some, None, codes, decimal, if◌then◌else◌}
 use Rattle.bn_theory.specs.Circuits.{Circuit}
 use Rattle.bn_theory.specs.Stepping.{run, back}
@@ -51,8 +51,12 @@ label_line word label = word ++ (label ++ 10 ∷ [])
 
 -- ---- commands
 
+-- a view shows what this function gives
+abbrev pub given : (Config → List ℕ) → Config → List ℕ → Type 0
+given shows c text = text ≡ shows c
+
 -- The command leads from session s to session t, and this is its answer.
-abbrev pub PlaysOne : Circuit → (Config → Option ℕ) → (Config → List ℕ) → Command → Session → Session → List ℕ → Type 0
+abbrev pub PlaysOne : Circuit → (Config → Option ℕ) → (Config → List ℕ → Type 0) → Command → Session → Session → List ℕ → Type 0
 PlaysOne k moment shows (Step e) s t text = (t ≡ session (run k s.config e) s.breaks) × (text ≡ place_line t.config None)
 PlaysOne k moment shows (Back e) s t text = (t ≡ session (back k s.config e) s.breaks) × (text ≡ place_line t.config None)
 PlaysOne k moment shows (Go e) s t text =
@@ -67,11 +71,11 @@ PlaysOne k moment shows (BreakElement label e) s t text =
     (t ≡ session s.config (s.breaks ++ breakpoint label (AtElement e) ∷ [])) × (text ≡ label_line (codes "break ") label)
 PlaysOne k moment shows (Drop label) s t text =
     (t ≡ session s.config (without_break label s.breaks)) × (text ≡ label_line (codes "drop ") label)
-PlaysOne k moment shows View s t text = (t ≡ s) × (text ≡ shows s.config)
+PlaysOne k moment shows View s t text = (t ≡ s) × shows s.config text
 
 -- The script leads from session s to session t, one command after another, and this is its answer.
 abbrev pub Plays :
-    Circuit → (Config → Option ℕ) → (Config → List ℕ) → List Command → Session → Session → List ℕ → Type 0
+    Circuit → (Config → Option ℕ) → (Config → List ℕ → Type 0) → List Command → Session → Session → List ℕ → Type 0
 Plays k moment shows [] s t text = (t ≡ s) × (text ≡ [])
 Plays k moment shows (x ∷ xs) s t text =
     (u : Session) × (first : List ℕ) × (rest : List ℕ) × PlaysOne k moment shows x s u first
@@ -79,7 +83,7 @@ Plays k moment shows (x ∷ xs) s t text =
 
 -- The script was left within a command: the configuration is that after this command, and the answer has the lines of the
 -- commands before it and a front of its own.
-pub record IsLeftWithin (k : Circuit) (moment : Config → Option ℕ) (shows : Config → List ℕ) (xs : List Command) (s : Session) (c : Config) (text : List ℕ) : Type 0 where
+pub record IsLeftWithin (k : Circuit) (moment : Config → Option ℕ) (shows : Config → List ℕ → Type 0) (xs : List Command) (s : Session) (c : Config) (text : List ℕ) : Type 0 where
   pub before : List Command
   pub command : Command
   pub behind : List Command
