@@ -8,4 +8,5 @@ pub mod Kept
 pub mod Plays
 pub mod Walks
 pub mod Boards
+pub mod Cuts
 pub mod Laws

@@ -4,6 +4,7 @@
 mod breaks;
 mod command;
 mod condition;
+mod cut;
 mod label;
 mod laws;
 mod lines;
@@ -18,8 +19,11 @@ mod states;
 mod walk;
 
 pub use command::Command;
+pub use cut::cut_script;
 pub use label::Label;
-pub use laws::scripts_have_one_reading;
+pub use laws::{
+    inputs_are_cut_once, plays_have_one_answer, plays_stay_on_the_run, scripts_have_one_reading,
+};
 pub use player::play;
 pub use refusal::ScriptRefusal;
 pub use script::{Script, read_script};
