@@ -15,22 +15,27 @@ use Rattle.bn_session.specs.Sentences.{Sentence}
 use Rattle.bn_session.specs.Sentences.{Step, Back, Go, Rev, BreakState, BreakElement, Drop, View}
 use Rattle.bn_session.specs.Scripts.{Asks, AskFor}
 use Rattle.bn_session.specs.Plays.{Session, session, named, place_line, PlaysOne, Plays, IsLeftWithin}
-use Rattle.bn_session.specs.Boards.{board_at, shown_on, PlaysOneOn, PlaysOn, IsPlayed, IsStopped, IsOnePlayed, IsOneLeft, IsPlayedTo, GrowsByFront}
+use Rattle.bn_session.specs.Boards.{board_at, shown_on, PlaysOneOn, PlaysOn, IsPlayed, IsStopped, IsOnePlayed, IsOneLeft, IsPlayedTo, Grows, GrowsByFront}
 use Rattle.bn_session.specs.declared.command.Command.{Command}
 use Rattle.bn_session.specs.declared.command.Command.TheVariants as commands
 
 -- ---- one command
 
 -- nothing of its answer was written
-pub left_unwritten : (shows : Flattened → List ℕ) (b : Flattened) (breaks : List Breakpoint) (x y : Command) (end : Session) (text : List ℕ) (c : Config) (old new : List ℕ) → x ≡ y → PlaysOneOn shows b breaks y end text → c ≡ end.config → new ≡ old
+pub left_unwritten : (shows : Flattened → List ℕ → Type 0) (b : Flattened) (breaks : List Breakpoint) (x y : Command) (end : Session) (text : List ℕ) (c : Config) (old new : List ℕ) → x ≡ y → PlaysOneOn shows b breaks y end text → c ≡ end.config → new ≡ old
     → IsOneLeft shows b breaks x c old new
 left_unwritten shows b breaks x y end text c old new is plays config kept =
     subst (λ z. IsOneLeft shows b breaks z c old new) (sym is) (record { end = end; front = []; rest = text; plays = plays; config = config; written = kept ∙ sym (append-nil old) })
 
 -- a front of a view was written
-pub left_view : (shows : Flattened → List ℕ) (b : Flattened) (breaks : List Breakpoint) (x : Command) (old new : List ℕ) → x ≡ commands.View → GrowsByFront old new (shows b) → IsOneLeft shows b breaks x b.config old new
+pub left_view : (shows : Flattened → List ℕ → Type 0) (b : Flattened) (breaks : List Breakpoint) (x : Command) (old new : List ℕ) → x ≡ commands.View → GrowsByFront (shows b) old new → IsOneLeft shows b breaks x b.config old new
 left_view shows b breaks x old new is cut =
-    subst (λ z. IsOneLeft shows b breaks z b.config old new) (sym is) (record { end = session b.config breaks; front = cut.front; rest = cut.rest; plays = (refl, sym cut.cut); config = refl; written = cut.written })
+    subst (λ z. IsOneLeft shows b breaks z b.config old new) (sym is) (record { end = session b.config breaks; front = cut.front; rest = cut.rest; plays = (refl, cut.is); config = refl; written = cut.written })
+
+-- a view was written
+pub view_written : (shows : Flattened → List ℕ → Type 0) (b : Flattened) (breaks : List Breakpoint) (x : Command) (old new : List ℕ) → x ≡ commands.View → Grows (shows b) old new → IsOnePlayed shows b breaks x (session b.config breaks) old new
+view_written shows b breaks x old new is grows =
+    subst (λ z. IsOnePlayed shows b breaks z (session b.config breaks) old new) (sym is) (record { text = grows.0; plays = (refl, grows.1); written = grows.2 })
 
 -- the label that is answered is the one that is named
 pub named_is : (a b : Flattened) → IsSameBoard a b → (breaks : List Breakpoint) (c : Config) (o : Option (Bor (List ℕ))) → MatchOption o (named (moment_at b.layout) breaks c b.config ≡ None) (λ label. named (moment_at b.layout) breaks c b.config ≡ Some label.now)
@@ -39,7 +44,7 @@ named_is a b same breaks c None h = sym h ∙ ap (λ l. named (moment_at l) brea
 named_is a b same breaks c (Some label) h = sym h ∙ ap (λ l. named (moment_at l) breaks c b.config) same.layout
 
 -- a command was played, and the line of its place written
-pub place_written : (shows : Flattened → List ℕ) (b : Flattened) (breaks : List Breakpoint) (x y : Command) (end : Session) (label other : Option (List ℕ)) (old new : List ℕ) → x ≡ y → PlaysOneOn shows b breaks y end (place_line end.config other) → label ≡ other
+pub place_written : (shows : Flattened → List ℕ → Type 0) (b : Flattened) (breaks : List Breakpoint) (x y : Command) (end : Session) (label other : Option (List ℕ)) (old new : List ℕ) → x ≡ y → PlaysOneOn shows b breaks y end (place_line end.config other) → label ≡ other
     → new ≡ old ++ place_line end.config label → IsOnePlayed shows b breaks x end old new
 place_written shows b breaks x y end label other old new is plays same written =
     subst (λ z. IsOnePlayed shows b breaks z end old new) (sym is) (record { text = place_line end.config other; plays = plays; written = written ∙ ap (λ l. old ++ place_line end.config l) same })
@@ -95,7 +100,7 @@ plays-more k moment shows (y ∷ xs) x s u t text line (v, first, rest, plays, m
 same_board_is : (a b : Flattened) → IsSameBoard a b → b ≡ board_at a b.config
 same_board_is a b same = λ i. record { net = same.net i; config = b.config; start = same.start i; end = same.end i; layout = same.layout i }
 
-module _ (shows : Flattened → List ℕ) (a b : Flattened) (same : IsSameBoard a b) (xs : List Command) (breaks : List Breakpoint) (old mid new : List ℕ) (x : Command) (before : IsPlayedTo shows a xs (session b.config breaks) old mid) where
+module _ (shows : Flattened → List ℕ → Type 0) (a b : Flattened) (same : IsSameBoard a b) (xs : List Command) (breaks : List Breakpoint) (old mid new : List ℕ) (x : Command) (before : IsPlayedTo shows a xs (session b.config breaks) old mid) where
   pub one_more : (end : Session) → IsOnePlayed shows b breaks x end mid new → IsPlayedTo shows a (xs ++ x ∷ []) end old new
   one_more end one =
       let plays = subst (λ c. PlaysOneOn shows c breaks x end one.text) (same_board_is a b same) one.plays in
@@ -114,10 +119,10 @@ module _ (shows : Flattened → List ℕ) (a b : Flattened) (same : IsSameBoard 
         written = one.written ∙ ap (λ r. r ++ one.front) before.written ∙ append_assoc old before.text one.front;
       }
 
-pub none_played : (shows : Flattened → List ℕ) (b : Flattened) (old : List ℕ) → IsPlayedTo shows b [] (session b.config []) old old
+pub none_played : (shows : Flattened → List ℕ → Type 0) (b : Flattened) (old : List ℕ) → IsPlayedTo shows b [] (session b.config []) old old
 none_played shows b old = record { text = []; plays = (refl, refl); written = sym (append-nil old) }
 
-pub all_played : (shows : Flattened → List ℕ) (b : Flattened) (xs : List Command) (end : Session) (old new : List ℕ) → IsPlayedTo shows b xs end old new → IsPlayed shows b xs end.config old new
+pub all_played : (shows : Flattened → List ℕ → Type 0) (b : Flattened) (xs : List Command) (end : Session) (old new : List ℕ) → IsPlayedTo shows b xs end old new → IsPlayed shows b xs end.config old new
 all_played shows b xs end old new h = record { end = end; text = h.text; plays = h.plays; config = refl; written = h.written }
 
 -- ---- where the loop is

@@ -19,7 +19,7 @@ use bn_flat::Board;
 use std::alloc::Global;
 
 /// Plays a script on a board, from no breakpoint, and appends its answer: a line for each command but the views, for
-/// which `shows` appends the text. After `NoMemory` either nothing has changed, or the script was left within a command:
+/// which `shows` appends a text. After `NoMemory` either nothing has changed, or the script was left within a command:
 /// the board is at the configuration after this command, and `out` has grown by the answers to the commands before it
 /// and a front of its own. (This project's own profile.)
 pub fn play<W: Shows>(

@@ -9,7 +9,7 @@ use Rattle.bn_session.specs.Breakpoints.{breakpoint, without_break}
 use Rattle.bn_session.specs.Plays.{session, named, place_line, label_line}
 use Rattle.bn_session.specs.declared.command.Command.TheVariants.{Step, Back, Go, Rev, BreakState, BreakElement, Drop, View}
 use Rattle.bn_session.specs.declared.condition.Condition.TheVariants.{AtState, AtElement}
-use Rattle.bn_session.proofs.PlayLemmas.{left_unwritten, left_view, named_is, place_written}
+use Rattle.bn_session.proofs.PlayLemmas.{left_unwritten, left_view, view_written, named_is, place_written}
 use Rattle.bn_session.proofs.player.play_command.Goals as goal
 
 pub returns-in-Step-clause-left : goal.returns-in-Step-clause-left
@@ -49,6 +49,10 @@ returns-in-BreakElement-clause-left g c =
 pub returns-in-Drop-clause-left : goal.returns-in-Drop-clause-left
 returns-in-Drop-clause-left g c =
     on_err_weaker c.write_label.result (λ kept. left_unwritten (g.W.Shows.text c.args.shows.now) c.args.board.now c.args.breaks.now c.args.command.now (Drop c.in-Drop.label) (session c.args.board.now.config (without_break c.in-Drop.label c.args.breaks.now)) (label_line (codes "drop ") c.in-Drop.label) c.args.board.now.config c.args.out.now.items c.write_label.new.out.items c.in-Drop.is (refl, refl) refl kept) c.write_label.ensures.err
+
+pub returns-in-View-clause-played : goal.returns-in-View-clause-played
+returns-in-View-clause-played g c =
+    on_ok_weaker c.show.result (λ grows. view_written (g.W.Shows.text c.args.shows.now) c.args.board.now c.args.breaks.now c.args.command.now c.args.out.now.items c.show.new.out.items c.in-View.is grows) c.show.ensures.shown
 
 pub returns-in-View-clause-left : goal.returns-in-View-clause-left
 returns-in-View-clause-left g c =
