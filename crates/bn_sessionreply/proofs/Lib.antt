@@ -1,0 +1,4 @@
+pub mod CutLemmas
+pub mod AlikeLemmas
+pub mod SettledLemmas
+pub mod ClosedLemmas

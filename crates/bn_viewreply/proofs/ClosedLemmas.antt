@@ -17,10 +17,10 @@ found = shown-found run_to_exit have_moments
 views : ViewsStand
 views = views-stand uniform stand (first-moment costs have-entries) read_off run_to_exit have_moments
 
-one : ViewsAreOne
+pub one : ViewsAreOne
 one = views-one exits-one found
 
-there : ViewsAreThere
+pub there : ViewsAreThere
 there = views-there exits-one read_off run_to_exit found views
 
 -- `view` has one answer

@@ -49,7 +49,7 @@ module _ (f g : Flat) (same : AreSameFlats f g) (limits : f.limits ≡ g.limits)
   comes_there u a h = subst (λ c. IsBoardMoment (machine_of g) g.limits g.names g.network c a) (after_same f g same limits u) (moment_there f g (after f u) a same.translation limits same.names same.network.tables h)
 
   module _ (back : (u a : ℕ) → Comes g u a → Comes f u a) where
-    view_there : (steps : ℕ) (v : Layers) → IsViewOf f (after f steps) v → IsViewOf g (after g steps) v
+    pub view_there : (steps : ℕ) (v : Layers) → IsViewOf f (after f steps) v → IsViewOf g (after g steps) v
     view_there steps v h =
         let configs = after_same f g same limits steps in
         let shown : IsShown (Comes g) (initial_of (machine_of f).rules) (after f steps).steps h.step v.state =
@@ -75,13 +75,13 @@ module _ (f g : Flat) (same : AreSameFlats f g) (limits : f.limits ≡ g.limits)
     module_same p e (CellInside tape position) = refl
     module_same p e Outside = exit_same f g same limits t p e
 
-    text_same : (v : Layers) → view_text t f v ≡ view_text t g v
+    pub text_same : (v : Layers) → view_text t f v ≡ view_text t g v
     text_same v =
         let modules = module_same v.place v.exit v.module in
         λ i. element_line v.place v.steps ++ (modules i ++ (state_line (name_of (same.translation i) v.state)
         ++ (tape_lines t v.tapes.one v.tapes.two v.tapes.three ++ machine_line t v.stage v.machine v.machine_step)))
 
-turned : (f g : Flat) → AreSameFlats f g → f.limits ≡ g.limits → (u a : ℕ) → Comes g u a → Comes f u a
+pub turned : (f g : Flat) → AreSameFlats f g → f.limits ≡ g.limits → (u a : ℕ) → Comes g u a → Comes f u a
 turned f g same limits u a h =
     subst (λ c. IsBoardMoment (machine_of f) f.limits f.names f.network c a) (sym (after_same f g same limits u)) (moment_there g f (after g u) a (sym same.translation) (sym limits) (sym same.names) (sym same.network.tables) h)
 
