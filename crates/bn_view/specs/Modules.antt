@@ -7,7 +7,8 @@ use Rattle.bn_flat.specs.Locations.{IsLocated}
 use Rattle.bn_flat.specs.declared.located.Located.{Located}
 use Rattle.bn_flat.specs.declared.located.Located.TheVariants as located
 use Rattle.bn_view.specs.declared.layers.ModuleAt.{ModuleAt}
-use Rattle.bn_view.specs.declared.layers.ModuleAt.TheVariants.{ControlLine, ControlInside, CellLine, CellInside, Outside}
+use Rattle.bn_view.specs.declared.layers.ModuleAt.TheVariants.{ControlLine, ControlInside, CellLine}
+use Rattle.bn_view.specs.declared.layers.ModuleAt.TheVariants.{CellInside, Outside}
 
 -- in the control, and in the cell of a tape with z symbols, by the input line that is entered, if one is
 abbrev pub in_control : Option ℕ → ModuleAt

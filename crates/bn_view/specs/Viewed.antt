@@ -29,7 +29,8 @@ use Rattle.bn_view.specs.Modules.{IsModuleAt}
 
 -- The board is f's, which a machine, a word and limits come to; this translation is its machine's, and the board was
 -- made at f's start.
-pub record IsBoardFor (p : Program) (word : List ℕ) (l : Limits) (f : Flat) (t : Translation) (b : Flattened) : Type 0 where
+pub record IsBoardFor (p : Program) (word : List ℕ) (l : Limits) (f : Flat) (t : Translation)
+    (b : Flattened) : Type 0 where
   pub flat : IsFlatOf p word l f
   pub accepted : IsAccepted p word l f
   pub translation : f.translation ≡ t
@@ -81,8 +82,8 @@ pub record IsView (t : Translation) (b : Flattened) (v : Layers) : Type 0 where
   pub exit : IsExit b.layout b.config.place v.exit
   pub located : IsModuleAt b.layout b.config.place v.module
   pub step : ℕ
-  pub shown : IsShown (Finds b.layout (rotary_circuit b.net) (origin b)) (initial_of t.machine.rules) b.config.steps step
-      v.state
+  pub shown : IsShown (Finds b.layout (rotary_circuit b.net) (origin b)) (initial_of t.machine.rules)
+      b.config.steps step v.state
   pub tapes : v.tapes ≡ spelled_by b.layout (run (rotary_circuit b.net) (origin b) step).states
   pub stage : v.stage ≡ stage_by (name_of t v.state)
   pub machine : v.machine ≡ machine_state_by t.final_state (name_of t v.state)

@@ -31,7 +31,8 @@ pub fn view(alloc: Global, board: &Board, translated: &Translated) -> Result<Lay
     requires { IsBoardOf translated.now board.now }
     ensures place { IfOk result (λ v. v.place ≡ board.now.config.place) }
     ensures steps { IfOk result (λ v. v.steps ≡ board.now.config.steps) }
-    ensures from_start { IfOk result (λ v. v.place ≡ (run (rotary_circuit board.now.net) (origin board.now) v.steps).place) }
+    ensures from_start { IfOk result (λ v. v.place
+        ≡ (run (rotary_circuit board.now.net) (origin board.now) v.steps).place) }
     ensures known { IfOk result (λ v. v.state < translated.now.machine.states) }
     ensures view { IfOk result (λ v. (p : Program) (word : List ℕ) (l : Limits) (f : Flat)
         → IsBoardFor p word l f translated.now board.now → IsViewOf f board.now.config v) }

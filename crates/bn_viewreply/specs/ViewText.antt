@@ -22,7 +22,8 @@ use Rattle.bn_reply.specs.Lines.{line}
 use Rattle.bn_boardanswers.specs.RunText.{exit_line, position_text, tape_lines}
 use Rattle.bn_view.specs.declared.layers.Layers.{Layers}
 use Rattle.bn_view.specs.declared.layers.ModuleAt.{ModuleAt}
-use Rattle.bn_view.specs.declared.layers.ModuleAt.TheVariants.{ControlLine, ControlInside, CellLine as AtCellLine, CellInside, Outside}
+use Rattle.bn_view.specs.declared.layers.ModuleAt.TheVariants.{ControlLine, ControlInside}
+use Rattle.bn_view.specs.declared.layers.ModuleAt.TheVariants.{CellLine as AtCellLine, CellInside, Outside}
 
 -- ---- names of lines
 
