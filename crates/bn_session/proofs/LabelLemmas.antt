@@ -1,5 +1,5 @@
 -- Labels in a set of owned bytes.
-use Rattle.std.specs.Prelude.{◌≡◌, bytes_eq, ℕ, Bool, true, false, cond, List, [], ◌∷◌, map, refl}
+use Rattle.std.specs.Prelude.{◌≡◌, bytes_eq, ℕ, Bool, true, false, List, [], ◌∷◌, map, refl}
 use Rattle.indexmap.specs.IndexSet.{remove_key}
 use Rattle.bn_session.specs.Labels.{without}
 

@@ -11,3 +11,4 @@ pub mod ScriptLemmas
 pub mod SomeReading
 pub mod StateLemmas
 pub mod WalkLemmas
+pub mod WordLemmas

@@ -1,14 +1,14 @@
 -- Bytes are read in one way: two readings go on together.
-use Rattle.std.specs.Prelude.{◌≡◌, ◌≢◌, ℕ, ◌+◌, ◌<◌, ◌≤◌, Bool, true, false, List, [], ◌∷◌, ◌++◌, length, fold, slice_get, Option, Some, None, Contains, ◌⊎◌, refl}
+use Rattle.std.specs.Prelude.{◌≡◌, ◌≢◌, ℕ, ◌+◌, ◌≤◌, true, false, List, [], ◌∷◌, ◌++◌, length, fold, slice_get, Some, Contains, ◌⊎◌, refl}
 use Rattle.std.proofs.Common.{sym, ap, subst, ◌∙◌, arith, inl, inr, append_assoc}
-use Rattle.std.proofs.lemmas.List.{append-nil, length-append}
+use Rattle.std.proofs.lemmas.List.{append-nil}
 use Rattle.std.proofs.lemmas.Bool.{cases_lt}
 use Rattle.std.proofs.lemmas.Option.{slice_get-get_or, slice_get_within}
 use Rattle.bn_quad.specs.Names.{AreApart}
-use Rattle.bn_session.specs.Labels.{stands, standing_after, standing_by}
+use Rattle.bn_session.specs.Labels.{standing_after, standing_by}
 use Rattle.bn_session.specs.Sentences.{Sentence, Step, Back, Go, Rev, BreakState, BreakElement, Drop, View, IsSayable, sentence_text, lines_text}
 use Rattle.bn_session.specs.Scripts.{Asks, AskFor, IsScript, Fault, malformed, no_state, same_break, no_break, IsFaulty, IsMalformed, BeginsFaulty, BeginsWithFault, IsFirstFault}
-use Rattle.bn_session.specs.Laws.{ScriptsAreOne, FaultyScriptsAreNone, FirstFaultsAreOne, ScriptsReadOrFault}
+use Rattle.bn_session.specs.Laws.{ScriptsAreOne, FaultyScriptsAreNone, FirstFaultsAreOne}
 use Rattle.bn_session.specs.declared.command.Command.{Command}
 use Rattle.bn_session.specs.declared.command.Command.TheVariants as commands
 use Rattle.bn_session.proofs.LineLemmas.{lines-same}

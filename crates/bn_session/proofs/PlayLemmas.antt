@@ -1,8 +1,8 @@
 -- How a script is played, one command after another.
-use Rattle.std.specs.Prelude.{◌≡◌, ℕ, ◌+◌, ◌<◌, ◌==◌, bytes_eq, cond, Bool, true, false, List, [], ◌∷◌, ◌++◌, length, map, take, drop, Option, Some, None, MatchOption, refl}
+use Rattle.std.specs.Prelude.{◌≡◌, ℕ, ◌+◌, ◌<◌, bytes_eq, cond, Bool, true, false, List, [], ◌∷◌, ◌++◌, length, take, drop, Option, Some, None, MatchOption, refl}
 use Rattle.std.specs.Borrow.{Bor}
 use Rattle.std.specs.Option.{option_copied}
-use Rattle.std.proofs.Common.{sym, ap, subst, ◌∙◌, arith, append_assoc, get_or}
+use Rattle.std.proofs.Common.{sym, ap, subst, ◌∙◌, append_assoc, get_or}
 use Rattle.std.proofs.lemmas.List.{append-nil, map-append, take-append-drop, take_more, drop_more}
 use Rattle.bn_theory.specs.Circuits.{Circuit}
 use Rattle.bn_theory.specs.declared.config.Config.{Config}
@@ -10,12 +10,12 @@ use Rattle.bn_column.specs.Nets.{rotary_circuit}
 use Rattle.bn_layout.specs.Layouts.{moment_at}
 use Rattle.bn_flat.specs.Flattened.{Flattened, IsSameBoard}
 use Rattle.bn_session.specs.Labels.{without, standing_after, IsOrderly, AreOrderly}
-use Rattle.bn_session.specs.Breakpoints.{Breakpoint, breakpoint, labels_of, without_break}
+use Rattle.bn_session.specs.Breakpoints.{Breakpoint, labels_of, without_break}
 use Rattle.bn_session.specs.Sentences.{Sentence}
 use Rattle.bn_session.specs.Sentences.{Step, Back, Go, Rev, BreakState, BreakElement, Drop, View}
 use Rattle.bn_session.specs.Scripts.{Asks, AskFor}
-use Rattle.bn_session.specs.Plays.{Session, session, named, place_line, PlaysOne, Plays, IsLeftWithin}
-use Rattle.bn_session.specs.Boards.{board_at, shown_on, PlaysOneOn, PlaysOn, IsPlayed, IsStopped, IsOnePlayed, IsOneLeft, IsPlayedTo, Grows, GrowsByFront}
+use Rattle.bn_session.specs.Plays.{Session, session, named, place_line, PlaysOne, Plays}
+use Rattle.bn_session.specs.Boards.{board_at, shown_on, PlaysOneOn, IsPlayed, IsStopped, IsOnePlayed, IsOneLeft, IsPlayedTo, Grows, GrowsByFront}
 use Rattle.bn_session.specs.declared.command.Command.{Command}
 use Rattle.bn_session.specs.declared.command.Command.TheVariants as commands
 

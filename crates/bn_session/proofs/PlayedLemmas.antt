@@ -4,7 +4,7 @@ use Rattle.std.proofs.Common.{zero, suc, arith, sym, ap, subst, ◌∙◌, inl, 
 use Rattle.std.proofs.lemmas.Bool.{cases_lt, cases_order, cases_Bool, false≢true}
 use Rattle.bn_theory.specs.Runs.{Reaches}
 use Rattle.bn_theory.specs.Circuits.{Circuit, Goes, IsCircuit, IsStuck}
-use Rattle.bn_theory.specs.Stepping.{run, back, next, previous}
+use Rattle.bn_theory.specs.Stepping.{run, back}
 use Rattle.bn_theory.specs.RunLaws.{Makes}
 use Rattle.bn_theory.proofs.RunsLemmas.{runs_join}
 use Rattle.bn_theory.proofs.RunPartLemmas.{runs_split}

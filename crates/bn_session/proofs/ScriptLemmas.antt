@@ -13,7 +13,7 @@ use Rattle.bn_session.specs.Sentences.{Sentence, Step, Back, Go, Rev, BreakState
 use Rattle.bn_session.specs.Reading.{said, sentence_in}
 use Rattle.bn_session.specs.Labels.{standing_after, standing_by}
 use Rattle.bn_session.specs.Scripts.{Asks, AskFor, IsScript, IsFirstFault, Fault, malformed, no_state, same_break, no_break, IsFaulty, IsMalformed, BeginsWithFault, IsRefusalOf}
-use Rattle.bn_session.specs.Progress.{AtLine, HasRead, IsAsked, HasFault, IsLineFault, AsksNext}
+use Rattle.bn_session.specs.Progress.{AtLine, HasRead, IsAsked, IsLineFault, AsksNext}
 use Rattle.bn_session.specs.declared.command.Command.{Command}
 use Rattle.bn_session.specs.declared.refusal.ScriptRefusal.{ScriptRefusal}
 use Rattle.bn_session.specs.declared.refusal.ScriptRefusal.TheVariants.{Form, NoState, SameBreak, NoBreak, NoMemory}

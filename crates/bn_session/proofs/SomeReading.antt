@@ -1,7 +1,7 @@
 -- Bytes are read to their end, or to their first fault.
-use Rattle.std.specs.Prelude.{◌≡◌, ◌≢◌, bytes_eq, ℕ, zero, suc, ◌+◌, ◌<◌, ◌≤◌, Bool, true, false, List, [], ◌∷◌, ◌++◌, length, fold, slice_get, position, Option, Some, None, Contains, ◌⊎◌, refl}
+use Rattle.std.specs.Prelude.{◌≡◌, ◌≢◌, bytes_eq, ℕ, zero, suc, ◌+◌, ◌<◌, true, false, List, [], ◌∷◌, ◌++◌, length, position, Option, Some, None, Contains, ◌⊎◌, refl}
 use Rattle.std.specs.List.{list_any}
-use Rattle.std.proofs.Common.{sym, ap, subst, ◌∙◌, arith, inl, inr, get_or}
+use Rattle.std.proofs.Common.{sym, ap, ◌∙◌, arith, inl, inr, get_or}
 use Rattle.std.proofs.lemmas.Bool.{cases_Bool}
 use Rattle.std.proofs.lemmas.Bool.Decides.{eqb_tells}
 use Rattle.std.proofs.lemmas.List.Elements.{All-nil, All-cons}
@@ -11,7 +11,7 @@ use Rattle.std.proofs.lemmas.Slice.Eq.{bytes_eq-Decides}
 use Rattle.bn_base.specs.Line.{IsInLine}
 use Rattle.bn_entries.proofs.PlaceFacts.{found, missing}
 use Rattle.bn_session.specs.Labels.{stands, standing_after, standing_by}
-use Rattle.bn_session.specs.Sentences.{Sentence, Step, Back, Go, Rev, BreakState, BreakElement, Drop, View, IsSayable, sentence_text}
+use Rattle.bn_session.specs.Sentences.{Sentence, Step, Back, Go, Rev, BreakState, BreakElement, Drop, View}
 use Rattle.bn_session.specs.Reading.{sentence_in}
 use Rattle.bn_session.specs.Scripts.{Asks, IsScript, Fault, malformed, no_state, same_break, no_break, IsFaulty, BeginsWithFault, IsFirstFault}
 use Rattle.bn_session.specs.Progress.{AsksNext, HasRead}

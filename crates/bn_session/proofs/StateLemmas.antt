@@ -1,6 +1,6 @@
 -- Numbers of states kept by name.
-use Rattle.std.specs.Prelude.{◌≡◌, bytes_eq, ℕ, Bool, true, false, cond, List, [], ◌∷◌, All, Option, Some, None, slice_get, refl}
-use Rattle.std.proofs.Common.{sym, ap, subst, ◌∙◌}
+use Rattle.std.specs.Prelude.{◌≡◌, bytes_eq, ℕ, Bool, true, false, cond, List, [], ◌∷◌, All, Some, slice_get, refl}
+use Rattle.std.proofs.Common.{sym, ap, ◌∙◌}
 use Rattle.std.proofs.lemmas.List.Elements.{All-nil, All-cons, All-head, All-tail}
 use Rattle.std.proofs.lemmas.Option.{same_Some}
 use Rattle.std.proofs.lemmas.Slice.Eq.{bytes_eq-Decides}

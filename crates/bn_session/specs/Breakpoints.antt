@@ -1,5 +1,5 @@
 -- Breakpoints, and where they hold.
-use Rattle.std.specs.Prelude.{bytes_eq, ◌≡◌, ℕ, ◌==◌, Bool, false, List, [], ◌∷◌, Option, Some, None, map, if◌then◌else◌}
+use Rattle.std.specs.Prelude.{bytes_eq, ℕ, ◌==◌, Bool, false, List, [], ◌∷◌, Option, Some, None, map, if◌then◌else◌}
 use Rattle.std.specs.List.{list_any}
 use Rattle.bn_theory.specs.declared.place.Place.{Place}
 use Rattle.bn_theory.specs.declared.place.Place.TheVariants.{Enter, Left}

@@ -56,9 +56,12 @@ abbrev pub given : (Config → List ℕ) → Config → List ℕ → Type 0
 given shows c text = text ≡ shows c
 
 -- The command leads from session s to session t, and this is its answer.
-abbrev pub PlaysOne : Circuit → (Config → Option ℕ) → (Config → List ℕ → Type 0) → Command → Session → Session → List ℕ → Type 0
-PlaysOne k moment shows (Step e) s t text = (t ≡ session (run k s.config e) s.breaks) × (text ≡ place_line t.config None)
-PlaysOne k moment shows (Back e) s t text = (t ≡ session (back k s.config e) s.breaks) × (text ≡ place_line t.config None)
+abbrev pub PlaysOne :
+    Circuit → (Config → Option ℕ) → (Config → List ℕ → Type 0) → Command → Session → Session → List ℕ → Type 0
+PlaysOne k moment shows (Step e) s t text =
+    (t ≡ session (run k s.config e) s.breaks) × (text ≡ place_line t.config None)
+PlaysOne k moment shows (Back e) s t text =
+    (t ≡ session (back k s.config e) s.breaks) × (text ≡ place_line t.config None)
 PlaysOne k moment shows (Go e) s t text =
     IsStop (stops moment s.breaks) (run k s.config) e t.config × (t.breaks ≡ s.breaks)
     × (text ≡ place_line t.config (named moment s.breaks s.config t.config))
@@ -66,9 +69,11 @@ PlaysOne k moment shows (Rev e) s t text =
     IsStop (stops moment s.breaks) (back k s.config) e t.config × (t.breaks ≡ s.breaks)
     × (text ≡ place_line t.config (named moment s.breaks s.config t.config))
 PlaysOne k moment shows (BreakState label state) s t text =
-    (t ≡ session s.config (s.breaks ++ breakpoint label (AtState state) ∷ [])) × (text ≡ label_line (codes "break ") label)
+    (t ≡ session s.config (s.breaks ++ breakpoint label (AtState state) ∷ []))
+    × (text ≡ label_line (codes "break ") label)
 PlaysOne k moment shows (BreakElement label e) s t text =
-    (t ≡ session s.config (s.breaks ++ breakpoint label (AtElement e) ∷ [])) × (text ≡ label_line (codes "break ") label)
+    (t ≡ session s.config (s.breaks ++ breakpoint label (AtElement e) ∷ []))
+    × (text ≡ label_line (codes "break ") label)
 PlaysOne k moment shows (Drop label) s t text =
     (t ≡ session s.config (without_break label s.breaks)) × (text ≡ label_line (codes "drop ") label)
 PlaysOne k moment shows View s t text = (t ≡ s) × shows s.config text
@@ -81,9 +86,10 @@ Plays k moment shows (x ∷ xs) s t text =
     (u : Session) × (first : List ℕ) × (rest : List ℕ) × PlaysOne k moment shows x s u first
     × Plays k moment shows xs u t rest × (text ≡ first ++ rest)
 
--- The script was left within a command: the configuration is that after this command, and the answer has the lines of the
--- commands before it and a front of its own.
-pub record IsLeftWithin (k : Circuit) (moment : Config → Option ℕ) (shows : Config → List ℕ → Type 0) (xs : List Command) (s : Session) (c : Config) (text : List ℕ) : Type 0 where
+-- The script was left within a command: the configuration is that after this command, and the answer has the lines of
+-- the commands before it and a front of its own.
+pub record IsLeftWithin (k : Circuit) (moment : Config → Option ℕ) (shows : Config → List ℕ → Type 0)
+    (xs : List Command) (s : Session) (c : Config) (text : List ℕ) : Type 0 where
   pub before : List Command
   pub command : Command
   pub behind : List Command

@@ -33,7 +33,8 @@ IsLineFault names standing line malformed = (s : Sentence) → IsSayable s → l
 IsLineFault names standing line fault = HasFault names standing line fault
 
 -- what is left begins with a line that asks for this command, after which these labels stand, and this is behind it
-pub record AsksNext (names standing : List (List ℕ)) (left : List ℕ) (x : Command) (behind : List ℕ) (after : List (List ℕ)) : Type 0 where
+pub record AsksNext (names standing : List (List ℕ)) (left : List ℕ) (x : Command) (behind : List ℕ)
+    (after : List (List ℕ)) : Type 0 where
   pub says : Sentence
   pub begins : left ≡ sentence_text says ++ 10 ∷ behind
   pub sayable : IsSayable says

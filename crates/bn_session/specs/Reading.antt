@@ -1,10 +1,8 @@
 -- Reading a line of a script as a function of its bytes: proofs go through it, and no public clause cites it.
-use Rattle.std.specs.Prelude.{bytes_eq, ℕ, nat_le, ◌==◌, List, length, take, drop, Option, Some, None, option_map, option_and_then, if◌then◌else◌, Result, Ok, Err, codes}
+use Rattle.std.specs.Prelude.{bytes_eq, ℕ, nat_le, List, take, drop, Option, Some, None, option_map, option_and_then, if◌then◌else◌, codes}
 use Rattle.std.specs.List.{prefix_len}
 use Rattle.std.specs.Option.{option_or}
 use Rattle.std.specs.Char.{is_ascii_alphanumeric}
-use Rattle.bn_base.specs.Number.{read_number}
-use Rattle.bn_base.specs.declared.numbers.Digits.{Digits}
 use Rattle.bn_entries.specs.Forms.{is_state_name}
 use Rattle.bn_netlist.specs.Reading.{word_taken, number_after}
 use Rattle.bn_session.specs.Sentences.{Sentence, Step, Back, Go, Rev, BreakState, BreakElement, Drop, View, is_label}

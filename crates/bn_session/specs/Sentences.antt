@@ -1,5 +1,5 @@
--- What a line of a script says, and how it is written. Each line says one thing, in one spelling: words and numbers with
--- single spaces between them, and byte 10 at its end. The form is this project's own profile.
+-- What a line of a script says, and how it is written. Each line says one thing, in one spelling: words and numbers
+-- with single spaces between them, and byte 10 at its end. The form is this project's own profile.
 use Rattle.std.specs.Prelude.{◌≡◌, ℕ, ◌≤◌, nat_le, ◌&&◌, Bool, true, List, [], ◌∷◌, ◌++◌, length, codes, decimal}
 use Rattle.std.specs.List.{list_all}
 use Rattle.std.specs.Char.{is_ascii_alphanumeric}

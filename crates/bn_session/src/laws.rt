@@ -18,8 +18,8 @@ pub fn plays_have_one_answer()
     ensures some { PlaysAreThere }
 {}
 
-/// A script stays on the run from the start: each place is that of as many steps as its line says, and `go` stops at the
-/// least later step at which a breakpoint holds. So views that agree on this run give the same answers.
+/// A script stays on the run from the start: each place is that of as many steps as its line says, and `go` stops at
+/// the least later step at which a breakpoint holds. So views that agree on this run give the same answers.
 pub fn plays_stay_on_the_run()
     ensures places { PlacesAreOfTheRun }
     ensures least { GoesStopAtLeast }

@@ -19,7 +19,8 @@ pub(crate) fn write_place(
     named: Option<&[u8]>,
     out: &mut Vec<u8>,
 ) -> Result<(), NoMemory>
-    ensures ok { OnOk result (out.new.items ≡ out.old.items ++ place_line board.now.config (option_copied named.entry)) }
+    ensures ok { OnOk result (out.new.items ≡ out.old.items
+        ++ place_line board.now.config (option_copied named.entry)) }
     ensures err { OnErr result (out.new.items ≡ out.old.items) }
 {
     let line = place_line(alloc, board, named)?;

@@ -144,7 +144,7 @@ fn number_after(line: &[u8], word: &[u8]) -> Option<u64>
 }
 
 // What stands behind this word at the front of a line.
-#[tactic(auto, using(bn_netlist::proofs::LineReadingLemmas::word_passed, bn_netlist::proofs::LineReadingLemmas::word_missing))]
+#[tactic(auto, using(crate::proofs::WordLemmas::words))]
 fn behind<'a>(line: &'a [u8], word: &[u8]) -> Option<&'a [u8]>
     ensures { MatchOption result (word_taken word.now line.now ≡ None)
         (λ rest. word_taken word.now line.now ≡ Some rest.now) }

@@ -1,5 +1,5 @@
 -- The commands are played one after another.
-use Rattle.std.proofs.Common.{◌≡◌, ◌+◌, List, take, drop, length, inr, sym, subst, ap, ◌∙◌, arith, get_or}
+use Rattle.std.proofs.Common.{◌≡◌, ◌+◌, take, drop, inr, sym, subst, ◌∙◌}
 use Rattle.std.proofs.lemmas.List.{take_all}
 use Rattle.std.proofs.lemmas.Result.{err_from_is_err_and}
 use Rattle.bn_column.specs.Nets.{rotary_circuit}
@@ -8,7 +8,7 @@ use Rattle.bn_flat.proofs.CountingLemmas.{same_again}
 use Rattle.bn_session.specs.Labels.{AreOrderly}
 use Rattle.bn_session.specs.Breakpoints.{labels_of}
 use Rattle.bn_session.specs.Plays.{session}
-use Rattle.bn_session.specs.Boards.{IsPlayed, IsPlayedTo, shown_on}
+use Rattle.bn_session.specs.Boards.{IsPlayedTo, shown_on}
 use Rattle.bn_session.proofs.PlayLemmas.{one_more, one_left, all_played, whole_script, taken_more, orderly_next, labels_after}
 use Rattle.bn_session.proofs.player.play.Goals as goal
 

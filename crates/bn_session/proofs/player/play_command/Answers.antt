@@ -1,5 +1,5 @@
 -- What each command leaves, where its answer was written and where it wasn't.
-use Rattle.std.proofs.Common.{◌≡◌, refl, sym, ap, ◌∙◌, codes, None, ◌++◌, ◌∷◌, []}
+use Rattle.std.proofs.Common.{refl, codes, None, ◌++◌, ◌∷◌, []}
 use Rattle.std.specs.Option.{option_copied}
 use Rattle.std.proofs.lemmas.Result.{on_ok_weaker, on_err_weaker}
 use Rattle.bn_theory.specs.Stepping.{run, back}
@@ -7,7 +7,7 @@ use Rattle.bn_column.specs.Nets.{rotary_circuit}
 use Rattle.bn_layout.specs.Layouts.{moment_at}
 use Rattle.bn_session.specs.Breakpoints.{breakpoint, without_break}
 use Rattle.bn_session.specs.Plays.{session, named, place_line, label_line}
-use Rattle.bn_session.specs.declared.command.Command.TheVariants.{Step, Back, Go, Rev, BreakState, BreakElement, Drop, View}
+use Rattle.bn_session.specs.declared.command.Command.TheVariants.{Step, Back, Go, Rev, BreakState, BreakElement, Drop}
 use Rattle.bn_session.specs.declared.condition.Condition.TheVariants.{AtState, AtElement}
 use Rattle.bn_session.proofs.PlayLemmas.{left_unwritten, left_view, view_written, named_is, place_written}
 use Rattle.bn_session.proofs.player.play_command.Goals as goal

@@ -1,7 +1,7 @@
 -- The line that was read asks for the command that was added.
 use Rattle.std.specs.Prelude.{◌≡◌, ◌++◌, ◌∷◌, [], Some}
 use Rattle.std.proofs.Common.{subst, ◌∙◌}
-use Rattle.bn_session.specs.Progress.{Advances, HasRead}
+use Rattle.bn_session.specs.Progress.{Advances}
 use Rattle.bn_session.proofs.ScriptLemmas.{one_more_read}
 use Rattle.bn_session.proofs.PlayLemmas.{asked_orderly}
 use Rattle.bn_session.proofs.script.read_script.Goals as goal

@@ -1,4 +1,3 @@
-use Rattle.bn_theory.specs.Stepping.{retreat}
 use Rattle.bn_column.specs.Nets.{rotary_circuit}
 use Rattle.bn_layout.specs.Layouts.{moment_at}
 use Rattle.bn_session.specs.Plays.{stops}

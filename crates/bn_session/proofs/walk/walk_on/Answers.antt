@@ -1,5 +1,5 @@
 -- Where the way ends, and how it goes on.
-use Rattle.std.proofs.Common.{ap, sym, ◌∙◌, true, false}
+use Rattle.std.proofs.Common.{ap, ◌∙◌, true, false}
 use Rattle.bn_theory.specs.Stepping.{advance}
 use Rattle.bn_column.specs.Nets.{rotary_circuit}
 use Rattle.bn_layout.specs.Layouts.{moment_at}

@@ -1,11 +1,9 @@
 -- The new breakpoint goes last, and where it can't be kept nothing has changed.
-use Rattle.std.proofs.Common.{◌≡◌, length, sym, ◌∙◌, ap, arith}
+use Rattle.std.proofs.Common.{◌≡◌, length, ◌∙◌, ap, arith}
 use Rattle.std.specs.Vec.{with_items}
 use Rattle.std.proofs.lemmas.List.{with_items_is}
 use Rattle.slab.specs.Slab.{get}
-use Rattle.bn_session.specs.Labels.{stands}
-use Rattle.bn_session.specs.Breakpoints.{labels_of}
-use Rattle.bn_session.specs.Kept.{AreKept, with_mark}
+use Rattle.bn_session.specs.Kept.{with_mark}
 use Rattle.bn_session.proofs.BreakLemmas.{kept_same, taken_again, added}
 use Rattle.bn_session.proofs.breaks.Breaks.add.Goals as goal
 use Rattle.bn_session.proofs.breaks.Breaks.add.Goals.{in-Ok-insert-2, in-Err}

@@ -1,4 +1,4 @@
-use Rattle.std.proofs.Common.{sym, ◌∙◌}
+use Rattle.std.proofs.Common.{sym}
 use Rattle.bn_session.proofs.BreakLemmas.{removed, not_removed}
 use Rattle.bn_session.proofs.breaks.Breaks.remove.Goals as goal
 

@@ -1,5 +1,3 @@
-use Rattle.std.proofs.Common.{◌∙◌, ap}
-use Rattle.std.specs.Prelude.{map}
 use Rattle.bn_session.proofs.LabelLemmas.{without-map}
 use Rattle.bn_session.proofs.standing.Standing.remove.Goals as goal
 

@@ -1,5 +1,5 @@
 -- The name has the number that is kept with it.
-use Rattle.std.proofs.Common.{◌≡◌, ◌∙◌, ℕ, Some, sym, ap, slice_get, Vec, Global}
+use Rattle.std.proofs.Common.{◌≡◌, ℕ, Some, slice_get, Vec, Global}
 use Rattle.bn_session.proofs.StateLemmas.{numbers_more}
 use Rattle.bn_session.proofs.states.States.note.Goals as goal
 use Rattle.bn_session.proofs.states.States.note.Goals.{in-Ok-insert, in-Err}
