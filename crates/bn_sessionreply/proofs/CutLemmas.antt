@@ -44,21 +44,24 @@ IsCutOrNot bytes = ((table : List ℕ) × (script : List ℕ) × IsCut bytes tab
 
 -- line by line, where so many bytes are left at most
 from_here : (count : ℕ) (bytes front left : List ℕ) → length left ≤ count → IsLooked bytes front left → IsCutOrNot bytes
-by_line : (count : ℕ) (bytes front left : List ℕ) → length left ≤ count → IsLooked bytes front left → IsNoMark left → HasLine left ⊎ IsInLine left →
-    IsCutOrNot bytes
-
-by_line count bytes front left few looked no_mark (inr none) = inr (all_looked bytes front left looked none)
-by_line zero bytes front left few looked no_mark (inl h) =
-    let long : length left ≡ length (h.line ++ 10 ∷ h.behind) = (λ i. length (h.begins i)) in
-    absurd (omega (arith, few, long, length-append h.line (10 ∷ h.behind)))
-by_line (suc n) bytes front left few looked no_mark (inl h) =
-    let long : length left ≡ length (h.line ++ 10 ∷ h.behind) = (λ i. length (h.begins i)) in
-    from_here n bytes (front ++ (h.line ++ 10 ∷ [])) h.behind (omega (arith, few, long, length-append h.line (10 ∷ h.behind)))
-    (line_looked bytes front left h.line h.behind looked h.begins h.in_line no_mark)
-
-from_here count bytes front left few looked = elim (mark_or_none left) [
+from_here zero bytes front left few looked = elim (mark_or_none left) [
   | inl mark ↦ inl (front, mark.0, mark_looked bytes front left mark.0 looked mark.1)
-  | inr no_mark ↦ by_line count bytes front left few looked no_mark (line_or_none left)
+  | inr no_mark ↦ elim (line_or_none left) [
+    | inr none ↦ inr (all_looked bytes front left looked none)
+    | inl h ↦
+        let long : length left ≡ length (h.line ++ 10 ∷ h.behind) = (λ i. length (h.begins i)) in
+        absurd (omega (arith, few, long, length-append h.line (10 ∷ h.behind)))
+  ]
+]
+from_here (suc n) bytes front left few looked = elim (mark_or_none left) [
+  | inl mark ↦ inl (front, mark.0, mark_looked bytes front left mark.0 looked mark.1)
+  | inr no_mark ↦ elim (line_or_none left) [
+    | inr none ↦ inr (all_looked bytes front left looked none)
+    | inl h ↦
+        let long : length left ≡ length (h.line ++ 10 ∷ h.behind) = (λ i. length (h.begins i)) in
+        from_here n bytes (front ++ (h.line ++ 10 ∷ [])) h.behind (omega (arith, few, long, length-append h.line (10 ∷ h.behind)))
+        (line_looked bytes front left h.line h.behind looked h.begins h.in_line no_mark)
+  ]
 ]
 
 pub cut_or_not : (bytes : List ℕ) → ((table : List ℕ) × (script : List ℕ) × IsCut bytes table script) ⊎ IsUncut bytes

@@ -9,6 +9,7 @@ use Rattle.bn_theory.proofs.RunLemmas.{Reaches-run}
 use Rattle.bn_theory.specs.declared.place.Place.{Place}
 use Rattle.bn_theory.specs.declared.config.Config.{Config}
 use Rattle.bn_entries.specs.Numbering.{firsts}
+use Rattle.bn_entries.specs.NumberingLaws.{AreApart as ApartBy}
 use Rattle.bn_entries.proofs.NumberingLemmas.{apart-firsts, one_number}
 use Rattle.bn_quad.specs.Names.{AreApart}
 use Rattle.bn_machine.specs.Machine.{Program}
@@ -64,7 +65,7 @@ states_apart machines bytes word l t symbols f given comes =
     let first = table.spelled.states_by_first in
     record {
       same = λ name m n here there.
-          one_number bytes_eq bytes_eq-Decides (states_of t f) m n name (subst (λ xs. _) (sym first) (apart-firsts bytes_eq bytes_eq-Decides _)) here there;
+          one_number bytes_eq bytes_eq-Decides (states_of t f) m n name (subst (λ (xs : List (List ℕ)). ApartBy bytes_eq bytes_eq-Decides xs) (sym first) (apart-firsts bytes_eq bytes_eq-Decides _)) here there;
     }
 
 -- at its start a board is on its run
@@ -105,7 +106,7 @@ module _ (f g : Flat) (same : AreSameFlats f g) (limits : f.limits ≡ g.limits)
 module _ (f : Flat) (p : Program) (symbols : List ℕ) (l : Limits) (flat : IsFlatOf p symbols l f) (accepted : IsAccepted p symbols l f)
     (views_one : ViewsAreOne) (views_some : ViewsAreThere) (t : Named) (script : List ℕ) where
   -- a view where the run comes to
-  OnRun : Config → List ℕ → Type 0
+  abbrev OnRun : Config → List ℕ → Type 0
   OnRun c text = Reaches (Goes f.circuit) c.steps (flat_start f) c × TellsLayers t f c text
 
   one_text : (c : Config) (text other : List ℕ) → OnRun c text → OnRun c other → text ≡ other
