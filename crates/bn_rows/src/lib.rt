@@ -27,4 +27,6 @@ mod quadruples;
 #[cfg(test)]
 mod reversed;
 #[cfg(test)]
+mod sessions;
+#[cfg(test)]
 mod standard;

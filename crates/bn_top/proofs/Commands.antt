@@ -7,7 +7,7 @@ use Rattle.bn_words.specs.Forms.{most_increments, most_limit, most_number, row_o
 use Rattle.bn_words.specs.Requests.{AreWithin, HasForm, Request, letters_at, number_at}
 use Rattle.bn_words.specs.declared.form.Form.{Form}
 use Rattle.bn_words.specs.declared.form.Form.TheVariants.{Step, Back, Check, Machine, Reversible, Bennett, Realise, Standard}
-use Rattle.bn_words.specs.declared.form.Form.TheVariants.{Compile, Run, RunWithin, View, Plan, Generate}
+use Rattle.bn_words.specs.declared.form.Form.TheVariants.{Compile, Run, RunWithin, View, Session, Plan, Generate}
 use Rattle.bn_words.specs.declared.kind.Kind.{Kind}
 use Rattle.bn_words.specs.declared.kind.Kind.TheVariants.{Count, Ordinal}
 use Rattle.bn_words.proofs.ArgumentLemmas.{count_most, form-AreWithin, ordinal_least, ordinal_most}
@@ -40,6 +40,8 @@ use Rattle.bn_boardanswers.specs.CompileReply.{CompileReplies}
 use Rattle.bn_boardanswers.specs.RunReply.{RunReplies}
 use Rattle.bn_boardanswers.specs.Windows.{AreSmall}
 use Rattle.bn_boardanswers.proofs.ClosedLemmas.{compile_settled, run_settled}
+use Rattle.bn_sessionreply.specs.SessionReply.{SessionReplies}
+use Rattle.bn_sessionreply.proofs.ClosedLemmas.{session_settled}
 use Rattle.bn_viewreply.specs.ViewReply.{ViewReplies}
 use Rattle.bn_viewreply.proofs.ClosedLemmas.{view_settled}
 use Rattle.bn_top.specs.Answers.{Replies, RepliesBy, limits_at}
@@ -88,6 +90,8 @@ settled_by RunWithin request within = λ bytes.
 settled_by View request within = λ bytes.
     view_settled (number_at request 5) (letters_at request 0) (limits_at request) bytes
     (small_limits (row_of View).kinds request within refl refl refl refl)
+settled_by Session request within = λ bytes.
+    session_settled (letters_at request 0) (limits_at request) bytes (small_limits (row_of Session).kinds request within refl refl refl refl)
 settled_by Plan request within = plan_settled
 settled_by Generate request within = λ bytes. generate_settled (number_at request 0) (round_count request within)
 
@@ -154,6 +158,12 @@ module _ (request : Request) (form : Form) (of : form ≡ request.form) (bytes :
         let stepped = subst (λ n. Silent result (ViewReplies n word l bytes)) e_is h in
         let limited = subst (λ m. Silent result (ViewReplies (number_at request 5) word m bytes)) l_is stepped in
         silent_by View is (subst (λ w. Silent result (ViewReplies (number_at request 5) w (limits_at request) bytes)) word_is limited)
+
+    pub session_reply : (word : List ℕ) (l : Limits) → form ≡ Session → word ≡ letters_at request 0 → l ≡ limits_at request →
+        Silent result (SessionReplies word l bytes) → Replied result told told (Replies request bytes)
+    session_reply word l is word_is l_is h =
+        let limited = subst (λ m. Silent result (SessionReplies word m bytes)) l_is h in
+        silent_by Session is (subst (λ w. Silent result (SessionReplies w (limits_at request) bytes)) word_is limited)
 
     pub plan_reply : form ≡ Plan → Silent result (PlanReplies bytes) → Replied result told told (Replies request bytes)
     plan_reply is h = silent_by Plan is h
@@ -236,6 +246,7 @@ pub ruleset replies = (
   run_within_reply,
   run_within_part,
   view_reply,
+  session_reply,
   plan_reply,
   generate_reply,
   generate_part,

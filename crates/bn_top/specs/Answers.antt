@@ -7,7 +7,7 @@ use Rattle.bn_words.specs.Requests.{Request, HasForm, HasNoForm, letters_at, num
 use Rattle.bn_words.specs.Forms.{reads_input}
 use Rattle.bn_words.specs.declared.form.Form.{Form}
 use Rattle.bn_words.specs.declared.form.Form.TheVariants.{Step, Back, Check, Machine, Reversible, Bennett, Realise, Standard}
-use Rattle.bn_words.specs.declared.form.Form.TheVariants.{Compile, Run, RunWithin, View, Plan, Generate}
+use Rattle.bn_words.specs.declared.form.Form.TheVariants.{Compile, Run, RunWithin, View, Session, Plan, Generate}
 use Rattle.bn_boardanswers.specs.CompileReply.{CompileReplies}
 use Rattle.bn_boardanswers.specs.Headline.{most_bytes}
 use Rattle.bn_boardanswers.specs.RunReply.{RunReplies}
@@ -20,6 +20,7 @@ use Rattle.bn_tablereply.specs.BennettReply.{BennettReplies}
 use Rattle.bn_tablereply.specs.CheckReply.{CheckReplies}
 use Rattle.bn_tablereply.specs.MachineReply.{MachineReplies}
 use Rattle.bn_tablereply.specs.ReversibleReply.{ReversibleReplies}
+use Rattle.bn_sessionreply.specs.SessionReply.{SessionReplies}
 use Rattle.bn_viewreply.specs.ViewReply.{ViewReplies}
 use Rattle.bn_reply.specs.declared.status.Status.{Status}
 use Rattle.bn_reply.specs.declared.status.Status.TheVariants.{Usage, Size}
@@ -53,6 +54,7 @@ HasWindow Compile = Unit {0}
 HasWindow Run = Unit {0}
 HasWindow RunWithin = Unit {0}
 HasWindow View = Unit {0}
+HasWindow Session = Unit {0}
 HasWindow _ = ⊥
 
 -- what is answered to a request of this form and an input within the limit; the words behind the name are counted
@@ -70,6 +72,7 @@ RepliesBy Compile request = CompileReplies (letters_at request 0) (limits_at req
 RepliesBy Run request = RunReplies None (letters_at request 0) (limits_at request)
 RepliesBy RunWithin request = RunReplies (Some (number_at request 5)) (letters_at request 0) (limits_at request)
 RepliesBy View request = ViewReplies (number_at request 5) (letters_at request 0) (limits_at request)
+RepliesBy Session request = SessionReplies (letters_at request 0) (limits_at request)
 RepliesBy Plan request = PlanReplies
 RepliesBy Generate request = λ bytes. GenerateReplies (number_at request 0)
 

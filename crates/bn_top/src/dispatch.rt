@@ -12,6 +12,7 @@ use bn_net::Watch;
 use bn_netreply::{reply_back, reply_realise, reply_step};
 use bn_planreply::reply_plan;
 use bn_reply::{NoMemory, Reply};
+use bn_sessionreply::reply_session;
 use bn_standardreply::reply_standard;
 use bn_tablereply::{reply_bennett, reply_check, reply_machine, reply_reversible};
 use bn_viewreply::reply_view;
@@ -69,6 +70,7 @@ pub(crate) fn reply_to<W: Watch>(
             request.number(5),
             bytes,
         ),
+        Form::Session => reply_session(alloc, request.letters(0), &windows_of(request), bytes),
         Form::Plan => reply_plan(alloc, bytes),
         Form::Generate => reply_generate(alloc, request.number(0) as u32, watch),
     }

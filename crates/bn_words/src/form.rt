@@ -65,6 +65,8 @@ pub enum Form {
     RunWithin,
     /// `view =W l1 r1 n r3 E`: every layer of that board after at most E steps.
     View,
+    /// `session =W l1 r1 n r3`: a script, behind the table and a line `%`, played on that board.
+    Session,
     /// `plan`: the floor plan of a circuit, with the least number of tracks.
     Plan,
     /// `generate k`: the run of the machine of k increments. It reads no input.
@@ -80,7 +82,7 @@ pub(crate) struct Row {
 
 impl Form {
     /// All forms.
-    pub const ALL: [Form; 14] = [
+    pub const ALL: [Form; 15] = [
         Form::Step,
         Form::Back,
         Form::Check,
@@ -93,6 +95,7 @@ impl Form {
         Form::Run,
         Form::RunWithin,
         Form::View,
+        Form::Session,
         Form::Plan,
         Form::Generate,
     ];
@@ -122,6 +125,7 @@ impl Form {
             Form::Run => Row::new("run", &WINDOW),
             Form::RunWithin => Row::new("run", &WINDOW_AND_STEPS),
             Form::View => Row::new("view", &WINDOW_AND_STEPS),
+            Form::Session => Row::new("session", &WINDOW),
             Form::Plan => Row::new("plan", &[]),
             Form::Generate => Row::new("generate", &[Ordinal(MOST_INCREMENTS)]),
         }

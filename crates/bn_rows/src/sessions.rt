@@ -1,0 +1,65 @@
+//! `session`: scripts on boards.
+
+use crate::desk::answer;
+use std::test::Fail;
+
+/// The words of a session on the least machine's board.
+const WORDS: [&str; 6] = ["session", "=", "0", "2", "2", "1"];
+
+/// The least machine in standard form, and the line before a script.
+const LEAST: &str = "S,_,_,+,T\nT,_,_,0,F\n%\n";
+
+/// A breakpoint at the 6540th step, forward and back, and what is shown there.
+const THERE_AND_BACK: &str = "break a state A1'\ngo 10000\nrev 10000\n";
+const THERE_AND_BACK_TOLD: &str = "break a\nat 930.w steps 6540 break a\nat 0.w steps 0\n";
+const SHOWN: &str = "break e element 930\ngo 10000\nview\ndrop e\nback 1\n";
+const SHOWN_TOLD: &str = "break e\nat 930.w steps 6540 break e\nelement at 930.w steps 6540\n\
+                          module tape 2 cell 0 line Rd\nquadruple A1'\n\
+                          tape 1 from 0 head 0: _ _ _\ntape 2 from 0 head 1: _ _ _\n\
+                          tape 3 from 0 head 0: _ _\nmachine compute quintuple 1 step 1\n\
+                          drop e\nat 853.s steps 6539\n";
+
+#[test]
+fn plays_a_script_forward_and_back(rt: HostRuntime) -> Result<(), Fail> {
+    let rows: [(&str, u8, &str); 8] = [
+        (THERE_AND_BACK, 0, THERE_AND_BACK_TOLD),
+        (SHOWN, 0, SHOWN_TOLD),
+        (
+            "break a element 0\nstep 0\nback 5\n",
+            0,
+            "break a\nat 0.w steps 0\nat 0.w steps 0\n",
+        ),
+        ("drop b\n", 3, "text: script line 1 no break\n"),
+        (
+            "break a element 0\nbreak a element 1\n",
+            3,
+            "text: script line 2 same break\n",
+        ),
+        ("break a state Q\n", 3, "text: script line 1 no state\n"),
+        ("go 0\n", 3, "text: script line 1 form\n"),
+        ("", 0, ""),
+    ];
+    for (script, code, output) in rows {
+        let mut input = Vec::from_slice(rt.alloc(), LEAST.as_bytes())?;
+        input.extend_from_slice(script.as_bytes())?;
+        let answer = answer(rt.alloc(), &WORDS, input.as_slice())?;
+        assert_eq!(rt; answer.text.as_slice(), output.as_bytes(), "{script}");
+        assert_eq!(rt; answer.status.code(), code, "{script}");
+    }
+    Ok(())
+}
+
+#[test]
+fn cuts_its_input_before_the_table_is_read(rt: HostRuntime) -> Result<(), Fail> {
+    let rows: [(&str, u8, &str); 3] = [
+        ("S,_,_,+,T\nT,_,_,0,F\n", 3, "text: no script\n"),
+        ("S,_,_\n%", 3, "text: no script\n"),
+        ("S,_,_\n%\ngo 0\n", 3, "text: record 1 fields\n"),
+    ];
+    for (input, code, output) in rows {
+        let answer = answer(rt.alloc(), &WORDS, input.as_bytes())?;
+        assert_eq!(rt; answer.text.as_slice(), output.as_bytes(), "{input}");
+        assert_eq!(rt; answer.status.code(), code, "{input}");
+    }
+    Ok(())
+}
