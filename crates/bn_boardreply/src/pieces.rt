@@ -37,11 +37,7 @@ pub(crate) fn push_counted(text: &mut Vec<u8>, word: &[u8], number: u64) -> Resu
 
 /// Appends a position on a tape in decimal digits, with a sign where it is below 0.
 #[tactic(auto, using(crate::proofs::PieceLemmas::signed_position))]
-pub fn push_position(
-    alloc: Global,
-    text: &mut Vec<u8>,
-    position: i64,
-) -> Result<(), NoMemory>
+pub fn push_position(alloc: Global, text: &mut Vec<u8>, position: i64) -> Result<(), NoMemory>
     ensures { OnOk result (text.new.items ≡ text.old.items ++ position_text position) }
 {
     let digits = format!(in alloc; "{position}")?;

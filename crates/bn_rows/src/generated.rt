@@ -8,6 +8,7 @@ use std::test::Fail;
 
 /// What stands before the steps of two increments of 1011, and what stands behind them.
 const BEFORE: &str = "increments 2\nelements 55078\nexit end\nsteps ";
+
 const BEHIND: &str = "\nquadruple steps 105\ntape 1 from 0 head 0: _ 1 0 1 1 _\n\
                       tape 2 from 0 head 0: _ _ _ _ _ _ _ _ _ _ _ _ _ _ _ _ _ _ _ _ _ _\n\
                       tape 3 from 0 head 0: _ 1 1 0 1 _\noutput =1101\n";
@@ -41,7 +42,10 @@ fn it_is_the_run_of_the_table(rt: HostRuntime) -> Result<(), Fail> {
     text.extend_from_slice(run.text.as_slice())?;
     assert_eq!(rt; generated.text.as_slice(), text.as_slice());
     for list in [&["generate", "0"], &["generate", "5"], &["generate", "01"]] {
-        assert_eq!(rt; answer(rt.alloc(), list, b"")?.text.as_slice(), b"usage\n".as_slice());
+        assert_eq!(rt;
+            answer(rt.alloc(), list, b"")?.text.as_slice(),
+            b"usage\n".as_slice()
+        );
     }
     Ok(())
 }

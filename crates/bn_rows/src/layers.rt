@@ -10,6 +10,7 @@ const LEAST: &str = "S,_,_,+,T\nT,_,_,0,F\n";
 const AT_MOMENT: &str = "element at 930.w steps 6540\nmodule tape 2 cell 0 line Rd\nquadruple A1'\n\
                          tape 1 from 0 head 0: _ _ _\ntape 2 from 0 head 1: _ _ _\n\
                          tape 3 from 0 head 0: _ _\nmachine compute quintuple 1 step 1\n";
+
 const BEFORE: &str = "element at 853.s steps 6539\nmodule control inside\nquadruple A1\n\
                       tape 1 from 0 head 0: _ _ _\ntape 2 from 0 head 0: _ _ _\n\
                       tape 3 from 0 head 0: _ _\nmachine compute state S step 0\n";

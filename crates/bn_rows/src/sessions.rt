@@ -11,8 +11,11 @@ const LEAST: &str = "S,_,_,+,T\nT,_,_,0,F\n%\n";
 
 /// A breakpoint at the 6540th step, forward and back, and what is shown there.
 const THERE_AND_BACK: &str = "break a state A1'\ngo 10000\nrev 10000\n";
+
 const THERE_AND_BACK_TOLD: &str = "break a\nat 930.w steps 6540 break a\nat 0.w steps 0\n";
+
 const SHOWN: &str = "break e element 930\ngo 10000\nview\ndrop e\nback 1\n";
+
 const SHOWN_TOLD: &str = "break e\nat 930.w steps 6540 break e\nelement at 930.w steps 6540\n\
                           module tape 2 cell 0 line Rd\nquadruple A1'\n\
                           tape 1 from 0 head 0: _ _ _\ntape 2 from 0 head 1: _ _ _\n\
