@@ -15,6 +15,7 @@ STYLE = """
   .circuit .halo { fill: none; stroke: #fff; stroke-width: 5; stroke-linejoin: round; }
   .circuit .wire { fill: none; stroke: #4f7396; stroke-width: 1.3; stroke-linejoin: round; }
   .circuit .tip { fill: #4f7396; }
+  .circuit g:hover > .wire { stroke: #111; stroke-width: 3.5; }
   .circuit .past .wire { stroke: #d9822b; stroke-width: 2.6; stroke-dasharray: 7 3; }
   .circuit .past .tip { fill: #d9822b; }
   .circuit .now .wire { stroke: #c0272b; stroke-width: 4; stroke-dasharray: none; }
@@ -124,12 +125,13 @@ def element_group(number, middle, bar, is_turned, is_bottom):
     x, y = middle
     half, reach = BOX // 2, BOX // 2 - 9
     turned = " turned" if is_turned else ""
+    small = ' style="font-size:10px"' if number > 99 else ""
     upright, lying = f"translate({x} {y}) rotate(90)", f"translate({x} {y})"
     return (f'<g><title>element {number}</title><rect id="box-{number}" class="box{turned}" x="{x - half}" y="{y - half}" '
             f'width="{BOX}" height="{BOX}" rx="{12 if is_bottom else 5}"/>'
             f'<line id="bar-{number}" class="bar" x1="{-reach}" y1="0" x2="{reach}" y2="0" '
             f'data-upright="{upright}" data-lying="{lying}" transform="{lying if bar == "H" else upright}"/>'
-            f'<text x="{x - half + 4}" y="{y - half + 13}">{number}</text>'
+            f'<text x="{x - half + 3}" y="{y - half + 12}"{small}>{number}</text>'
             f'<text id="turn-{number}" class="turn{turned}" x="{x + half - 15}" y="{y + half - 4}">&#8635;</text></g>\n')
 
 
