@@ -34,10 +34,21 @@ def guarded(main):
         sys.exit(0)
 
 
+class Parser(argparse.ArgumentParser):
+    """An argument parser that tells a fault of the words in one line."""
+
+    def error(self, message):
+        raise Fault(f"{message}; --help tells the words")
+
+
+def plain_parser_of(description, **more):
+    """An argument parser for a tool that runs no program."""
+    return Parser(description=description, formatter_class=argparse.RawDescriptionHelpFormatter, **more)
+
+
 def parser_of(description, **more):
-    """An argument parser with the option that every tool has."""
-    parser = argparse.ArgumentParser(
-        description=description, formatter_class=argparse.RawDescriptionHelpFormatter, **more)
+    """An argument parser with the option of every tool that runs the program."""
+    parser = plain_parser_of(description, **more)
     parser.add_argument("--program", metavar="PATH", default=WORKBENCH,
                         help="the program to run; without it, ./workbench at the top of the repository")
     return parser
