@@ -49,7 +49,7 @@ def read_jflap(text, where):
         root = ElementTree.fromstring(text)
     except ElementTree.ParseError as error:
         line, column = error.position
-        raise Fault(f"{where}: line {line} column {column + 1}: no XML: {error.msg if hasattr(error, 'msg') else error}") from None
+        raise Fault(f"{where}: line {line} column {column + 1}: no XML that can be read") from None
     kind = (root.findtext("type") or "").strip()
     if kind != "turing":
         raise Fault(f"{where}: its type is {kind or 'missing'!r}, and a Turing machine's is 'turing'")
@@ -224,7 +224,8 @@ def read_yaml_text(text, where):
             raise reader.fault("words behind the value")
         lines.append((len(line) - len(bare), Entry(key, value, number)))
     entries, rest = nested(lines, 0, where)
-    assert rest == len(lines)
+    if rest < len(lines):
+        raise Fault(f"{where}: line {lines[rest][1].line}: less deep than the first line")
     return entries
 
 
