@@ -129,10 +129,12 @@ def bank_numbers(configuration, banks):
 
 
 def row_name(bank, line):
-    """How a line of a bank is named: by its row and column, from 1, and the side."""
+    """How a line of a bank is named: by its row, from 1, and its column, from 1, where that is neither first nor last."""
     for number, column in enumerate(bank.columns, 1):
         if line.element in column.rows:
-            return f"row {column.rows.index(line.element) + 1}, {line.side} of column {number} ({line})"
+            is_edge = (number == 1 and line.side == "w") or (number == len(bank.columns) and line.side == "e")
+            where = "" if is_edge else f" of column {number}"
+            return f"row {column.rows.index(line.element) + 1}{where} ({line})"
     return str(line)
 
 

@@ -1,7 +1,7 @@
 """The shell of the HTML pages: one file each, with its style and its script inside, and no other file or network.
 
 A page has a list of frames. Buttons, a slider, the arrow keys and the rows of the table choose one; the function
-`show(number)` of the page draws it. The element with the id `place` shows the program's own words of that frame.
+`show(number)` of the page draws it. Rows stand in the order of their frames. The element with the id `place` shows the program's own words of that frame.
 """
 import html
 import json
@@ -37,8 +37,9 @@ function choose(number) {
   document.getElementById("count").textContent = now + " of " + (frames.length - 1);
   document.getElementById("back").disabled = now === 0;
   document.getElementById("step").disabled = now === frames.length - 1;
+  const here = rows.filter(row => Number(row.dataset.frame) <= now).pop();
   for (const row of rows) {
-    const chosen = Number(row.dataset.frame) === now;
+    const chosen = row === here;
     row.classList.toggle("chosen", chosen);
     if (chosen) {
       const box = row.closest(".steps");

@@ -3,6 +3,7 @@ from wiring import BOX, IN, OUT, STEP
 
 STYLE = """
   .circuit text { font: 12px sans-serif; fill: #222; }
+  .circuit .name { paint-order: stroke; stroke: #fff; stroke-width: 4px; }
   .circuit .box { fill: #fff; stroke: #444; stroke-width: 1.3; }
   .circuit .box.turned { stroke: #111; stroke-width: 3.6; }
   .circuit .turn { visibility: hidden; font-size: 14px; font-weight: bold; }
@@ -110,13 +111,15 @@ def stub(plan, line, way, name):
     """The short line of a start or an end, with its name."""
     x, y = plan.port(line, way)
     dx, dy = STEP[line.side]
-    far = (x + dx * 26, y + dy * 26)
+    reach = plan.reaches[(line, way)]
+    far = (x + dx * reach, y + dy * reach)
     ends = (far, (x, y)) if way == IN else ((x, y), far)
     head = tip((x, y), line.side) if way == IN else tip(far, {"n": "s", "s": "n", "e": "w", "w": "e"}[line.side])
-    anchor = {"w": "end", "e": "start"}.get(line.side, "middle")
+    beside = "end" if plan.offsets[(line, way)] < 0 else "start"
+    anchor = {"w": "end", "e": "start"}.get(line.side, beside)
     return (f'<path class="halo" d="M{ends[0][0]},{ends[0][1]} L{ends[1][0]},{ends[1][1]}"/>'
             f'<path class="wire" d="M{ends[0][0]},{ends[0][1]} L{ends[1][0]},{ends[1][1]}"/><path class="tip" d="{head}"/>'
-            f'<text x="{far[0] + dx * 4}" y="{far[1] + (4 if dx else dy * 12 + (0 if dy < 0 else 2))}" '
+            f'<text class="name" x="{far[0] + dx * 4}" y="{far[1] + (4 if dx else dy * 4 + (0 if dy < 0 else 10))}" '
             f'text-anchor="{anchor}">{name}</text>')
 
 
@@ -188,7 +191,7 @@ def circuit_svg(configuration, plan, banks, frames, number, caption="", zoom=1):
     kinds = path_kinds(configuration, frames, number)
     bottoms = {column.bottom for bank in banks for column in bank.columns}
     x, y = signal_at(plan, frames[number])
-    left, top, bottom = 34, 16, 22 + (18 if caption else 0)
+    left, top, bottom = 46, 30, 30 + (18 if caption else 0)
     body = spans_group(plan, banks, bars) + f"<g>\n{wires_group(configuration, plan, kinds)}</g>\n"
     for element, middle in enumerate(plan.middles):
         body += element_group(element, middle, bars[element], element in turned, element in bottoms)

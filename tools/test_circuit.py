@@ -56,8 +56,8 @@ class Columns(unittest.TestCase):
         moves = MovesByBank(configuration, frames, banks_of(configuration, columns_of(configuration))).moves()
         self.assertEqual(len(moves), 1)
         self.assertEqual((moves[0].before, moves[0].after, moves[0].first, moves[0].last), ([1], [2], 0, 8))
-        self.assertEqual(moves[0].came_in, "row 1, w of column 1 (0.w)")
-        self.assertEqual(moves[0].went_out, "row 2, e of column 2 (4.e)")
+        self.assertEqual(moves[0].came_in, "row 1 (0.w)")
+        self.assertEqual(moves[0].went_out, "row 2 (4.e)")
 
 
 class Wires(unittest.TestCase):

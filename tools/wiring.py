@@ -40,6 +40,7 @@ class Plan:
     offsets: dict
     width: int
     height: int
+    reaches: dict = field(default_factory=dict)
     spans: list = field(default_factory=list)
 
     def port(self, line, way):
@@ -238,8 +239,18 @@ def plan_of(configuration, banks):
         start, goal = plan.port(out, OUT), plan.port(into, IN)
         points = [start, goal] if out in straight else points_of(start, goal, router.pieces[out], across, down)
         plan.routes.append(Route(out, into, points))
+    edges = {"w": lefts[0], "n": tops[0], "e": width - across[columns], "s": height - down[rows]}
+    for line, way in ((configuration.start, IN), (configuration.end, OUT)):
+        plan.reaches[(line, way)] = reach_of(places[line.element], line.side, (columns, rows), edges)
     plan.spans = [span_of(bank, middles) for bank in banks]
     return plan
+
+
+def reach_of(place, side, counts, edges):
+    """How long the line of a start or an end is drawn: across an outermost channel, and short in others."""
+    is_upright, channel = channel_of(place, side)
+    is_outermost = channel in (0, counts[0 if is_upright else 1])
+    return edges[side] + 4 if is_outermost else 22
 
 
 def span_of(bank, middles):

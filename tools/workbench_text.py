@@ -117,7 +117,10 @@ def program_at_hand():
 
 def has_command(path, words, data=b""):
     """Whether the program knows these words: an older one says `usage`."""
-    ran = subprocess.run([path, *words], input=data, stdout=subprocess.PIPE)
+    try:
+        ran = subprocess.run([path, *words], input=data, stdout=subprocess.PIPE)
+    except OSError as error:
+        raise Fault(f"{path}: {error.strerror}") from None
     return ran.stdout != b"usage\n"
 
 
