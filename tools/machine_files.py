@@ -304,6 +304,8 @@ class TuringYaml:
         for entry in self.table.value:
             if not isinstance(entry, Entry):
                 raise Fault(f"{self.where}: line {self.table.line}: each state of the table stands on a line of its own")
+            if entry.key in states:
+                raise Fault(f"{self.where}: line {entry.line}: state {entry.key!r} stands twice")
             states.append(entry.key)
             if not entry.value:
                 halting.append(entry.key)

@@ -1,4 +1,5 @@
 """The picture of a circuit of rotary elements as SVG, at one frame of a run."""
+from page import escaped
 from wiring import BOX, IN, OUT, STEP
 
 STYLE = """
@@ -184,8 +185,8 @@ def bars_at(configuration, frames, number):
     return bars
 
 
-def circuit_svg(configuration, plan, banks, frames, number, caption="", zoom=1):
-    """The picture of a frame. The words that name places are in the ids of its parts, which the page's script uses."""
+def circuit_svg(configuration, plan, banks, frames, number, made, caption="", zoom=1):
+    """The picture of a frame, with how it was made as its description. The words that name places are in the ids of its parts, which the page's script uses."""
     bars = bars_at(configuration, frames, number)
     turned = {element for element, _ in frames[number].changed} if number else set()
     kinds = path_kinds(configuration, frames, number)
@@ -201,7 +202,7 @@ def circuit_svg(configuration, plan, banks, frames, number, caption="", zoom=1):
         body += f'<text x="{-left + 8}" y="{plan.height + bottom - 8}">{caption}</text>\n'
     width, height = max(plan.width + 2 * left, 8 * len(caption)), plan.height + top + bottom
     return (f'<svg class="circuit" xmlns="http://www.w3.org/2000/svg" width="{width * zoom:g}" height="{height * zoom:g}" '
-            f'viewBox="{-left} {-top} {width} {height}">\n<style>{STYLE}</style>\n'
+            f'viewBox="{-left} {-top} {width} {height}" role="img">\n<desc>{escaped(made)}</desc>\n<style>{STYLE}</style>\n'
             f'<rect x="{-left}" y="{-top}" width="{width}" height="{height}" fill="#fff"/>\n{body}</svg>\n')
 
 

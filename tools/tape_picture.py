@@ -39,7 +39,8 @@ def history_length(view):
     return sum(symbol != "_" for symbol in view.tapes[1].symbols)
 
 
-def svg(width, height, body, extra=""):
+def svg(width, height, body, made, extra=""):
+    """The whole picture, with how it was made as its description."""
     return (f'<svg class="tapes" xmlns="http://www.w3.org/2000/svg" width="{width}" height="{height}" '
-            f'viewBox="0 0 {width} {height}">\n<style>{STYLE}{extra}</style>\n'
+            f'viewBox="0 0 {width} {height}" role="img">\n<desc>{escaped(made)}</desc>\n<style>{STYLE}{extra}</style>\n'
             f'<rect width="{width}" height="{height}" fill="#fff"/>\n{body}</svg>\n')

@@ -1,29 +1,19 @@
 """Machines of JFLAP and of turingmachine.io become tables, or a line says why not."""
+import os
 import unittest
 
 from machine_files import new_names, read_jflap, read_yaml, read_yaml_text, table_of
-from workbench_text import Fault
+from workbench_text import TOP, Fault, read_file
 
-INCREMENT = """# Adds one to a binary number.
-input: '1011'
-blank: ' '
-start state: to_the_right
-table:
-  # over the digits
-  to_the_right:
-    [1,0]: R
-    ' '  : {L: carry}
-  carry:
-    1      : {write: 0, L}
-    [0,' ']: {write: 1, L: done}
-  done:
-"""
-INCREMENT_TABLE = """to-the-right,1,1,+,to-the-right
-to-the-right,0,0,+,to-the-right
-to-the-right,_,_,-,carry
-carry,1,0,-,carry
-carry,0,1,-,done
-carry,_,1,-,done
+PARITY_TABLE = """even-so-far,0,0,+,even-so-far
+even-so-far,1,1,+,odd-so-far
+even-so-far,_,0,-,back
+odd-so-far,0,0,+,odd-so-far
+odd-so-far,1,1,+,even-so-far
+odd-so-far,_,1,-,back
+back,0,0,-,back
+back,1,1,-,back
+back,_,_,+,done
 """
 VERDICTS = """blank: _
 start state: q 1
@@ -60,6 +50,11 @@ JFLAP = """<?xml version="1.0" encoding="UTF-8" standalone="no"?>
 JFLAP_TABLE = "q0,a,b,+,q0\nq0,_,_,0,q2\nq0,b,b,+,q1\nq1,b,_,-,q2\n"
 
 
+def example(name):
+    """The text of an example file."""
+    return read_file(os.path.join(TOP, "examples", name))
+
+
 def from_yaml(text, halt=None):
     return table_of(read_yaml(text, "it"), "it", halt)
 
@@ -70,9 +65,9 @@ def from_jflap(text, halt=None):
 
 class Yaml(unittest.TestCase):
     def test_a_machine_becomes_a_table(self):
-        table, names = from_yaml(INCREMENT)
-        self.assertEqual(table, INCREMENT_TABLE)
-        self.assertEqual(names["to_the_right"], "to-the-right")
+        table, names = from_yaml(example("parity.yaml"))
+        self.assertEqual(table, PARITY_TABLE)
+        self.assertEqual(names["even_so_far"], "even-so-far")
 
     def test_a_halting_state_is_named_where_there_are_two(self):
         with self.assertRaisesRegex(Fault, "^it: 2 states halt, yes, no"):
@@ -103,6 +98,7 @@ class Yaml(unittest.TestCase):
                 (whole + "    1: {write: 2}\n", "line 5: an instruction has one of R and L"),
                 (whole + "    1: {go: 2, R: A}\n", "line 5: an instruction has no 'go'"),
                 (whole + "    12: R\n", "line 5: '12' is no single symbol"), (whole + "    1: X\n", "line 5: 'X' is no instruction"),
+                (whole + "    1: R\n  A:\n", "line 6: state 'A' stands twice"),
                 (whole + "    1: R\n", "^it: no state halts"),
                 (whole + "    1: {L: B}\n    [2, 1]: R\n  B:\n", "line 6: an earlier rule is for state 'A' and '1' too \\(S1\\)"),
                 (whole + "    /: {L: B}\n  B:\n", "line 5: '/' is no letter"),
@@ -113,13 +109,17 @@ class Yaml(unittest.TestCase):
                 from_yaml(text)
 
     def test_a_halting_state_that_is_left_is_told(self):
-        with self.assertRaisesRegex(Fault, "line 8: leaves 'to_the_right', in which the machine halts.*S5"):
-            from_yaml(INCREMENT, "to_the_right")
+        with self.assertRaisesRegex(Fault, "line 6: leaves 'even_so_far', in which the machine halts.*S5"):
+            from_yaml(example("parity.yaml"), "even_so_far")
 
 
 class Jflap(unittest.TestCase):
     def test_a_machine_becomes_a_table_with_one_halting_state(self):
         self.assertEqual(from_jflap(JFLAP)[0], JFLAP_TABLE)
+
+    def test_the_example_is_read(self):
+        self.assertEqual(from_jflap(example("swap.jff"))[0],
+                         "over-the-word,a,b,+,over-the-word\nover-the-word,b,a,+,over-the-word\nover-the-word,_,_,-,done\n")
 
     def test_states_of_the_older_form_are_read(self):
         older = JFLAP.replace("<block", "<state").replace("</block", "</state")

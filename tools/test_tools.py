@@ -15,7 +15,7 @@ import xml.etree.ElementTree as ElementTree
 
 import recorded
 import samples
-from test_machine_files import INCREMENT, JFLAP, JFLAP_TABLE, INCREMENT_TABLE
+from test_machine_files import JFLAP, JFLAP_TABLE, PARITY_TABLE, example
 from workbench_text import TOP, Fault, has_command, program_at_hand
 
 TOOLS = os.path.join(TOP, "tools")
@@ -186,7 +186,7 @@ class Tapes(Tools):
         self.assertEqual(frames[-1]["place"], "left 848.e steps 67300")
 
     def test_a_picture_has_a_row_for_each_moment(self):
-        text = self.tapes.picture_of(self.views)
+        text = self.tapes.picture_of(LEAST_RUN, self.views)
         self.assert_alone(text)
         root = ElementTree.fromstring(text)
         heads = [it for it in root.iter(f"{SVG}rect") if "head" in (it.get("class") or "").split()]
@@ -211,9 +211,10 @@ class Layers(Tools):
 
 class Import(Tools):
     def test_tables_are_printed(self):
-        status, out, said = called("import", [], INCREMENT)
-        self.assertEqual((status, out), (0, INCREMENT_TABLE))
-        self.assertEqual(said, "import: state 'to_the_right' is called to-the-right in the table\n")
+        status, out, said = called("import", [], example("parity.yaml"))
+        self.assertEqual((status, out), (0, PARITY_TABLE))
+        self.assertEqual(said.splitlines(), ["import: state 'even_so_far' is called even-so-far in the table",
+                                             "import: state 'odd_so_far' is called odd-so-far in the table"])
         status, out, said = called("import", ["--from", "jflap"], JFLAP)
         self.assertEqual((status, out), (0, JFLAP_TABLE))
         self.assertEqual(said, "import: state 'q3' is called q2 in the table\n")
@@ -291,11 +292,12 @@ class WithProgram(Tools):
 
     def test_an_imported_machine_runs(self):
         program = program_at_hand()
-        table = subprocess.run([os.path.join(TOOLS, "import"), "--program", program, "--standard"], input=INCREMENT.encode(),
-                               capture_output=True, check=True).stdout
-        ran = subprocess.run([program, "machine", "=1011", "100"], input=table, capture_output=True)
-        self.assertEqual(ran.returncode, 0)
-        self.assertTrue(ran.stdout.startswith(b"halted "))
+        for name, word, output in (("parity.yaml", "1011", "10111"), ("parity.yaml", "", "0"), ("swap.jff", "abb", "baa")):
+            table = subprocess.run([os.path.join(TOOLS, "import"), "--program", program, "--standard"],
+                                   input=example(name).encode(), capture_output=True, check=True).stdout
+            ran = subprocess.run([program, "machine", f"={word}", "100"], input=table, capture_output=True)
+            self.assertEqual(ran.returncode, 0)
+            self.assertEqual(ran.stdout.decode().splitlines()[1], f"output ={output}", f"{name} {word}")
 
 
 if __name__ == "__main__":
