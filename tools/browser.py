@@ -1,5 +1,6 @@
 """A headless Chromium, driven over a pipe by the DevTools protocol, with the standard library alone."""
 import base64
+import fcntl
 import json
 import os
 import select
@@ -27,9 +28,7 @@ class Browser:
         to_browser, self.writing = os.pipe()
         self.reading, from_browser = os.pipe()
         # The protocol wants file 3 to read and file 4 to write. High copies first, so that neither is overwritten.
-        high = [os.dup(to_browser), os.dup(from_browser)]
-        while min(high) < 10:
-            high = [*high, os.dup(high[0]), os.dup(high[1])][-2:]
+        high = [fcntl.fcntl(number, fcntl.F_DUPFD_CLOEXEC, 10) for number in (to_browser, from_browser)]
 
         def place_pipes():
             os.dup2(high[0], 3)

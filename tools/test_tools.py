@@ -209,6 +209,17 @@ class Layers(Tools):
             self.assertIn(line, words)
 
 
+    def test_long_tapes_are_shown_around_their_heads(self):
+        layers = loaded("layers")
+        tape = layers.Tape(-3, 40, [str(place % 10) for place in range(100)])
+        part, before, behind = layers.near_head(tape, 30)
+        self.assertEqual((part.first, len(part.symbols), before, behind), (25, 30, True, True))
+        self.assertEqual(part.symbols, tape.symbols[28:58])
+        part, before, behind = layers.near_head(layers.Tape(0, 99, tape.symbols), 30)
+        self.assertEqual((part.first, before, behind), (70, True, False))
+        self.assertEqual(layers.near_head(tape, 100), (tape, False, False))
+
+
 class Import(Tools):
     def test_tables_are_printed(self):
         status, out, said = called("import", [], example("parity.yaml"))
