@@ -61,7 +61,7 @@ to_loose m k a p before first =
     let left : a * p ≤ m * (2 * k + 2) = mul-le-mul before first in
     omega arith
 
-costs : CostsAreBounded
+pub costs : CostsAreBounded
 costs n k q i r o state line next out =
     let one_more : (n - 1) + 1 ≡ n = omega arith in
     let first : pass_cost k i ≤ 2 * k + 2 = omega arith in
@@ -75,7 +75,7 @@ costs n k q i r o state line next out =
 
 -- ---- the machine and its translation
 
-uniform : TranslationsAreUniform
+pub uniform : TranslationsAreUniform
 uniform p t standard h =
     let all = numbers_pass_tests p standard (name_of t) t.machine.rules h.rules in (
       record { deterministic = all.0; reversible = all.1; uniform = all.2 },
@@ -87,7 +87,7 @@ uniform p t standard h =
 alike : TranslationsEndAlike
 alike p t word standard h letters = ends_alike p t h standard numbers_pass_tests numbers_run_alike word bounded_runs_agree letters
 
-stand : TranslationsStand
+pub stand : TranslationsStand
 stand p t word standard h letters = (
   λ rooms n d run. every_moment_stands p word standard letters rooms n (in_state (name_of t) d)
       (run_named p t h standard numbers_pass_tests numbers_run_alike word rooms n d run),
@@ -100,28 +100,28 @@ stand p t word standard h letters = (
 controls : ControlsAreOne
 controls = (order_one, order_there, λ m names is u n. table_there m names is u n, table_one)
 
-read_off : BoardsRead
+pub read_off : BoardsRead
 read_off = boards-read uniform have-entries
 
-run_to_exit : BoardsRunToTheirExit
+pub run_to_exit : BoardsRunToTheirExit
 run_to_exit = boards-run alike uniform stand (first-moment costs have-entries) (next-moment costs (commands-walk costs) have-entries)
     (last-moment costs (commands-walk costs) have-entries) read_off
 
-have_moments : BoardsHaveMoments
+pub have_moments : BoardsHaveMoments
 have_moments =
     boards-moments uniform have-entries alike stand (outcome_exists, outcome_once) (first-moment costs have-entries)
     (next-moment costs (commands-walk costs) have-entries)
     (last-moment costs (commands-walk costs) have-entries) heads-stay
 
-flats_one : FlatsAreOne
+pub flats_one : FlatsAreOne
 flats_one = flats-one translations_are_one uniform controls have-entries
 
-flats_there : FlatsAreThere
+pub flats_there : FlatsAreThere
 flats_there = flats-there translations_are_one uniform (there list_is_in_range list_has_length) boards-there
 
 -- ---- the answers
 
-counted : BoardsAreCounted
+pub counted : BoardsAreCounted
 counted = boards-counted translations_are_one controls
 
 moments : MomentsAreCounted

@@ -58,7 +58,7 @@ moment_by_tables m l names n o d a same (enters_first other first entry into wir
     enters_first other first entry into wire
     (subst (λ (ts : List Table). d.place ≡ Enter (input_line (base ts into.element) into.line).element west) same place) q names_it marked
 
-moment_there : (f g : Flat) (d : Config) (a : ℕ) → f.translation ≡ g.translation → f.limits ≡ g.limits → f.names ≡ g.names →
+pub moment_there : (f g : Flat) (d : Config) (a : ℕ) → f.translation ≡ g.translation → f.limits ≡ g.limits → f.names ≡ g.names →
     f.network.tables ≡ g.network.tables →
     IsBoardMoment (machine_of f) f.limits f.names f.network d a → IsBoardMoment (machine_of g) g.limits g.names g.network d a
 moment_there f g d a translation limits names tables h =
@@ -77,7 +77,7 @@ counts_alike P Q to from (suc n) (suc c) (inr h) = inr ((λ q. h.0 (from n q)), 
 -- ---- two boards of one machine, word and limits
 
 module _ (f g : Flat) (same : AreSameFlats f g) (limits : f.limits ≡ g.limits) where
-  after_same : (n : ℕ) → after f n ≡ after g n
+  pub after_same : (n : ℕ) → after f n ≡ after g n
   after_same n = run-alike f.circuit g.circuit same.circuit (flat_start f) n ∙ ap (λ c. run g.circuit c n) same.start
 
   places_same : (n : ℕ) → places f.circuit n (flat_start f) ≡ places g.circuit n (flat_start g)
@@ -108,7 +108,7 @@ module _ (f g : Flat) (same : AreSameFlats f g) (limits : f.limits ≡ g.limits)
   )
 
   module _ (t : Named) where
-    exit_same : (p : Place) (e : Exit) → exit_line t f p e ≡ exit_line t g p e
+    pub exit_same : (p : Place) (e : Exit) → exit_line t f p e ≡ exit_line t g p e
     exit_same p Inside = refl
     exit_same p End = refl
     exit_same p (Stuck a c) = ap (λ (s : Translation). stuck_line t (state_text t (machine_state_by s.final_state (name_of s a))) c) same.translation
@@ -168,7 +168,7 @@ run_once given t f one s u text second told heard a b =
 
 module _ (machines : TablesAreMachines) (ones : FlatsAreOne) where
   -- two boards are the same
-  same_boards : (bytes letters : List ℕ) (l : Limits) (t : Named) (symbols : List ℕ) (f g : Flat) → IsGiven bytes letters l t symbols →
+  pub same_boards : (bytes letters : List ℕ) (l : Limits) (t : Named) (symbols : List ℕ) (f g : Flat) → IsGiven bytes letters l t symbols →
       ComesTo t.machine l symbols f →
       ComesTo t.machine l symbols g → AreSameFlats f g
   same_boards bytes letters l t symbols f g given a b =

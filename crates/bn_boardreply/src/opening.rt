@@ -16,15 +16,16 @@ use std::alloc::Global;
 
 /// A board with its machine's translation, or the answer where there is none.
 #[derive(Drop)]
-pub(crate) enum OpenedBoard {
+pub enum OpenedBoard {
     /// The translation, and the board at its start.
     Made(Translated, Board),
     /// What is answered where the word is too long, or the board would have too many elements.
     Refused(Reply),
 }
 
-// The board of a table's machine for this word and window.
-pub(crate) fn open_board(
+/// The board of a table's machine in standard form for a word of these symbols and a window, at its start; or what is
+/// answered where the word is too long for the window, or else the board would have too many elements.
+pub fn open_board(
     alloc: Global,
     table: &Table,
     standard: &Standard<'_>,

@@ -8,16 +8,16 @@ use bn_base::push_u64;
 use bn_reply::NoMemory;
 use std::alloc::Global;
 
-// Appends some bytes.
-pub(crate) fn push(text: &mut Vec<u8>, bytes: &[u8]) -> Result<(), NoMemory>
+/// Appends some bytes.
+pub fn push(text: &mut Vec<u8>, bytes: &[u8]) -> Result<(), NoMemory>
     ensures { OnOk result (text.new.items ≡ text.old.items ++ bytes.now) }
 {
     text.extend_from_slice(bytes)?;
     Ok(())
 }
 
-// Appends a number.
-pub(crate) fn push_number(text: &mut Vec<u8>, number: u64) -> Result<(), NoMemory>
+/// Appends a number in decimal digits.
+pub fn push_number(text: &mut Vec<u8>, number: u64) -> Result<(), NoMemory>
     ensures { OnOk result (text.new.items ≡ text.old.items ++ decimal number) }
 {
     match push_u64(text, number) {
@@ -35,9 +35,9 @@ pub(crate) fn push_counted(text: &mut Vec<u8>, word: &[u8], number: u64) -> Resu
     push(text, b"\n")
 }
 
-// Appends a position.
+/// Appends a position on a tape in decimal digits, with a sign where it is below 0.
 #[tactic(auto, using(crate::proofs::PieceLemmas::signed_position))]
-pub(crate) fn push_position(
+pub fn push_position(
     alloc: Global,
     text: &mut Vec<u8>,
     position: i64,

@@ -45,8 +45,9 @@ pub(crate) fn run_text(
     Ok(text)
 }
 
-// Appends the line that says where the signal is.
-fn push_exit(
+/// Appends the line that says where the signal of a board is: inside, about to enter a line of an element, or by which
+/// exit it has left. The table has names for what it names.
+pub fn push_exit(
     text: &mut Vec<u8>,
     table: &Table,
     translated: &Translated,

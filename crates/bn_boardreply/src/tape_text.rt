@@ -11,8 +11,9 @@ use bn_reply::{NoMemory, push_letters};
 use bn_table::Table;
 use std::alloc::Global;
 
-// Appends the lines of three tapes.
-pub(crate) fn push_tapes(
+/// Appends the lines of three tapes: of each the position of its first cell, of its head, and its cells from left to
+/// right. On tapes 1 and 3 the table has a letter for each symbol that is shown.
+pub fn push_tapes(
     alloc: Global,
     text: &mut Vec<u8>,
     table: &Table,

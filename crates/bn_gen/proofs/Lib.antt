@@ -2,3 +2,4 @@ mod Cases
 mod RoundLemmas
 pub mod FormLemmas
 pub mod MachineLemmas
+pub mod TableLemmas

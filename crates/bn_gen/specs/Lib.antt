@@ -1,2 +1,3 @@
 pub mod Increments
+pub mod Text
 pub mod Laws

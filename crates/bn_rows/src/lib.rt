@@ -15,7 +15,13 @@ mod desk;
 #[cfg(test)]
 mod faults;
 #[cfg(test)]
+mod generated;
+#[cfg(test)]
+mod layers;
+#[cfg(test)]
 mod machines;
+#[cfg(test)]
+mod plans;
 #[cfg(test)]
 mod quadruples;
 #[cfg(test)]

@@ -3,26 +3,31 @@ use Rattle.std.specs.Prelude.{◌≡◌, ℕ, ◌≤◌, List, [], Option, Some,
 use Rattle.std.proofs.Common.{sym, subst, ◌∙◌}
 use Rattle.bn_theory.specs.declared.place.Place.{Place}
 use Rattle.bn_machine.specs.Outcome.{Limits}
-use Rattle.bn_words.specs.Forms.{most_limit, most_number, row_of}
+use Rattle.bn_words.specs.Forms.{most_increments, most_limit, most_number, row_of}
 use Rattle.bn_words.specs.Requests.{AreWithin, HasForm, Request, letters_at, number_at}
 use Rattle.bn_words.specs.declared.form.Form.{Form}
 use Rattle.bn_words.specs.declared.form.Form.TheVariants.{Step, Back, Check, Machine, Reversible, Bennett, Realise, Standard}
-use Rattle.bn_words.specs.declared.form.Form.TheVariants.{Compile, Run, RunWithin}
+use Rattle.bn_words.specs.declared.form.Form.TheVariants.{Compile, Run, RunWithin, View, Plan, Generate}
 use Rattle.bn_words.specs.declared.kind.Kind.{Kind}
 use Rattle.bn_words.specs.declared.kind.Kind.TheVariants.{Count, Ordinal}
-use Rattle.bn_words.proofs.ArgumentLemmas.{count_most, form-AreWithin, ordinal_least}
+use Rattle.bn_words.proofs.ArgumentLemmas.{count_most, form-AreWithin, ordinal_least, ordinal_most}
 use Rattle.bn_reply.specs.Answering.{IsSettled}
 use Rattle.bn_reply.specs.Replying.{IsReplied, IsUnfinished}
 use Rattle.bn_reply.specs.declared.reply.Reply.{Reply}
 use Rattle.bn_reply.specs.declared.status.Status.{Status}
 use Rattle.bn_reply.specs.declared.reply.NoMemory.{NoMemory as WantOfMemory}
 use Rattle.bn_reply.proofs.ReplyLemmas.{silent}
+use Rattle.bn_gen.specs.Increments.{IsRoundCount}
+use Rattle.bn_genreply.specs.GenerateReply.{GenerateReplies}
+use Rattle.bn_genreply.proofs.GenerateLemmas.{generate_settled}
 use Rattle.bn_netreply.specs.CircuitReply.{BackReplies, StepReplies}
 use Rattle.bn_netreply.specs.RealiseReply.{RealiseReplies}
 use Rattle.bn_netreply.proofs.CircuitLemmas.{back_settled, step_settled}
 use Rattle.bn_netreply.proofs.RealiseLemmas.{realise_settled}
 use Rattle.bn_standardreply.specs.StandardReply.{StandardTableReplies}
 use Rattle.bn_standardreply.proofs.StandardLemmas.{standard_settled}
+use Rattle.bn_planreply.specs.PlanReply.{PlanReplies}
+use Rattle.bn_planreply.proofs.PlanReplyLemmas.{plan_settled}
 use Rattle.bn_tablereply.specs.BennettReply.{BennettReplies}
 use Rattle.bn_tablereply.specs.CheckReply.{CheckReplies}
 use Rattle.bn_tablereply.specs.MachineReply.{MachineReplies}
@@ -35,6 +40,8 @@ use Rattle.bn_boardanswers.specs.CompileReply.{CompileReplies}
 use Rattle.bn_boardanswers.specs.RunReply.{RunReplies}
 use Rattle.bn_boardanswers.specs.Windows.{AreSmall}
 use Rattle.bn_boardanswers.proofs.ClosedLemmas.{compile_settled, run_settled}
+use Rattle.bn_viewreply.specs.ViewReply.{ViewReplies}
+use Rattle.bn_viewreply.proofs.ClosedLemmas.{view_settled}
 use Rattle.bn_top.specs.Answers.{Replies, RepliesBy, limits_at}
 
 -- ---- the laws
@@ -49,6 +56,13 @@ small_limits kinds request within a b c d = (
   count_most kinds request.arguments 3 most_limit within c,
   count_most kinds request.arguments 4 most_limit within d,
 )
+
+-- an ordinal up to the most increments is a number of increments
+round_count : (request : Request) → AreWithin (row_of Generate).kinds request.arguments → IsRoundCount (number_at request 0)
+round_count request within = record {
+  some = ordinal_least (row_of Generate).kinds request.arguments 0 most_increments within refl;
+  few = ordinal_most (row_of Generate).kinds request.arguments 0 most_increments within refl;
+}
 
 settled_by : (form : Form) (request : Request) → AreWithin (row_of form).kinds request.arguments →
     (bytes : List ℕ) → IsSettled (RepliesBy form request bytes)
@@ -71,6 +85,11 @@ settled_by Run request within = λ bytes.
 settled_by RunWithin request within = λ bytes.
     run_settled (Some (number_at request 5)) (letters_at request 0) (limits_at request) bytes
     (small_limits (row_of RunWithin).kinds request within refl refl refl refl)
+settled_by View request within = λ bytes.
+    view_settled (number_at request 5) (letters_at request 0) (limits_at request) bytes
+    (small_limits (row_of View).kinds request within refl refl refl refl)
+settled_by Plan request within = plan_settled
+settled_by Generate request within = λ bytes. generate_settled (number_at request 0) (round_count request within)
 
 -- what is asked for has one answer and only one
 pub settled : (words : List (List ℕ)) (request : Request) → HasForm words request → (bytes : List ℕ) → IsSettled (Replies request bytes)
@@ -129,6 +148,16 @@ module _ (request : Request) (form : Form) (of : form ≡ request.form) (bytes :
         let limited = subst (λ m. Silent result (CompileReplies word m bytes)) l_is h in
         silent_by Compile is (subst (λ w. Silent result (CompileReplies w (limits_at request) bytes)) word_is limited)
 
+    pub view_reply : (e : ℕ) (word : List ℕ) (l : Limits) → form ≡ View → word ≡ letters_at request 0 → l ≡ limits_at request → e ≡ number_at request 5 →
+        Silent result (ViewReplies e word l bytes) → Replied result told told (Replies request bytes)
+    view_reply e word l is word_is l_is e_is h =
+        let stepped = subst (λ n. Silent result (ViewReplies n word l bytes)) e_is h in
+        let limited = subst (λ m. Silent result (ViewReplies (number_at request 5) word m bytes)) l_is stepped in
+        silent_by View is (subst (λ w. Silent result (ViewReplies (number_at request 5) w (limits_at request) bytes)) word_is limited)
+
+    pub plan_reply : form ≡ Plan → Silent result (PlanReplies bytes) → Replied result told told (Replies request bytes)
+    plan_reply is h = silent_by Plan is h
+
   module _ (told heard : Option (List Place)) (word : List ℕ) (l : Limits) where
     -- a claim of the answers to the words that ask for a run
     run_by : (other : Form) (number : Option ℕ) → RepliesBy other request ≡ RunReplies number (letters_at request 0) (limits_at request) → form ≡ other →
@@ -180,6 +209,16 @@ module _ (request : Request) (form : Form) (of : form ≡ request.form) (bytes :
     back_part is n_is h =
         by_form Back is (Unfinished result told heard) (subst (λ m. Unfinished result told heard (BackReplies m bytes)) n_is h)
 
+    pub generate_reply : form ≡ Generate → n ≡ number_at request 0 → Replied result told heard (GenerateReplies n) →
+        Replied result told heard (Replies request bytes)
+    generate_reply is n_is h =
+        by_form Generate is (Replied result told heard) (subst (λ m. Replied result told heard (GenerateReplies m)) n_is h)
+
+    pub generate_part : form ≡ Generate → n ≡ number_at request 0 → Unfinished result told heard (GenerateReplies n) →
+        Unfinished result told heard (Replies request bytes)
+    generate_part is n_is h =
+        by_form Generate is (Unfinished result told heard) (subst (λ m. Unfinished result told heard (GenerateReplies m)) n_is h)
+
 pub ruleset replies = (
   step_reply,
   step_part,
@@ -196,4 +235,8 @@ pub ruleset replies = (
   run_part,
   run_within_reply,
   run_within_part,
+  view_reply,
+  plan_reply,
+  generate_reply,
+  generate_part,
 )

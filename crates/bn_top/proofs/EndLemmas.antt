@@ -1,10 +1,12 @@
 -- How the top call ends.
-use Rattle.std.specs.Prelude.{◌≡◌, ℕ, ◌<◌, ◌≤◌, List, [], length, Option, Some, None, IfSome, refl, ◌⊎◌}
-use Rattle.std.proofs.Common.{inl, inr, sym, subst, ◌∙◌, append-nil}
+use Rattle.std.specs.Prelude.{◌≡◌, true, false, ℕ, ◌<◌, ◌≤◌, List, [], length, Option, Some, None, IfSome, refl, ◌⊎◌}
+use Rattle.std.proofs.Common.{ap, Bool, inl, inr, sym, subst, ◌∙◌, append-nil}
 use Rattle.bn_theory.specs.declared.place.Place.{Place}
 use Rattle.bn_io.specs.Faults.{Rose}
 use Rattle.bn_io.specs.Told.{Grows, GrowsByFront}
+use Rattle.bn_words.specs.Forms.{reads_input}
 use Rattle.bn_words.specs.Requests.{Request, HasForm, HasNoForm}
+use Rattle.bn_words.specs.declared.form.Form.{Form}
 use Rattle.bn_reply.specs.Codes.{IsAnswer, IsReplyStatus}
 use Rattle.bn_reply.specs.Ends.{Finishes, whole, cut}
 use Rattle.bn_reply.specs.Replying as ends_of
@@ -13,14 +15,20 @@ use Rattle.bn_reply.specs.declared.status.Status.{Status}
 use Rattle.bn_reply.specs.declared.status.Status.TheVariants.{Usage, Size, ReadFault, WriteFault, NoMemory}
 use Rattle.bn_reply.proofs.ReplyLemmas.{grows_nothing}
 use Rattle.bn_reply.proofs.Walks.{hears-nothing}
-use Rattle.bn_top.specs.Answers.{Answers, no_form, too_long, replied, Replies, input_limit, usage_text, size_text}
-use Rattle.bn_top.specs.Told.{IsAnswered, IsBegun, IsBroken, unbegun, begun}
+use Rattle.bn_top.specs.Answers.{Answers, no_form, unread, too_long, replied, Replies, input_limit, usage_text, size_text}
+use Rattle.bn_top.specs.Told.{EndsWithoutInput, IsAnswered, IsBegun, IsBroken, NeedsNoInput, unbegun, begun}
+use Rattle.bn_top.proofs.AnswerLemmas.{not_both}
 use Rattle.bn_top.proofs.Commands.{settled}
 
 -- what follows for the value that is told
 pub by_told : (o : Option (List ℕ)) (P Q : List ℕ → Type 0) → ((xs : List ℕ) → P xs → Q xs) → IfSome o P → IfSome o Q
 by_told None P Q f h = tt
 by_told (Some xs) P Q f h = f xs h
+
+-- what follows for any value, whether or not it is told
+pub for_any : (o : Option (List ℕ)) (P : List ℕ → Type 0) → ((xs : List ℕ) → P xs) → IfSome o P
+for_any None P all = tt
+for_any (Some xs) P all = all xs
 
 -- the bytes that were read are those that the source tells
 pub read_as : (left after : Option (List ℕ)) (items bytes : List ℕ) → bytes ≡ items → IfSome left (λ xs. (items ≡ xs) × (after ≡ Some [])) →
@@ -100,7 +108,122 @@ module _ (words : List (List ℕ)) (request : Request) (form : HasForm words req
   is_complete (ends_of.cut failed rose status text places right grows hears) sound = absurd (sound rose)
   is_complete (ends_of.wanting none same unfinished) sound = inr none
 
-module _ (words : List (List ℕ)) (request : Request) (form : HasForm words request) (result : Status) (taken took : Option (List ℕ)) where
+-- whether what is asked for reads an input, by the test on its form
+pub reads_as : (f g : Form) (tested is : Bool) → f ≡ g → tested ≡ reads_input f → tested ≡ is → reads_input g ≡ is
+reads_as f g tested is same value test = sym (ap reads_input same) ∙ sym value ∙ test
+
+-- how a reply ends, where a reply to the request is an answer
+module _ (words : List (List ℕ)) (request : Request) (form : HasForm words request) (bytes : List ℕ) (result : Status) (taken took : Option (List ℕ))
+    (told heard : Option (List Place)) (before now : ℕ)
+    (answers : (status : Status) (text : List ℕ) (places : List Place) → Replies request bytes status text places → Answers words bytes status text places) where
+  -- no reply has the status of a fault
+  no_fault : (status : Status) (text : List ℕ) (places : List Place) → Replies request bytes status text places →
+      (status ≡ WriteFault → ⊥) × (status ≡ NoMemory → ⊥)
+  no_fault status text places right =
+      let reply = (settled words request form bytes).status status text places right in
+      (λ e. subst IsReplyStatus e reply, λ e. subst IsReplyStatus e reply)
+
+  whole_end : AnswerEnds (Replies request bytes) result taken took before now told heard → IsAnswer result →
+      IsAnswered words bytes result taken took told heard
+  whole_end (ends_of.whole text places right grows hears) answer =
+      record { text = text; places = places; answers = answers result text places right; grows = grows; hears = hears }
+  whole_end (ends_of.cut failed rose status text places right grows hears) answer = absurd (subst IsAnswer failed answer)
+  whole_end (ends_of.wanting none same unfinished) answer = absurd (subst IsAnswer none answer)
+
+  cut_end : AnswerEnds (Replies request bytes) result taken took before now told heard → result ≡ WriteFault →
+      IsBegun words bytes taken took told heard
+  cut_end (ends_of.whole text places right grows hears) failed = absurd ((no_fault result text places right).0 failed)
+  cut_end (ends_of.cut _ rose status text places right grows hears) failed = record {
+    status = status;
+    text = text;
+    places = places;
+    answers = answers status text places right;
+    grows = grows;
+    front = places;
+    rest = [];
+    split = sym (append-nil places);
+    hears = hears;
+  }
+  cut_end (ends_of.wanting none same unfinished) failed = absurd (cc)
+
+  by_unfinished : took ≡ taken → IsUnfinished (Replies request bytes) told heard → IsBroken words bytes taken took told heard
+  by_unfinished same (untold hears) = unbegun (grows_nothing taken took same) hears
+  by_unfinished same (told_some status text places front rest right split hears) = begun (record {
+    status = status;
+    text = text;
+    places = places;
+    answers = answers status text places right;
+    grows = ([], text, refl, grows_nothing taken took same);
+    front = front;
+    rest = rest;
+    split = split;
+    hears = hears;
+  })
+
+  wanting_end : AnswerEnds (Replies request bytes) result taken took before now told heard → result ≡ NoMemory →
+      IsBroken words bytes taken took told heard
+  wanting_end (ends_of.whole text places right grows hears) none = absurd ((no_fault result text places right).1 none)
+  wanting_end (ends_of.cut failed rose status text places right grows hears) none = absurd (cc)
+  wanting_end (ends_of.wanting _ same unfinished) none = by_unfinished same unfinished
+
+-- the words don't ask for what needs no input
+pub needs_input : (words : List (List ℕ)) (request : Request) → HasForm words request → reads_input request.form ≡ true → NeedsNoInput words → ⊥
+needs_input words request form reads h = not_both words request h.request form h.form reads h.unread
+
+-- words that ask for what needs no input
+module _ (words : List (List ℕ)) (request : Request) (form : HasForm words request) (nothing : reads_input request.form ≡ false) (result : Status)
+    (taken took : Option (List ℕ)) (told heard : Option (List Place)) (before now : ℕ)
+    (ends : AnswerEnds (Replies request []) result taken took before now told heard) where
+  -- whatever bytes there are
+  same_answers : (bytes : List ℕ) (status : Status) (text : List ℕ) (places : List Place) → Replies request [] status text places → Answers words bytes status text places
+  same_answers bytes status text places right = unread request form nothing right
+
+  pub inputless : EndsWithoutInput words result taken took told heard
+  inputless = record {
+    answered = whole_end words request form [] result taken took told heard before now (same_answers []) ends;
+    cut = cut_end words request form [] result taken took told heard before now (same_answers []) ends;
+    broken = wanting_end words request form [] result taken took told heard before now (same_answers []) ends;
+  }
+
+  other_answers : (bytes : List ℕ) (status : Status) (text : List ℕ) (places : List Place) → Answers words [] status text places → Answers words bytes status text places
+  other_answers bytes status text places (no_form none s t p) = no_form none s t p
+  other_answers bytes status text places (unread r is none h) = unread r is none h
+  other_answers bytes status text places (too_long r is reads long s t p) = absurd (not_both words r request is form reads nothing)
+  other_answers bytes status text places (replied r is reads low h) = absurd (not_both words r request is form reads nothing)
+
+  begun_with : (bytes : List ℕ) → IsBegun words [] taken took told heard → IsBegun words bytes taken took told heard
+  begun_with bytes h = record {
+    status = h.status;
+    text = h.text;
+    places = h.places;
+    answers = other_answers bytes h.status h.text h.places h.answers;
+    grows = h.grows;
+    front = h.front;
+    rest = h.rest;
+    split = h.split;
+    hears = h.hears;
+  }
+
+  broken_with : (bytes : List ℕ) → IsBroken words [] taken took told heard → IsBroken words bytes taken took told heard
+  broken_with bytes (unbegun grows hears) = unbegun grows hears
+  broken_with bytes (begun h) = begun (begun_with bytes h)
+
+  answered_with : (bytes : List ℕ) → IsAnswered words [] result taken took told heard → IsAnswered words bytes result taken took told heard
+  answered_with bytes h =
+      record { text = h.text; places = h.places; answers = other_answers bytes result h.text h.places h.answers; grows = h.grows; hears = h.hears }
+
+  pub inputless_answered : (left : Option (List ℕ)) → IsAnswer result → IfSome left (λ bytes. IsAnswered words bytes result taken took told heard)
+  inputless_answered left answer =
+      for_any left (λ bytes. IsAnswered words bytes result taken took told heard) (λ bytes. answered_with bytes (inputless.answered answer))
+
+  pub inputless_cut : (left : Option (List ℕ)) → result ≡ WriteFault → IfSome left (λ bytes. IsBegun words bytes taken took told heard)
+  inputless_cut left failed = for_any left (λ bytes. IsBegun words bytes taken took told heard) (λ bytes. begun_with bytes (inputless.cut failed))
+
+  pub inputless_broken : (left : Option (List ℕ)) → result ≡ NoMemory → IfSome left (λ bytes. IsBroken words bytes taken took told heard)
+  inputless_broken left none = for_any left (λ bytes. IsBroken words bytes taken took told heard) (λ bytes. broken_with bytes (inputless.broken none))
+
+module _ (words : List (List ℕ)) (request : Request) (form : HasForm words request) (reads : reads_input request.form ≡ true) (result : Status)
+    (taken took : Option (List ℕ)) where
   -- an input that is too long
   module _ (told : Option (List Place)) (before now : ℕ) (text : List ℕ) (is : text ≡ size_text)
       (ends : Finishes Size result taken took before now text) where
@@ -109,82 +232,35 @@ module _ (words : List (List ℕ)) (request : Request) (form : HasForm words req
     size_answered left long answer =
         by_told left (λ bytes. input_limit < length bytes) (λ bytes. IsAnswered words bytes result taken took told told) (λ bytes over.
         given words result Size taken took told before now bytes size_text text
-        (λ s e. too_long request form (λ h. h) over e refl refl) is answer ends) long
+        (λ s e. too_long request form reads over e refl refl) is answer ends) long
 
     pub size_cut : (left : Option (List ℕ)) → IfSome left (λ bytes. input_limit < length bytes) → result ≡ WriteFault →
         IfSome left (λ bytes. IsBegun words bytes taken took told told)
     size_cut left long failed =
         by_told left (λ bytes. input_limit < length bytes) (λ bytes. IsBegun words bytes taken took told told) (λ bytes over.
         cut_short words result Size taken took told before now bytes size_text text
-        (λ s e. too_long request form (λ h. h) over e refl refl) is tt failed ends) long
+        (λ s e. too_long request form reads over e refl refl) is tt failed ends) long
 
   -- an input that is read
   module _ (told heard : Option (List Place)) (bytes : List ℕ) (within : length bytes ≤ input_limit) (before now : ℕ)
       (left after : Option (List ℕ)) (read : IfSome left (λ xs. (bytes ≡ xs) × (after ≡ Some []))) where
     answers : (status : Status) (text : List ℕ) (places : List Place) → Replies request bytes status text places → Answers words bytes status text places
-    answers status text places right = replied request form (λ h. h) within right
-
-    -- no reply has the status of a fault
-    no_fault : (status : Status) (text : List ℕ) (places : List Place) → Replies request bytes status text places →
-        (status ≡ WriteFault → ⊥) × (status ≡ NoMemory → ⊥)
-    no_fault status text places right =
-        let reply = (settled words request form bytes).status status text places right in
-        (λ e. subst IsReplyStatus e reply, λ e. subst IsReplyStatus e reply)
+    answers status text places right = replied request form reads within right
 
     for_told : (P : List ℕ → Type 0) → P bytes → IfSome left P
     for_told P h = by_told left (λ xs. (bytes ≡ xs) × (after ≡ Some [])) P (λ xs r. subst P r.0 h) read
 
-    whole_end : IsAnswer result → AnswerEnds (Replies request bytes) result taken took before now told heard →
-        IsAnswered words bytes result taken took told heard
-    whole_end answer (ends_of.whole text places right grows hears) =
-        record { text = text; places = places; answers = answers result text places right; grows = grows; hears = hears }
-    whole_end answer (ends_of.cut failed rose status text places right grows hears) = absurd (subst IsAnswer failed answer)
-    whole_end answer (ends_of.wanting none same unfinished) = absurd (subst IsAnswer none answer)
-
     pub reply_answered : AnswerEnds (Replies request bytes) result taken took before now told heard →
         IsAnswer result → IfSome left (λ xs. IsAnswered words xs result taken took told heard)
-    reply_answered ends answer = for_told (λ xs. IsAnswered words xs result taken took told heard) (whole_end answer ends)
-
-    cut_end : result ≡ WriteFault → AnswerEnds (Replies request bytes) result taken took before now told heard →
-        IsBegun words bytes taken took told heard
-    cut_end failed (ends_of.whole text places right grows hears) = absurd ((no_fault result text places right).0 failed)
-    cut_end failed (ends_of.cut _ rose status text places right grows hears) = record {
-      status = status;
-      text = text;
-      places = places;
-      answers = answers status text places right;
-      grows = grows;
-      front = places;
-      rest = [];
-      split = sym (append-nil places);
-      hears = hears;
-    }
-    cut_end failed (ends_of.wanting none same unfinished) = absurd (cc)
+    reply_answered ends answer = for_told (λ xs. IsAnswered words xs result taken took told heard)
+        (whole_end words request form bytes result taken took told heard before now answers ends answer)
 
     pub reply_cut : AnswerEnds (Replies request bytes) result taken took before now told heard →
         result ≡ WriteFault → IfSome left (λ xs. IsBegun words xs taken took told heard)
-    reply_cut ends failed = for_told (λ xs. IsBegun words xs taken took told heard) (cut_end failed ends)
-
-    by_unfinished : took ≡ taken → IsUnfinished (Replies request bytes) told heard → IsBroken words bytes taken took told heard
-    by_unfinished same (untold hears) = unbegun (grows_nothing taken took same) hears
-    by_unfinished same (told_some status text places front rest right split hears) = begun (record {
-      status = status;
-      text = text;
-      places = places;
-      answers = answers status text places right;
-      grows = ([], text, refl, grows_nothing taken took same);
-      front = front;
-      rest = rest;
-      split = split;
-      hears = hears;
-    })
-
-    wanting_end : result ≡ NoMemory → AnswerEnds (Replies request bytes) result taken took before now told heard →
-        IsBroken words bytes taken took told heard
-    wanting_end none (ends_of.whole text places right grows hears) = absurd ((no_fault result text places right).1 none)
-    wanting_end none (ends_of.cut failed rose status text places right grows hears) = absurd (cc)
-    wanting_end none (ends_of.wanting _ same unfinished) = by_unfinished same unfinished
+    reply_cut ends failed = for_told (λ xs. IsBegun words xs taken took told heard)
+        (cut_end words request form bytes result taken took told heard before now answers ends failed)
 
     pub reply_wanting : AnswerEnds (Replies request bytes) result taken took before now told heard →
         result ≡ NoMemory → IfSome left (λ xs. IsBroken words xs taken took told heard)
-    reply_wanting ends none = for_told (λ xs. IsBroken words xs taken took told heard) (wanting_end none ends)
+    reply_wanting ends none = for_told (λ xs. IsBroken words xs taken took told heard)
+        (wanting_end words request form bytes result taken took told heard before now answers ends none)

@@ -4,7 +4,7 @@ use Rattle.std.proofs.Common.{arith, sym, subst}
 use Rattle.bn_words.specs.Forms.{most_limit, row_of}
 use Rattle.bn_words.specs.Requests.{IsNumeric, IsRequest, Request, number_at}
 use Rattle.bn_words.specs.declared.form.Form.{Form}
-use Rattle.bn_words.specs.declared.form.Form.TheVariants.{Step, Back, Check, Machine, Reversible, Bennett, Realise, Compile, Run, RunWithin}
+use Rattle.bn_words.specs.declared.form.Form.TheVariants.{Step, Back, Check, Machine, Reversible, Bennett, Realise, Compile, Run, RunWithin, View}
 use Rattle.bn_words.specs.declared.kind.Kind.TheVariants.{Count}
 use Rattle.bn_words.proofs.ArgumentLemmas.{count_most}
 use Rattle.bn_top.specs.Answers.{HasWindow}
@@ -20,6 +20,7 @@ pub limits : (form : Form) → HasWindow form → HasLimits form
 limits Compile h = record { left = refl; right = refl; steps = refl; output = refl }
 limits Run h = record { left = refl; right = refl; steps = refl; output = refl }
 limits RunWithin h = record { left = refl; right = refl; steps = refl; output = refl }
+limits View h = record { left = refl; right = refl; steps = refl; output = refl }
 limits _ h = absurd h
 
 -- such a word is a number, up to that limit

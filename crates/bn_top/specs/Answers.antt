@@ -1,22 +1,26 @@
 -- The answer of the workbench to words and bytes: a text, a status, and the places that a watch is told (this project's
 -- own profile). It rests on the definitions of texts, tables and circuits alone.
-use Rattle.std.specs.Prelude.{◌≡◌, ℕ, ◌<◌, ◌≤◌, List, [], ◌∷◌, ◌++◌, length, Some, None, codes}
+use Rattle.std.specs.Prelude.{◌≡◌, ℕ, ◌<◌, ◌≤◌, List, [], ◌∷◌, ◌++◌, length, Some, None, true, false, codes}
 use Rattle.bn_theory.specs.declared.place.Place.{Place}
 use Rattle.bn_machine.specs.Outcome.{Limits}
 use Rattle.bn_words.specs.Requests.{Request, HasForm, HasNoForm, letters_at, number_at}
+use Rattle.bn_words.specs.Forms.{reads_input}
 use Rattle.bn_words.specs.declared.form.Form.{Form}
 use Rattle.bn_words.specs.declared.form.Form.TheVariants.{Step, Back, Check, Machine, Reversible, Bennett, Realise, Standard}
-use Rattle.bn_words.specs.declared.form.Form.TheVariants.{Compile, Run, RunWithin}
+use Rattle.bn_words.specs.declared.form.Form.TheVariants.{Compile, Run, RunWithin, View, Plan, Generate}
 use Rattle.bn_boardanswers.specs.CompileReply.{CompileReplies}
 use Rattle.bn_boardanswers.specs.Headline.{most_bytes}
 use Rattle.bn_boardanswers.specs.RunReply.{RunReplies}
+use Rattle.bn_genreply.specs.GenerateReply.{GenerateReplies}
 use Rattle.bn_netreply.specs.CircuitReply.{BackReplies, StepReplies}
 use Rattle.bn_netreply.specs.RealiseReply.{RealiseReplies}
+use Rattle.bn_planreply.specs.PlanReply.{PlanReplies}
 use Rattle.bn_standardreply.specs.StandardReply.{StandardTableReplies}
 use Rattle.bn_tablereply.specs.BennettReply.{BennettReplies}
 use Rattle.bn_tablereply.specs.CheckReply.{CheckReplies}
 use Rattle.bn_tablereply.specs.MachineReply.{MachineReplies}
 use Rattle.bn_tablereply.specs.ReversibleReply.{ReversibleReplies}
+use Rattle.bn_viewreply.specs.ViewReply.{ViewReplies}
 use Rattle.bn_reply.specs.declared.status.Status.{Status}
 use Rattle.bn_reply.specs.declared.status.Status.TheVariants.{Usage, Size}
 
@@ -48,6 +52,7 @@ abbrev pub HasWindow : Form → Type 0
 HasWindow Compile = Unit {0}
 HasWindow Run = Unit {0}
 HasWindow RunWithin = Unit {0}
+HasWindow View = Unit {0}
 HasWindow _ = ⊥
 
 -- what is answered to a request of this form and an input within the limit; the words behind the name are counted
@@ -64,25 +69,21 @@ RepliesBy Standard request = StandardTableReplies
 RepliesBy Compile request = CompileReplies (letters_at request 0) (limits_at request)
 RepliesBy Run request = RunReplies None (letters_at request 0) (limits_at request)
 RepliesBy RunWithin request = RunReplies (Some (number_at request 5)) (letters_at request 0) (limits_at request)
+RepliesBy View request = ViewReplies (number_at request 5) (letters_at request 0) (limits_at request)
+RepliesBy Plan request = PlanReplies
+RepliesBy Generate request = λ bytes. GenerateReplies (number_at request 0)
 
 abbrev pub Replies : Request → List ℕ → Status → List ℕ → List Place → Type 0
 Replies request = RepliesBy request.form request
-
--- the forms whose command is answered without an input: none of these
-abbrev pub ReadsNothing : Form → Type 0
-ReadsNothing form = ⊥
-
-abbrev pub ReadsInput : Form → Type 0
-ReadsInput form = ReadsNothing form → ⊥
 
 -- The answer, by the first cause that applies: the words ask for nothing; they ask for what needs no input; the input
 -- is too long; else what is answered to the request and the input.
 pub data Answers (words : List (List ℕ)) (bytes : List ℕ) (status : Status) (text : List ℕ)
     (told : List Place) : Type 0 where
   no_form : HasNoForm words → status ≡ Usage → text ≡ usage_text → told ≡ [] → Answers words bytes status text told
-  unread : (request : Request) → HasForm words request → ReadsNothing request.form →
+  unread : (request : Request) → HasForm words request → reads_input request.form ≡ false →
       Replies request [] status text told → Answers words bytes status text told
-  too_long : (request : Request) → HasForm words request → ReadsInput request.form → input_limit < length bytes →
+  too_long : (request : Request) → HasForm words request → reads_input request.form ≡ true → input_limit < length bytes →
       status ≡ Size → text ≡ size_text → told ≡ [] → Answers words bytes status text told
-  replied : (request : Request) → HasForm words request → ReadsInput request.form → length bytes ≤ input_limit →
+  replied : (request : Request) → HasForm words request → reads_input request.form ≡ true → length bytes ≤ input_limit →
       Replies request bytes status text told → Answers words bytes status text told

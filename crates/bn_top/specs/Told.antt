@@ -1,12 +1,17 @@
 -- What a sink has taken and a watch has heard when the workbench ends.
-use Rattle.std.specs.Prelude.{◌≡◌, ℕ, ◌<◌, List, [], ◌++◌, length, Option}
+use Rattle.std.specs.Prelude.{◌≡◌, ℕ, ◌<◌, List, [], ◌∷◌, ◌++◌, false, length, Option, codes, decimal}
 use Rattle.bn_theory.specs.declared.place.Place.{Place}
 use Rattle.bn_io.specs.Faults.{Rose}
 use Rattle.bn_io.specs.Told.{Loses, Grows, GrowsByFront}
 use Rattle.bn_net.specs.Watching.{Hears}
+use Rattle.bn_words.specs.Forms.{reads_input}
+use Rattle.bn_words.specs.Requests.{HasForm, Request}
+use Rattle.bn_gen.specs.Increments.{IsRoundCount}
+use Rattle.bn_genreply.specs.Laws.{TellsGenerated}
+use Rattle.bn_reply.specs.Codes.{IsAnswer}
 use Rattle.bn_top.specs.Answers.{Answers, usage_text, read_fault_text}
 use Rattle.bn_reply.specs.declared.status.Status.{Status}
-use Rattle.bn_reply.specs.declared.status.Status.TheVariants.{Usage, WriteFault}
+use Rattle.bn_reply.specs.declared.status.Status.TheVariants.{Usage, WriteFault, NoMemory}
 
 -- The answer was given whole: the sink took its text, and the watch heard its places.
 pub record IsAnswered (words : List (List ℕ)) (bytes : List ℕ) (status : Status) (taken took : Option (List ℕ))
@@ -52,3 +57,23 @@ pub record IsReadFaultCut (before now : ℕ) (taken took : Option (List ℕ))
 -- the source gave more bytes than the limit
 abbrev pub GaveMore : Option (List ℕ) → Option (List ℕ) → ℕ → Type 0
 GaveMore old new limit = (piece : List ℕ) × Loses old new piece × (limit < length piece)
+
+-- the words ask for what needs no input
+pub record NeedsNoInput (words : List (List ℕ)) : Type 0 where
+  pub request : Request
+  pub form : HasForm words request
+  pub unread : reads_input request.form ≡ false
+
+-- how such an answer ends: it is that to no bytes at all
+pub record EndsWithoutInput (words : List (List ℕ)) (result : Status) (taken took : Option (List ℕ))
+    (told heard : Option (List Place)) : Type 0 where
+  pub answered : IsAnswer result → IsAnswered words [] result taken took told heard
+  pub cut : result ≡ WriteFault → IsBegun words [] taken took told heard
+  pub broken : result ≡ NoMemory → IsBroken words [] taken took told heard
+
+-- where the words are `generate` and a number of increments, the sink took a text that tells the run of the machine of
+-- so many increments
+abbrev pub TellsGenerate : List (List ℕ) → Status → Option (List ℕ) → Option (List ℕ) → Type 0
+TellsGenerate words status taken took =
+    (k : ℕ) → IsRoundCount k → words ≡ codes "generate" ∷ decimal k ∷ []
+    → (text : List ℕ) × Grows taken took text × TellsGenerated k status text

@@ -7,11 +7,14 @@ ghost use Rattle.bn_top.specs.Answers.{HasWindow, Replies, limits_at};
 
 use bn_assembly::Windows;
 use bn_boardreply::{reply_compile, reply_run};
+use bn_genreply::reply_generate;
 use bn_net::Watch;
 use bn_netreply::{reply_back, reply_realise, reply_step};
+use bn_planreply::reply_plan;
 use bn_reply::{NoMemory, Reply};
 use bn_standardreply::reply_standard;
 use bn_tablereply::{reply_bennett, reply_check, reply_machine, reply_reversible};
+use bn_viewreply::reply_view;
 use bn_words::{Form, Request};
 use std::alloc::Global;
 
@@ -59,6 +62,15 @@ pub(crate) fn reply_to<W: Watch>(
             bytes,
             watch,
         ),
+        Form::View => reply_view(
+            alloc,
+            request.letters(0),
+            &windows_of(request),
+            request.number(5),
+            bytes,
+        ),
+        Form::Plan => reply_plan(alloc, bytes),
+        Form::Generate => reply_generate(alloc, request.number(0) as u32, watch),
     }
 }
 

@@ -10,9 +10,11 @@ ghost use Rattle.bn_words.specs.Requests.{HasNoForm};
 ghost use Rattle.bn_boardanswers.specs.Headline.{TellsHeadline};
 ghost use Rattle.bn_top.specs.Answers.{Replies, input_limit, read_fault_text};
 ghost use Rattle.bn_reply.specs.Replying.{AnswerEnds};
-ghost use Rattle.bn_top.specs.Told.{IsAnswered, IsBegun, IsBroken, UsageEnds, IsReadFaultCut, GaveMore};
+ghost use Rattle.bn_top.specs.Told.{EndsWithoutInput, IsAnswered, IsBegun, IsBroken, NeedsNoInput};
+ghost use Rattle.bn_top.specs.Told.{UsageEnds, IsReadFaultCut, GaveMore, TellsGenerate};
 
 use crate::dispatch::reply_to;
+use bn_genreply::generated_runs_tell_outcomes;
 use bn_io::{ReadRefusal, Sink, Source, read_all};
 use bn_net::Watch;
 use bn_reply::{Status, finish};
@@ -41,6 +43,10 @@ pub fn workbench<S: Source, K: Sink, W: Watch>(
     ensures headline { IsAnswer result → IfSome (S.left source.old)
         (λ bytes. TellsHeadline (map string_bytes words.now.items) bytes result (K.taken sink.old) (K.taken sink.new)) }
 
+    // The headline of `generate`, whatever the source tells.
+    ensures generated { IsAnswer result →
+        TellsGenerate (map string_bytes words.now.items) result (K.taken sink.old) (K.taken sink.new) }
+
     // Without a fault of the outside there is an answer, unless memory is wanting.
     ensures complete { (Rose (S.faults source.old) (S.faults source.new) → ⊥) →
         (Rose (K.faults sink.old) (K.faults sink.new) → ⊥) → IsAnswer result ⊎ (result ≡ Status.NoMemory) }
@@ -52,10 +58,17 @@ pub fn workbench<S: Source, K: Sink, W: Watch>(
     ensures unread { HasNoForm (map string_bytes words.now.items) → source.new ≡ source.old }
     ensures untold { HasNoForm (map string_bytes words.now.items) → Hears (W.told watch.old) [] (W.told watch.new) }
 
+    // The words that ask for what needs no input: nothing is read, and the answer is the same whatever the source holds,
+    // and whether or not it tells its bytes.
+    ensures inputless { NeedsNoInput (map string_bytes words.now.items) → source.new ≡ source.old }
+    ensures inputless_ends { NeedsNoInput (map string_bytes words.now.items) →
+        EndsWithoutInput (map string_bytes words.now.items) result (K.taken sink.old) (K.taken sink.new)
+        (W.told watch.old) (W.told watch.new) }
+
     // How much is read otherwise.
-    ensures read { IsAnswer result → result ≢ Status.Usage →
+    ensures read { (NeedsNoInput (map string_bytes words.now.items) → ⊥) → IsAnswer result → result ≢ Status.Usage →
         IfSome (S.left source.old) (λ bytes. length bytes ≤ input_limit → S.left source.new ≡ Some []) }
-    ensures size { IfSome (S.left source.old)
+    ensures size { (NeedsNoInput (map string_bytes words.now.items) → ⊥) → IfSome (S.left source.old)
         (λ bytes. result ≡ Status.Size → input_limit < length bytes →
         GaveMore (S.left source.old) (S.left source.new) input_limit) }
 
@@ -78,6 +91,11 @@ pub fn workbench<S: Source, K: Sink, W: Watch>(
     let Some(request) = read_words(words.as_slice()) else {
         return finish(sink, b"usage\n", Status::Usage);
     };
+    if !request.form().reads_input() {
+        // The law that what `generate` answers tells the outcome of the machine's own run.
+        generated_runs_tell_outcomes();
+        return answer(alloc, &request, b"", sink, watch);
+    }
     match read_all(alloc, source, INPUT_LIMIT) {
         Ok(bytes) => answer(alloc, &request, bytes.as_slice(), sink, watch),
         Err(ReadRefusal::ReadFault) => finish(sink, b"read fault\n", Status::ReadFault),

@@ -225,6 +225,21 @@ ordinal_least (k ∷ ks) (x ∷ xs) zero most h here = of_kind (subst (λ j. IsW
         least (Word l) v = absurd v
 ordinal_least (k ∷ ks) (x ∷ xs) (suc n) most h here = ordinal_least ks xs n most h.1 here
 
+-- and at most its limit
+pub ordinal_most : (kinds : List Kind) (xs : List Argument) (n most : ℕ) → AreWithin kinds xs → slice_get kinds n ≡ Some (Ordinal most) →
+    number_of (slice_get xs n) ≤ most
+ordinal_most [] xs n most h here = cc
+ordinal_most (k ∷ ks) [] n most h here = absurd h
+ordinal_most (k ∷ ks) (x ∷ xs) zero most h here = of_kind (subst (λ j. IsWithin j x) (let e : k ≡ Ordinal most = cc in e) h.0)
+  where
+    of_kind : IsWithin (Ordinal most) x → number_of (Some x) ≤ most
+    of_kind w = greatest x w
+      where
+        greatest : (y : Argument) → IsWithin (Ordinal most) y → number_of (Some y) ≤ most
+        greatest (Number m) v = v.1
+        greatest (Word l) v = absurd v
+ordinal_most (k ∷ ks) (x ∷ xs) (suc n) most h here = ordinal_most ks xs n most h.1 here
+
 -- what is said of a count is at most its limit
 pub count_most : (kinds : List Kind) (xs : List Argument) (n most : ℕ) → AreWithin kinds xs → slice_get kinds n ≡ Some (Count most) →
     number_of (slice_get xs n) ≤ most

@@ -1,11 +1,11 @@
 -- The table of the forms of a command line, a row a form (this project's own profile).
-use Rattle.std.specs.Prelude.{ℕ, List, [], ◌∷◌, codes}
+use Rattle.std.specs.Prelude.{ℕ, Bool, true, false, List, [], ◌∷◌, codes}
 use Rattle.bn_base.specs.Number.{greatest}
 use Rattle.bn_words.specs.declared.kind.Kind.{Kind}
 use Rattle.bn_words.specs.declared.kind.Kind.TheVariants.{Count, Ordinal, Letters}
 use Rattle.bn_words.specs.declared.form.Form.{Form}
 use Rattle.bn_words.specs.declared.form.Form.TheVariants.{Step, Back, Check, Machine, Reversible, Bennett, Realise, Standard}
-use Rattle.bn_words.specs.declared.form.Form.TheVariants.{Compile, Run, RunWithin}
+use Rattle.bn_words.specs.declared.form.Form.TheVariants.{Compile, Run, RunWithin, View, Plan, Generate}
 
 -- a row: the command's name, and the kinds of the words behind it
 pub record Row : Type 0 where
@@ -23,6 +23,10 @@ most_number = 1048576
 abbrev pub most_limit : ℕ
 most_limit = 1048576
 
+-- the most increments of the machine whose run is generated
+abbrev pub most_increments : ℕ
+most_increments = 4
+
 -- a word and the four limits of a window, and what stands behind them
 abbrev window_kinds : List Kind → List Kind
 window_kinds rest = Letters ∷ Count most_limit ∷ Count most_limit ∷ Count most_limit ∷ Count most_limit ∷ rest
@@ -39,3 +43,11 @@ row_of Standard = row (codes "standard") []
 row_of Compile = row (codes "compile") (window_kinds [])
 row_of Run = row (codes "run") (window_kinds [])
 row_of RunWithin = row (codes "run") (window_kinds (Count greatest ∷ []))
+row_of View = row (codes "view") (window_kinds (Count greatest ∷ []))
+row_of Plan = row (codes "plan") []
+row_of Generate = row (codes "generate") (Ordinal most_increments ∷ [])
+
+-- whether the command reads an input
+abbrev pub reads_input : Form → Bool
+reads_input Generate = false
+reads_input _ = true

@@ -1,7 +1,7 @@
 //! The table of the forms of a command line.
 
 ghost use Rattle.std.specs.Prelude.{◌≡◌};
-ghost use Rattle.bn_words.specs.Forms.{row_of};
+ghost use Rattle.bn_words.specs.Forms.{reads_input, row_of};
 
 use crate::kind::Kind;
 use crate::kind::Kind::{Count, Letters, Ordinal};
@@ -14,6 +14,9 @@ const MOST_NUMBER: u64 = 1_048_576;
 
 /// The greatest limit of a window: of the cells on a side of tape 1, the steps of the history, the cells of the output.
 const MOST_LIMIT: u64 = 1_048_576;
+
+/// The most increments of the machine whose run is generated.
+const MOST_INCREMENTS: u64 = 4;
 
 /// A word and the four limits of a window.
 const WINDOW: [Kind; 5] = [
@@ -60,6 +63,12 @@ pub enum Form {
     Run,
     /// `run =W l1 r1 n r3 E`: the run of that board, of at most E steps.
     RunWithin,
+    /// `view =W l1 r1 n r3 E`: every layer of that board after at most E steps.
+    View,
+    /// `plan`: the floor plan of a circuit, with the least number of tracks.
+    Plan,
+    /// `generate k`: the run of the machine of k increments. It reads no input.
+    Generate,
 }
 
 /// A row of the table: a name, and the kinds of the words behind it.
@@ -71,7 +80,7 @@ pub(crate) struct Row {
 
 impl Form {
     /// All forms.
-    pub const ALL: [Form; 11] = [
+    pub const ALL: [Form; 14] = [
         Form::Step,
         Form::Back,
         Form::Check,
@@ -83,7 +92,17 @@ impl Form {
         Form::Compile,
         Form::Run,
         Form::RunWithin,
+        Form::View,
+        Form::Plan,
+        Form::Generate,
     ];
+
+    /// Whether the command reads an input.
+    pub fn reads_input(self) -> bool
+        ensures { result ≡ reads_input self }
+    {
+        self != Form::Generate
+    }
 
     // The form's row.
     pub(crate) fn row(self) -> Row
@@ -102,6 +121,9 @@ impl Form {
             Form::Compile => Row::new("compile", &WINDOW),
             Form::Run => Row::new("run", &WINDOW),
             Form::RunWithin => Row::new("run", &WINDOW_AND_STEPS),
+            Form::View => Row::new("view", &WINDOW_AND_STEPS),
+            Form::Plan => Row::new("plan", &[]),
+            Form::Generate => Row::new("generate", &[Ordinal(MOST_INCREMENTS)]),
         }
     }
 }

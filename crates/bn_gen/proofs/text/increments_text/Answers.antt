@@ -1,0 +1,37 @@
+-- One line after another.
+use Rattle.std.proofs.Common.{◌≡◌, ◌∙◌, ◌++◌, sym, List, ℕ, ap, get_or, length, take, ◌≤◌}
+use Rattle.std.proofs.lemmas.Result.{IfOk-weaker}
+use Rattle.bn_entries.specs.Lines.{line_of}
+use Rattle.bn_entries.proofs.LinesLemmas.{lines_of-nil}
+use Rattle.bn_machine.specs.Machine.{Program}
+use Rattle.bn_machine.specs.declared.quint.Quint.{Quint}
+use Rattle.bn_machine.specs.declared.quint.Shift.TheVariants.{Left}
+use Rattle.bn_table.specs.Entry.{entry_of}
+use Rattle.bn_table.specs.Reading.{Reads}
+use Rattle.bn_table.specs.Rows.{said_of}
+use Rattle.bn_table.proofs.Writing.{one-line}
+use Rattle.bn_gen.specs.Increments.{quints_of}
+use Rattle.bn_gen.specs.Text.{increments_table, letters, names_of}
+use Rattle.bn_gen.proofs.TableLemmas.{text_is, text_reads}
+use Rattle.bn_gen.proofs.text.increments_text.Goals as goal
+
+pub loop-quint-init : goal.loop-quint-init
+loop-quint-init c = c.new-writer.ensures ∙ sym lines_of-nil
+
+pub loop-quint-preserved : goal.loop-quint-preserved
+loop-quint-preserved c =
+    let names = names_of c.args.k in
+    let blank : Quint = record { state = 0; read = 0; write = 0; shift = Left; next = 0 } in
+    let quints = c.quints-quint-items.result.now in
+    let i = c.loop-quint.quint-index in
+    c.in_ok-write_quint.ensures
+    ∙ ap (λ (w : List ℕ). w ++ line_of (entry_of (said_of names letters (get_or quints i blank)))) c.loop-quint.invariant
+    ∙ sym (one-line names letters quints i blank c.loop-quint-test.true)
+
+pub returns-clause-read_back : goal.returns-clause-read_back
+returns-clause-read_back c =
+    let k = c.args.k in
+    let quints : c.quints-quint-items.result.now ≡ quints_of k = c.quints-quint-items.ensures.value ∙ ap (λ (p : Program). p.quints) c.in_ok-machine.ensures in
+    IfOk-weaker c.into_text.result (λ text. text.items ≡ c.loop-quint.writer) (λ text. Reads text.items (increments_table k))
+    (λ text e. text_reads k text.items c.requires (text_is k c.quints-quint-items.result.now c.loop-quint.quint-index text.items quints c.loop-quint-test.false (e ∙ c.loop-quint.invariant)))
+    c.into_text.ensures

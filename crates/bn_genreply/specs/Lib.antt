@@ -1,0 +1,2 @@
+pub mod GenerateReply
+pub mod Laws

@@ -1,0 +1,12 @@
+pub mod ListLemmas
+pub mod DensityLemmas
+pub mod TrackLemmas
+pub mod PlanLemmas
+pub mod AssignedLemmas
+pub mod CircuitLemmas
+pub mod FloorLemmas
+pub mod FreeLemmas
+pub mod PositionLemmas
+pub mod SweepLemmas
+pub mod BeginLemmas
+pub mod EndLemmas

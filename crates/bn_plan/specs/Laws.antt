@@ -1,0 +1,86 @@
+-- What the laws of this crate say, each the contract of a function with an empty body.
+use Rattle.std.specs.Prelude.{◌≡◌, ◌↔◌, ℕ, ◌<◌, ◌≤◌, List, [], ◌∷◌, length, map}
+use Rattle.bn_theory.specs.Circuits.{Circuit, IsCircuit, inputs_of, outputs_of}
+use Rattle.bn_theory.specs.declared.line.Wire.{Wire}
+use Rattle.bn_element.specs.Rotary.{north, east, south, west}
+use Rattle.bn_plan.specs.declared.tracked.Tracked.{Tracked}
+use Rattle.bn_plan.specs.Lists.{IsIn}
+use Rattle.bn_plan.specs.Wires.{density, IsDensest, AreRotary, AreWiresOf}
+use Rattle.bn_plan.specs.Plans.{FloorPlan, IsPlan, IsFloorPlan, IsAssignment, TracksFit, HasTracks, tracks_of, wires_of}
+use Rattle.bn_plan.specs.Assigned.{assigned}
+
+-- the wires of a circuit of elements with at most four lines each way have a floor plan, and only one, in whatever
+-- order they are listed
+abbrev pub HasOneFloorPlan : Type 0
+HasOneFloorPlan = ((ws : List Wire) → (f : FloorPlan) × IsFloorPlan ws f)
+    × ((ws vs : List Wire) (f g : FloorPlan) → AreRotary ws → AreRotary vs → ((w : Wire) → IsIn ws w ↔ IsIn vs w)
+    → IsFloorPlan ws f → IsFloorPlan vs g → f ≡ g)
+
+-- wires of one track fit
+abbrev pub PlansFit : Type 0
+PlansFit = (ws : List Wire) (f : FloorPlan) → IsFloorPlan ws f → TracksFit f.wires
+
+-- any assignment in which wires of one track fit has at least as many tracks as wires cover a position
+abbrev pub TracksAreNeeded : Type 0
+TracksAreNeeded = (ws : List Wire) (ts : List Tracked) (used : List ℕ) (p : ℕ) → IsAssignment ws ts → HasTracks used ts
+    → density ws p ≤ length used
+
+-- so none has fewer than the plan
+abbrev pub NoneHasFewer : Type 0
+NoneHasFewer = (ws : List Wire) (f : FloorPlan) (ts : List Tracked) (used : List ℕ) → IsFloorPlan ws f
+    → IsAssignment ws ts → HasTracks used ts → f.tracks ≤ length used
+
+-- a plan has as many tracks as wires cover its densest position, and it uses those tracks and no others
+abbrev pub TracksAreTheDensity : Type 0
+TracksAreTheDensity = (ws : List Wire) (f : FloorPlan) → IsFloorPlan ws f
+    → (density ws f.densest ≡ f.tracks)
+    × ((t : Tracked) → IsIn f.wires t → (0 < t.track) × (t.track ≤ f.tracks))
+    × ((n : ℕ) → 0 < n → n ≤ f.tracks → (t : Tracked) × IsIn f.wires t × (t.track ≡ n))
+
+-- without wires there are no tracks, and the densest position is the first
+abbrev pub NoWiresNoTracks : Type 0
+NoWiresNoTracks = (f : FloorPlan) → IsFloorPlan [] f → (f.tracks ≡ 0) × (f.densest ≡ 0)
+
+-- a plan is what the function makes of its wires
+abbrev pub PlansCompute : Type 0
+PlansCompute = (ws : List Wire) (plan : List Tracked) → IsPlan ws plan → plan ≡ assigned [] (wires_of plan)
+
+-- the wires of a circuit of elements with at most four lines each way are as the laws above ask
+abbrev pub CircuitsAreRotary : Type 0
+CircuitsAreRotary = (k : Circuit) (ws : List Wire) → IsCircuit k
+    → ((e : ℕ) → (inputs_of k.tables e ≤ 4) × (outputs_of k.tables e ≤ 4)) → AreWiresOf k.wires ws → AreRotary ws
+
+-- a wire from a line of one element to a line of another
+abbrev pub joins : ℕ → ℕ → ℕ → ℕ → Wire
+joins from output to input =
+    record { from = record { element = from; line = output }; to = record { element = to; line = input } }
+
+-- the wires of two columns of two rows, in the order of their lesser ends
+abbrev pub bank_wires : List Wire
+bank_wires =
+    joins 0 north 2 east
+    ∷ joins 0 east 3 west
+    ∷ joins 0 south 1 north
+    ∷ joins 0 west 4 east
+    ∷ joins 2 west 0 north
+    ∷ joins 4 west 0 east
+    ∷ joins 1 north 0 south
+    ∷ joins 1 east 4 west
+    ∷ joins 1 south 2 north
+    ∷ joins 2 north 1 south
+    ∷ joins 2 south 2 south
+    ∷ joins 3 north 5 east
+    ∷ joins 3 south 4 north
+    ∷ joins 5 west 3 north
+    ∷ joins 4 north 3 south
+    ∷ joins 4 south 5 north
+    ∷ joins 5 north 4 south
+    ∷ joins 5 south 5 south
+    ∷ []
+
+-- the tracks of their plan, and its densest position
+abbrev pub BankExample : Type 0
+BankExample = (map (λ (t : Tracked). t.track) (assigned [] bank_wires)
+    ≡ 1 ∷ 2 ∷ 3 ∷ 4 ∷ 5 ∷ 6 ∷ 7 ∷ 7 ∷ 8 ∷ 3 ∷ 3 ∷ 1 ∷ 3 ∷ 5 ∷ 8 ∷ 2 ∷ 3 ∷ 3 ∷ [])
+    × (tracks_of (assigned [] bank_wires) ≡ 8)
+    × IsDensest bank_wires 8 10

@@ -1,0 +1,75 @@
+-- How far a plan has come, where the positions are gone along from 0: what is kept of the wires that have begun.
+use Rattle.std.specs.Prelude.{◌≡◌, ◌≢◌, ◌↔◌, ◌⊎◌, ℕ, ◌+◌, ◌<◌, ◌≤◌, List, [], ◌∷◌, Option, Some, None, get_or, length}
+use Rattle.std.specs.List.Sorted.{IsPermutation}
+use Rattle.bn_theory.specs.declared.line.Wire.{Wire}
+use Rattle.bn_plan.specs.declared.tracked.Tracked.{Tracked}
+use Rattle.bn_plan.specs.Lists.{IsIn, Pairwise}
+use Rattle.bn_plan.specs.Wires.{lesser, greater}
+use Rattle.bn_plan.specs.Plans.{FloorPlan, wire_of, wires_of, IsFree, TakeLeast, tracks_of}
+
+-- the wires that have begun; the tracks up to the greatest that are free; for each position the track of the wire that
+-- has begun and ends there, or none; the greatest track, and the position at which the first wire begins that has it
+pub record Swept : Type 0 where
+  pub wires : List Tracked
+  pub free : List ℕ
+  pub ending : List (Option ℕ)
+  pub tracks : ℕ
+  pub densest : ℕ
+
+-- a wire of the greatest track begins at this position, and none before it
+pub record IsWidest (ts : List Tracked) (n p : ℕ) : Type 0 where
+  pub first : Tracked
+  pub stands : IsIn ts first
+  pub track : first.track ≡ n
+  pub begins : lesser (wire_of first) ≡ p
+  pub before : (t : Tracked) → IsIn ts t → lesser (wire_of t) < p → t.track < n
+
+-- This is kept before position p of the wires that begin before it. They stand in order, each on its least track; the
+-- free tracks are those whose wires all end before p, each there once; and at each position from p on the track is kept
+-- of the wire that ends there.
+pub record IsSwept (ws : List Wire) (p : ℕ) (s : Swept) : Type 0 where
+  pub order : Pairwise (λ (t u : Tracked). lesser (wire_of t) < lesser (wire_of u)) s.wires
+  pub least : TakeLeast [] s.wires
+  pub begun : (w : Wire) → IsIn (wires_of s.wires) w ↔ IsIn ws w × (lesser w < p)
+  pub tracks : tracks_of s.wires ≡ s.tracks
+  pub few : s.tracks ≤ p
+  pub free : (n : ℕ) → IsIn s.free n ↔ (0 < n) × (n ≤ s.tracks) × IsFree s.wires n p
+  pub once : Pairwise (λ (m n : ℕ). m ≢ n) s.free
+  pub ends : (t : Tracked) → IsIn s.wires t → p ≤ greater (wire_of t) →
+      get_or s.ending (greater (wire_of t)) None ≡ Some t.track
+  pub ended : (q n : ℕ) → p ≤ q → q < length s.ending → get_or s.ending q None ≡ Some n →
+      (t : Tracked) × IsIn s.wires t × (greater (wire_of t) ≡ q)
+  pub densest : ((s.tracks ≡ 0) × (s.densest ≡ 0)) ⊎ IsWidest s.wires s.tracks s.densest
+
+-- this wire of the list begins at this position, or none does
+abbrev pub BeginsAt : List Wire → ℕ → Wire → Type 0
+BeginsAt ws p w = IsIn ws w × (lesser w ≡ p)
+
+-- the least free track, which is then free no more
+pub record TakesFree (old : Swept) (track : ℕ) (new : Swept) : Type 0 where
+  pub taken : IsPermutation old.free (track ∷ new.free)
+  pub least : (n : ℕ) → IsIn old.free n → track ≤ n
+  pub tracks : new.tracks ≡ old.tracks
+  pub densest : new.densest ≡ old.densest
+
+-- a track more
+pub record TakesNew (old : Swept) (p track : ℕ) (new : Swept) : Type 0 where
+  pub none_free : old.free ≡ []
+  pub none_left : new.free ≡ []
+  pub is_next : track ≡ old.tracks + 1
+  pub tracks : new.tracks ≡ track
+  pub densest : new.densest ≡ p
+
+-- A wire that begins at this position takes the least free track, or, where none is free, one that is new.
+pub record TakesTrack (old : Swept) (p track : ℕ) (new : Swept) : Type 0 where
+  pub wires : new.wires ≡ old.wires
+  pub ending : new.ending ≡ old.ending
+  pub takes : TakesFree old track new ⊎ TakesNew old p track new
+
+-- the wire with this track
+abbrev pub placed : Wire → ℕ → Tracked
+placed w n = record { from = w.from; to = w.to; track = n }
+
+-- the floor plan when all positions are behind
+abbrev pub floor_of : Swept → FloorPlan
+floor_of s = record { wires = s.wires; tracks = s.tracks; densest = s.densest }

@@ -1,0 +1,63 @@
+-- Wires as spans of positions, where the elements of a circuit stand in one line, and how many wires cover a position
+-- (this project's own profile).
+use Rattle.std.specs.Prelude.{◌≡◌, ◌≢◌, ◌↔◌, ℕ, ◌+◌, ◌*◌, ◌<◌, ◌≤◌, min, max, leb, ◌&&◌, Bool, List, Some}
+use Rattle.std.specs.List.{count_by}
+use Rattle.bn_theory.specs.Circuits.{target}
+use Rattle.bn_theory.specs.declared.line.Line.{Line}
+use Rattle.bn_theory.specs.declared.line.Wire.{Wire}
+use Rattle.bn_plan.specs.Lists.{IsIn, Pairwise}
+
+-- Each element takes eight positions, for its outputs north, east, south and west, and then for its inputs in the same
+-- order. This is the position of an output line.
+abbrev pub output_position : Line → ℕ
+output_position l = 8 * l.element + l.line
+
+-- and this that of an input line
+abbrev pub input_position : Line → ℕ
+input_position l = 8 * l.element + 4 + l.line
+
+-- the two ends of a wire in the order of their positions
+unfoldable pub lesser : Wire → ℕ
+lesser w = min (output_position w.from) (input_position w.to)
+
+unfoldable pub greater : Wire → ℕ
+greater w = max (output_position w.from) (input_position w.to)
+
+-- a wire covers all positions from its lesser to its greater end
+pub record Covers (p : ℕ) (w : Wire) : Type 0 where
+  pub starts : lesser w ≤ p
+  pub ends : p ≤ greater w
+
+-- the test for that
+abbrev pub covers : ℕ → Wire → Bool
+covers p w = leb (lesser w) p && leb p (greater w)
+
+-- two wires fit on one track where no position is covered by both
+abbrev pub Fit : Wire → Wire → Type 0
+Fit v w = (p : ℕ) → Covers p v → Covers p w → ⊥
+
+-- how many wires cover a position
+abbrev pub density : List Wire → ℕ → ℕ
+density ws p = count_by (covers p) ws
+
+-- d is the greatest density, and p the least position of that density
+pub record IsDensest (ws : List Wire) (d p : ℕ) : Type 0 where
+  pub reached : density ws p ≡ d
+  pub greatest : (q : ℕ) → density ws q ≤ d
+  pub least : (q : ℕ) → q < p → density ws q < d
+
+-- the lines of a rotary element are numbered below 4
+pub record HasFourLines (w : Wire) : Type 0 where
+  pub from : w.from.line < 4
+  pub to : w.to.line < 4
+
+-- the wires lead from elements of four lines each way to such, no two from one line, and no two to one line
+pub record AreRotary (ws : List Wire) : Type 0 where
+  pub lines : (w : Wire) → IsIn ws w → HasFourLines w
+  pub from_apart : Pairwise (λ (v w : Wire). v.from ≢ w.from) ws
+  pub to_apart : Pairwise (λ (v w : Wire). v.to ≢ w.to) ws
+
+-- These are the wires of a circuit that has this list of wires, each listed once: those that a signal goes along.
+pub record AreWiresOf (circuit ws : List Wire) : Type 0 where
+  pub each : (w : Wire) → IsIn ws w ↔ (target circuit w.from ≡ Some w.to)
+  pub once : Pairwise (λ (v w : Wire). v.from ≢ w.from) ws

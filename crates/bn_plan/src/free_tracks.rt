@@ -1,0 +1,61 @@
+//! The tracks that are free, of which the least is wanted next.
+
+ghost use Rattle.std.specs.Prelude.{◌≡◌, ◌≤◌, ℕ, [], ◌∷◌, IfSome, IfNone, OnOk};
+ghost use Rattle.bn_plan.specs.Lists.{IsIn};
+ghost use Rattle.std.specs.List.Sorted.{IsPermutation};
+
+use bn_net::NoMemory;
+use std::alloc::Global;
+use std::cmp::Reverse;
+use std::collections::BinaryHeap;
+use std::marker::Model;
+
+/// Some tracks, in no order that is seen.
+#[derive(Drop)]
+pub(crate) struct FreeTracks {
+    tracks: BinaryHeap<Reverse<u32>>,
+}
+
+impl Model for FreeTracks {
+    ghost use Rattle.std.specs.Prelude.{ℕ, List, map};
+    ghost use Rattle.std.specs.BinaryHeap.{IsHeap, heap_items};
+    ghost use Rattle.std.specs.Ordering.{nat_cmp};
+
+    ghost Value = { List ℕ };
+
+    ghost view = { λ f. map (λ r. r.0) (heap_items f.tracks) };
+
+    ghost invariant = { λ f. IsHeap (λ x y. nat_cmp y.0 x.0) (heap_items f.tracks) };
+}
+
+impl FreeTracks {
+    /// No tracks.
+    pub(crate) fn new(alloc: Global) -> FreeTracks
+        ensures { result ≡ [] }
+    {
+        FreeTracks {
+            tracks: BinaryHeap::new(alloc),
+        }
+    }
+
+    /// Adds a track.
+    pub(crate) fn add(&mut self, track: u32) -> Result<(), NoMemory>
+        ensures { OnOk result (IsPermutation (track ∷ self.old) self.new) }
+    {
+        let Ok(()) = self.tracks.push(Reverse(track)) else {
+            return Err(NoMemory);
+        };
+        Ok(())
+    }
+
+    /// Takes the least track out, `None` where there is none.
+    pub(crate) fn take_least(&mut self) -> Option<u32>
+        ensures taken { IfSome result (λ n. IsPermutation self.old (n ∷ self.new)) }
+        ensures least { IfSome result (λ n. (m : ℕ) → IsIn self.old m → n ≤ m) }
+        ensures none { IfNone result (self.old ≡ []) }
+        ensures kept { IfNone result (self.new ≡ self.old) }
+    {
+        let Reverse(track) = self.tracks.pop()?;
+        Some(track)
+    }
+}

@@ -1,0 +1,101 @@
+//! Positions of lines, and the wire that begins at a position.
+
+ghost use Rattle.std.specs.Prelude.{◌≡◌, ◌↔◌, ◌*◌, ◌<◌, ◌≤◌, length, map, IfSome, IfNone, IsTrue};
+ghost use Rattle.bn_theory.specs.Circuits.{IsInput, IsOutput};
+ghost use Rattle.bn_theory.specs.declared.line.Wire.{Wire};
+ghost use Rattle.bn_element.specs.Rotary.{rotary};
+ghost use Rattle.bn_plan.specs.Wires.{output_position, input_position, HasFourLines};
+ghost use Rattle.bn_plan.specs.Sweeping.{BeginsAt};
+
+use bn_element::Rotary;
+use bn_net::{Line, Net, Wire};
+
+/// The greatest number of elements of a circuit that has a floor plan.
+pub const MOST_ELEMENTS: u32 = 4_194_304;
+
+/// The number of positions that an element takes: its outputs, and then its inputs.
+pub(crate) const POSITIONS: u32 = 8;
+
+// The number of output lines of a rotary element.
+const OUTPUTS: u32 = 4;
+
+/// The position of an output line.
+pub(crate) fn output_position(line: Line) -> u32
+    requires element { line.element < MOST_ELEMENTS }
+    requires line { line.line < 4 }
+    ensures { result ≡ output_position line }
+{
+    POSITIONS * line.element + line.line
+}
+
+/// The position of an input line.
+pub(crate) fn input_position(line: Line) -> u32
+    requires element { line.element < MOST_ELEMENTS }
+    requires line { line.line < 4 }
+    ensures { result ≡ input_position line }
+{
+    POSITIONS * line.element + OUTPUTS + line.line
+}
+
+/// The wire that begins at this position: its lesser end stands there. `None` where none does.
+pub(crate) fn wire_from(net: &Net<Rotary>, position: u32) -> Option<Wire>
+    requires few { length net.now.elements ≤ MOST_ELEMENTS }
+    requires position { position < 8 * length net.now.elements }
+    ensures begins { IfSome result (BeginsAt net.now.wires position) }
+    ensures none { IfNone result ((w : Wire) → BeginsAt net.now.wires position w → ⊥) }
+{
+    let element = position / POSITIONS;
+    let line = position % POSITIONS;
+    if line < OUTPUTS {
+        wire_out_of(net, Line { element, line })
+    } else {
+        let line = line - OUTPUTS;
+        wire_into(net, Line { element, line })
+    }
+}
+
+// The wire that begins at this output line.
+fn wire_out_of(net: &Net<Rotary>, from: Line) -> Option<Wire>
+    requires few { length net.now.elements ≤ MOST_ELEMENTS }
+    requires output { IsOutput (map (λ _. rotary) net.now.elements) from }
+    ensures begins { IfSome result (BeginsAt net.now.wires (output_position from)) }
+    ensures none { IfNone result ((w : Wire) → BeginsAt net.now.wires (output_position from) w → ⊥) }
+{
+    // The net's own fact: it is a circuit.
+    let _count = net.len();
+    match net.target(from) {
+        None => None,
+        Some(to) => {
+            let wire = Wire { from, to };
+            begins_at_output(wire).then_some(wire)
+        }
+    }
+}
+
+// The wire that begins at this input line.
+fn wire_into(net: &Net<Rotary>, to: Line) -> Option<Wire>
+    requires few { length net.now.elements ≤ MOST_ELEMENTS }
+    requires input { IsInput (map (λ _. rotary) net.now.elements) to }
+    ensures begins { IfSome result (BeginsAt net.now.wires (input_position to)) }
+    ensures none { IfNone result ((w : Wire) → BeginsAt net.now.wires (input_position to) w → ⊥) }
+{
+    // The net's own fact: it is a circuit.
+    let _count = net.len();
+    match net.source(to) {
+        None => None,
+        Some(from) => {
+            let wire = Wire { from, to };
+            (!begins_at_output(wire)).then_some(wire)
+        }
+    }
+}
+
+// Whether the wire begins at its output line: that has the lesser position.
+fn begins_at_output(wire: Wire) -> bool
+    requires from { wire.from.element < MOST_ELEMENTS }
+    requires to { wire.to.element < MOST_ELEMENTS }
+    requires lines { HasFourLines wire }
+    ensures { IsTrue result ↔ (output_position wire.from < input_position wire.to) }
+{
+    output_position(wire.from) < input_position(wire.to)
+}

@@ -1,0 +1,74 @@
+//! The command `plan`.
+
+ghost use Rattle.std.specs.Prelude.{◌≡◌, ◌≤◌, [], IfOk, length};
+ghost use Rattle.bn_netlist.specs.Spelling.{most_elements};
+ghost use Rattle.bn_netreply.specs.Refused.{IsRefused, line_text};
+ghost use Rattle.bn_planreply.specs.PlanReply.{PlanIsSettled, PlanReplies, TellsPlan};
+
+use crate::text::plan_text;
+use bn_element::Rotary;
+use bn_net::Net;
+use bn_netlist::{NetlistRefusal, read_config};
+use bn_plan::plan;
+use bn_reply::{NoMemory, Reply, Status};
+use std::alloc::Global;
+
+/// What `plan` answers to some bytes: the floor plan of the circuit that they spell, or the first
+/// fault of bytes that are no configuration text.
+pub fn reply_plan(alloc: Global, bytes: &[u8]) -> Result<Reply, NoMemory>
+    ensures { IfOk result (λ r. PlanReplies bytes.now r.status r.text.items []) }
+{
+    match read_config(alloc, bytes) {
+        Ok(read) => plan_net(alloc, &read.net),
+        Err(refusal) => refuse(alloc, refusal),
+    }
+}
+
+// What is answered of a net that was read.
+fn plan_net(alloc: Global, net: &Net<Rotary>) -> Result<Reply, NoMemory>
+    requires { length net.now.elements ≤ most_elements }
+    ensures status { IfOk result (λ r. r.status ≡ Status.Done) }
+    ensures text { IfOk result (λ r. TellsPlan net.now.wires (length net.now.elements) r.text.items) }
+{
+    let Ok(plan) = plan(alloc, net) else {
+        return Err(NoMemory);
+    };
+    Ok(Reply {
+        text: plan_text(alloc, net.len(), &plan)?,
+        status: Status::Done,
+    })
+}
+
+// The line that refuses a text.
+fn refuse(alloc: Global, refusal: NetlistRefusal) -> Result<Reply, NoMemory>
+    ensures { IfOk result (λ r. IsRefused refusal r.status r.text.items) }
+{
+    match refusal {
+        NetlistRefusal::Syntax { line } => refuse_line(alloc, line, "syntax"),
+        NetlistRefusal::Order { line } => refuse_line(alloc, line, "order"),
+        NetlistRefusal::Target { line } => refuse_line(alloc, line, "target"),
+        NetlistRefusal::TwoSources { line } => refuse_line(alloc, line, "two sources"),
+        NetlistRefusal::StartFed { line } => refuse_line(alloc, line, "start fed"),
+        NetlistRefusal::EndWired { line } => refuse_line(alloc, line, "end wired"),
+        NetlistRefusal::LeftWired { line } => refuse_line(alloc, line, "left wired"),
+        NetlistRefusal::TooMany { line } => refuse_line(alloc, line, "too many"),
+        NetlistRefusal::NoMemory => Err(NoMemory),
+    }
+}
+
+// The line that refuses a text for what is wrong with one of its lines.
+fn refuse_line(alloc: Global, line: u64, what: &str) -> Result<Reply, NoMemory>
+    ensures status { IfOk result (λ r. r.status ≡ Status.Text) }
+    ensures text { IfOk result (λ r. r.text.items ≡ line_text line what.now) }
+{
+    Ok(Reply {
+        text: format!(in alloc; "text: line {line} {what}\n")?.into_bytes(),
+        status: Status::Text,
+    })
+}
+
+/// To all bytes `plan` has an answer, and only one. The function does nothing: its contract is the
+/// law.
+pub fn plan_has_one_reply()
+    ensures { PlanIsSettled }
+{}

@@ -1,0 +1,73 @@
+//! `view`: every layer of a board.
+
+use crate::desk::answer;
+use std::test::Fail;
+
+/// The least machine in standard form.
+const LEAST: &str = "S,_,_,+,T\nT,_,_,0,F\n";
+
+/// At the moment of A1', just before it and just behind it.
+const AT_MOMENT: &str = "element at 930.w steps 6540\nmodule tape 2 cell 0 line Rd\nquadruple A1'\n\
+                         tape 1 from 0 head 0: _ _ _\ntape 2 from 0 head 1: _ _ _\n\
+                         tape 3 from 0 head 0: _ _\nmachine compute quintuple 1 step 1\n";
+const BEFORE: &str = "element at 853.s steps 6539\nmodule control inside\nquadruple A1\n\
+                      tape 1 from 0 head 0: _ _ _\ntape 2 from 0 head 0: _ _ _\n\
+                      tape 3 from 0 head 0: _ _\nmachine compute state S step 0\n";
+
+/// At the end of the run.
+const ENDED: &str = "element left 848.e steps 67300\nexit end\nquadruple C1\n\
+                     tape 1 from 0 head 0: _ _ _\ntape 2 from 0 head 0: _ _ _\n\
+                     tape 3 from 0 head 0: _ _\nmachine retrace state S step 0\n";
+
+#[test]
+fn shows_the_last_moment(rt: HostRuntime) -> Result<(), Fail> {
+    let rows: [(&str, u8, &str); 3] = [
+        ("6540", 0, AT_MOMENT),
+        ("6539", 0, BEFORE),
+        ("67300", 0, ENDED),
+    ];
+    for (steps, code, output) in rows {
+        let list = ["view", "=", "0", "2", "2", "1", steps];
+        let answer = answer(rt.alloc(), &list, LEAST.as_bytes())?;
+        assert_eq!(rt; answer.text.as_slice(), output.as_bytes());
+        assert_eq!(rt; answer.status.code(), code);
+    }
+    Ok(())
+}
+
+#[test]
+fn refuses_as_a_run_does(rt: HostRuntime) -> Result<(), Fail> {
+    let rows: [(&[&str], &str, u8, &str); 5] = [
+        (&["view", "=", "0", "2", "2", "1"], LEAST, 2, "usage\n"),
+        (
+            &["view", "=", "0", "2", "2", "1", "0"],
+            "S,_,_,+\n",
+            3,
+            "text: record 1 fields\n",
+        ),
+        (
+            &["view", "=", "0", "2", "2", "1", "0"],
+            "S,_,_,+,T\n",
+            4,
+            "machine: S4\n",
+        ),
+        (
+            &["view", "=1", "0", "2", "2", "1", "0"],
+            LEAST,
+            5,
+            "word: 1\n",
+        ),
+        (
+            &["view", "=", "0", "2", "1048576", "1", "0"],
+            LEAST,
+            6,
+            "size: elements ",
+        ),
+    ];
+    for (list, input, code, output) in rows {
+        let answer = answer(rt.alloc(), list, input.as_bytes())?;
+        assert!(rt; answer.text.as_slice().starts_with(output.as_bytes()));
+        assert_eq!(rt; answer.status.code(), code);
+    }
+    Ok(())
+}

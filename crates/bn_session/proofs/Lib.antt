@@ -1,0 +1,13 @@
+pub mod BreakLemmas
+pub mod CutLemmas
+pub mod LabelLemmas
+pub mod LineLemmas
+pub mod PlaceLemmas
+pub mod PlayLemmas
+pub mod PlayedLemmas
+pub mod ReadingLemmas
+pub mod OneReading
+pub mod ScriptLemmas
+pub mod SomeReading
+pub mod StateLemmas
+pub mod WalkLemmas

@@ -1,0 +1,76 @@
+-- No line of a script holds a byte 10: so a script is cut into its lines in one way.
+use Rattle.std.specs.Prelude.{◌≡◌, ◌≢◌, ℕ, ◌^◌, ◌<◌, ◌≤◌, ◌==◌, ◌&&◌, nat_le, Option, Some, not, Bool, true, false, List, [], ◌∷◌, ◌++◌, length, codes, decimal, refl}
+use Rattle.std.specs.List.{list_all}
+use Rattle.std.specs.Char.{is_ascii_alphanumeric}
+use Rattle.std.specs.Str.Parse.{digits_value}
+use Rattle.std.proofs.Common.{arith, sym, ap, subst, ◌∙◌, get_or}
+use Rattle.std.proofs.lemmas.Fmt.{digits_decimal}
+use Rattle.std.proofs.lemmas.List.Elements.{All-nil, All-cons, All-append, All-from_get_or}
+use Rattle.std.proofs.lemmas.Str.Parse.{IsNumeralModel, numerals_by_value, tells_by_index}
+use Rattle.bn_base.specs.Line.{IsInLine}
+use Rattle.bn_base.proofs.LineLemmas.{lines-agree}
+use Rattle.bn_base.specs.Number.{greatest, AreDigits}
+use Rattle.bn_entries.specs.Forms.{is_name_byte, is_state_name}
+use Rattle.bn_session.specs.Sentences.{Sentence, Step, Back, Go, Rev, BreakState, BreakElement, Drop, View, is_label, sentence_text, IsSayable}
+use Rattle.bn_session.proofs.ReadingLemmas.{sentence_in-again, third_of}
+use Rattle.bn_session.specs.Reading.{sentence_in}
+
+abbrev Ten : ℕ → Type 0
+Ten byte = byte ≢ 10
+
+-- bytes that pass a test which 10 doesn't pass
+passing : (p : ℕ → Bool) (xs : List ℕ) → p 10 ≡ false → list_all p xs ≡ true → IsInLine xs
+passing p [] none all = All-nil Ten
+passing p (x ∷ xs) none all = by (p x) refl (passing p xs none) all
+  where
+    by : (b : Bool) → p x ≡ b → (list_all p xs ≡ true → IsInLine xs) → (b && list_all p xs) ≡ true → IsInLine (x ∷ xs)
+    by true passes later rest = All-cons Ten x xs (λ is. let there : p 10 ≡ true = ap p (sym is) ∙ passes in absurd (cc)) (later rest)
+    by false fails later rest = absurd (cc)
+
+word : (xs : List ℕ) → list_all (λ b. not (b == 10)) xs ≡ true → IsInLine xs
+word xs all = passing (λ b. not (b == 10)) xs refl all
+
+own : IsNumeralModel AreDigits (digits_value 10)
+own = numerals_by_value AreDigits tells_by_index
+
+number : (n : ℕ) → n ≤ greatest → IsInLine (decimal n)
+number n small =
+    let digits : AreDigits (decimal n) = digits_decimal own n (omega arith) in
+    All-from_get_or Ten (decimal n) 0 (λ i inside is. let digit = digits i inside in omega (arith, digit, is))
+
+label : (xs : List ℕ) → is_label xs ≡ true → IsInLine xs
+label xs form = passing is_ascii_alphanumeric xs refl (third_of (nat_le 1 (length xs)) (nat_le (length xs) 16) (list_all is_ascii_alphanumeric xs) form)
+
+name : (xs : List ℕ) → is_state_name xs ≡ true → IsInLine xs
+name xs form = passing is_name_byte xs refl (third_of (nat_le 1 (length xs)) (nat_le (length xs) 32) (list_all is_name_byte xs) form)
+
+behind : (xs ys : List ℕ) → IsInLine xs → IsInLine ys → IsInLine (xs ++ ys)
+behind xs ys a b = All-append Ten xs ys a b
+
+-- a line of a script holds no byte 10
+pub sentence_text-in_line : (s : Sentence) → IsSayable s → IsInLine (sentence_text s)
+sentence_text-in_line (Step e) h = behind (codes "step ") (decimal e) (word (codes "step ") refl) (number e h)
+sentence_text-in_line (Back e) h = behind (codes "back ") (decimal e) (word (codes "back ") refl) (number e h)
+sentence_text-in_line (Go e) h = behind (codes "go ") (decimal e) (word (codes "go ") refl) (number e h.1)
+sentence_text-in_line (Rev e) h = behind (codes "rev ") (decimal e) (word (codes "rev ") refl) (number e h.1)
+sentence_text-in_line (BreakState l n) h =
+    behind (codes "break ") (l ++ (codes " state " ++ n)) (word (codes "break ") refl)
+    (behind l (codes " state " ++ n) (label l h.0) (behind (codes " state ") n (word (codes " state ") refl) (name n h.1)))
+sentence_text-in_line (BreakElement l e) h =
+    behind (codes "break ") (l ++ (codes " element " ++ decimal e)) (word (codes "break ") refl)
+    (behind l (codes " element " ++ decimal e) (label l h.0) (behind (codes " element ") (decimal e) (word (codes " element ") refl) (number e h.1)))
+sentence_text-in_line (Drop l) h = behind (codes "drop ") l (word (codes "drop ") refl) (label l h)
+sentence_text-in_line View h = word (codes "view") refl
+
+same_sentence : (s t : Sentence) → ◌≡◌ {A = Option Sentence} (Some s) (Some t) → s ≡ t
+same_sentence s t e = cc
+
+-- a line says one thing
+pub sentence_text-injective : (s t : Sentence) → IsSayable s → IsSayable t → sentence_text s ≡ sentence_text t → s ≡ t
+sentence_text-injective s t hs ht e = same_sentence s t (sym (sentence_in-again s hs) ∙ ap sentence_in e ∙ sentence_in-again t ht)
+
+-- so two texts that begin with a line are one where they are equal
+pub lines-same : (s t : Sentence) (rest other : List ℕ) → IsSayable s → IsSayable t → sentence_text s ++ 10 ∷ rest ≡ sentence_text t ++ 10 ∷ other → (s ≡ t) × (rest ≡ other)
+lines-same s t rest other hs ht e =
+    let both = lines-agree (sentence_text s) (sentence_text t) rest other (sentence_text-in_line s hs) (sentence_text-in_line t ht) e in
+    (sentence_text-injective s t hs ht both.0, both.1)

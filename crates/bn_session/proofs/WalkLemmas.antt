@@ -1,0 +1,128 @@
+-- Where watched ways end.
+use Rattle.std.specs.Prelude.{◌≡◌, ℕ, ◌+◌, ◌-◌, ◌<◌, ◌≤◌, Bool, List, Option, true, false, refl, ◌⊎◌}
+use Rattle.std.proofs.Common.{zero, suc, arith, sym, ap, subst, ◌∙◌, inl, inr}
+use Rattle.std.proofs.lemmas.Bool.{cases_Bool}
+use Rattle.bn_theory.specs.Circuits.{Circuit, IsCircuit, IsConfig, Goes, IsStuck, IsFirst}
+use Rattle.bn_theory.specs.Stepping.{run, back, advance, retreat}
+use Rattle.bn_theory.proofs.RunLemmas.{run-zero, back-zero, run_composes, back_composes, next-stuck, previous-first}
+use Rattle.bn_theory.proofs.StepLemmas.{Goes-next, Goes-previous, previous-IsConfig}
+use Rattle.bn_theory.specs.declared.config.Config.{Config}
+use Rattle.bn_column.specs.Nets.{rotary_circuit}
+use Rattle.bn_layout.specs.Layouts.{moment_at}
+use Rattle.bn_flat.specs.Flattened.{Flattened, IsSameBoard}
+use Rattle.bn_session.specs.Breakpoints.{Breakpoint}
+use Rattle.bn_session.specs.Plays.{IsStop, at_hit, at_last, stops}
+use Rattle.bn_session.specs.Walks.{walk}
+
+module _ (test : Config → Bool) (once : Config → Config) where
+  pub walk-zero : (c : Config) → walk test once 0 c ≡ c
+  unfolding walk
+  walk-zero c = refl
+
+  pub walk-hit : (e : ℕ) (c : Config) → test (once c) ≡ true → walk test once (suc e) c ≡ once c
+  unfolding walk
+  walk-hit e c h = rw h refl
+
+  pub walk-on : (e : ℕ) (c : Config) → test (once c) ≡ false → walk test once (suc e) c ≡ walk test once e (once c)
+  unfolding walk
+  walk-on e c h = rw h refl
+
+  -- where no step leads on
+  pub walk-still : (e : ℕ) (c : Config) → once c ≡ c → walk test once e c ≡ c
+  walk-still zero c still = walk-zero c
+  walk-still (suc e) c still = elim (cases_Bool (test (once c))) [
+    | inl met ↦ walk-hit e c met ∙ still
+    | inr unmet ↦ walk-on e c unmet ∙ ap (walk test once e) still ∙ walk-still e c still
+  ]
+
+  -- a way that begins with a step at which the test doesn't hold
+  behind : (far : ℕ → Config) (on : ℕ → Config) (e : ℕ) (d : Config) → ((j : ℕ) → far (suc j) ≡ on j) → test (far 1) ≡ false → IsStop test on e d → IsStop test far (suc e) d
+  behind far on e d shifted unmet (at_hit j some few met before is) =
+      at_hit (suc j) (omega arith) (omega arith) (ap test (shifted j) ∙ met) (λ i more less. earlier i more less) (is ∙ sym (shifted j))
+    where
+      earlier : (i : ℕ) → 1 ≤ i → i < suc j → test (far i) ≡ false
+      earlier zero more less = absurd (omega arith)
+      earlier (suc zero) more less = unmet
+      earlier (suc (suc i)) more less = ap test (shifted (suc i)) ∙ before (suc i) (omega arith) (omega arith)
+  behind far on e d shifted unmet (at_last none is) = at_last (λ i more less. earlier i more less) (is ∙ sym (shifted e))
+    where
+      earlier : (i : ℕ) → 1 ≤ i → i ≤ suc e → test (far i) ≡ false
+      earlier zero more less = absurd (omega arith)
+      earlier (suc zero) more less = unmet
+      earlier (suc (suc i)) more less = ap test (shifted (suc i)) ∙ none (suc i) (omega arith) (omega arith)
+
+  -- by any way that begins at c and goes on as another one from the next place
+  walked : (way : Config → ℕ → Config) → ((c : Config) → way c 0 ≡ c) → ((c : Config) (j : ℕ) → way c (suc j) ≡ way (once c) j) → (e : ℕ) (c : Config) → IsStop test (way c) e (walk test once e c)
+  walked way begins goes zero c = at_last (λ i some few. absurd (omega arith)) (walk-zero c ∙ sym (begins c))
+  walked way begins goes (suc e) c = by (cases_Bool (test (once c))) (walked way begins goes e (once c))
+    where
+      first : way c 1 ≡ once c
+      first = goes c 0 ∙ begins (once c)
+
+      by : (test (once c) ≡ true) ⊎ (test (once c) ≡ false) → IsStop test (way (once c)) e (walk test once e (once c)) → IsStop test (way c) (suc e) (walk test once (suc e) c)
+      by (inl met) rest = at_hit 1 (omega arith) (omega arith) (ap test first ∙ met) (λ i some less. absurd (omega arith)) (walk-hit e c met ∙ sym first)
+      by (inr unmet) rest = subst (λ x. IsStop test (way c) (suc e) x) (sym (walk-on e c unmet)) (behind (way c) (way (once c)) e (walk test once e (once c)) (goes c) (ap test first ∙ unmet) rest)
+
+  -- ---- how far a walk has come: what is left of it ends where it does
+
+  module _ (count made : ℕ) (c0 c : Config) (left : walk test once (count - made) c ≡ walk test once count c0) where
+    pub ends_still : once c ≡ c → c ≡ walk test once count c0
+    ends_still still = sym (walk-still (count - made) c still) ∙ left
+
+    pub ends_last : count ≤ made → c ≡ walk test once count c0
+    ends_last all = let none : count - made ≡ 0 = omega arith in sym (walk-zero c) ∙ ap (λ n. walk test once n c) (sym none) ∙ left
+
+    pub ends_hit : (d : Config) → made < count → once c ≡ d → test d ≡ true → d ≡ walk test once count c0
+    ends_hit d more goes met =
+        let one : count - made ≡ suc (count - (made + 1)) = omega arith in
+        sym goes ∙ sym (walk-hit (count - (made + 1)) c (ap test goes ∙ met)) ∙ ap (λ n. walk test once n c) (sym one) ∙ left
+
+    pub goes_on : (d : Config) → made < count → once c ≡ d → test d ≡ false → walk test once (count - (made + 1)) d ≡ walk test once count c0
+    goes_on d more goes unmet =
+        let one : count - made ≡ suc (count - (made + 1)) = omega arith in
+        ap (walk test once (count - (made + 1))) (sym goes) ∙ sym (walk-on (count - (made + 1)) c (ap test goes ∙ unmet)) ∙ ap (λ n. walk test once n c) (sym one) ∙ left
+
+run-once : (k : Circuit) (c : Config) → run k c 1 ≡ advance k c
+unfolding run
+run-once k c = refl
+
+back-once : (k : Circuit) (c : Config) → back k c 1 ≡ retreat k c
+unfolding back
+back-once k c = refl
+
+run-shifts : (k : Circuit) (c : Config) (j : ℕ) → run k c (suc j) ≡ run k (advance k c) j
+run-shifts k c j = run_composes k c 1 j (suc j) (omega arith) ∙ ap (λ x. run k x j) (run-once k c)
+
+back-shifts : (k : Circuit) (c : Config) (j : ℕ) → back k c (suc j) ≡ back k (retreat k c) j
+back-shifts k c j = back_composes k c 1 j (suc j) (omega arith) ∙ ap (λ x. back k x j) (back-once k c)
+
+-- a walk stops where the way does
+pub walk-stops : (k : Circuit) (test : Config → Bool) (e : ℕ) (c d : Config) → d ≡ walk test (advance k) e c → IsStop test (run k c) e d
+walk-stops k test e c d is = subst (IsStop test (run k c) e) (sym is) (walked test (advance k) (run k) (run-zero k) (run-shifts k) e c)
+
+pub walk_back-stops : (k : Circuit) (test : Config → Bool) (e : ℕ) (c d : Config) → d ≡ walk test (retreat k) e c → IsStop test (back k c) e d
+walk_back-stops k test e c d is = subst (IsStop test (back k c) e) (sym is) (walked test (retreat k) (back k) (back-zero k) (back-shifts k) e c)
+
+-- ---- on a board that is the same as at the start, but for its configuration
+
+module _ (a b : Flattened) (same : IsSameBoard a b) where
+  pub tested_on : (breaks : List Breakpoint) (c : Config) (x : Bool) → x ≡ stops (moment_at b.layout) breaks c → stops (moment_at a.layout) breaks c ≡ x
+  tested_on breaks c x is = ap (λ l. stops (moment_at l) breaks c) (sym same.layout) ∙ sym is
+
+  goes_at : (c d : Config) → Goes (rotary_circuit b.net) c d → Goes (rotary_circuit a.net) c d
+  goes_at c d goes = subst (λ n. Goes (rotary_circuit n) c d) same.net goes
+
+  pub advanced : (c d : Config) → Goes (rotary_circuit b.net) c d → advance (rotary_circuit a.net) c ≡ d
+  advanced c d goes = rw (Goes-next (rotary_circuit a.net) c d (goes_at c d goes)) refl
+
+  pub stayed : (c : Config) → IsStuck (rotary_circuit b.net) c → advance (rotary_circuit a.net) c ≡ c
+  stayed c stuck = rw (next-stuck (rotary_circuit a.net) c (subst (λ n. IsStuck (rotary_circuit n) c) same.net stuck)) refl
+
+  pub retreated : IsCircuit (rotary_circuit a.net) → (c d : Config) → Goes (rotary_circuit b.net) c d → retreat (rotary_circuit a.net) d ≡ c
+  retreated circuit c d goes = rw (Goes-previous (rotary_circuit a.net) circuit c d (goes_at c d goes)) refl
+
+  pub retreated-good : IsCircuit (rotary_circuit a.net) → (c d : Config) → IsConfig (rotary_circuit a.net) d → Goes (rotary_circuit b.net) c d → IsConfig (rotary_circuit a.net) c
+  retreated-good circuit c d good goes = previous-IsConfig (rotary_circuit a.net) circuit c d good (goes_at c d goes)
+
+  pub remained : IsCircuit (rotary_circuit a.net) → (c : Config) → IsConfig (rotary_circuit a.net) c → IsFirst (rotary_circuit b.net) c → retreat (rotary_circuit a.net) c ≡ c
+  remained circuit c good first = rw (previous-first (rotary_circuit a.net) circuit c good (subst (λ n. IsFirst (rotary_circuit n) c) same.net first)) refl

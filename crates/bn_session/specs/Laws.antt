@@ -1,0 +1,100 @@
+-- What holds of all scripts, and how they are played.
+use Rattle.std.specs.Prelude.{◌≡◌, ℕ, ◌+◌, ◌<◌, ◌≤◌, Bool, true, false, List, Option, ◌⊎◌}
+use Rattle.bn_theory.specs.Runs.{Reaches}
+use Rattle.bn_theory.specs.Circuits.{Circuit, Goes, IsCircuit}
+use Rattle.bn_theory.specs.Stepping.{run}
+use Rattle.bn_theory.specs.declared.config.Config.{Config}
+use Rattle.bn_quad.specs.Names.{AreApart}
+use Rattle.bn_session.specs.Scripts.{IsScript, IsFirstFault, Fault}
+use Rattle.bn_session.specs.Cuts.{IsCut, IsUncut}
+use Rattle.bn_session.specs.Plays.{Session, stops, given, PlaysOne, Plays}
+use Rattle.bn_session.specs.declared.command.Command.{Command}
+use Rattle.bn_session.specs.declared.command.Command.TheVariants.{Go}
+
+-- bytes are a script of one list of commands
+abbrev pub ScriptsAreOne : Type 0
+ScriptsAreOne =
+    (names : List (List ℕ)) (bytes : List ℕ) (xs ys : List Command) → AreApart names → IsScript names bytes xs
+    → IsScript names bytes ys → xs ≡ ys
+
+-- bytes with a first fault are no script
+abbrev pub FaultyScriptsAreNone : Type 0
+FaultyScriptsAreNone =
+    (names : List (List ℕ)) (bytes : List ℕ) (line : ℕ) (fault : Fault) (xs : List Command) → AreApart names
+    → IsFirstFault names bytes line fault → IsScript names bytes xs → ⊥
+
+-- there is one first fault
+abbrev pub FirstFaultsAreOne : Type 0
+FirstFaultsAreOne =
+    (names : List (List ℕ)) (bytes : List ℕ) (line number : ℕ) (fault other : Fault) → AreApart names
+    → IsFirstFault names bytes line fault → IsFirstFault names bytes number other → (line ≡ number) × (fault ≡ other)
+
+-- bytes are a script, or have a first fault
+abbrev pub ScriptsReadOrFault : Type 0
+ScriptsReadOrFault =
+    (names : List (List ℕ)) (bytes : List ℕ)
+    → ((xs : List Command) × IsScript names bytes xs)
+    ⊎ ((line : ℕ) × (fault : Fault) × IsFirstFault names bytes line fault)
+
+-- ---- how scripts are played
+
+-- a script has one answer and one end
+abbrev pub PlaysAreOne : Type 0
+PlaysAreOne =
+    (k : Circuit) (moment : Config → Option ℕ) (shows : Config → List ℕ) (xs : List Command) (s t u : Session)
+    (text other : List ℕ) → Plays k moment (given shows) xs s t text → Plays k moment (given shows) xs s u other
+    → (t ≡ u) × (text ≡ other)
+
+-- a script has an answer and an end
+abbrev pub PlaysAreThere : Type 0
+PlaysAreThere =
+    (k : Circuit) (moment : Config → Option ℕ) (shows : Config → List ℕ) (xs : List Command) (s : Session)
+    → (t : Session) × (text : List ℕ) × Plays k moment (given shows) xs s t text
+
+-- the session is at a configuration of the run from this one
+abbrev pub IsOnRun : Circuit → Config → Session → Type 0
+IsOnRun k c0 s = Reaches (Goes k) s.config.steps c0 s.config
+
+-- every place that a script comes to is that of the run from the start, after as many steps as its line says
+abbrev pub PlacesAreOfTheRun : Type 0
+PlacesAreOfTheRun =
+    (k : Circuit) (moment : Config → Option ℕ) (shows : Config → List ℕ) (c0 : Config) → IsCircuit k
+    → c0.steps ≡ 0 → (xs : List Command) (s t : Session) (text : List ℕ) → IsOnRun k c0 s
+    → Plays k moment (given shows) xs s t text → IsOnRun k c0 t
+
+-- views that show the same on the run from the start give one answer
+abbrev pub PlaysAgree : Type 0
+PlaysAgree =
+    (k : Circuit) (moment : Config → Option ℕ) (shows others : Config → List ℕ) (c0 : Config) → IsCircuit k
+    → c0.steps ≡ 0 → ((c : Config) → Reaches (Goes k) c.steps c0 c → shows c ≡ others c)
+    → (xs : List Command) (s t : Session) (text : List ℕ) → IsOnRun k c0 s
+    → Plays k moment (given shows) xs s t text → Plays k moment (given others) xs s t text
+
+-- Within e steps after c the run from c0 first meets the test at d; or it doesn't meet it, and d is where the e steps
+-- end.
+pub data IsLeastHit (k : Circuit) (test : Config → Bool) (c0 c : Config) (e : ℕ) (d : Config) : Type 0 where
+  is_hit : (t : ℕ) → c.steps < t → t ≤ c.steps + e → Reaches (Goes k) t c0 d → test d ≡ true
+      → ((u : ℕ) (x : Config) → c.steps < u → u < t → Reaches (Goes k) u c0 x → test x ≡ false)
+      → IsLeastHit k test c0 c e d
+  is_none : d ≡ run k c e
+      → ((u : ℕ) (x : Config) → c.steps < u → u ≤ c.steps + e → Reaches (Goes k) u c0 x → test x ≡ false)
+      → IsLeastHit k test c0 c e d
+
+-- `go` stops at the least later step, within its number, at which a condition holds; where there is none, where the run
+-- of so many steps ends
+abbrev pub GoesStopAtLeast : Type 0
+GoesStopAtLeast =
+    (k : Circuit) (moment : Config → Option ℕ) (shows : Config → List ℕ) (c0 : Config) (e : ℕ) (s t : Session)
+    (text : List ℕ) → c0.steps ≡ 0 → IsOnRun k c0 s → PlaysOne k moment (given shows) (Go e) s t text
+    → IsLeastHit k (stops moment s.breaks) c0 s.config e t.config
+
+-- ---- how an input is cut
+
+-- in one way, or not at all
+abbrev pub CutsAreOne : Type 0
+CutsAreOne =
+    (bytes table script front rest : List ℕ) → IsCut bytes table script → IsCut bytes front rest
+    → (table ≡ front) × (script ≡ rest)
+
+abbrev pub CutsAreNotUncut : Type 0
+CutsAreNotUncut = (bytes table script : List ℕ) → IsCut bytes table script → IsUncut bytes → ⊥

@@ -1,0 +1,12 @@
+pub mod Sentences
+pub mod Labels
+pub mod Scripts
+pub mod Reading
+pub mod Progress
+pub mod Breakpoints
+pub mod Kept
+pub mod Plays
+pub mod Walks
+pub mod Boards
+pub mod Cuts
+pub mod Laws

@@ -1,0 +1,30 @@
+//! Sessions on a board: scripts of commands, how they are read, and how they are played.
+#![tactic(auto)]
+
+mod breaks;
+mod command;
+mod condition;
+mod cut;
+mod label;
+mod laws;
+mod lines;
+mod player;
+mod refusal;
+mod scope;
+mod script;
+mod sentence;
+mod shows;
+mod standing;
+mod states;
+mod walk;
+
+pub use command::Command;
+pub use cut::cut_script;
+pub use label::Label;
+pub use laws::{
+    inputs_are_cut_once, plays_have_one_answer, plays_stay_on_the_run, scripts_have_one_reading,
+};
+pub use player::play;
+pub use refusal::ScriptRefusal;
+pub use script::{Script, read_script};
+pub use shows::Shows;

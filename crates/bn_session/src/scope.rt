@@ -1,0 +1,172 @@
+//! What the names in a script stand for, as far as it has been read.
+
+ghost use Rattle.std.specs.Prelude.{◌≡◌, ◌++◌, ◌∷◌, [], IfOk, IfErr, OnOk, true, false};
+ghost use Rattle.bn_session.specs.Labels.{stands};
+ghost use Rattle.bn_session.specs.Sentences.{IsSayable, is_label, BreakState, BreakElement, Drop};
+ghost use Rattle.bn_session.specs.Reading.{said};
+ghost use Rattle.bn_session.specs.Scripts.{IsFaulty, IsRefusalOf, BeginsWithFault};
+ghost use Rattle.bn_session.specs.Progress.{Advances, AtLine, AsksFor, IsAsked, IsLineFault};
+
+use crate::command::Command;
+use crate::label::Label;
+use crate::refusal::ScriptRefusal;
+use crate::sentence::{Sentence, sentence_in};
+use crate::standing::Standing;
+use crate::states::States;
+use bn_base::{Lines, NextLine, NoMemory};
+use bn_quad::QuadNames;
+use std::alloc::Global;
+
+/// The states, and the labels that stand. (`number` is here the number of a line, counted from 1, which refusals
+/// name.)
+#[derive(Drop)]
+pub(crate) struct Scope<'a> {
+    alloc: Global,
+    states: States<'a>,
+    standing: Standing,
+}
+
+impl<'a> Scope<'a> {
+    /// The scope of a script before its first line.
+    pub(crate) fn new(alloc: Global, names: &QuadNames) -> Scope<'_>
+        ensures states { result.states ≡ names.now.states }
+        ensures standing { result.standing ≡ [] }
+    {
+        Scope {
+            alloc,
+            states: States::new(alloc, names),
+            standing: Standing::new(alloc),
+        }
+    }
+
+    /// Reads the next line, and answers its command; `None` exactly where nothing is left.
+    pub(crate) fn read_line(
+        &mut self,
+        lines: &mut Lines<'_>,
+        number: u64,
+    ) -> Result<Option<Command>, ScriptRefusal>
+        ensures read { IfOk result (λ command.
+            Advances self.old.states self.old.standing lines.old command lines.new self.new.standing) }
+        ensures refused { IfErr result (IsRefusalOf
+            (AtLine number (BeginsWithFault self.old.states self.old.standing lines.old))) }
+        ensures states { self.new.states ≡ self.old.states }
+    {
+        match lines.next_line() {
+            NextLine::Whole(line) => {
+                let command = self.command_in(line, number)?;
+                Ok(Some(command))
+            }
+            NextLine::Cut(_) => Err(ScriptRefusal::Form { line: number }),
+            NextLine::End => Ok(None),
+        }
+    }
+
+    // The command of a whole line.
+    fn command_in(&mut self, line: &[u8], number: u64) -> Result<Command, ScriptRefusal>
+        ensures asked { IfOk result (λ x.
+            IsAsked self.old.states self.old.standing line.now x self.new.standing) }
+        ensures refused { IfErr result (IsRefusalOf
+            (AtLine number (IsLineFault self.old.states self.old.standing line.now))) }
+        ensures states { self.new.states ≡ self.old.states }
+    {
+        let Some(sentence) = sentence_in(line) else {
+            return Err(ScriptRefusal::Form { line: number });
+        };
+        self.command_of(sentence, number)
+    }
+
+    // The command for which a sentence asks.
+    fn command_of(&mut self, sentence: Sentence<'_>, number: u64) -> Result<Command, ScriptRefusal>
+        requires { IsSayable (said sentence) }
+        ensures asked { IfOk result (λ x.
+            AsksFor self.old.states self.old.standing (said sentence.entry) x self.new.standing) }
+        ensures refused { IfErr result (IsRefusalOf
+            (AtLine number (IsFaulty self.old.states self.old.standing (said sentence.entry)))) }
+        ensures states { self.new.states ≡ self.old.states }
+    {
+        match sentence {
+            Sentence::Step(count) => Ok(Command::Step(count)),
+            Sentence::Back(count) => Ok(Command::Back(count)),
+            Sentence::Go(count) => Ok(Command::Go(count)),
+            Sentence::Rev(count) => Ok(Command::Rev(count)),
+            Sentence::BreakState { label, name } => self.break_state(label, name, number),
+            Sentence::BreakElement { label, element } => self.break_element(label, element, number),
+            Sentence::Drop(label) => self.drop_label(label, number),
+            Sentence::View => Ok(Command::View),
+        }
+    }
+
+    // A breakpoint at the moments of a state.
+    fn break_state(
+        &mut self,
+        label: &[u8],
+        name: &[u8],
+        number: u64,
+    ) -> Result<Command, ScriptRefusal>
+        requires { is_label label.now ≡ true }
+        ensures asked { IfOk result (λ x.
+            AsksFor self.old.states self.old.standing (BreakState label.now name.now) x self.new.standing) }
+        ensures refused { IfErr result (IsRefusalOf
+            (AtLine number (IsFaulty self.old.states self.old.standing (BreakState label.now name.now)))) }
+        ensures states { self.new.states ≡ self.old.states }
+    {
+        let Some(state) = self.states.find(name)? else {
+            return Err(ScriptRefusal::NoState { line: number });
+        };
+        if self.standing.contains(label) {
+            return Err(ScriptRefusal::SameBreak { line: number });
+        }
+        let label = self.new_label(label)?;
+        Ok(Command::BreakState { label, state })
+    }
+
+    // A breakpoint where the signal enters an element.
+    fn break_element(
+        &mut self,
+        label: &[u8],
+        element: u64,
+        number: u64,
+    ) -> Result<Command, ScriptRefusal>
+        requires { is_label label.now ≡ true }
+        ensures asked { IfOk result (λ x.
+            AsksFor self.old.states self.old.standing (BreakElement label.now element) x self.new.standing) }
+        ensures refused { IfErr result (IsRefusalOf
+            (AtLine number (IsFaulty self.old.states self.old.standing (BreakElement label.now element)))) }
+        ensures states { self.new.states ≡ self.old.states }
+    {
+        if self.standing.contains(label) {
+            return Err(ScriptRefusal::SameBreak { line: number });
+        }
+        let label = self.new_label(label)?;
+        Ok(Command::BreakElement { label, element })
+    }
+
+    // The end of a breakpoint.
+    fn drop_label(&mut self, label: &[u8], number: u64) -> Result<Command, ScriptRefusal>
+        requires { is_label label.now ≡ true }
+        ensures asked { IfOk result (λ x.
+            AsksFor self.old.states self.old.standing (Drop label.now) x self.new.standing) }
+        ensures refused { IfErr result (IsRefusalOf
+            (AtLine number (IsFaulty self.old.states self.old.standing (Drop label.now)))) }
+        ensures states { self.new.states ≡ self.old.states }
+    {
+        if !self.standing.contains(label) {
+            return Err(ScriptRefusal::NoBreak { line: number });
+        }
+        self.standing.remove(label);
+        let label = Label::new(self.alloc, label)?;
+        Ok(Command::Drop(label))
+    }
+
+    // A label that is new: it stands from now on.
+    fn new_label(&mut self, label: &[u8]) -> Result<Label, NoMemory>
+        requires form { is_label label.now ≡ true }
+        requires new { stands label.now self.old.standing ≡ false }
+        ensures label { IfOk result (λ made. made ≡ label.now) }
+        ensures standing { OnOk result (self.new.standing ≡ self.old.standing ++ label.now ∷ []) }
+        ensures states { self.new.states ≡ self.old.states }
+    {
+        self.standing.add(label)?;
+        Label::new(self.alloc, label)
+    }
+}

@@ -1,0 +1,64 @@
+//! Scripts, and how they are read.
+
+ghost use Rattle.std.specs.Prelude.{IfOk, IfErr};
+ghost use Rattle.bn_session.specs.Scripts.{IsScript, IsFirstFault, IsRefusalOf};
+
+use crate::command::Command;
+use crate::refusal::ScriptRefusal;
+use crate::scope::Scope;
+use bn_base::Lines;
+use bn_quad::QuadNames;
+use std::alloc::Global;
+use std::marker::Model;
+
+/// A script: commands, one after another. A label that is set is new, and one that is taken away stands. Contracts see
+/// the list of the commands.
+#[derive(Drop)]
+pub struct Script {
+    commands: Vec<Command>,
+}
+
+impl Model for Script {
+    ghost use Rattle.std.specs.Prelude.{List, []};
+    ghost use Rattle.bn_session.specs.Labels.{AreOrderly};
+    ghost use Rattle.bn_session.specs.declared.command.Command.{Command};
+
+    ghost Value = { List Command };
+
+    ghost view = { λ s. s.commands.items };
+
+    ghost invariant = { λ s. AreOrderly [] s.commands.items };
+}
+
+impl Script {
+    ghost use Rattle.std.specs.Prelude.{◌≡◌, []};
+    ghost use Rattle.bn_session.specs.Labels.{AreOrderly};
+
+    /// The commands, in the order of their lines. It takes no memory.
+    pub fn commands(&self) -> &[Command]
+        ensures commands { result.now ≡ self.now }
+        ensures orderly { AreOrderly [] self.now }
+    {
+        self.commands.as_slice()
+    }
+}
+
+/// Reads a script, one command a line, over a machine of quadruples with these names. `Ok` comes exactly for a script.
+/// A refusal names the first line with a fault, counted from 1, and the first fault of that line, in this order:
+/// `Form` where the line has none of the forms or lacks its byte 10, `NoState` where no state has its name,
+/// `SameBreak` where its label stands already at that point of the script, and `NoBreak` where its label doesn't.
+/// (This project's own profile.)
+pub fn read_script(alloc: Global, bytes: &[u8], names: &QuadNames) -> Result<Script, ScriptRefusal>
+    ensures read { IfOk result (λ script. IsScript names.now.states bytes.now script) }
+    ensures refused { IfErr result (IsRefusalOf (IsFirstFault names.now.states bytes.now)) }
+{
+    let mut lines = Lines::new(bytes);
+    let mut scope = Scope::new(alloc, names);
+    let mut commands = Vec::new(alloc);
+    while let Some(command) = scope.read_line(&mut lines, commands.len() as u64 + 1)? {
+        if commands.push(command).is_err() {
+            return Err(ScriptRefusal::NoMemory);
+        }
+    }
+    Ok(Script { commands })
+}

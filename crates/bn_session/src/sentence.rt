@@ -1,0 +1,153 @@
+//! What a line of a script says.
+
+ghost use Rattle.std.specs.Prelude.{◌≡◌, ◌==◌, ◌≤◌, length, None, Some, MatchOption};
+ghost use Rattle.std.specs.Option.{option_map};
+ghost use Rattle.bn_netlist.specs.Reading.{word_taken, number_after};
+ghost use Rattle.bn_session.specs.Reading.{said, ordinal_after, label_after, name_after, label_len, condition_in, breakpoint_in, breakpoint_after, sentence_in};
+
+use crate::label::is_label;
+use bn_base::read_u64;
+use bn_entries::is_state_name;
+
+/// What a line of a script says, before its names are looked up.
+#[derive(Clone, Copy)]
+pub(crate) enum Sentence<'a> {
+    /// `step E`
+    Step(u64),
+    /// `back E`
+    Back(u64),
+    /// `go E`
+    Go(u64),
+    /// `rev E`
+    Rev(u64),
+    /// `break LABEL state NAME`
+    BreakState { label: &'a [u8], name: &'a [u8] },
+    /// `break LABEL element K`
+    BreakElement { label: &'a [u8], element: u64 },
+    /// `drop LABEL`
+    Drop(&'a [u8]),
+    /// `view`
+    View,
+}
+
+// What a line says, without its byte 10; `None` exactly where it has no form.
+#[tactic(auto, unfolding(crate::specs::Reading::sentence_in))]
+pub(crate) fn sentence_in(line: &[u8]) -> Option<Sentence<'_>>
+    ensures { option_map said result ≡ sentence_in line.now }
+{
+    if let Some(count) = number_after(line, b"step ") {
+        return Some(Sentence::Step(count));
+    }
+    if let Some(count) = number_after(line, b"back ") {
+        return Some(Sentence::Back(count));
+    }
+    if let Some(count) = ordinal_after(line, b"go ") {
+        return Some(Sentence::Go(count));
+    }
+    if let Some(count) = ordinal_after(line, b"rev ") {
+        return Some(Sentence::Rev(count));
+    }
+    if let Some(label) = label_after(line, b"drop ") {
+        return Some(Sentence::Drop(label));
+    }
+    if line == b"view".as_slice() {
+        return Some(Sentence::View);
+    }
+    breakpoint_after(line, b"break ")
+}
+
+// The breakpoint in a line that is this word, a label and a condition.
+#[tactic(auto, unfolding(crate::specs::Reading::breakpoint_after, crate::specs::Reading::breakpoint_in))]
+fn breakpoint_after<'a>(line: &'a [u8], word: &[u8]) -> Option<Sentence<'a>>
+    ensures { option_map said result ≡ breakpoint_after word.now line.now }
+{
+    let words = behind(line, word)?;
+    let (label, condition) = words.split_at(label_len(words));
+    if !is_label(label) {
+        return None;
+    }
+    condition_in(label, condition)
+}
+
+// The breakpoint with this label and the condition behind it.
+#[tactic(auto, unfolding(crate::specs::Reading::condition_in))]
+fn condition_in<'a>(label: &'a [u8], words: &'a [u8]) -> Option<Sentence<'a>>
+    ensures { option_map said result ≡ condition_in label.now words.now }
+{
+    if let Some(name) = name_after(words, b" state ") {
+        return Some(Sentence::BreakState { label, name });
+    }
+    let element = number_after(words, b" element ")?;
+    Some(Sentence::BreakElement { label, element })
+}
+
+// How many ASCII letters and digits stand at the front.
+fn label_len(bytes: &[u8]) -> usize
+    ensures value { result ≡ label_len bytes.now }
+    ensures within { result ≤ length bytes.now }
+{
+    bytes
+        .iter()
+        .take_while(|byte| byte.is_ascii_alphanumeric())
+        .count()
+}
+
+// The label in a line that is this word and a label.
+#[tactic(auto, unfolding(crate::specs::Reading::label_after))]
+fn label_after<'a>(line: &'a [u8], word: &[u8]) -> Option<&'a [u8]>
+    ensures { MatchOption result (label_after word.now line.now ≡ None)
+        (λ label. label_after word.now line.now ≡ Some label.now) }
+{
+    let label = behind(line, word)?;
+    if is_label(label) { Some(label) } else { None }
+}
+
+// The name in a line that is this word and the name of a state.
+#[tactic(auto, unfolding(crate::specs::Reading::name_after))]
+fn name_after<'a>(line: &'a [u8], word: &[u8]) -> Option<&'a [u8]>
+    ensures { MatchOption result (name_after word.now line.now ≡ None)
+        (λ name. name_after word.now line.now ≡ Some name.now) }
+{
+    let name = behind(line, word)?;
+    if is_state_name(name) {
+        Some(name)
+    } else {
+        None
+    }
+}
+
+// The number in a line that is this word and a number of 1 at least.
+#[tactic(auto, unfolding(crate::specs::Reading::ordinal_after))]
+fn ordinal_after(line: &[u8], word: &[u8]) -> Option<u64>
+    ensures { result ≡ ordinal_after word.now line.now }
+{
+    let number = number_after(line, word)?;
+    if number < 1 {
+        return None;
+    }
+    Some(number)
+}
+
+// The number in a line that is this word and a number.
+#[tactic(auto, unfolding(bn_netlist::specs::Reading::number_after, bn_netlist::specs::Reading::number_taken))]
+fn number_after(line: &[u8], word: &[u8]) -> Option<u64>
+    ensures { result ≡ number_after word.now line.now }
+{
+    let digits = behind(line, word)?;
+    let Ok((number, end)) = read_u64(digits, 0) else {
+        return None;
+    };
+    if end != digits.len() {
+        return None;
+    }
+    Some(number)
+}
+
+// What stands behind this word at the front of a line.
+#[tactic(auto, using(bn_netlist::proofs::LineReadingLemmas::word_passed, bn_netlist::proofs::LineReadingLemmas::word_missing))]
+fn behind<'a>(line: &'a [u8], word: &[u8]) -> Option<&'a [u8]>
+    ensures { MatchOption result (word_taken word.now line.now ≡ None)
+        (λ rest. word_taken word.now line.now ≡ Some rest.now) }
+{
+    line.strip_prefix(word)
+}

@@ -1,0 +1,78 @@
+//! Watched ways on a board.
+
+ghost use Rattle.std.specs.Prelude.{◌≡◌, None, Some, MatchOption};
+ghost use Rattle.bn_theory.specs.Stepping.{run, back, advance, retreat};
+ghost use Rattle.bn_column.specs.Nets.{rotary_circuit};
+ghost use Rattle.bn_layout.specs.Layouts.{moment_at};
+ghost use Rattle.bn_flat.specs.Flattened.{IsSameBoard};
+ghost use Rattle.bn_session.specs.Plays.{IsStop, stops, named};
+ghost use Rattle.bn_session.specs.Walks.{walk};
+ghost use Rattle.bn_theory.specs.declared.config.Config.{Config};
+
+use crate::breaks::Breaks;
+use bn_flat::Board;
+
+// Steps forward until a breakpoint holds, none can be made, or so many are made.
+pub(crate) fn go(board: &mut Board, breaks: &Breaks, count: u64)
+    ensures stop { IsStop (stops (moment_at board.old.layout) breaks.now)
+        (run (rotary_circuit board.old.net) board.old.config) count board.new.config }
+    ensures same { IsSameBoard board.old board.new }
+{
+    walk_on(board, breaks, count)
+}
+
+// Steps back until a breakpoint holds, none can be taken back, or so many are taken.
+pub(crate) fn rev(board: &mut Board, breaks: &Breaks, count: u64)
+    ensures stop { IsStop (stops (moment_at board.old.layout) breaks.now)
+        (back (rotary_circuit board.old.net) board.old.config) count board.new.config }
+    ensures same { IsSameBoard board.old board.new }
+{
+    walk_back(board, breaks, count)
+}
+
+// As `go`.
+fn walk_on(board: &mut Board, breaks: &Breaks, count: u64)
+    ensures walked { board.new.config ≡ walk (stops (moment_at board.old.layout) breaks.now)
+        (advance (rotary_circuit board.old.net)) count board.old.config }
+    ensures same { IsSameBoard board.old board.new }
+{
+    for _made in 0..count {
+        if !board.step() || breaks_at(board, breaks) {
+            return;
+        }
+    }
+}
+
+// As `rev`.
+fn walk_back(board: &mut Board, breaks: &Breaks, count: u64)
+    ensures walked { board.new.config ≡ walk (stops (moment_at board.old.layout) breaks.now)
+        (retreat (rotary_circuit board.old.net)) count board.old.config }
+    ensures same { IsSameBoard board.old board.new }
+{
+    // What every board keeps.
+    let _elements = board.len();
+    for _made in 0..count {
+        if !board.back_step() || breaks_at(board, breaks) {
+            return;
+        }
+    }
+}
+
+// Whether a breakpoint holds where the board is.
+fn breaks_at(board: &Board, breaks: &Breaks) -> bool
+    ensures { result ≡ stops (moment_at board.now.layout) breaks.now board.now.config }
+{
+    breaks.some_holds(board.place(), board.moment())
+}
+
+// The label that is named where a way has ended that began when so many steps were made.
+pub(crate) fn named<'a>(board: &Board, breaks: &'a Breaks, steps: u64) -> Option<&'a [u8]>
+    ensures { (c : Config) → steps ≡ c.steps → MatchOption result
+        (named (moment_at board.now.layout) breaks.now c board.now.config ≡ None)
+        (λ label. named (moment_at board.now.layout) breaks.now c board.now.config ≡ Some label.now) }
+{
+    if board.steps() == steps {
+        return None;
+    }
+    breaks.first_label(board.place(), board.moment())
+}

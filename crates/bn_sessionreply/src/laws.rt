@@ -1,0 +1,23 @@
+//! The law on what `session` answers. The function does nothing but name the laws below it: its contract is the law.
+ghost use Rattle.bn_sessionreply.specs.SessionReply.{SessionIsSettled};
+
+use bn_boardanswers::{boards_are_counted, exits_are_named};
+use bn_existence::flats_are_there;
+use bn_layout::flats_are_one;
+use bn_session::{inputs_are_cut_once, scripts_have_one_reading};
+use bn_table::tables_are_machines;
+use bn_view::views_are_one;
+
+/// To all words, windows and bytes `session` has an answer, and only one.
+pub fn session_has_one_reply()
+    ensures { SessionIsSettled }
+{
+    tables_are_machines();
+    flats_are_there();
+    flats_are_one();
+    boards_are_counted();
+    exits_are_named();
+    views_are_one();
+    scripts_have_one_reading();
+    inputs_are_cut_once();
+}

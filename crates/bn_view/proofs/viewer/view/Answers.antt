@@ -1,0 +1,16 @@
+use Rattle.bn_view.proofs.ViewLemmas.{place_from_start, shows_machine, view_of, when_viewed}
+use Rattle.bn_view.proofs.viewer.view.Goals as goal
+
+pub returns-clause-from_start : goal.returns-clause-from_start
+returns-clause-from_start c =
+    when_viewed c.layers_of.result _ _ c.layers_of.ensures.view (λ v h. place_from_start c.args.translated.now c.args.board.now c.len-elements.ensures.kept v h)
+
+pub returns-clause-view : goal.returns-clause-view
+returns-clause-view c =
+    when_viewed c.layers_of.result _ _ c.layers_of.ensures.view (λ v h p word l f is.
+    view_of p word l f c.args.translated.now c.args.board.now is c.shown_is_found.ensures c.len-elements.ensures.kept v h)
+
+pub returns-clause-machine : goal.returns-clause-machine
+returns-clause-machine c =
+    when_viewed c.layers_of.result _ _ c.layers_of.ensures.view (λ v h p word l f is.
+    shows_machine p word l f c.args.translated.now c.args.board.now is c.shown_is_found.ensures c.len-elements.ensures.kept c.views_stand.ensures v h)

@@ -1,0 +1,4 @@
+pub mod Shown
+pub mod Modules
+pub mod Viewed
+pub mod Laws

@@ -1,0 +1,28 @@
+-- The module in which the signal of a board is, and the line by which it enters it (this project's own profile).
+use Rattle.std.specs.Prelude.{◌≡◌, ℕ, ℤ, Option, Some, None}
+use Rattle.bn_theory.specs.declared.place.Place.{Place}
+use Rattle.bn_modules.specs.Cells.{line_of}
+use Rattle.bn_layout.specs.Layouts.{Layout, letters_at}
+use Rattle.bn_flat.specs.Locations.{IsLocated}
+use Rattle.bn_flat.specs.declared.located.Located.{Located}
+use Rattle.bn_flat.specs.declared.located.Located.TheVariants as located
+use Rattle.bn_view.specs.declared.layers.ModuleAt.{ModuleAt}
+use Rattle.bn_view.specs.declared.layers.ModuleAt.TheVariants.{ControlLine, ControlInside, CellLine, CellInside, Outside}
+
+-- in the control, and in the cell of a tape with z symbols, by the input line that is entered, if one is
+abbrev pub in_control : Option ℕ → ModuleAt
+in_control None = ControlInside
+in_control (Some i) = ControlLine i
+
+abbrev pub in_cell : ℕ → ℕ → ℤ → Option ℕ → ModuleAt
+in_cell z tape position None = CellInside tape position
+in_cell z tape position (Some i) = CellLine tape position (line_of z i)
+
+-- the module of a location on a board, with the lines of cells by their names
+abbrev pub module_by : Layout → Located → ModuleAt
+module_by b (located.Control line) = in_control line
+module_by b (located.Cell tape position line) = in_cell (letters_at b tape) tape position line
+module_by b located.Outside = Outside
+
+abbrev pub IsModuleAt : Layout → Place → ModuleAt → Type 0
+IsModuleAt b p at = (l : Located) × IsLocated b p l × (at ≡ module_by b l)

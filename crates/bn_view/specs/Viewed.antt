@@ -1,0 +1,105 @@
+-- A view of a board: every layer of its configuration, and of the last moment that it has reached (Bennett 1973 for
+-- the machines; board, moments and view are this project's own profile).
+use Rattle.std.specs.Prelude.{◌≡◌, ℕ, suc, pos, List, Some}
+use Rattle.bn_theory.specs.Circuits.{Circuit}
+use Rattle.bn_theory.specs.Stepping.{run}
+use Rattle.bn_theory.specs.declared.config.Config.{Config}
+use Rattle.bn_column.specs.Nets.{rotary_circuit}
+use Rattle.bn_machine.specs.Machine.{Program, Moment, GoesBy}
+use Rattle.bn_machine.specs.Outcome.{Limits}
+use Rattle.bn_machine.specs.Run.{After}
+use Rattle.bn_machine.specs.Window.{anywhere}
+use Rattle.bn_quad.specs.Quadruples.{Configuration, initial_of}
+use Rattle.bn_stages.specs.Renamed.{in_state}
+use Rattle.bn_stages.specs.Stages.{Stands}
+use Rattle.bn_bennett.specs.Translation.{Translation, name_of}
+use Rattle.bn_bennett.specs.Meaning.{stage_by, machine_state_by}
+use Rattle.bn_bennett.specs.declared.translated.MachineState.{MachineState}
+use Rattle.bn_bennett.specs.declared.translated.MachineState.TheVariants.{AtState, Within}
+use Rattle.bn_layout.specs.Layouts.{IsExit, Layout, moment_at, spelled_by, spelled_config}
+use Rattle.bn_layout.specs.BoardMoments.{IsBoardMoment}
+use Rattle.bn_layout.specs.Flats.{Flat, IsAccepted, IsFlatOf, flat_start, machine_of}
+use Rattle.bn_flat.specs.Flattened.{Flattened, origin}
+use Rattle.bn_view.specs.declared.layers.Layers.{Layers}
+use Rattle.bn_view.specs.declared.viewer.LastMoment.{LastMoment}
+use Rattle.bn_view.specs.Shown.{IsShown}
+use Rattle.bn_view.specs.Modules.{IsModuleAt}
+
+-- ---- the boards of which there are views
+
+-- The board is f's, which a machine, a word and limits come to; this translation is its machine's, and the board was
+-- made at f's start.
+pub record IsBoardFor (p : Program) (word : List ℕ) (l : Limits) (f : Flat) (t : Translation) (b : Flattened) : Type 0 where
+  pub flat : IsFlatOf p word l f
+  pub accepted : IsAccepted p word l f
+  pub translation : f.translation ≡ t
+  pub circuit : f.circuit ≡ rotary_circuit b.net
+  pub layout : f.layout ≡ b.layout
+  pub start : origin b ≡ flat_start f
+
+-- the board is that of this translation
+abbrev pub IsBoardOf : Translation → Flattened → Type 0
+IsBoardOf t b = (p : Program) × (word : List ℕ) × (l : Limits) × (f : Flat) × IsBoardFor p word l f t b
+
+-- ---- moments of a run
+
+-- after u steps from c0 the layout finds the moment of a
+abbrev pub Finds : Layout → Circuit → Config → ℕ → ℕ → Type 0
+Finds b k c0 u a = moment_at b (run k c0 u) ≡ Some a
+
+-- after u steps from its start the board is at the moment of a, in its own words
+abbrev pub Comes : Flat → ℕ → ℕ → Type 0
+Comes f u a = IsBoardMoment (machine_of f) f.limits f.names f.network (run f.circuit (flat_start f) u) a
+
+-- ---- the view
+
+-- What a view says where the board of f has come to d: where the signal is; and of the last moment that it has reached,
+-- or of its start where there is none, the state, what the cells show then, and what the state says of the one-tape
+-- machine. The machine's step is where the head of the history stands then.
+pub record IsViewOf (f : Flat) (d : Config) (v : Layers) : Type 0 where
+  pub place : v.place ≡ d.place
+  pub steps : v.steps ≡ d.steps
+  pub exit : IsExit f.layout d.place v.exit
+  pub located : IsModuleAt f.layout d.place v.module
+  pub step : ℕ
+  pub shown : IsShown (Comes f) (initial_of (machine_of f).rules) d.steps step v.state
+  pub tapes : v.tapes ≡ spelled_by f.layout (run f.circuit (flat_start f) step).states
+  pub stage : v.stage ≡ stage_by (name_of f.translation v.state)
+  pub machine : v.machine ≡ machine_state_by f.translation.final_state (name_of f.translation v.state)
+  pub machine_step : v.tapes.two.head ≡ Some (pos v.machine_step)
+
+-- the state that is shown of a board, where this is the initial one, and what its cells showed then
+pub record IsLastMoment (b : Flattened) (initial : ℕ) (m : LastMoment) : Type 0 where
+  pub step : ℕ
+  pub shown : IsShown (Finds b.layout (rotary_circuit b.net) (origin b)) initial b.config.steps step m.state
+  pub tapes : m.tapes ≡ spelled_by b.layout (run (rotary_circuit b.net) (origin b) step).states
+
+-- the same of a board and a translation, with the moments that the board's layout finds
+pub record IsView (t : Translation) (b : Flattened) (v : Layers) : Type 0 where
+  pub place : v.place ≡ b.config.place
+  pub steps : v.steps ≡ b.config.steps
+  pub exit : IsExit b.layout b.config.place v.exit
+  pub located : IsModuleAt b.layout b.config.place v.module
+  pub step : ℕ
+  pub shown : IsShown (Finds b.layout (rotary_circuit b.net) (origin b)) (initial_of t.machine.rules) b.config.steps step
+      v.state
+  pub tapes : v.tapes ≡ spelled_by b.layout (run (rotary_circuit b.net) (origin b) step).states
+  pub stage : v.stage ≡ stage_by (name_of t v.state)
+  pub machine : v.machine ≡ machine_state_by t.final_state (name_of t v.state)
+  pub machine_step : v.tapes.two.head ≡ Some (pos v.machine_step)
+
+-- ---- what is shown, and the machine
+
+-- after i steps of its own run from the word the machine is in this state, or step i is by this quintuple
+abbrev pub MachineIsAt : Program → List ℕ → ℕ → MachineState → Type 0
+MachineIsAt p word i (AtState j) = (c : Moment) × After p word i c × (c.state ≡ j)
+MachineIsAt p word i (Within m) = (c d : Moment) × (n : ℕ) × (i ≡ suc n) × After p word n c × GoesBy anywhere p m c d
+
+-- What is shown is a configuration of the reversible machine in the state that is shown, which stands for a moment of
+-- the machine's own run from the word.
+pub record ShowsMachine (p : Program) (word : List ℕ) (l : Limits) (t : Translation) (v : Layers) : Type 0 where
+  pub config : Configuration ℕ
+  pub state : config.state ≡ v.state
+  pub spells : v.tapes ≡ spelled_config l config
+  pub stands : Stands p word (in_state (name_of t) config)
+  pub at : MachineIsAt p word v.machine_step v.machine

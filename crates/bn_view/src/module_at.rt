@@ -1,0 +1,40 @@
+//! In which module the signal of a board is.
+
+ghost use Rattle.std.specs.Prelude.{◌≡◌, ℕ};
+ghost use Rattle.bn_modules.specs.Controls.{letters};
+ghost use Rattle.bn_modules.specs.Networks.{IsTape};
+ghost use Rattle.bn_layout.specs.Layouts.{letters_at};
+ghost use Rattle.bn_view.specs.Modules.{IsModuleAt};
+
+use crate::layers::ModuleAt;
+use bn_cell::line_of;
+use bn_flat::{Board, Located};
+use bn_quad::QuadMachine;
+
+// The module in which the signal of a board of this machine is.
+pub(crate) fn module_at(board: &Board, machine: &QuadMachine) -> ModuleAt
+    requires { (t : ℕ) → IsTape t → letters_at board.now.layout t ≡ letters machine.now t }
+    ensures { IsModuleAt board.now.layout board.now.config.place result }
+{
+    // What every board keeps.
+    let _elements = board.len();
+    match board.located() {
+        Located::Control { line: Some(line) } => ModuleAt::ControlLine(line),
+        Located::Control { line: None } => ModuleAt::ControlInside,
+        Located::Cell {
+            tape,
+            position,
+            line: Some(line),
+        } => ModuleAt::CellLine {
+            tape,
+            position,
+            line: line_of(machine.symbols(tape), line),
+        },
+        Located::Cell {
+            tape,
+            position,
+            line: None,
+        } => ModuleAt::CellInside { tape, position },
+        Located::Outside => ModuleAt::Outside,
+    }
+}

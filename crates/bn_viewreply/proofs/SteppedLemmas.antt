@@ -1,0 +1,152 @@
+-- The view of a board and `step` on its compiled text show one place.
+use Rattle.std.specs.Prelude.{◌≡◌, ℕ, List, ◌++◌, replicate, Option, Some, None, refl}
+use Rattle.std.proofs.Common.{sym, ap, ◌∙◌}
+use Rattle.bn_theory.specs.Alike.{AreAlike}
+use Rattle.bn_theory.specs.Circuits.{IsCircuit, source, target}
+use Rattle.bn_theory.specs.Stepping.{places, run}
+use Rattle.bn_theory.specs.declared.line.Line.{Line}
+use Rattle.bn_theory.specs.declared.place.Place.{Place}
+use Rattle.bn_theory.specs.declared.config.Config.{Config}
+use Rattle.bn_theory.proofs.AlikeLemmas.{run-alike}
+use Rattle.bn_theory.proofs.RunLemmas.{Reaches-IsConfig, run_makes}
+use Rattle.bn_element.specs.Rotary.{rotary}
+use Rattle.bn_machine.specs.Machine.{Program}
+use Rattle.bn_machine.specs.Outcome.{Limits}
+use Rattle.bn_netlist.proofs.NetLemmas.{spellings-move}
+use Rattle.bn_netlist.specs.Spelling.{Spelling, Spelled, circuit_of, moved_to, text_of}
+use Rattle.bn_table.specs.Laws.{TablesAreMachines}
+use Rattle.bn_table.specs.Rows.{Named}
+use Rattle.bn_layout.specs.Flats.{Flat, IsFlatOf}
+use Rattle.bn_layout.specs.Laws.{FlatsAreOne}
+use Rattle.bn_netreply.specs.CircuitReply.{CircuitIsSettled, walked}
+use Rattle.bn_standard.specs.Standard.{IsStandard}
+use Rattle.bn_reply.specs.Words.{IsSpelledBy}
+use Rattle.bn_reply.specs.TableReply.{JudgedReplies, ReadsStandard, WordReplies, faulty, fit, foreign, read, spelled, unfit}
+use Rattle.bn_reply.specs.declared.status.Status.TheVariants.{Done}
+use Rattle.bn_reply.proofs.SettledLemmas.{standard_tells, word_tells}
+use Rattle.bn_reply.proofs.TableLemmas.{reads_table}
+use Rattle.bn_boardanswers.specs.CompileReply.{CompileReplies, IsFlatSpelling, TellsStart}
+use Rattle.bn_boardanswers.specs.RunReply.{after}
+use Rattle.bn_boardanswers.specs.Windows.{BoardReplies, ComesTo, board, large, long}
+use Rattle.bn_boardanswers.proofs.SpelledLemmas.{target_of}
+use Rattle.bn_boardanswers.proofs.TellingLemmas.{after_same}
+use Rattle.bn_boardanswers.proofs.WindowLemmas.{standard_machine}
+use Rattle.bn_viewreply.specs.Laws.{ViewsShowSteps}
+use Rattle.bn_viewreply.specs.ViewReply.{TellsView}
+use Rattle.bn_viewreply.specs.ViewText.{element_line, machine_line, module_line, state_line}
+use Rattle.bn_view.specs.declared.layers.Layers.{Layers}
+use Rattle.bn_bennett.specs.Translation.{name_of}
+use Rattle.bn_boardanswers.specs.RunText.{tape_lines}
+
+-- ---- what was compiled
+
+record IsCompiled (bytes word : List ℕ) (l : Limits) (text : List ℕ) : Type 0 where
+  table : Named
+  symbols : List ℕ
+  reads : ReadsStandard bytes table
+  spells : IsSpelledBy table word symbols
+  flat : Flat
+  comes : ComesTo table.machine l symbols flat
+  tells : Spelling
+  board_is : IsFlatSpelling flat tells
+  is_text : Spelled tells text
+
+compiled : (bytes word : List ℕ) (l : Limits) (text : List ℕ) (told : List Place) → CompileReplies word l bytes Done text told → IsCompiled bytes word l text
+compiled bytes word l text told (faulty h e n) = absurd (cc)
+compiled bytes word l text told (read t reads answer) = by_machine answer
+  where
+    by_board : IsStandard t.machine.quints → (symbols : List ℕ) → IsSpelledBy t word symbols → BoardReplies TellsStart t.machine l symbols Done text told →
+        IsCompiled bytes word l text
+    by_board standard symbols is (long far h e n) = absurd (cc)
+    by_board standard symbols is (large fits count counts great h e n) = absurd (cc)
+    by_board standard symbols is (board f comes a) =
+        record {
+          table = t;
+          symbols = symbols;
+          reads = record { reads = reads; standard = standard };
+          spells = is;
+          flat = f;
+          comes = comes;
+          tells = a.spelling;
+          board_is = a.board;
+          is_text = a.spelled;
+        }
+
+    by_word : IsStandard t.machine.quints → WordReplies (BoardReplies TellsStart t.machine l) t word Done text told → IsCompiled bytes word l text
+    by_word standard (foreign p h told_is e n) = absurd (cc)
+    by_word standard (spelled symbols is answer) = by_board standard symbols is answer
+
+    by_machine : JudgedReplies (WordReplies (BoardReplies TellsStart t.machine l) t word) t Done text told → IsCompiled bytes word l text
+    by_machine (unfit h e n) = absurd (cc)
+    by_machine (fit standard answer) = by_word standard answer
+
+-- ---- one circuit
+
+one_option : (x y : Option Line) → ((l : Line) → x ≡ Some l → y ≡ Some l) → ((l : Line) → y ≡ Some l → x ≡ Some l) → x ≡ y
+one_option None None forth back = refl
+one_option None (Some l) forth back = back l refl
+one_option (Some l) y forth back = sym (forth l refl)
+
+-- a spelled board runs as the board does
+module _ (p : Program) (symbols : List ℕ) (l : Limits) (f : Flat) (flat : IsFlatOf p symbols l f) (s : Spelling) (is : IsFlatSpelling f s) (circuit : IsCircuit (circuit_of s)) where
+  alike : AreAlike (circuit_of s) f.circuit
+  alike = record {
+    tables = ap (λ n. replicate n rotary) is.elements ∙ sym flat.is_board.tables;
+    targets = targets;
+    sources = λ to. one_option (source s.wires to) (source f.circuit.wires to)
+        (λ from h. (flat.is_board.circuit.one_to_one from to).0 (sym (targets from) ∙ (circuit.one_to_one from to).1 h))
+        (λ from h. (circuit.one_to_one from to).0 (targets from ∙ (flat.is_board.circuit.one_to_one from to).1 h));
+  }
+    where
+      targets : (from : Line) → target s.wires from ≡ target f.circuit.wires from
+      targets = target_of f p symbols l flat s is
+
+  runs_as : (n : ℕ) → run (circuit_of s) s.config n ≡ after f n
+  runs_as n = run-alike (circuit_of s) f.circuit alike s.config n ∙ ap (λ c. run f.circuit c n) is.config
+
+-- ---- the law
+
+-- the lines of a view behind the first
+abbrev rest_of : Named → Flat → Layers → List ℕ
+rest_of t f v =
+    module_line t f v.place v.exit v.module ++ (state_line (name_of f.translation v.state)
+    ++ (tape_lines t v.tapes.one v.tapes.two v.tapes.three ++ machine_line t v.stage v.machine v.machine_step))
+
+pub views-show_steps : TablesAreMachines → FlatsAreOne → CircuitIsSettled → ViewsShowSteps
+views-show_steps machines ones settled bytes word l steps text stepped status told heard compiles step seen none views =
+    by_board (word_tells (BoardReplies (TellsView steps t) t.machine l) t (reads_table bytes t h.reads.reads) word h.symbols Done seen none h.spells
+    (standard_tells (λ u. WordReplies (BoardReplies (TellsView steps u) u.machine l) u word) bytes t Done seen none h.reads views))
+  where
+    h : IsCompiled bytes word l text
+    h = compiled bytes word l text told compiles
+
+    t : Named
+    t = h.table
+
+    s : Spelling
+    s = h.tells
+
+    c : Config
+    c = run (circuit_of s) s.config steps
+
+    there : Spelled (moved_to s c) stepped
+    there =
+        let made = run_makes (circuit_of s) s.config steps in
+        let admitted = h.is_text.admitted in
+        record {
+          admitted = spellings-move s c admitted (Reaches-IsConfig (circuit_of s) admitted.circuit made.made s.config c admitted.config made.reaches);
+          written = ((settled steps text).0.one status Done stepped (text_of (moved_to s c)) heard (places (circuit_of s) steps s.config) step
+              (walked (record { spelling = s; spelled = h.is_text; written = refl; places = refl }) refl)).texts;
+        }
+
+    by_board : BoardReplies (TellsView steps t) t.machine l h.symbols Done seen none
+        → (u : Spelling) × Spelled u stepped × ((rest : List ℕ) × (seen ≡ element_line u.config.place u.config.steps ++ rest))
+    by_board (long far k e n) = absurd (cc)
+    by_board (large fits count counts great k e n) = absurd (cc)
+    by_board (board g comes tells) =
+        let same = ones t.machine h.symbols l h.flat g (standard_machine machines bytes t h.reads).0 h.comes.flat comes.flat in
+        let config : c ≡ after g steps = runs_as t.machine h.symbols l h.flat h.comes.flat s h.board_is h.is_text.admitted.circuit steps
+        ∙ after_same h.flat g same (h.comes.flat.limits_are ∙ sym comes.flat.limits_are) steps in
+        let place = tells.is_view.place ∙ ap (λ (x : Config). x.place) (sym config) in
+        let made = tells.is_view.steps ∙ ap (λ (x : Config). x.steps) (sym config) in
+        (moved_to s c, there, (rest_of t g tells.view, tells.text_is ∙ (λ i. element_line (place i) (made i) ++ rest_of t g tells.view)))

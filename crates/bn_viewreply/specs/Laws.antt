@@ -1,0 +1,20 @@
+-- What the laws of this crate say, each the contract of a function that only names the laws below it.
+use Rattle.std.specs.Prelude.{◌≡◌, ℕ, List, ◌++◌}
+use Rattle.bn_theory.specs.declared.place.Place.{Place}
+use Rattle.bn_machine.specs.Outcome.{Limits}
+use Rattle.bn_netlist.specs.Spelling.{Spelling, Spelled}
+use Rattle.bn_netreply.specs.CircuitReply.{StepReplies}
+use Rattle.bn_reply.specs.declared.status.Status.{Status}
+use Rattle.bn_reply.specs.declared.status.Status.TheVariants.{Done}
+use Rattle.bn_boardanswers.specs.CompileReply.{CompileReplies}
+use Rattle.bn_viewreply.specs.ViewReply.{ViewReplies}
+use Rattle.bn_viewreply.specs.ViewText.{element_line}
+
+-- The view after so many steps begins with the place and the steps to which `step` takes the compiled text in as many.
+abbrev pub ViewsShowSteps : Type 0
+ViewsShowSteps =
+    (bytes word : List ℕ) (l : Limits) (steps : ℕ) (text stepped : List ℕ) (status : Status) (told heard : List Place)
+    → CompileReplies word l bytes Done text told → StepReplies steps text status stepped heard
+    → (seen : List ℕ) (none : List Place) → ViewReplies steps word l bytes Done seen none
+    → (s : Spelling) × Spelled s stepped
+    × ((rest : List ℕ) × (seen ≡ element_line s.config.place s.config.steps ++ rest))

@@ -1,0 +1,4 @@
+pub mod ViewText
+pub mod ViewReply
+pub mod Showing
+pub mod Laws

@@ -1,0 +1,13 @@
+//! What the command `view` answers.
+#![tactic(auto)]
+
+mod laws;
+mod line_text;
+mod view;
+mod view_text;
+
+pub use laws::{view_has_one_reply, views_show_steps};
+pub use view::reply_view;
+
+#[cfg(test)]
+mod tests;
