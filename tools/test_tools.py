@@ -150,7 +150,8 @@ class Tapes(Tools):
     def setUpClass(cls):
         cls.program = Answers()
         cls.tapes = loaded("tapes")
-        cls.views = cls.tapes.views_by_session(cls.program, LEAST_RUN, LEAST.encode(), 40)
+        cls.names = cls.tapes.state_names(cls.program.run(["bennett"], LEAST.encode()))
+        cls.views = cls.tapes.views_by_session(cls.program, LEAST_RUN, LEAST.encode(), cls.names, 40)
 
     def test_moments_are_found_by_views_alone(self):
         found = self.tapes.views_by_view(self.program, LEAST_RUN, LEAST.encode(), 40)
@@ -158,7 +159,7 @@ class Tapes(Tools):
         self.assertEqual([view.steps for view in found], self.program.moments)
 
     def test_the_number_of_moments_is_kept(self):
-        self.assertEqual(len(self.tapes.views_by_session(self.program, LEAST_RUN, LEAST.encode(), 5)), 5)
+        self.assertEqual(len(self.tapes.views_by_session(self.program, LEAST_RUN, LEAST.encode(), self.names, 5)), 5)
         self.assertEqual(len(self.tapes.views_by_view(self.program, LEAST_RUN, LEAST.encode(), 5)), 5)
 
     def test_an_exit_without_a_moment_shows_the_last_moment_once(self):

@@ -116,9 +116,9 @@ def program_at_hand():
 
 
 def has_command(path, words, data=b""):
-    """Whether the program knows these words: an older one says `usage`."""
+    """Whether the program knows these words: an older one says `usage`. What ./workbench says beside is dropped."""
     try:
-        ran = subprocess.run([path, *words], input=data, stdout=subprocess.PIPE)
+        ran = subprocess.run([path, *words], input=data, stdout=subprocess.PIPE, stderr=subprocess.DEVNULL)
     except OSError as error:
         raise Fault(f"{path}: {error.strerror}") from None
     return ran.stdout != b"usage\n"
