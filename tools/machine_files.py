@@ -354,7 +354,8 @@ def halting_state(machine, wanted, where):
         raise Fault(f"{where}: no state halts, so no last quintuple can be there; --halt names a state")
     for rule in machine.rules:
         if rule.state in halting:
-            raise Fault(f"{rule.place}: leaves {rule.state!r}, in which the machine halts; standard form has no such rule (S5)")
+            raise Fault(f"{rule.place}: leaves {rule.state!r}, in which the machine halts; "
+                        "standard form has no such rule (S5)")
     if len(halting) > 1 and not machine.halts_alike:
         raise Fault(f"{where}: {len(halting)} states halt, {', '.join(halting)}, and a table has one; --halt names it, "
                     "and in the others the machine is stuck")
@@ -380,7 +381,8 @@ def check_letters(rules):
             if symbol == "_":
                 raise Fault(f"{rule.place}: the letter '_' is the blank of a table")
             if not 33 <= ord(symbol) <= 126 or symbol in '/,"':
-                raise Fault(f"{rule.place}: {symbol!r} is no letter of a table: one byte from 33 to 126 other than / , and \"")
+                raise Fault(f"{rule.place}: {symbol!r} is no letter of a table: "
+                            "one byte from 33 to 126 other than / , and \"")
 
 
 def ordered(rules, start, halting, where):

@@ -1,7 +1,8 @@
 """The shell of the HTML pages: one file each, with its style and its script inside, and no other file or network.
 
 A page has a list of frames. Buttons, a slider, the arrow keys and the rows of the table choose one; the function
-`show(number)` of the page draws it. Rows stand in the order of their frames. The element with the id `place` shows the program's own words of that frame.
+`show(number)` of the page draws it. Rows stand in the order of their frames. The element with the id `place` shows the
+program's own words of that frame.
 """
 import html
 import json

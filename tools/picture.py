@@ -186,7 +186,10 @@ def bars_at(configuration, frames, number):
 
 
 def circuit_svg(configuration, plan, banks, frames, number, made, caption="", zoom=1):
-    """The picture of a frame, with how it was made as its description. The words that name places are in the ids of its parts, which the page's script uses."""
+    """The picture of a frame, with how it was made as its description.
+
+    The ids of its parts name elements and lines; the page's script finds the parts by them.
+    """
     bars = bars_at(configuration, frames, number)
     turned = {element for element, _ in frames[number].changed} if number else set()
     kinds = path_kinds(configuration, frames, number)

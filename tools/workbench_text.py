@@ -14,7 +14,6 @@ TOP = os.path.dirname(os.path.dirname(os.path.abspath(__file__)))
 WORKBENCH = os.path.join(TOP, "workbench")
 BUILT = os.path.join(TOP, "crates", "bn_main", "out", "bn_main")
 SIDES = "nesw"
-REFUSALS = {2, 3, 4, 5, 6, 7, 8, 9}
 GREATEST_STEPS = 2 ** 62
 
 
@@ -87,11 +86,10 @@ def name_of(path):
 
 
 class Program:
-    """The program and the runs of it that were made, as the pages name them."""
+    """The program, by its path."""
 
     def __init__(self, path=WORKBENCH):
         self.path = path
-        self.runs = 0
 
     def run(self, words, data, statuses=(0,)):
         """The text that one run prints. A refusal, or a status that isn't wanted, is a fault."""
@@ -99,7 +97,6 @@ class Program:
             ran = subprocess.run([self.path, *words], input=data, stdout=subprocess.PIPE)
         except OSError as error:
             raise Fault(f"{self.path}: {error.strerror}") from None
-        self.runs += 1
         text = ran.stdout.decode("utf-8", errors="replace")
         if ran.returncode not in statuses:
             said = text.splitlines()[0] if text.strip() else "nothing"
