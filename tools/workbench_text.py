@@ -1,0 +1,312 @@
+"""What the tools share: runs of the program, and the texts that it prints.
+
+The program makes every step. A reader here takes a text that the program printed and gives its parts names; where a
+text isn't of the form that docs/FORMATS.md says, a Fault tells what is wrong and where.
+"""
+import argparse
+import os
+import re
+import subprocess
+import sys
+from dataclasses import dataclass
+
+TOP = os.path.dirname(os.path.dirname(os.path.abspath(__file__)))
+WORKBENCH = os.path.join(TOP, "workbench")
+BUILT = os.path.join(TOP, "crates", "bn_main", "out", "bn_main")
+SIDES = "nesw"
+GREATEST_STEPS = 2 ** 62
+
+
+class Fault(Exception):
+    """What is wrong and where, as one line."""
+
+
+def guarded(main):
+    """Runs a tool's main function: a fault becomes one line on standard error and exit status 2."""
+    try:
+        sys.exit(main() or 0)
+    except Fault as fault:
+        print(f"{os.path.basename(sys.argv[0])}: {fault}", file=sys.stderr)
+        sys.exit(2)
+    except BrokenPipeError:
+        os.dup2(os.open(os.devnull, os.O_WRONLY), sys.stdout.fileno())
+        sys.exit(0)
+
+
+class Parser(argparse.ArgumentParser):
+    """An argument parser that tells a fault of the words in one line."""
+
+    def error(self, message):
+        raise Fault(f"{message}; --help tells the words")
+
+
+def plain_parser_of(description, **more):
+    """An argument parser for a tool that runs no program."""
+    return Parser(description=description, formatter_class=argparse.RawDescriptionHelpFormatter, **more)
+
+
+def parser_of(description, **more):
+    """An argument parser with the option of every tool that runs the program."""
+    parser = plain_parser_of(description, **more)
+    parser.add_argument("--program", metavar="PATH", default=WORKBENCH,
+                        help="the program to run; without it, ./workbench at the top of the repository")
+    return parser
+
+
+def number_up_to(greatest, least=0):
+    """A reader of an option's number, for argparse."""
+    def read(word):
+        if not re.fullmatch(r"0|[1-9][0-9]*", word) or not least <= int(word) <= greatest:
+            raise argparse.ArgumentTypeError(f"{word!r} is no number from {least} to {greatest}")
+        return int(word)
+    return read
+
+
+def read_file(path, binary=False):
+    """The bytes or the text of a file; `-` is standard input."""
+    try:
+        if path == "-":
+            data = sys.stdin.buffer.read()
+        else:
+            with open(path, "rb") as file:
+                data = file.read()
+    except OSError as error:
+        raise Fault(f"{path}: {error.strerror}") from None
+    if binary:
+        return data
+    try:
+        return data.decode("utf-8-sig")
+    except UnicodeDecodeError as error:
+        raise Fault(f"{name_of(path)}: byte {error.start} isn't UTF-8") from None
+
+
+def name_of(path):
+    """How a message names a file."""
+    return "standard input" if path == "-" else path
+
+
+class Program:
+    """The program, by its path."""
+
+    def __init__(self, path=WORKBENCH):
+        self.path = path
+
+    def run(self, words, data, statuses=(0,)):
+        """The text that one run prints. A refusal, or a status that isn't wanted, is a fault."""
+        try:
+            ran = subprocess.run([self.path, *words], input=data, stdout=subprocess.PIPE)
+        except OSError as error:
+            raise Fault(f"{self.path}: {error.strerror}") from None
+        text = ran.stdout.decode("utf-8", errors="replace")
+        if ran.returncode not in statuses:
+            said = text.splitlines()[0] if text.strip() else "nothing"
+            raise Fault(f"./workbench {' '.join(words)} says: {said} (status {ran.returncode})")
+        return text
+
+
+def program_at_hand():
+    """The built program for tests, which never build it; else None. WORKBENCH_PROGRAM names another one."""
+    for path in (os.environ.get("WORKBENCH_PROGRAM"), BUILT):
+        if path and os.access(path, os.X_OK):
+            return path
+    return None
+
+
+def has_command(path, words, data=b""):
+    """Whether the program knows these words: an older one says `usage`. What ./workbench says beside is dropped."""
+    try:
+        ran = subprocess.run([path, *words], input=data, stdout=subprocess.PIPE, stderr=subprocess.DEVNULL)
+    except OSError as error:
+        raise Fault(f"{path}: {error.strerror}") from None
+    return ran.stdout != b"usage\n"
+
+
+@dataclass(frozen=True)
+class Line:
+    """A line of an element: its number and one of n, e, s, w."""
+
+    element: int
+    side: str
+
+    def __str__(self):
+        return f"{self.element}.{self.side}"
+
+
+@dataclass
+class Configuration:
+    """A configuration text. `targets` has for each element the inputs to which its outputs n, e, s, w lead, or None."""
+
+    start: Line
+    end: Line
+    steps: int
+    has_left: bool
+    place: Line
+    bars: list
+    targets: list
+
+    @property
+    def count(self):
+        return len(self.bars)
+
+    @property
+    def place_text(self):
+        return f"{'left' if self.has_left else 'at'} {self.place}"
+
+    def wires(self):
+        """The wires as pairs of an output line and an input line, in the order of the text."""
+        for element, row in enumerate(self.targets):
+            for side, target in zip(SIDES, row):
+                if target is not None:
+                    yield Line(element, side), target
+
+    def target(self, line):
+        """The input line to which an output line leads, or None."""
+        return self.targets[line.element][SIDES.index(line.side)]
+
+    def sources(self):
+        """For each input line that is fed, the output line that feeds it."""
+        return {into: out for out, into in self.wires()}
+
+
+def line_of(word, place):
+    """The line that a word E.L names."""
+    found = re.fullmatch(r"(0|[1-9][0-9]*)\.([nesw])", word)
+    if not found:
+        raise Fault(f"{place}: {word!r} is no line of an element")
+    return Line(int(found[1]), found[2])
+
+
+def head_of(lines, where):
+    """The first six text lines of a configuration text, without its element lines."""
+    patterns = [r"rotary (1)", r"elements ([1-9][0-9]*)", r"start (\S+)", r"end (\S+)", r"steps (\d+)", r"(at|left) (\S+)"]
+    found = []
+    for number, pattern in enumerate(patterns, 1):
+        match = re.fullmatch(pattern, lines[number - 1]) if number <= len(lines) else None
+        if not match:
+            raise Fault(f"{where}: line {number} isn't that of a configuration text")
+        found.append(match)
+    return found
+
+
+def read_configuration(text, where="standard input"):
+    """The configuration that a text spells."""
+    lines = text.split("\n")[:-1]
+    _, count, start, end, steps, place = head_of(lines, where)
+    if len(lines) != 6 + int(count[1]):
+        raise Fault(f"{where}: {len(lines) - 6} element lines, and line 2 says {count[1]}")
+    bars, targets = [], []
+    for number, line in enumerate(lines[6:]):
+        words = line.split(" ")
+        at = f"{where}: line {number + 7}"
+        if len(words) != 7 or words[:2] != ["e", str(number)] or words[2] not in ("H", "V"):
+            raise Fault(f"{at} isn't that of element {number}")
+        bars.append(words[2])
+        targets.append([None if word == "-" else line_of(word, at) for word in words[3:]])
+    return Configuration(line_of(start[1], f"{where}: line 3"), line_of(end[1], f"{where}: line 4"), int(steps[1]),
+                         place[1] == "left", line_of(place[2], f"{where}: line 6"), bars, targets)
+
+
+@dataclass
+class Frame:
+    """One configuration of a run: its steps, its place, and the bars that the step before it changed."""
+
+    steps: int
+    has_left: bool
+    place: Line
+    changed: list
+
+    @property
+    def place_text(self):
+        return f"{'left' if self.has_left else 'at'} {self.place}"
+
+
+def frame_of(lines, before, where):
+    """The frame that a text's lines spell, with the elements whose bars differ from the lines before."""
+    _, _, _, _, steps, place = head_of(lines, where)
+    changed = []
+    for number, (old, new) in enumerate(zip(before[6:], lines[6:])):
+        if old != new:
+            changed.append((number, new.split(" ")[2]))
+    return Frame(int(steps[1]), place[1] == "left", line_of(place[2], f"{where}: line 6"), changed)
+
+
+def frames_of(program, data, greatest):
+    """The first configuration and the frames of a run: `step 0`, then `step 1` again and again, at most so often."""
+    text = program.run(["step", "0"], data)
+    first = read_configuration(text, "what step 0 prints")
+    lines = text.split("\n")
+    frames = [frame_of(lines, lines, "what step 0 prints")]
+    while len(frames) <= greatest and not frames[-1].has_left:
+        text = program.run(["step", "1"], text.encode())
+        before, lines = lines, text.split("\n")
+        frames.append(frame_of(lines, before, "what step 1 prints"))
+    return first, frames
+
+
+@dataclass
+class Tape:
+    """A tape line: the position of the first cell, that of the head or None, and the symbols of the cells."""
+
+    first: int
+    head: object
+    symbols: list
+
+
+@dataclass
+class View:
+    """The seven lines of a view. `stage` is compute, copy or retrace."""
+
+    element: str
+    module: str
+    state: str
+    tapes: list
+    machine: str
+    has_left: bool
+    place: str
+    steps: int
+    stage: str
+
+
+TAPE_LINE = re.compile(r"tape ([123]) from (-?\d+) head (-?\d+|\?):((?: \S+)*)")
+MACHINE_LINE = re.compile(r"machine (compute|copy|retrace) (state (\S+)|quintuple (\d+)) step (\d+|\?)")
+
+
+def read_tape(line, number, where):
+    """The tape of this number that a tape line spells."""
+    found = TAPE_LINE.fullmatch(line)
+    if not found or int(found[1]) != number:
+        raise Fault(f"{where}: {line!r} isn't the line of tape {number}")
+    return Tape(int(found[2]), None if found[3] == "?" else int(found[3]), found[4].split())
+
+
+def read_view(lines, where):
+    """The view that seven lines spell."""
+    if len(lines) < 7:
+        raise Fault(f"{where}: {len(lines)} lines, and a view has seven")
+    element = re.fullmatch(r"element (at|left) (\S+) steps (\d+)", lines[0])
+    state = re.fullmatch(r"quadruple (\S+)", lines[2])
+    machine = MACHINE_LINE.fullmatch(lines[6])
+    for number, found in ((1, element), (3, state), (7, machine)):
+        if not found:
+            raise Fault(f"{where}: {lines[number - 1]!r} isn't line {number} of a view")
+    tapes = [read_tape(lines[2 + number], number, where) for number in (1, 2, 3)]
+    return View(lines[0], lines[1], state[1], tapes, lines[6], element[1] == "left", element[2], int(element[3]), machine[1])
+
+
+def window_words(options):
+    """The words =W l1 r1 n r3 of a run, from a tool's options."""
+    return [options.word, *(str(number) for number in options.window)]
+
+
+def add_window(parser):
+    """The positional words of a run: =W l1 r1 n r3."""
+    parser.add_argument("word", metavar="=W", help="the word behind a =, as for run; = alone is the empty word")
+    parser.add_argument("window", metavar="N", nargs=4, type=number_up_to(1048576),
+                        help="the window l1 r1 n r3: tape 1 from -l1 to r1, history 0 to n, output 0 to r3")
+
+
+def checked_word(word):
+    """The word of a run, which begins with =."""
+    if not word.startswith("="):
+        raise Fault(f"the word {word!r} has no = before it")
+    return word
