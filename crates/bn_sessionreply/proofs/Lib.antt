@@ -2,3 +2,4 @@ pub mod CutLemmas
 pub mod AlikeLemmas
 pub mod SettledLemmas
 pub mod ClosedLemmas
+pub mod ShowingLemmas

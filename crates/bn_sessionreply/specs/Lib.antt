@@ -1,1 +1,2 @@
 pub mod SessionReply
+pub mod Viewing
