@@ -3,3 +3,4 @@ pub mod AlikeLemmas
 pub mod SettledLemmas
 pub mod ClosedLemmas
 pub mod ShowingLemmas
+pub mod ReplyLemmas

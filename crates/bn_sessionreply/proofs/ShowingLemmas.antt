@@ -43,26 +43,6 @@ use Rattle.bn_sessionreply.specs.Viewing.{IsAnswerTo, MayShow, ShowsLayers}
 
 -- ---- wherever it is in its run
 
--- a board may be shown after other steps
-pub may_show_same : (t : Named) (m : Translation) (a b : Flattened) → IsSameBoard a b → MayShow t m a → MayShow t m b
-may_show_same t m a b same may = record {
-  translates = may.translates;
-  word = may.word;
-  limits = may.limits;
-  flat = may.flat;
-  is_for = record {
-    flat = may.is_for.flat;
-    accepted = may.is_for.accepted;
-    translation = may.is_for.translation;
-    circuit = may.is_for.circuit ∙ ap rotary_circuit (sym same.net);
-    layout = may.is_for.layout ∙ sym same.layout;
-    start = same.origin_is ∙ may.is_for.start;
-  };
-  names = λ d path e is.
-      may.names d (subst (λ x. x) (λ i. Reaches (Goes (rotary_circuit (same.net i))) d.steps (same.origin_is i) d) path) e
-      (subst (λ (x : Layout). IsExit x d.place e) same.layout is);
-}
-
 module _ (t : Named) (m : Translation) (b : Flattened) (may : MayShow t m b) (kept : IsBoardKept b) where
   pub may_show_here : IsTableBoard t m b
   may_show_here = record {

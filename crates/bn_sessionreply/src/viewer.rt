@@ -1,5 +1,7 @@
 //! Who shows the layers of a board while a script is played on it.
 
+ghost use Rattle.std.specs.Prelude.{◌≡◌, ◌++◌, OnErr, OnOk};
+
 use bn_base::NoMemory;
 use bn_bennett::Translated;
 use bn_flat::Board;
@@ -10,6 +12,7 @@ use bn_viewreply::layers_text;
 use std::alloc::Global;
 
 // A table and its machine's translation, by which the layers of a board are shown.
+#[derive(Drop)]
 pub(crate) struct Viewer<'a> {
     pub(crate) table: &'a Table,
     pub(crate) translated: &'a Translated,
@@ -17,7 +20,7 @@ pub(crate) struct Viewer<'a> {
 
 impl<'a> Shows for Viewer<'a> {
     ghost use Rattle.bn_sessionreply.specs.Viewing.{MayShow, ShowsLayers};
-    ghost use Rattle.bn_sessionreply.proofs.ShowingLemmas.{may_show_same};
+    ghost use Rattle.bn_sessionreply.specs.Kept.{may_show_same};
 
     ghost text = { λ v b text. ShowsLayers v.table.now v.translated.now b text };
 
@@ -31,9 +34,17 @@ impl<'a> Shows for Viewer<'a> {
         let Ok(text) = layers_text(alloc, self.table, self.translated, board) else {
             return Err(NoMemory);
         };
-        out.extend_from_slice(text.as_slice())?;
-        Ok(())
+        push(out, text.as_slice())
     }
 
     ghost keeps = { λ v b c same may. may_show_same v.table.now v.translated.now b c same may };
+}
+
+// Appends some bytes. After `NoMemory` nothing was appended.
+fn push(text: &mut Vec<u8>, bytes: &[u8]) -> Result<(), NoMemory>
+    ensures ok { OnOk result (text.new.items ≡ text.old.items ++ bytes.now) }
+    ensures err { OnErr result (text.new.items ≡ text.old.items) }
+{
+    text.extend_from_slice(bytes)?;
+    Ok(())
 }
