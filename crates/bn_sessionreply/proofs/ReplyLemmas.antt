@@ -1,7 +1,6 @@
 -- What is answered to a script, by how it was read and played, and to an input, by how it was cut.
 use Rattle.std.specs.Prelude.{◌≡◌, ℕ, List, [], Result, Ok, Err, IfOk, refl}
 use Rattle.std.proofs.Common.{sym, ap, subst, ◌∙◌}
-use Rattle.bn_theory.specs.declared.place.Place.{Place}
 use Rattle.bn_machine.specs.Outcome.{Limits}
 use Rattle.bn_quad.specs.Names.{Naming}
 use Rattle.bn_table.specs.Rows.{Named}
@@ -11,7 +10,6 @@ use Rattle.bn_layout.specs.Flats.{Flat, flat_start}
 use Rattle.bn_flat.specs.Flattened.{Flattened}
 use Rattle.bn_reply.specs.declared.reply.Reply.{Reply}
 use Rattle.bn_reply.specs.declared.reply.NoMemory.{NoMemory as WantOfMemory}
-use Rattle.bn_reply.specs.declared.status.Status.{Status}
 use Rattle.bn_reply.specs.declared.status.Status.TheVariants as statuses
 use Rattle.bn_boardanswers.specs.Windows.{BoardReplies, ComesTo, WindowReplies, board}
 use Rattle.bn_session.specs.Cuts.{IsCut}

@@ -1,7 +1,7 @@
 -- A board is shown wherever it is in its run, and a script is played on it.
 use Rattle.std.specs.Prelude.{◌≡◌, ℕ, List, [], ◌++◌, refl}
 use Rattle.std.proofs.Common.{sym, ap, subst, ◌∙◌, append-nil}
-use Rattle.bn_theory.specs.Circuits.{Circuit, Goes}
+use Rattle.bn_theory.specs.Circuits.{Goes}
 use Rattle.bn_theory.specs.Runs.{Reaches}
 use Rattle.bn_theory.specs.Stepping.{run}
 use Rattle.bn_theory.specs.declared.config.Config.{Config}
@@ -19,14 +19,14 @@ use Rattle.bn_layout.specs.Layouts.{IsExit, Layout, moment_at, spelled_by}
 use Rattle.bn_layout.specs.Flats.{Flat, IsAccepted, flat_start}
 use Rattle.bn_layout.specs.Laws.{ExitsAreOne}
 use Rattle.bn_headline.specs.Laws.{BoardsRunToTheirExit}
-use Rattle.bn_flat.specs.Flattened.{Flattened, IsBoardKept, IsSameBoard, origin, origin_by}
+use Rattle.bn_flat.specs.Flattened.{Flattened, IsBoardKept, origin, origin_by}
 use Rattle.bn_boardanswers.specs.RunReply.{after}
 use Rattle.bn_boardanswers.specs.RunText.{exit_line, stuck_line, state_text, tape_lines}
 use Rattle.bn_boardreply.specs.Opened.{IsMade}
 use Rattle.bn_boardreply.specs.Shown.{HasNames}
 use Rattle.bn_boardreply.proofs.NameLemmas.{exit_names}
 use Rattle.bn_session.specs.Boards.{GrowsByFront, IsPlayed, board_at, shown_on}
-use Rattle.bn_session.specs.Plays.{Plays, Session, session}
+use Rattle.bn_session.specs.Plays.{Plays, session}
 use Rattle.bn_session.specs.declared.command.Command.{Command}
 use Rattle.bn_session.proofs.PlayedLemmas.{follow-all}
 use Rattle.bn_view.specs.Laws.{ShownIsFound, ViewsAreThere}
