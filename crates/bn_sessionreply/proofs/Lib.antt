@@ -2,3 +2,5 @@ pub mod CutLemmas
 pub mod AlikeLemmas
 pub mod SettledLemmas
 pub mod ClosedLemmas
+pub mod ShowingLemmas
+pub mod ReplyLemmas

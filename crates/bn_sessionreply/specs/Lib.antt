@@ -1,1 +1,3 @@
 pub mod SessionReply
+pub mod Viewing
+pub mod Kept

@@ -128,8 +128,8 @@ fn view_symbols(
     }
 }
 
-// The text of the view of a board of a table's machine.
-fn layers_text(
+/// The text of the view of a board of a table's machine: seven lines, of the layers where the board is in its run.
+pub fn layers_text(
     alloc: Global,
     table: &Table,
     translated: &Translated,

@@ -1,0 +1,58 @@
+-- How a board is shown while a script is played on it, and what is answered then.
+use Rattle.std.specs.Prelude.{◌≡◌, ℕ, List, [], ◌∷◌, codes, decimal}
+use Rattle.bn_theory.specs.Circuits.{Goes}
+use Rattle.bn_theory.specs.Runs.{Reaches}
+use Rattle.bn_theory.specs.declared.config.Config.{Config}
+use Rattle.bn_column.specs.Nets.{rotary_circuit}
+use Rattle.bn_machine.specs.Outcome.{Limits}
+use Rattle.bn_table.specs.Rows.{Named}
+use Rattle.bn_bennett.specs.Translation.{Translation, IsTranslation}
+use Rattle.bn_layout.specs.declared.exit.Exit.{Exit}
+use Rattle.bn_layout.specs.Layouts.{IsExit, moment_at}
+use Rattle.bn_layout.specs.Flats.{Flat, flat_start}
+use Rattle.bn_flat.specs.Flattened.{Flattened, origin}
+use Rattle.bn_reply.specs.Lines.{line}
+use Rattle.bn_reply.specs.declared.status.Status.{Status}
+use Rattle.bn_reply.specs.declared.status.Status.TheVariants as statuses
+use Rattle.bn_boardreply.specs.Shown.{HasNames}
+use Rattle.bn_session.specs.Plays.{Plays, Session, session}
+use Rattle.bn_session.specs.Scripts.{malformed, no_break, no_state, same_break}
+use Rattle.bn_session.specs.declared.command.Command.{Command}
+use Rattle.bn_session.specs.declared.refusal.ScriptRefusal.{ScriptRefusal}
+use Rattle.bn_session.specs.declared.refusal.ScriptRefusal.TheVariants as refusals
+use Rattle.bn_view.specs.Viewed.{IsBoardFor}
+use Rattle.bn_viewreply.specs.Showing.{TellsLayers}
+use Rattle.bn_sessionreply.specs.SessionReply.{fault_line}
+
+-- The board is that of a table's machine and of this translation, and the table has names for whatever exit its layout
+-- finds on its run.
+pub record MayShow (t : Named) (m : Translation) (b : Flattened) : Type 0 where
+  pub translates : IsTranslation t.machine m
+  pub word : List ℕ
+  pub limits : Limits
+  pub flat : Flat
+  pub is_for : IsBoardFor t.machine word limits flat m b
+  pub names : (d : Config) → Reaches (Goes (rotary_circuit b.net)) d.steps (origin b) d → (e : Exit)
+      → IsExit b.layout d.place e → HasNames t m e
+
+-- the text is that of the layers of the board, whatever word and limits it is for
+abbrev pub ShowsLayers : Named → Translation → Flattened → List ℕ → Type 0
+ShowsLayers t m b text =
+    (word : List ℕ) (l : Limits) (f : Flat) → IsBoardFor t.machine word l f m b → TellsLayers t f b.config text
+
+-- the text is the answer to these commands, played on the board of f from its start
+abbrev pub IsAnswerTo : Named → Flat → List Command → List ℕ → Type 0
+IsAnswerTo t f commands text =
+    (end : Session) × Plays f.circuit (moment_at f.layout) (TellsLayers t f) commands (session (flat_start f) []) end text
+
+-- the line that says this of a script's line, counted from 1
+abbrev pub what_line : ℕ → List ℕ → List ℕ
+what_line number what = line (codes "text: script line " ∷ decimal number ∷ codes " " ∷ what ∷ [])
+
+-- the status and the line of a refusal
+abbrev pub IsRefused : ScriptRefusal → Status → List ℕ → Type 0
+IsRefused (refusals.Form n) status text = (status ≡ statuses.Text) × (text ≡ fault_line n malformed)
+IsRefused (refusals.NoState n) status text = (status ≡ statuses.Text) × (text ≡ fault_line n no_state)
+IsRefused (refusals.SameBreak n) status text = (status ≡ statuses.Text) × (text ≡ fault_line n same_break)
+IsRefused (refusals.NoBreak n) status text = (status ≡ statuses.Text) × (text ≡ fault_line n no_break)
+IsRefused refusals.NoMemory status text = ⊥
