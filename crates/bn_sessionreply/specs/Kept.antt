@@ -25,6 +25,7 @@ may_show_same t m a b same may = record {
     start = same.origin_is ∙ may.is_for.start;
   };
   names = λ d path e is.
-      may.names d (subst (λ x. x) (λ i. Reaches (Goes (rotary_circuit (same.net i))) d.steps (same.origin_is i) d) path) e
+      may.names d
+      (subst (λ x. x) (λ i. Reaches (Goes (rotary_circuit (same.net i))) d.steps (same.origin_is i) d) path) e
       (subst (λ (x : Layout). IsExit x d.place e) same.layout is);
 }

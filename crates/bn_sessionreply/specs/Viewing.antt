@@ -43,7 +43,8 @@ ShowsLayers t m b text =
 -- the text is the answer to these commands, played on the board of f from its start
 abbrev pub IsAnswerTo : Named → Flat → List Command → List ℕ → Type 0
 IsAnswerTo t f commands text =
-    (end : Session) × Plays f.circuit (moment_at f.layout) (TellsLayers t f) commands (session (flat_start f) []) end text
+    (end : Session)
+    × Plays f.circuit (moment_at f.layout) (TellsLayers t f) commands (session (flat_start f) []) end text
 
 -- the line that says this of a script's line, counted from 1
 abbrev pub what_line : ℕ → List ℕ → List ℕ
