@@ -4,3 +4,4 @@ pub mod SettledLemmas
 pub mod ClosedLemmas
 pub mod ShowingLemmas
 pub mod ReplyLemmas
+pub mod RunLemmas

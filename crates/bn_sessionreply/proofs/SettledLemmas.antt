@@ -98,7 +98,7 @@ module _ (f g : Flat) (same : AreSameFlats f g) (limits : f.limits ≡ g.limits)
       let laid = subst (λ (b : Layout). Plays g.circuit (moment_at b) (TellsLayers t f) xs (session (flat_start f) []) end text) same.layout alike in
       let begun = subst (λ (c : Config). Plays g.circuit (moment_at g.layout) (TellsLayers t f) xs (session c []) end text) same.start laid in
       let followed = follow-all g.circuit (moment_at g.layout) (TellsLayers t f) (flat_start g) refl flat.is_board.circuit (TellsLayers t g) layers_there xs
-          (session (flat_start g) []) end text (starts g) begun in
+      (session (flat_start g) []) end text (starts g) begun in
       played xs end (subst (λ ns. IsScript ns script xs) names is) followed status_is silent
 
 -- ---- one board
@@ -142,9 +142,9 @@ module _ (f : Flat) (p : Program) (symbols : List ℕ) (l : Limits) (flat : IsFl
   some_told = elim (read_or_fault (states_of t f) script) [
     | inl read ↦
         let made = there-all f.circuit (moment_at f.layout) (TellsLayers t f) (IsOnRun f.circuit (flat_start f))
-            (λ x s u text on plays. on-by f.circuit (moment_at f.layout) (TellsLayers t f) (flat_start f) refl flat.is_board.circuit x s u text on plays)
-            (λ s on. let v = views_some p symbols l f flat accepted s.config.steps s.config on in (view_text t f v.0, (v.0, v.1, refl)))
-            read.0 (session (flat_start f) []) (starts f) in
+        (λ x s u text on plays. on-by f.circuit (moment_at f.layout) (TellsLayers t f) (flat_start f) refl flat.is_board.circuit x s u text on plays)
+        (λ s on. let v = views_some p symbols l f flat accepted s.config.steps s.config on in (view_text t f v.0, (v.0, v.1, refl)))
+        read.0 (session (flat_start f) []) (starts f) in
         (statuses.Done, made.1, [], played read.0 made.0 read.1 made.2 refl refl)
     | inr found ↦ (statuses.Text, fault_line found.0 found.1, [], faulty found.0 found.1 found.2 refl refl refl)
   ]

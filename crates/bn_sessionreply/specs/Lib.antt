@@ -1,3 +1,4 @@
 pub mod SessionReply
 pub mod Viewing
 pub mod Kept
+pub mod Laws

@@ -1,4 +1,5 @@
-//! The law on what `session` answers. The function does nothing but name the laws below it: its contract is the law.
+//! Laws on what `session` answers. Each function does nothing but name the laws below it: its contract is the law.
+ghost use Rattle.bn_sessionreply.specs.Laws.{GoesStopAtLeast, PlacesAreOfTheRun, SessionsStayOnTheRun};
 ghost use Rattle.bn_sessionreply.specs.SessionReply.{SessionIsSettled};
 
 use bn_boardanswers::{boards_are_counted, exits_are_named};
@@ -21,3 +22,12 @@ pub fn session_has_one_reply()
     scripts_have_one_reading();
     inputs_are_cut_once();
 }
+
+/// A script stays on the run of its board from the start: each place that is told is that of the run after as many steps
+/// as its line says, which `step` and `view` come to as well; and `go` stops at the least later step at which a
+/// breakpoint holds.
+pub fn sessions_stay_on_the_run()
+    ensures stay { SessionsStayOnTheRun }
+    ensures places { PlacesAreOfTheRun }
+    ensures least { GoesStopAtLeast }
+{}

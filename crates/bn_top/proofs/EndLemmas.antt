@@ -183,6 +183,7 @@ module _ (words : List (List ℕ)) (request : Request) (form : HasForm words req
     answered = whole_end words request form [] result taken took told heard before now (same_answers []) ends;
     cut = cut_end words request form [] result taken took told heard before now (same_answers []) ends;
     broken = wanting_end words request form [] result taken took told heard before now (same_answers []) ends;
+    unread = never_read_fault words request form [] result taken took told heard before now ends;
   }
 
   other_answers : (bytes : List ℕ) (status : Status) (text : List ℕ) (places : List Place) → Answers words [] status text places → Answers words bytes status text places

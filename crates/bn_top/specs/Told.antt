@@ -1,5 +1,5 @@
 -- What a sink has taken and a watch has heard when the workbench ends.
-use Rattle.std.specs.Prelude.{◌≡◌, ℕ, ◌<◌, List, [], ◌∷◌, ◌++◌, false, length, Option, codes, decimal}
+use Rattle.std.specs.Prelude.{◌≡◌, ◌≢◌, ℕ, ◌<◌, List, [], ◌∷◌, ◌++◌, false, length, Option, codes, decimal}
 use Rattle.bn_theory.specs.declared.place.Place.{Place}
 use Rattle.bn_io.specs.Faults.{Rose}
 use Rattle.bn_io.specs.Told.{Loses, Grows, GrowsByFront}
@@ -11,7 +11,7 @@ use Rattle.bn_genreply.specs.Laws.{TellsGenerated}
 use Rattle.bn_reply.specs.Codes.{IsAnswer}
 use Rattle.bn_top.specs.Answers.{Answers, usage_text, read_fault_text}
 use Rattle.bn_reply.specs.declared.status.Status.{Status}
-use Rattle.bn_reply.specs.declared.status.Status.TheVariants.{Usage, WriteFault, NoMemory}
+use Rattle.bn_reply.specs.declared.status.Status.TheVariants.{Usage, ReadFault, WriteFault, NoMemory}
 
 -- The answer was given whole: the sink took its text, and the watch heard its places.
 pub record IsAnswered (words : List (List ℕ)) (bytes : List ℕ) (status : Status) (taken took : Option (List ℕ))
@@ -70,6 +70,7 @@ pub record EndsWithoutInput (words : List (List ℕ)) (result : Status) (taken t
   pub answered : IsAnswer result → IsAnswered words [] result taken took told heard
   pub cut : result ≡ WriteFault → IsBegun words [] taken took told heard
   pub broken : result ≡ NoMemory → IsBroken words [] taken took told heard
+  pub unread : result ≢ ReadFault
 
 -- where the words are `generate` and a number of increments, the sink took a text that tells the run of the machine of
 -- so many increments

@@ -25,8 +25,9 @@ use std::alloc::Global;
 const INPUT_LIMIT: u64 = 67_108_864;
 
 /// Answers the words of a command line: reads the input from the source where the words have a
-/// form, gives the answer's text to the sink, tells the watch the place after each element step,
-/// and answers the status.
+/// form and its command reads one, gives the answer's text to the sink, and answers the status.
+/// Where the command is `step`, `back`, `run` or `generate`, it tells the watch the place after
+/// each element step.
 pub fn workbench<S: Source, K: Sink, W: Watch>(
     alloc: Global,
     words: &Vec<String>,
