@@ -24,7 +24,7 @@ const SHOWN_TOLD: &str = "break e\nat 930.w steps 6540 break e\nelement at 930.w
 
 #[test]
 fn plays_a_script_forward_and_back(rt: HostRuntime) -> Result<(), Fail> {
-    let rows: [(&str, u8, &str); 8] = [
+    let rows: [(&str, u8, &str); 12] = [
         (THERE_AND_BACK, 0, THERE_AND_BACK_TOLD),
         (SHOWN, 0, SHOWN_TOLD),
         (
@@ -40,6 +40,19 @@ fn plays_a_script_forward_and_back(rt: HostRuntime) -> Result<(), Fail> {
         ),
         ("break a state Q\n", 3, "text: script line 1 no state\n"),
         ("go 0\n", 3, "text: script line 1 form\n"),
+        ("go 1\r\n", 3, "text: script line 1 form\n"),
+        ("step 1\nview", 3, "text: script line 2 form\n"),
+        (
+            "break a state A1\nbreak b state A1\ngo 10000\ndrop a\nbreak a state A1\nstep 0\ngo 1\n",
+            0,
+            "break a\nbreak b\nat 864.w steps 1564 break a\ndrop a\nbreak a\nat 864.w steps 1564\n\
+             at 865.n steps 1565\n",
+        ),
+        (
+            "break e element 4611686018427387904\nbreak c state C1\nstep 67300\ngo 1\nrev 1\n",
+            0,
+            "break e\nbreak c\nleft 848.e steps 67300\nleft 848.e steps 67300\nat 848.s steps 67299\n",
+        ),
         ("", 0, ""),
     ];
     for (script, code, output) in rows {
@@ -54,7 +67,9 @@ fn plays_a_script_forward_and_back(rt: HostRuntime) -> Result<(), Fail> {
 
 #[test]
 fn cuts_its_input_before_the_table_is_read(rt: HostRuntime) -> Result<(), Fail> {
-    let rows: [(&str, u8, &str); 3] = [
+    let rows: [(&str, u8, &str); 5] = [
+        ("%\n", 3, "text: empty\n"),
+        ("S,_,_,+,T\nT,_,_,0,F\n%\r\n", 3, "text: no script\n"),
         ("S,_,_,+,T\nT,_,_,0,F\n", 3, "text: no script\n"),
         ("S,_,_\n%", 3, "text: no script\n"),
         ("S,_,_\n%\ngo 0\n", 3, "text: record 1 fields\n"),
