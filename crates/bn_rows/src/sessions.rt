@@ -16,11 +16,11 @@ const THERE_AND_BACK_TOLD: &str = "break a\nat 930.w steps 6540 break a\nat 0.w 
 
 const SHOWN: &str = "break e element 930\ngo 10000\nview\ndrop e\nback 1\n";
 
-const SHOWN_TOLD: &str = "break e\nat 930.w steps 6540 break e\nelement at 930.w steps 6540\n\
-                          module tape 2 cell 0 line Rd\nquadruple A1'\n\
-                          tape 1 from 0 head 0: _ _ _\ntape 2 from 0 head 1: _ _ _\n\
-                          tape 3 from 0 head 0: _ _\nmachine compute quintuple 1 step 1\n\
-                          drop e\nat 853.s steps 6539\n";
+const SHOWN_TOLD: &str = "break e\nat 930.s steps 2822 break e\nelement at 930.s steps 2822\n\
+                          module tape 2 cell 0 inside\nquadruple A1\n\
+                          tape 1 from 0 head 0: _ _ _\ntape 2 from 0 head 0: _ _ _\n\
+                          tape 3 from 0 head 0: _ _\nmachine compute state S step 0\n\
+                          drop e\nat 931.s steps 2821\n";
 
 #[test]
 fn plays_a_script_forward_and_back(rt: HostRuntime) -> Result<(), Fail> {
