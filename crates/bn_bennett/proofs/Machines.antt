@@ -9,21 +9,13 @@ use Rattle.bn_machine.specs.declared.quint.Shift.TheVariants.{Stay}
 use Rattle.bn_machine.specs.Machine.{Program, IsMachine, final_of, nth}
 use Rattle.bn_machine.proofs.MachineLemmas.{nth-get_or, nth_once}
 use Rattle.bn_quad.specs.Quadruples.{Deed, Rewrite, Move, Rule, Quadruples, IsQuadMachine, IsDeedInRange, AreDeedsInRange, deeds_of}
-use Rattle.bn_quad.specs.Overlap.{HasNoClash, IsLeastClash, HasNoFlaw, IsFirstFlaw, initial_flaw, final_flaw, IsDeterministic, IsReversible, IsUniform}
+use Rattle.bn_quad.specs.Overlap.{IsDeterministic, IsReversible, IsUniform}
 use Rattle.bn_quad.specs.Kept.{IsActInRange, IsReadInRange, IsSound, IsFirstFault, Agree, act_of, quad_of, read_of, rule_of, rules_of}
 use Rattle.bn_quad.proofs.KeptLemmas.{nth-rules_of, quads-apart}
-use Rattle.bn_quad.specs.Calls.{IsMadeOf, IsUniformMachine, IsQuadRefusal, IsUniformRefusal, IsNotUniform}
+use Rattle.bn_quad.specs.Calls.{IsMadeOf, IsUniformMachine, IsQuadRefusal}
 use Rattle.bn_quad.specs.declared.quad.Quad.{Quad}
-use Rattle.bn_quad.specs.declared.clash.Clash.{Clash}
-use Rattle.bn_quad.specs.declared.clash.Clash.TheVariants as clash
-use Rattle.bn_quad.specs.declared.clash.Flaw.{Flaw}
-use Rattle.bn_quad.specs.declared.clash.Flaw.TheVariants as flaw
 use Rattle.bn_quad.specs.declared.refusal.QuadRefusal.{QuadRefusal}
 use Rattle.bn_quad.specs.declared.refusal.QuadRefusal.TheVariants as refusal
-use Rattle.bn_quad.specs.declared.refusal.NotUniform.{NotUniform}
-use Rattle.bn_quad.specs.declared.refusal.NotUniform.TheVariants as uneven
-use Rattle.bn_quad.specs.declared.refusal.UniformRefusal.{UniformRefusal}
-use Rattle.bn_quad.specs.declared.refusal.UniformRefusal.TheVariants as uniform
 use Rattle.bn_stages.specs.In.{IsIn}
 use Rattle.bn_stages.proofs.MembershipLemmas.{in_map}
 use Rattle.bn_stages.specs.Laws.{ListCountsNames, ListHasLength, ListIsInRange, NumbersPassTests}
@@ -127,25 +119,6 @@ pub no_quad_refusal : (states : ℕ) (symbols : List ℕ) (quads : List Quad) (w
 no_quad_refusal states symbols quads refusal.Empty some all h = let none : length quads ≡ 0 = ap length h in omega arith
 no_quad_refusal states symbols quads (refusal.Range i) some all h = none_faulty states symbols quads i h.0 all h.1
 no_quad_refusal states symbols quads (refusal.Mixed i) some all h = none_faulty states symbols quads i h.0 all h.1
-
--- a least pair is a pair
-no_least : (clash : Clash) (rs : List (Rule ℕ)) (i j : ℕ) → HasNoClash clash rs → IsLeastClash clash rs i j → ⊥
-no_least clash rs i j none h = none.none i j h.holds
-
-no_flaw : (flaw : Flaw) (rs : List (Rule ℕ)) (i : ℕ) → HasNoFlaw flaw rs → IsFirstFlaw flaw rs i → ⊥
-no_flaw flaw rs i none h = none.none i h.rule h.stands h.flawed
-
-no_uneven : (rs : List (Rule ℕ)) (why : NotUniform) → IsUniform rs → IsNotUniform rs why → ⊥
-no_uneven rs (uneven.ReadMask i j) u h = no_least clash.Reads rs i j u.reads h
-no_uneven rs (uneven.WriteMask i j) u h = no_least clash.Writes rs i j u.writes h.1
-no_uneven rs (uneven.Silent i) u h = no_flaw flaw.Silent rs i u.active h.2
-no_uneven rs (uneven.InitialEntered i) u h = no_flaw (initial_flaw rs) rs i u.initial h.3
-no_uneven rs (uneven.FinalLeft i) u h = no_flaw (final_flaw rs) rs i u.final h.4
-
-pub no_uniform_refusal : (rs : List (Rule ℕ)) (why : UniformRefusal) → IsDeterministic rs → IsReversible rs → IsUniform rs → IsUniformRefusal rs why → ⊥
-no_uniform_refusal rs (uniform.Domain i j) a b u h = no_least clash.Domain rs i j a h
-no_uniform_refusal rs (uniform.Range i j) a b u h = no_least clash.Range rs i j b h.1
-no_uniform_refusal rs (uniform.Mask why) a b u h = no_uneven rs why u h.2
 
 -- the machine's own symbols, where they are those of an equal machine
 pub own_symbols : (p q : Program) (zs : List ℕ) → q ≡ p → zs ≡ symbols_of q → zs ≡ symbols_of p

@@ -14,7 +14,7 @@ pub use laws::{
     translations_are_uniform, translations_end_alike, translations_halt_alike,
     translations_have_names, translations_stand,
 };
-pub use naming::names;
+pub use naming::{add_history_symbols, name_text, names};
 pub use translated::{MachineState, Stage, Translated, translate};
 
 #[cfg(test)]

@@ -44,8 +44,9 @@ fn print_of(name: Name) -> Print
     }
 }
 
-// The text of a name.
-fn text_of(alloc: Global, name: Name) -> Result<Vec<u8>, NoMemory>
+/// The printed text of a state's name: `A` and the state's number counted from 1, `A`, the quintuple's number and a
+/// prime, `B1'`, `B1`, `B2'`, `B2`, and `C` likewise (this project's own profile).
+pub fn name_text(alloc: Global, name: Name) -> Result<Vec<u8>, NoMemory>
     ensures { IfOk result (λ text. text.items ≡ state_text name) }
 {
     let print = print_of(name);
@@ -80,7 +81,7 @@ fn add_states(alloc: Global, names: &mut QuadNames, states: &[Name]) -> Result<(
     ensures { OnOk result (names.new ≡ with_states (map state_text states.now)) }
 {
     for name in states {
-        let text = text_of(alloc, *name)?;
+        let text = name_text(alloc, *name)?;
         names.add_state(text.as_slice())?;
     }
     Ok(())
@@ -100,8 +101,9 @@ fn add_letters(names: &mut QuadNames, tape: u32, table: &Table) -> Result<(), No
     Ok(())
 }
 
-// Names each symbol of the history: the blank, and the numbers from 1 on.
-fn add_numbers(alloc: Global, names: &mut QuadNames, count: u32) -> Result<(), NoMemory>
+/// Names the symbols of tape 2, the history, which have no names yet: `_` for the blank, and the numbers from 1 to
+/// `count`. After `NoMemory` some of them have names.
+pub fn add_history_symbols(alloc: Global, names: &mut QuadNames, count: u32) -> Result<(), NoMemory>
     requires few { count < 2 ^ 32 - 2 }
     requires empty { symbols_on names.old 2 ≡ [] }
     ensures { OnOk result (names.new ≡ on_tape names.old 2 (number_names count)) }
@@ -125,7 +127,7 @@ fn all_names(alloc: Global, table: &Table, translated: &Translated) -> Result<Qu
     let count = table.machine().quints().len() as u32;
     add_states(alloc, &mut names, translated.names())?;
     add_letters(&mut names, 1, table)?;
-    add_numbers(alloc, &mut names, count)?;
+    add_history_symbols(alloc, &mut names, count)?;
     add_letters(&mut names, 3, table)?;
     Ok(names)
 }

@@ -69,9 +69,10 @@ impl Translated {
         &self.machine
     }
 
-    // The states' names, each at its number.
-    pub(crate) fn names(&self) -> &[Name]
-        ensures { result.now ≡ self.now.names }
+    /// The states' names, each at the number of its state, counted from 0.
+    pub fn names(&self) -> &[Name]
+        ensures value { result.now ≡ self.now.names }
+        ensures counted { self.now.machine.states ≡ length self.now.names }
     {
         self.names.as_slice()
     }
@@ -138,10 +139,7 @@ fn uniform_of(names: &[Name], quads: Vec<Quad>, standard: &Standard) -> Uniform
     numbers_pass_tests();
     let symbols = symbols_of(standard.machine());
     match QuadMachine::try_new(quads, names.len() as u32, symbols) {
-        Ok(machine) => match machine.into_uniform() {
-            Ok(machine) => machine,
-            Err(_) => unreachable!(),
-        },
+        Ok(machine) => Uniform::new(machine),
         Err(_) => unreachable!(),
     }
 }

@@ -25,6 +25,15 @@ impl Model for Uniform {
 impl Uniform {
     ghost use Rattle.bn_quad.specs.Calls.{IsUniformMachine};
 
+    /// A machine of which it is known that it is deterministic, reversible and uniform: nothing is tested. It takes no
+    /// memory.
+    pub fn new(machine: QuadMachine) -> Uniform
+        requires { IsUniformMachine machine }
+        ensures { result ≡ machine }
+    {
+        Uniform { machine }
+    }
+
     /// The machine.
     pub fn machine(&self) -> &QuadMachine
         ensures value { result.now ≡ self.now }

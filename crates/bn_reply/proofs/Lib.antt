@@ -6,3 +6,5 @@ pub mod SettledLemmas
 pub mod Walks
 pub mod SameRuns
 pub mod ReplyLemmas
+pub mod CutLemmas
+pub mod CutOrNot

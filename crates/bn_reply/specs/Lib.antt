@@ -7,3 +7,5 @@ pub mod Words
 pub mod TableReply
 pub mod Letters
 pub mod Opened
+pub mod Cuts
+pub mod CutLaws

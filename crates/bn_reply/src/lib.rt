@@ -1,7 +1,9 @@
-//! What the replies of all commands share: the status, the reply, its end, and the opening of a table and
-//! of a word.
+//! What the replies of all commands share: the status, the reply, its end, and the opening of a table, of a word
+//! and of an input of two parts.
 #![tactic(auto)]
 
+mod cut;
+mod laws;
 mod letters;
 mod lines;
 mod opening;
@@ -9,6 +11,8 @@ mod reply;
 mod status;
 mod writing;
 
+pub use cut::cut_input;
+pub use laws::inputs_are_cut_once;
 pub use letters::push_letters;
 pub use lines::{empty_text, field_text, record_text};
 pub use opening::{Judged, OpenedTable, OpenedWord, judge_table, open_table, open_word};

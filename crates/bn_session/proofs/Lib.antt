@@ -1,5 +1,4 @@
 pub mod BreakLemmas
-pub mod CutLemmas
 pub mod LabelLemmas
 pub mod LineLemmas
 pub mod PlaceLemmas

@@ -6,7 +6,6 @@ use Rattle.bn_theory.specs.Stepping.{run}
 use Rattle.bn_theory.specs.declared.config.Config.{Config}
 use Rattle.bn_quad.specs.Names.{AreApart}
 use Rattle.bn_session.specs.Scripts.{IsScript, IsFirstFault, Fault}
-use Rattle.bn_session.specs.Cuts.{IsCut, IsUncut}
 use Rattle.bn_session.specs.Plays.{Session, stops, given, PlaysOne, Plays}
 use Rattle.bn_session.specs.declared.command.Command.{Command}
 use Rattle.bn_session.specs.declared.command.Command.TheVariants.{Go}
@@ -87,14 +86,3 @@ GoesStopAtLeast =
     (k : Circuit) (moment : Config → Option ℕ) (shows : Config → List ℕ) (c0 : Config) (e : ℕ) (s t : Session)
     (text : List ℕ) → c0.steps ≡ 0 → IsOnRun k c0 s → PlaysOne k moment (given shows) (Go e) s t text
     → IsLeastHit k (stops moment s.breaks) c0 s.config e t.config
-
--- ---- how an input is cut
-
--- in one way, or not at all
-abbrev pub CutsAreOne : Type 0
-CutsAreOne =
-    (bytes table script front rest : List ℕ) → IsCut bytes table script → IsCut bytes front rest
-    → (table ≡ front) × (script ≡ rest)
-
-abbrev pub CutsAreNotUncut : Type 0
-CutsAreNotUncut = (bytes table script : List ℕ) → IsCut bytes table script → IsUncut bytes → ⊥

@@ -8,5 +8,4 @@ pub mod Kept
 pub mod Plays
 pub mod Walks
 pub mod Boards
-pub mod Cuts
 pub mod Laws

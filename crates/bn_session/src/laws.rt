@@ -2,7 +2,6 @@
 
 ghost use Rattle.bn_session.specs.Laws.{ScriptsAreOne, FaultyScriptsAreNone, FirstFaultsAreOne, ScriptsReadOrFault};
 ghost use Rattle.bn_session.specs.Laws.{PlaysAreOne, PlaysAreThere, PlacesAreOfTheRun, PlaysAgree, GoesStopAtLeast};
-ghost use Rattle.bn_session.specs.Laws.{CutsAreOne, CutsAreNotUncut};
 
 /// Bytes are a script of one list of commands, or have one first fault, and never both.
 pub fn scripts_have_one_reading()
@@ -24,10 +23,4 @@ pub fn plays_stay_on_the_run()
     ensures places { PlacesAreOfTheRun }
     ensures least { GoesStopAtLeast }
     ensures agree { PlaysAgree }
-{}
-
-/// An input is cut into a table and a script in one way, or not at all.
-pub fn inputs_are_cut_once()
-    ensures one { CutsAreOne }
-    ensures never_both { CutsAreNotUncut }
 {}

@@ -4,7 +4,6 @@
 mod breaks;
 mod command;
 mod condition;
-mod cut;
 mod label;
 mod laws;
 mod lines;
@@ -19,10 +18,9 @@ mod states;
 mod walk;
 
 pub use command::Command;
-pub use cut::cut_script;
 pub use label::Label;
 pub use laws::{
-    inputs_are_cut_once, plays_have_one_answer, plays_stay_on_the_run, scripts_have_one_reading,
+    plays_have_one_answer, plays_stay_on_the_run, scripts_have_one_reading,
 };
 pub use player::play;
 pub use refusal::ScriptRefusal;

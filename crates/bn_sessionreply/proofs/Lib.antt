@@ -1,4 +1,3 @@
-pub mod CutLemmas
 pub mod AlikeLemmas
 pub mod SettledLemmas
 pub mod ClosedLemmas

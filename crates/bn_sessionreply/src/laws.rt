@@ -5,7 +5,8 @@ ghost use Rattle.bn_sessionreply.specs.SessionReply.{SessionIsSettled};
 use bn_boardanswers::{boards_are_counted, exits_are_named};
 use bn_existence::flats_are_there;
 use bn_layout::flats_are_one;
-use bn_session::{inputs_are_cut_once, scripts_have_one_reading};
+use bn_reply::inputs_are_cut_once;
+use bn_session::scripts_have_one_reading;
 use bn_table::tables_are_machines;
 use bn_view::views_are_one;
 

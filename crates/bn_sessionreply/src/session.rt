@@ -20,9 +20,10 @@ use bn_flat::Board;
 use bn_headline::boards_run_to_their_exit;
 use bn_layout::exits_are_one;
 use bn_reply::{
-    Judged, NoMemory, OpenedTable, OpenedWord, Reply, Status, judge_table, open_table, open_word,
+    Judged, NoMemory, OpenedTable, OpenedWord, Reply, Status, cut_input, judge_table, open_table,
+    open_word,
 };
-use bn_session::{Script, ScriptRefusal, cut_script, play, read_script};
+use bn_session::{Script, ScriptRefusal, play, read_script};
 use bn_standard::Standard;
 use bn_table::{Table, tables_are_machines};
 use std::alloc::Global;
@@ -39,7 +40,7 @@ pub fn reply_session(
     requires { AreSmall (limits_of windows.now) }
     ensures { IfOk result (λ r. SessionReplies word.now (limits_of windows.now) bytes.now r.status r.text.items []) }
 {
-    match cut_script(bytes) {
+    match cut_input(bytes) {
         Some((table, script)) => session_input(alloc, word, windows, table, script),
         None => Ok(Reply {
             text: String::from_str(alloc, "text: no script\n")?.into_bytes(),

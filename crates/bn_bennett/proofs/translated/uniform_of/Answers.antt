@@ -4,7 +4,7 @@ use Rattle.bn_machine.specs.Machine.{IsMachine, final_of}
 use Rattle.bn_quad.specs.Calls.{IsMadeOf, IsQuadRefusal}
 use Rattle.bn_quad.specs.declared.quad.Quad.{Quad}
 use Rattle.bn_stages.specs.List.{symbols_of}
-use Rattle.bn_bennett.proofs.Machines.{count_names, count_quads, count_rules, made_translation, no_quad_refusal, no_uniform_refusal, own_counts, own_made, own_symbols, own_translation, passes, sound}
+use Rattle.bn_bennett.proofs.Machines.{count_names, count_quads, count_rules, made_translation, no_quad_refusal, own_counts, own_made, own_symbols, own_translation, passes, sound}
 use Rattle.bn_bennett.proofs.translated.uniform_of.Goals as goal
 
 pub symbols_of-symbols-requires : goal.symbols_of-symbols-requires
@@ -16,17 +16,16 @@ overflow_cast-names c =
     let machine : IsMachine p = subst IsMachine c.machine.ensures.value c.symbols_of-symbols.ensures.valid in
     omega (arith, count_names p c.args.names.now c.args.quads.items machine c.list_is_in_range.ensures c.requires.drafted c.requires.list c.list_counts_names.ensures c.requires.fits, c.requires.fits.quints, c.requires.fits.states)
 
-pub unreachable-requires : goal.unreachable-requires
-unreachable-requires c =
+pub new-requires : goal.new-requires
+new-requires c =
     let p = c.args.standard.now in
     let machine : IsMachine p = subst IsMachine c.machine.ensures.value c.symbols_of-symbols.ensures.valid in
     let made : IsMadeOf c.in-Ok.machine c.args.quads.items (length c.args.names.now) (symbols_of p) =
     own_made p c.in-Ok.machine c.args.quads.items (length c.args.names.now) _ (own_symbols p _ _ c.machine.ensures.value c.symbols_of-symbols.ensures.symbols) c.in-Ok.ensures.made in
-    let good = passes p c.args.names.now c.args.quads.items machine c.list_is_in_range.ensures c.requires.drafted c.requires.list c.numbers_pass_tests.ensures c.machine.ensures.standard c.in-Ok.machine made in
-    no_uniform_refusal c.in-Ok.machine.rules c.in-Err-into_uniform.field-0.1 good.deterministic good.reversible good.uniform c.in-Err-into_uniform.ensures.refused
+    passes p c.args.names.now c.args.quads.items machine c.list_is_in_range.ensures c.requires.drafted c.requires.list c.numbers_pass_tests.ensures c.machine.ensures.standard c.in-Ok.machine made
 
-pub unreachable-requires-in-Err : goal.unreachable-requires-in-Err
-unreachable-requires-in-Err c =
+pub unreachable-requires : goal.unreachable-requires
+unreachable-requires c =
     let p = c.args.standard.now in
     let machine : IsMachine p = subst IsMachine c.machine.ensures.value c.symbols_of-symbols.ensures.valid in
     let quads : List Quad = c.args.quads.items in
@@ -42,7 +41,7 @@ returns-clause-made c =
     let machine : IsMachine p = subst IsMachine c.machine.ensures.value c.symbols_of-symbols.ensures.valid in
     let made : IsMadeOf c.in-Ok.machine c.args.quads.items (length c.args.names.now) (symbols_of p) =
     own_made p c.in-Ok.machine c.args.quads.items (length c.args.names.now) _ (own_symbols p _ _ c.machine.ensures.value c.symbols_of-symbols.ensures.symbols) c.in-Ok.ensures.made in
-    own_translation p c.args.names.now (final_of p.quints) c.in-Ok.machine c.in-Ok-into_uniform.machine c.in-Ok-into_uniform.ensures.made
+    own_translation p c.args.names.now (final_of p.quints) c.in-Ok.machine c.new.result c.new.ensures
     (made_translation p c.args.names.now c.args.quads.items machine c.list_is_in_range.ensures c.requires.drafted c.requires.list c.in-Ok.machine made c.in-Ok.ensures.valid)
 
 pub returns-clause-states : goal.returns-clause-states
@@ -53,7 +52,7 @@ returns-clause-states c =
     own_made p c.in-Ok.machine c.args.quads.items (length c.args.names.now) _ (own_symbols p _ _ c.machine.ensures.value c.symbols_of-symbols.ensures.symbols) c.in-Ok.ensures.made in
     let states = count_names p c.args.names.now c.args.quads.items machine c.list_is_in_range.ensures c.requires.drafted c.requires.list c.list_counts_names.ensures c.requires.fits in
     let rules = count_rules p c.args.names.now c.args.quads.items machine c.list_is_in_range.ensures c.requires.drafted c.requires.list c.list_has_length.ensures c.in-Ok.machine made in
-    (own_counts c.in-Ok.machine c.in-Ok-into_uniform.machine _ _ c.in-Ok-into_uniform.ensures.made (made.counted ∙ states) rules).0
+    (own_counts c.in-Ok.machine c.new.result _ _ c.new.ensures (made.counted ∙ states) rules).0
 
 pub returns-clause-quadruples : goal.returns-clause-quadruples
 returns-clause-quadruples c =
@@ -63,4 +62,4 @@ returns-clause-quadruples c =
     own_made p c.in-Ok.machine c.args.quads.items (length c.args.names.now) _ (own_symbols p _ _ c.machine.ensures.value c.symbols_of-symbols.ensures.symbols) c.in-Ok.ensures.made in
     let states = count_names p c.args.names.now c.args.quads.items machine c.list_is_in_range.ensures c.requires.drafted c.requires.list c.list_counts_names.ensures c.requires.fits in
     let rules = count_rules p c.args.names.now c.args.quads.items machine c.list_is_in_range.ensures c.requires.drafted c.requires.list c.list_has_length.ensures c.in-Ok.machine made in
-    (own_counts c.in-Ok.machine c.in-Ok-into_uniform.machine _ _ c.in-Ok-into_uniform.ensures.made (made.counted ∙ states) rules).1
+    (own_counts c.in-Ok.machine c.new.result _ _ c.new.ensures (made.counted ∙ states) rules).1

@@ -1,0 +1,2 @@
+pub mod RecodedLemmas
+pub mod JointLemmas

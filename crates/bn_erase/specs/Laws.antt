@@ -1,0 +1,102 @@
+-- What the laws of this crate say, each the contract of a function with an empty body.
+use Rattle.std.specs.Prelude.{◌≡◌, ◌↔◌, ℕ, ◌+◌, ◌*◌, List, length}
+use Rattle.bn_theory.specs.Runs.{Reaches}
+use Rattle.bn_machine.specs.Machine.{IsMachine, Program}
+use Rattle.bn_machine.specs.Tape.{word_tape, blank_tape}
+use Rattle.bn_quad.specs.Quadruples.{Configuration, Goes, everywhere, final_of, initial_of}
+use Rattle.bn_quad.specs.Calls.{IsUniformMachine}
+use Rattle.bn_qtable.specs.Named.{HasNames}
+use Rattle.bn_standard.specs.Standard.{IsStandard}
+use Rattle.bn_standard.specs.Verdict.{IsRefusal}
+use Rattle.bn_standard.specs.declared.why.Why.{Why}
+use Rattle.bn_stages.specs.In.{IsIn}
+use Rattle.bn_stages.specs.Laws.{HaltsAfter}
+use Rattle.bn_stages.specs.Renamed.{KeepsApart}
+use Rattle.bn_stages.specs.Stages.{IsStandardMachine, IsSpelledBy}
+use Rattle.bn_table.specs.Rows.{IsTable, Named}
+use Rattle.bn_erasing.specs.Erasing.{IsWord, erasing_final, erasing_initial}
+use Rattle.bn_erase.specs.Joint.{IsAlphabet, IsCode, IsJoint, Joint, joined, joint_letters}
+use Rattle.bn_erase.specs.Made.{Erasure, IsErasing, name_of}
+use Rattle.bn_erase.specs.Printed.{names_of}
+use Rattle.bn_erase.specs.Recoded.{KeepsSymbols, recoded}
+
+-- ---- one alphabet
+
+-- with other numbers for its symbols, that keep them apart and the blank the blank, a machine in standard form is one in
+-- standard form
+abbrev pub RecodedIsStandard : Type 0
+RecodedIsStandard =
+    (p : Program) (code : ℕ → ℕ) (symbols : ℕ) → KeepsSymbols code p.symbols symbols → IsStandardMachine p
+    → IsStandardMachine (recoded code symbols p)
+
+-- the letters of two alphabets, joined, are an alphabet in which the first one's symbols keep their numbers and each
+-- letter of the second stands
+abbrev pub JointAlphabet : Type 0
+JointAlphabet =
+    (blank : ℕ) (first second : List ℕ) → IsAlphabet blank first → IsAlphabet blank second
+    → IsAlphabet blank (joint_letters first second) × IsCode first (joint_letters first second) (λ symbol. symbol)
+    × ((letter : ℕ) → IsIn second letter → IsIn (joint_letters first second) letter)
+
+-- numbers by letter keep symbols apart and the blank the blank
+abbrev pub CodesKeepSymbols : Type 0
+CodesKeepSymbols =
+    (blank : ℕ) (before after : List ℕ) (code : ℕ → ℕ) → IsAlphabet blank before → IsAlphabet blank after
+    → IsCode before after code → KeepsSymbols code (length before) (length after)
+
+-- the machines of two tables over one alphabet are as tables have them, and each is in standard form exactly where the
+-- table's own is, and fails the same demand with the same quintuples where it isn't
+abbrev pub JoinedAreJudgedAlike : Type 0
+JoinedAreJudgedAlike =
+    (t u : Named) → IsTable t → IsTable u
+    → IsJoint (joined t u)
+    × (IsStandard (joined t u).first.quints ↔ IsStandard t.machine.quints)
+    × (IsStandard (joined t u).second.quints ↔ IsStandard u.machine.quints)
+    × ((why : Why) → IsRefusal (joined t u).first.quints why ↔ IsRefusal t.machine.quints why)
+    × ((why : Why) → IsRefusal (joined t u).second.quints why ↔ IsRefusal u.machine.quints why)
+
+-- ---- the erasing machine
+
+-- it is deterministic, reversible and uniform; it begins and ends in the states of those names, and no two of its states
+-- have one name
+abbrev pub ErasingsAreUniform : Type 0
+ErasingsAreUniform =
+    (p q : Program) (e : Erasure) → IsStandardMachine p → IsStandardMachine q → IsErasing p q e
+    → IsUniformMachine e.machine × (name_of e (initial_of e.machine.rules) ≡ erasing_initial p)
+    × (name_of e (final_of e.machine.rules) ≡ erasing_final q) × KeepsApart (name_of e) e.machine.rules
+
+-- the start: the initial state, x on tape 1, tapes 2 and 3 blank, all heads at 0; and the end: the final state, tapes 1
+-- and 2 blank, y on tape 3, all heads at 0
+abbrev pub start_of : Erasure → List ℕ → Configuration ℕ
+start_of e x = record {
+  state = initial_of e.machine.rules;
+  one = word_tape x;
+  two = blank_tape;
+  three = blank_tape;
+}
+
+abbrev pub end_of : Erasure → List ℕ → Configuration ℕ
+end_of e y = record {
+  state = final_of e.machine.rules;
+  one = blank_tape;
+  two = blank_tape;
+  three = word_tape y;
+}
+
+-- From x it comes to its end with y alone after 4(v + w) + 4(|x| + |y|) + 10 steps, where the first machine halts on x
+-- after v steps with the output y and the second on y after w steps with the output x; and where it comes to its final
+-- state, it is that run.
+abbrev pub ErasingsErase : Type 0
+ErasingsErase =
+    (p q : Program) (e : Erasure) (x : List ℕ) → IsStandardMachine p → IsStandardMachine q → p.symbols ≡ q.symbols
+    → IsErasing p q e → IsSpelledBy p x → IsWord x
+    → ((v w : ℕ) (y : List ℕ) → HaltsAfter p x v y → HaltsAfter q y w x
+    → Reaches (Goes everywhere e.machine) (4 * (v + w) + 4 * (length x + length y) + 10) (start_of e x) (end_of e y))
+    × ((n : ℕ) (c : Configuration ℕ) → Reaches (Goes everywhere e.machine) n (start_of e x) c
+    → c.state ≡ final_of e.machine.rules → (v w : ℕ) × (y : List ℕ) × HaltsAfter p x v y × HaltsAfter q y w x
+    × (n ≡ 4 * (v + w) + 4 * (length x + length y) + 10) × (c ≡ end_of e y))
+
+-- every state and every symbol has a printed name in the form of its kind
+abbrev pub ErasingsHaveNames : Type 0
+ErasingsHaveNames =
+    (j : Joint) (e : Erasure) → IsJoint j → IsMachine j.first → IsMachine j.second → IsErasing j.first j.second e
+    → HasNames e.machine (names_of j e)

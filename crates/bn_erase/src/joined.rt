@@ -1,0 +1,176 @@
+//! Two machines over one alphabet.
+ghost use Rattle.std.specs.Prelude.{◌≡◌, ◌<◌, ◌≤◌, ◌^◌, ◌++◌, IfOk, OnOk, IfSome, IfNone, Some, Contains, filter, not};
+ghost use Rattle.std.specs.Prelude.{length, map, slice_get, slice_index};
+ghost use Rattle.std.specs.List.{list_any};
+ghost use Rattle.bn_erase.specs.Joint.{joined, joint_letters, number_in};
+ghost use Rattle.bn_erase.specs.Recoded.{recoded, recoded_quint, widened};
+
+use bn_machine::{Machine, Quint};
+use bn_quad::NoMemory;
+use bn_table::Table;
+use std::alloc::Global;
+use std::marker::Model;
+
+/// Two machines over one alphabet, and the letters of its symbols, `_` for symbol 0. Callers see the three. Both machines
+/// are as tables have them, and have as many symbols as there are letters.
+#[derive(Drop)]
+pub struct Joined {
+    first: Machine,
+    second: Machine,
+    letters: Vec<u8>,
+}
+
+impl Model for Joined {
+    ghost use Rattle.bn_erase.specs.Joint.{Joint, IsJoint, joint_of};
+
+    ghost Value = { Joint };
+
+    ghost view = { λ j. joint_of j.first j.second j.letters.items };
+
+    ghost invariant = { λ j. IsJoint (joint_of j.first j.second j.letters.items) };
+}
+
+impl Joined {
+    ghost use Rattle.bn_erase.specs.Joint.{IsJoint};
+
+    /// The first machine.
+    pub fn first(&self) -> &Machine
+        ensures value { result.now ≡ self.now.first }
+        ensures valid { IsJoint self.now }
+    {
+        &self.first
+    }
+
+    /// The second machine.
+    pub fn second(&self) -> &Machine
+        ensures value { result.now ≡ self.now.second }
+        ensures valid { IsJoint self.now }
+    {
+        &self.second
+    }
+
+    /// The letter of a symbol, counted from 0.
+    pub fn letter(&self, symbol: u32) -> u8
+        requires { symbol < length self.now.letters }
+        ensures { slice_get self.now.letters symbol ≡ Some result }
+    {
+        self.letters[symbol as usize]
+    }
+
+    /// The symbol of a letter, counted from 0. `None` comes exactly for a byte that is no letter of the two.
+    pub fn symbol_of(&self, letter: u8) -> Option<u32>
+        ensures found { IfSome result (λ symbol. slice_get self.now.letters symbol ≡ Some letter) }
+        ensures none { IfNone result (¬ Contains self.now.letters letter) }
+    {
+        match self.letters.iter().position(|known| *known == letter) {
+            Some(symbol) => Some(symbol as u32),
+            None => None,
+        }
+    }
+}
+
+/// The machines of two tables over one alphabet: the letters of the first in their order, then the further letters of the
+/// second in theirs. The first machine's symbols keep their numbers. (This project's own profile.)
+pub fn join_letters(alloc: Global, first: &Table, second: &Table) -> Result<Joined, NoMemory>
+    ensures { IfOk result (λ j. j ≡ joined first.now second.now) }
+{
+    let letters = joint_letters(alloc, first, second)?;
+    let first = widened(alloc, first.machine(), letters.len() as u32)?;
+    let second = recoded(alloc, second, letters.as_slice())?;
+    Ok(Joined {
+        first,
+        second,
+        letters,
+    })
+}
+
+// The letters of both tables.
+fn joint_letters(alloc: Global, first: &Table, second: &Table) -> Result<Vec<u8>, NoMemory>
+    ensures { IfOk result (λ letters. letters.items ≡ joint_letters first.now.letters second.now.letters) }
+{
+    let mut letters = letters_of(alloc, first)?;
+    add_further_letters(&mut letters, first, second)?;
+    Ok(letters)
+}
+
+// The letters of a table.
+fn letters_of(alloc: Global, table: &Table) -> Result<Vec<u8>, NoMemory>
+    ensures { IfOk result (λ letters. letters.items ≡ table.now.letters) }
+{
+    let mut letters = Vec::new(alloc);
+    for symbol in 0..table.machine().symbols() {
+        if letters.push(table.letter(symbol)).is_err() {
+            return Err(NoMemory);
+        }
+    }
+    Ok(letters)
+}
+
+// Appends the letters of the second table that the first hasn't.
+fn add_further_letters(letters: &mut Vec<u8>, first: &Table, second: &Table) -> Result<(), NoMemory>
+    ensures { OnOk result (letters.new.items ≡ letters.old.items
+        ++ filter (λ letter. not (list_any (λ known. known == letter) first.now.letters)) second.now.letters) }
+{
+    for symbol in 0..second.machine().symbols() {
+        let letter = second.letter(symbol);
+        if first.symbol_of(letter).is_none() && letters.push(letter).is_err() {
+            return Err(NoMemory);
+        }
+    }
+    Ok(())
+}
+
+// The machine with so many symbols in all.
+fn widened(alloc: Global, machine: &Machine, symbols: u32) -> Result<Machine, NoMemory>
+    requires { machine.now.symbols ≤ symbols }
+    ensures { IfOk result (λ m. m ≡ widened symbols machine.now) }
+{
+    let Ok(quints) = Vec::from_slice(alloc, machine.quints()) else {
+        return Err(NoMemory);
+    };
+    match Machine::try_new(quints, machine.states(), symbols) {
+        Ok(machine) => Ok(machine),
+        Err(_) => unreachable!(),
+    }
+}
+
+// The table's machine, each symbol with the number of its letter among these, which have them all.
+fn recoded(alloc: Global, table: &Table, letters: &[u8]) -> Result<Machine, NoMemory>
+    ensures { IfOk result (λ m. m ≡ recoded (λ symbol. number_in letters.now (slice_index table.now.letters symbol))
+        (length letters.now) table.now.machine) }
+{
+    let machine = table.machine();
+    let mut quints = Vec::new(alloc);
+    for quint in machine.quints() {
+        if quints.push(recoded_quint(table, letters, quint)).is_err() {
+            return Err(NoMemory);
+        }
+    }
+    match Machine::try_new(quints, machine.states(), letters.len() as u32) {
+        Ok(machine) => Ok(machine),
+        Err(_) => unreachable!(),
+    }
+}
+
+// The quintuple, each symbol with the number of its letter.
+fn recoded_quint(table: &Table, letters: &[u8], quint: &Quint) -> Quint
+    ensures { result ≡ recoded_quint (λ symbol. number_in letters.now (slice_index table.now.letters symbol)) quint.now }
+{
+    Quint {
+        state: quint.state,
+        read: number_in(letters, table.letter(quint.read)),
+        write: number_in(letters, table.letter(quint.write)),
+        shift: quint.shift,
+        next: quint.next,
+    }
+}
+
+// The number of a letter among others, which have it.
+fn number_in(letters: &[u8], letter: u8) -> u32
+    ensures { result ≡ number_in letters.now letter }
+{
+    match letters.iter().position(|known| *known == letter) {
+        Some(number) => number as u32,
+        None => letters.len() as u32,
+    }
+}

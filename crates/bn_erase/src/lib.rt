@@ -1,0 +1,20 @@
+//! The machine that leaves only its output (Bennett 1973): two tables' machines over one alphabet, the erasing machine of
+//! two machines in standard form, and the printed names of its states and symbols.
+#![tactic(auto)]
+
+mod erase;
+mod joined;
+mod laws;
+mod naming;
+mod refusal;
+
+pub use bn_erasing::ErasingName;
+pub use bn_quad::NoMemory;
+pub use erase::{Erasing, MOST_QUADRUPLES, erase};
+pub use joined::{Joined, join_letters};
+pub use laws::{
+    erasings_are_uniform, erasings_erase, erasings_have_names, joined_are_judged_alike,
+    machines_share_letters,
+};
+pub use naming::erasing_names;
+pub use refusal::EraseRefusal;

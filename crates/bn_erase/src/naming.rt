@@ -1,0 +1,72 @@
+//! The printed names of the erasing machine's states and symbols.
+ghost use Rattle.std.specs.Prelude.{◌≡◌, ◌<◌, ◌≤◌, [], IfOk, OnOk, length, map};
+ghost use Rattle.bn_quad.specs.Names.{nameless, symbols_on};
+ghost use Rattle.bn_qtable.specs.Named.{HasNames};
+ghost use Rattle.bn_bennett.specs.Printed.{on_tape, with_states};
+ghost use Rattle.bn_erase.specs.Made.{IsErasing};
+ghost use Rattle.bn_erase.specs.Printed.{erasing_text, letter_names, names_of};
+
+use crate::erase::Erasing;
+use crate::joined::Joined;
+use bn_bennett::{add_history_symbols, name_text};
+use bn_erasing::ErasingName;
+use bn_quad::{NoMemory, QuadNames};
+use std::alloc::Global;
+
+/// The names of an erasing machine's states and symbols: each state of the first machine has `F` and its name, each of
+/// the second `G` and its name. The symbols of tapes 1 and 3 are the joint letters, those of tape 2 are `_` and the
+/// numbers from 1 to the greater number of quintuples. With them the machine is written as a table of quadruples.
+pub fn erasing_names(
+    alloc: Global,
+    joined: &Joined,
+    erasing: &Erasing,
+) -> Result<QuadNames, NoMemory>
+    requires { IsErasing joined.now.first joined.now.second erasing.now }
+    ensures names { IfOk result (λ names. names ≡ names_of joined.now erasing.now) }
+    ensures forms { IfOk result (HasNames erasing.now.machine) }
+{
+    let mut names = QuadNames::empty(alloc);
+    let first = joined.first().quints().len() as u32;
+    let second = joined.second().quints().len() as u32;
+    add_states(alloc, &mut names, erasing.names())?;
+    add_letters(&mut names, 1, joined)?;
+    add_history_symbols(alloc, &mut names, first.max(second))?;
+    add_letters(&mut names, 3, joined)?;
+    Ok(names)
+}
+
+// Names each state.
+fn add_states(alloc: Global, names: &mut QuadNames, states: &[ErasingName]) -> Result<(), NoMemory>
+    requires empty { names.old ≡ nameless }
+    ensures { OnOk result (names.new ≡ with_states (map erasing_text states.now)) }
+{
+    for name in states {
+        let text = text_of(alloc, *name)?;
+        names.add_state(text.as_slice())?;
+    }
+    Ok(())
+}
+
+// The text of a name.
+fn text_of(alloc: Global, name: ErasingName) -> Result<Vec<u8>, NoMemory>
+    ensures { IfOk result (λ text. text.items ≡ erasing_text name) }
+{
+    match name {
+        ErasingName::First(name) => marked(alloc, b'F', name),
+        ErasingName::Second(name) => marked(alloc, b'G', name),
+    }
+}
+
+// Names each symbol of a tape by its letter.
+fn add_letters(names: &mut QuadNames, tape: u32, joined: &Joined) -> Result<(), NoMemory>
+    requires first { 1 ≤ tape }
+    requires last { tape ≤ 3 }
+    requires empty { symbols_on names.old tape ≡ [] }
+    ensures { OnOk result (names.new ≡ on_tape names.old tape (letter_names joined.now)) }
+{
+    for symbol in 0..joined.first().symbols() {
+        let letter = joined.letter(symbol);
+        names.add_symbol(tape, &[letter])?;
+    }
+    Ok(())
+}

@@ -1,0 +1,3 @@
+pub mod Erasing
+pub mod Outcome
+pub mod Laws

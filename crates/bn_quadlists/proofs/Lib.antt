@@ -1,0 +1,4 @@
+pub mod MappedLemmas
+pub mod TurnedLemmas
+pub mod ExchangedLemmas
+pub mod JoinedLemmas

@@ -1,8 +1,0 @@
-use Rattle.bn_session.proofs.CutLemmas.{cuts-one, cuts-never_both}
-use Rattle.bn_session.proofs.laws.inputs_are_cut_once.Goals as goal
-
-pub returns-clause-one : goal.returns-clause-one
-returns-clause-one c = cuts-one
-
-pub returns-clause-never_both : goal.returns-clause-never_both
-returns-clause-never_both c = cuts-never_both
