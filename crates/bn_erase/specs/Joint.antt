@@ -1,4 +1,5 @@
--- Two tables' machines over one alphabet: the letters of the first in their order, then the further letters of the second
+-- Two tables' machines over one alphabet: the letters of the first in their order, then the further letters of the
+-- second
 -- in theirs (this project's own profile).
 use Rattle.std.specs.Prelude.{◌≡◌, ℕ, zero, suc, ◌==◌, List, [], ◌∷◌, ◌++◌, Bool, true, not, filter, length, Some}
 use Rattle.std.specs.Prelude.{if◌then◌else◌, slice_get, slice_index}
@@ -26,7 +27,8 @@ pub record Joint : Type 0 where
 abbrev pub joint_of : Program → Program → List ℕ → Joint
 joint_of first second letters = record { first = first; second = second; letters = letters }
 
--- the machines of two tables over one alphabet: the first one's symbols keep their numbers, and each symbol of the second
+-- the machines of two tables over one alphabet: the first one's symbols keep their numbers, and each symbol of the
+-- second
 -- gets that of its letter
 abbrev pub joined : Named → Named → Joint
 joined t u = record {

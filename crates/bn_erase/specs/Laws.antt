@@ -22,7 +22,8 @@ use Rattle.bn_erase.specs.Recoded.{KeepsSymbols, recoded}
 
 -- ---- one alphabet
 
--- with other numbers for its symbols, that keep them apart and the blank the blank, a machine in standard form is one in
+-- with other numbers for its symbols, that keep them apart and the blank the blank, a machine in standard form is one
+-- in
 -- standard form
 abbrev pub RecodedIsStandard : Type 0
 RecodedIsStandard =
@@ -56,7 +57,8 @@ JoinedAreJudgedAlike =
 
 -- ---- the erasing machine
 
--- it is deterministic, reversible and uniform; it begins and ends in the states of those names, and no two of its states
+-- it is deterministic, reversible and uniform; it begins and ends in the states of those names, and no two of its
+-- states
 -- have one name
 abbrev pub ErasingsAreUniform : Type 0
 ErasingsAreUniform =

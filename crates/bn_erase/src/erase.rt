@@ -16,7 +16,8 @@ use std::marker::Model;
 /// The most quadruples of an erasing machine: as many as a table of quadruples may have.
 pub const MOST_QUADRUPLES: u32 = 20_000;
 
-/// The machine that leaves only its output (Bennett 1973), with the names of its states, each at its number. Callers see
+/// The machine that leaves only its output (Bennett 1973), with the names of its states, each at its number. Callers
+/// see
 /// both.
 #[derive(Drop)]
 pub struct Erasing {
@@ -54,7 +55,8 @@ impl Erasing {
     }
 }
 
-/// The erasing machine of two machines (Bennett 1973): the reversible machine of the first, which leaves x and y, and then
+/// The erasing machine of two machines (Bennett 1973): the reversible machine of the first, which leaves x and y, and
+/// then
 /// the reversible machine of the second backward, with tapes 1 and 3 exchanged, which takes x away where the second
 /// machine makes x of y. Both machines are as tables have them, with the same number of symbols. For N and M quintuples
 /// and z symbols it has 4(N + M) + 4z + 6 quadruples; `Many` comes exactly where these are more than 20,000.

@@ -11,7 +11,8 @@ use bn_table::Table;
 use std::alloc::Global;
 use std::marker::Model;
 
-/// Two machines over one alphabet, and the letters of its symbols, `_` for symbol 0. Callers see the three. Both machines
+/// Two machines over one alphabet, and the letters of its symbols, `_` for symbol 0. Callers see the three. Both
+/// machines
 /// are as tables have them, and have as many symbols as there are letters.
 #[derive(Drop)]
 pub struct Joined {
@@ -69,7 +70,8 @@ impl Joined {
     }
 }
 
-/// The machines of two tables over one alphabet: the letters of the first in their order, then the further letters of the
+/// The machines of two tables over one alphabet: the letters of the first in their order, then the further letters of
+/// the
 /// second in theirs. The first machine's symbols keep their numbers. (This project's own profile.)
 pub fn join_letters(alloc: Global, first: &Table, second: &Table) -> Result<Joined, NoMemory>
     ensures { IfOk result (λ j. j ≡ joined first.now second.now) }
@@ -154,7 +156,8 @@ fn recoded(alloc: Global, table: &Table, letters: &[u8]) -> Result<Machine, NoMe
 
 // The quintuple, each symbol with the number of its letter.
 fn recoded_quint(table: &Table, letters: &[u8], quint: &Quint) -> Quint
-    ensures { result ≡ recoded_quint (λ symbol. number_in letters.now (slice_index table.now.letters symbol)) quint.now }
+    ensures { result ≡ recoded_quint (λ symbol. number_in letters.now
+        (slice_index table.now.letters symbol)) quint.now }
 {
     Quint {
         state: quint.state,
