@@ -81,6 +81,14 @@ abbrev pub IsEndingOf : Erasure → Ending → Type 0
 IsEndingOf e (Stuck state) = state < e.machine.states
 IsEndingOf e _ = Unit {0}
 
+-- the machine is the erasing machine of two machines in standard form
+pub record IsErasingOfSome (e : Erasure) : Type 0 where
+  pub first : Program
+  pub second : Program
+  pub erasing : IsErasing first second e
+  pub first_standard : IsStandardMachine first
+  pub second_standard : IsStandardMachine second
+
 -- the run of the erasing machine from a word, of at most n steps, comes out so after so many steps, whatever two
 -- machines
 -- in standard form it is of

@@ -4,9 +4,10 @@ ghost use Rattle.std.specs.Prelude.{◌≡◌, ◌≤◌, IfOk, length, max};
 ghost use Rattle.bn_machine.specs.Window.{new_window};
 ghost use Rattle.bn_machine.specs.Run.{IsOutput};
 ghost use Rattle.bn_erasing.specs.Outcome.{rewound};
-ghost use Rattle.bn_erasereply.specs.EraseRun.{ComesOutOf, HasEnded, IsRun, StaysInside};
+ghost use Rattle.bn_erasereply.specs.EraseRun.{ComesOutOf, HasEnded, IsErasingOfSome, IsRun, StaysInside};
 
-use bn_erase::Erasing;
+use bn_erase::{Erasing, erasings_are_uniform};
+use bn_erasing::{erasing_numbers, runs_stay_near};
 use bn_machine::{Tape, TapeRefusal};
 use bn_quad::{QuadMachine, QuadTurn, Tapes};
 use bn_reply::NoMemory;
@@ -41,8 +42,12 @@ pub(crate) fn run_word(
 ) -> Result<Ended, NoMemory>
     requires few { steps ≤ 1048576 }
     requires short { length word.now ≤ 1048576 }
+    requires erasing { IsErasingOfSome erasing.now }
     ensures { IfOk result (λ r. HasEnded erasing.now word.now steps r.steps r.ending) }
 {
+    erasings_are_uniform();
+    erasing_numbers();
+    runs_stay_near();
     let machine = erasing.machine().machine();
     let mut tapes = Tapes {
         one: wide_tape(alloc, steps + 1, word)?,
