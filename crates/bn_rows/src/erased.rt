@@ -48,7 +48,7 @@ fn chain(alloc: Global, count: u32) -> Result<String, AllocError> {
 
 #[test]
 fn leaves_the_output_alone(rt: HostRuntime) -> Result<(), Fail> {
-    let rows: [(&str, &str, &[&str], u8, &str); 12] = [
+    let rows: [(&str, &str, &[&str], u8, &str); 14] = [
         (LEAST, LEAST, &["erase"], 0, LEAST_ERASING),
         (
             NOT,
@@ -67,6 +67,20 @@ fn leaves_the_output_alone(rt: HostRuntime) -> Result<(), Fail> {
         (NOT, NOT, &["erase", "=101", "105"], 12, "running 105\n"),
         (NOT, NOT, &["erase", "=101", "0"], 12, "running 0\n"),
         (NOT, LEAST, &["erase", "=101", "1000"], 10, "stuck GC2 55\n"),
+        (
+            NOT,
+            INCREMENT,
+            &["erase", "=101", "73"],
+            10,
+            "stuck GB2' 73\n",
+        ),
+        (
+            NOT,
+            INCREMENT,
+            &["erase", "=10", "82"],
+            0,
+            "halted 82\nwork =\noutput =01\n",
+        ),
         (
             LEAST,
             LEAST,
