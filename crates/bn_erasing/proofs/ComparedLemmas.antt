@@ -4,24 +4,26 @@ use Rattle.std.proofs.Common.{refl, sym, ap, ◌∙◌, subst, arith, get_or, in
 use Rattle.std.proofs.lemmas.Bool.{cases_lt}
 use Rattle.std.proofs.lemmas.Bool.Decides.{eqb_tells}
 use Rattle.std.proofs.lemmas.List.{get_or_past}
-use Rattle.bn_theory.specs.Runs.{Reaches, runs_join}
-use Rattle.bn_machine.specs.Tape.{Tape, scanned, ahead, word_tape, write-scanned, scanned-ahead}
+use Rattle.bn_theory.specs.Runs.{Reaches}
+use Rattle.bn_theory.proofs.RunsLemmas.{runs_join}
+use Rattle.bn_machine.specs.Tape.{Tape, scanned, ahead, word_tape}
+use Rattle.bn_machine.proofs.TapeLemmas.{write-scanned, scanned-ahead}
 use Rattle.bn_machine.specs.Window.{anywhere}
 use Rattle.bn_machine.specs.Machine.{Program, Moment, Goes, IsFinal, start, final_of, nth}
 use Rattle.bn_machine.specs.Machine as machine
 use Rattle.bn_machine.specs.Run.{After, Follows, IsOutput, Ending, EndsAt, halts, sticks, runs}
-use Rattle.bn_machine.specs.Steps.{run_follows}
-use Rattle.bn_machine.specs.OutcomeLaws.{run_goes_on, ending_exists}
+use Rattle.bn_machine.proofs.MachineStepLemmas.{run_follows}
+use Rattle.bn_machine.proofs.OutcomeLemmas.{run_goes_on, ending_exists}
 use Rattle.bn_quad.specs.Quadruples.{Rule, Configuration, AppliesTo, Leads, HasNoRule, turned, turned_list, everywhere}
 use Rattle.bn_quad.specs.Overlap.{IsDeterministic}
-use Rattle.bn_quad.specs.Reversible.{same_configuration}
+use Rattle.bn_quad.proofs.ReversibleLemmas.{same_configuration}
 use Rattle.bn_stages.specs.In.{IsIn}
 use Rattle.bn_stages.specs.List.{bennett, initial_name, final_name, goes_left, passes_letter, ends_copy}
-use Rattle.bn_stages.specs.ListLaws.{each_rule, has_goes_left, has_passes_letter, has_ends_copy}
+use Rattle.bn_stages.proofs.ListLemmas.{each_rule, has_goes_left, has_passes_letter, has_ends_copy}
 use Rattle.bn_stages.specs.Names.{IsUniformFrom}
 use Rattle.bn_stages.specs.Stages.{IsStandardMachine, IsSpelledBy, history, retracing, copying, beginning, ending}
 use Rattle.bn_stages.specs.Steps.{Finished, Stopped, finishes, stops, HasExit}
-use Rattle.bn_stages.specs.StepsLaws.{steps_once, exits_once}
+use Rattle.bn_stages.proofs.StageStepLemmas.{steps_once, exits_once}
 use Rattle.bn_stages.specs.Laws.{HaltsAfter}
 use Rattle.bn_stages.proofs.Moves.{left_leads, ends_leads}
 use Rattle.bn_stages.proofs.Runs.{follow_by, retraces_two_steps}

@@ -7,14 +7,14 @@ use Rattle.bn_machine.specs.Window.{anywhere}
 use Rattle.bn_machine.specs.Machine.{Program, Moment, start}
 use Rattle.bn_machine.specs.Machine as machine
 use Rattle.bn_machine.specs.Run.{After}
-use Rattle.bn_machine.specs.Steps.{run_follows}
+use Rattle.bn_machine.proofs.MachineStepLemmas.{run_follows}
 use Rattle.bn_quad.specs.Quadruples.{Rule, Configuration, AppliesTo, HasNoRule, turned, turned_list, everywhere}
-use Rattle.bn_stages.specs.In.{in_append}
+use Rattle.bn_stages.proofs.MembershipLemmas.{in_append}
 use Rattle.bn_stages.specs.List.{bennett, initial_name, final_name}
 use Rattle.bn_stages.specs.Renamed.{renamed, in_state}
 use Rattle.bn_stages.specs.Stages.{IsStandardMachine, IsSpelledBy, beginning, ending, computing, retracing, StepsOf}
 use Rattle.bn_stages.specs.Steps.{Steps}
-use Rattle.bn_stages.specs.StepsLaws.{no_first_read}
+use Rattle.bn_stages.proofs.StageStepLemmas.{no_first_read}
 use Rattle.bn_stages.specs.Laws.{HaltsAfter}
 use Rattle.bn_stages.proofs.Runs.{computes_two_steps}
 use Rattle.bn_stages.proofs.Theorem.{stuck_reads, bennetts_theorem}

@@ -5,13 +5,15 @@ use Rattle.bn_theory.specs.Runs.{Reaches}
 use Rattle.bn_machine.specs.Tape.{blank_tape}
 use Rattle.bn_machine.specs.Window.{anywhere}
 use Rattle.bn_machine.specs.Machine.{Program, start}
-use Rattle.bn_machine.specs.Steps.{run_follows}
+use Rattle.bn_machine.proofs.MachineStepLemmas.{run_follows}
 use Rattle.bn_quad.specs.Quadruples.{Rule, Configuration, turned_list, everywhere}
-use Rattle.bn_quad.specs.Reversible.{same_configuration}
-use Rattle.bn_stages.specs.In.{IsIn, in_map}
+use Rattle.bn_quad.proofs.ReversibleLemmas.{same_configuration}
+use Rattle.bn_stages.specs.In.{IsIn}
+use Rattle.bn_stages.proofs.MembershipLemmas.{in_map}
 use Rattle.bn_stages.specs.List.{bennett, initial_name, final_name}
 use Rattle.bn_stages.specs.Names.{states_in}
-use Rattle.bn_stages.specs.Renamed.{renamed, in_state, run_renamed, run_before}
+use Rattle.bn_stages.specs.Renamed.{renamed, in_state}
+use Rattle.bn_stages.proofs.RenamedLemmas.{run_renamed, run_before}
 use Rattle.bn_stages.specs.Stages.{IsStandardMachine, IsSpelledBy, history, beginning, ending, StepsOf}
 use Rattle.bn_stages.specs.Steps.{Steps}
 use Rattle.bn_stages.specs.Laws.{HaltsAfter}

@@ -1,12 +1,14 @@
 -- Two lists joined in one state: the tests and the runs of both as one.
 use Rattle.std.specs.Prelude.{◌≡◌, ◌≢◌, ℕ, zero, suc, ◌+◌, List, ◌++◌}
 use Rattle.std.proofs.Common.{refl, sym, ap, ◌∙◌, arith, inl, inr}
-use Rattle.bn_theory.specs.Runs.{Reaches, runs_join}
+use Rattle.bn_theory.specs.Runs.{Reaches}
+use Rattle.bn_theory.proofs.RunsLemmas.{runs_join}
 use Rattle.bn_quad.specs.Quadruples.{Rule, Configuration, Leads, Follows, Rooms}
 use Rattle.bn_quad.specs.Overlap.{Clashes, HasNoClash}
 use Rattle.bn_quad.specs.declared.clash.Clash.{Clash}
 use Rattle.bn_quad.specs.declared.clash.Clash.TheVariants.{Domain, Range, Reads, Writes}
-use Rattle.bn_stages.specs.In.{IsIn, in_left, in_right, in_append}
+use Rattle.bn_stages.specs.In.{IsIn}
+use Rattle.bn_stages.proofs.MembershipLemmas.{in_left, in_right, in_append}
 use Rattle.bn_stages.specs.Names.{IsUniformFrom}
 use Rattle.bn_stages.specs.Steps.{Steps}
 use Rattle.bn_stages.proofs.Apart.{apart_append}
