@@ -63,7 +63,7 @@ module _ (q : Program) where
 
   module _ (c : Moment) (ns x : List ℕ) where
     -- where the two tapes scan different letters, no quadruple applies
-    differing_back : (k : ℕ) → scanned (ahead (suc k) c.tape) ≢ scanned (ahead (suc k) (word_tape x)) → HasNoRule (turned_list (bennett q)) (copying GoLeft c ns x (suc k))
+    pub differing_back : (k : ℕ) → scanned (ahead (suc k) c.tape) ≢ scanned (ahead (suc k) (word_tape x)) → HasNoRule (turned_list (bennett q)) (copying GoLeft c ns x (suc k))
     differing_back k differ =
         no_rule_back (copying GoLeft c ns x (suc k))
         (each_rule (λ r. AppliesTo (turned r) (copying GoLeft c ns x (suc k)) → ⊥) q
@@ -138,11 +138,27 @@ module _ (q : Program) where
             | inr other ↦ stopped_at k other.1
           ]
 
+      -- from the halted machine to the copied word's blank
+      begins_comparing : IsFinal q c → scanned c.tape ≡ 0 → Reaches (StepsBackOf q everywhere) 1 (retracing c ns (word_tape x)) (copying PassLetter c ns x 0)
+      begins_comparing final blank = (copying PassLetter c ns x 0, back_step (ends_copy (final_of q.quints) (length q.quints)) _ _ (has_ends_copy q) (ends_leads c ns (length q.quints) last (final_of q.quints) x final blank) (λ e. cc), refl)
+
       -- from the halted machine on
       compare_halted : IsFinal q c → scanned c.tape ≡ 0 → Compared (retracing c ns (word_tape x))
-      compare_halted final blank =
-          earlier 1 _ _ (copying PassLetter c ns x 0, back_step (ends_copy (final_of q.quints) (length q.quints)) _ _ (has_ends_copy q) (ends_leads c ns (length q.quints) last (final_of q.quints) x final blank) (λ e. cc), refl)
-          (compare (length x) 0 (omega arith) (λ j low. absurd (omega arith)))
+      compare_halted final blank = earlier 1 _ _ (begins_comparing final blank) (compare (length x) 0 (omega arith) (λ j low. absurd (omega arith)))
+
+      -- past the first k letters, which agree, to the next
+      passes_agreeing : (k : ℕ) → k ≤ length x → Agree k → Reaches (StepsBackOf q everywhere) (2 * k + 1) (copying PassLetter c ns x 0) (copying GoLeft c ns x (suc k))
+      passes_agreeing zero low agree = (copying GoLeft c ns x 1, left_step 0, refl)
+      passes_agreeing (suc k) low agree =
+          let count : 2 * suc k + 1 ≡ (2 * k + 1) + 2 = omega arith in
+          let before = passes_agreeing k (omega arith) (λ j less. agree j (omega arith)) in
+          runs_join (StepsBackOf q everywhere) (2 * suc k + 1) (2 * k + 1) 2 _ _ _ count before
+          (copying PassLetter c ns x (suc k), pass_step k (omega arith) (agree k (omega arith)), (copying GoLeft c ns x (suc (suc k)), left_step (suc k), refl))
+
+      -- from the halted machine past the first k letters, which agree
+      pub passes_from_halted : IsFinal q c → scanned c.tape ≡ 0 → (k : ℕ) → k ≤ length x → ((j : ℕ) → j < k → scanned (ahead (suc j) c.tape) ≡ get_or x j 0)
+          → Reaches (StepsBackOf q everywhere) (2 * k + 2) (retracing c ns (word_tape x)) (copying GoLeft c ns x (suc k))
+      passes_from_halted final blank k low agree = runs_join (StepsBackOf q everywhere) (2 * k + 2) 1 (2 * k + 1) _ _ _ (omega arith) (begins_comparing final blank) (passes_agreeing k low agree)
 
 -- ---- the law
 
