@@ -1,5 +1,5 @@
 -- What the laws of this crate say, each the contract of a function with an empty body.
-use Rattle.std.specs.Prelude.{◌≡◌, ◌↔◌, ℕ, ◌+◌, ◌*◌, ◌<◌, ◌≤◌, ⊤, List, [], ◌++◌, length, Some}
+use Rattle.std.specs.Prelude.{◌≡◌, ◌↔◌, ℕ, ◌+◌, ◌*◌, ◌<◌, ◌≤◌, ⊤, List, [], length, Some}
 use Rattle.bn_theory.specs.Runs.{Reaches}
 use Rattle.bn_machine.specs.Machine.{Program, Moment, IsMachine, IsStuck, nth}
 use Rattle.bn_machine.specs.Run.{After}
