@@ -1,2 +1,3 @@
 pub mod RecodedLemmas
 pub mod JointLemmas
+pub mod AlikeLemmas
