@@ -1,2 +1,5 @@
+pub mod AlikeLemmas
 pub mod RecodedLemmas
 pub mod JointLemmas
+pub mod LetterLemmas
+pub mod JoinedLemmas
