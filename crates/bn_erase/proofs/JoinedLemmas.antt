@@ -1,11 +1,12 @@
 -- The machines of two tables over one alphabet.
-use Rattle.std.specs.Prelude.{◌≡◌, ℕ, suc, ◌<◌, ◌≤◌, ◌==◌, List, ◌++◌, not, filter, length, slice_get, slice_index, Some}
+use Rattle.std.specs.Prelude.{◌≡◌, ℕ, suc, ◌<◌, ◌≤◌, ◌==◌, List, ◌++◌, not, filter, length, map, slice_get, slice_index, Some}
 use Rattle.std.specs.List.{list_all, list_any}
 use Rattle.std.proofs.Common.{sym, ap, ◌∙◌, subst, arith, get_or, length-append, true, refl}
 use Rattle.std.proofs.lemmas.Option.{get_or_from_slice_get, slice_get_within, slice_get-get_or}
 use Rattle.bn_entries.specs.Forms.{is_symbol_byte}
-use Rattle.bn_machine.specs.Machine.{IsMachine, Program}
+use Rattle.bn_machine.specs.Machine.{IsMachine, Program, program_of}
 use Rattle.bn_machine.specs.MachineCalls.{IsMachineRefusal}
+use Rattle.bn_machine.specs.declared.quint.Quint.{Quint}
 use Rattle.bn_machine.specs.declared.machine.MachineRefusal.{MachineRefusal}
 use Rattle.bn_machine.specs.declared.machine.MachineRefusal.TheVariants.{Empty, Range}
 use Rattle.bn_stages.specs.In.{IsIn}
@@ -16,11 +17,11 @@ use Rattle.bn_table.proofs.MachineLemmas.{table_machine}
 use Rattle.bn_table.proofs.RowsLemmas.{blank_first, one_symbol}
 use Rattle.bn_erase.specs.Joint.{IsAlphabet, IsCode, IsJoint, joined, joint_letters, joint_of, number_in}
 use Rattle.bn_erase.specs.Laws.{JoinedAreJudgedAlike}
-use Rattle.bn_erase.specs.Recoded.{KeepsSymbols, recoded, widened}
+use Rattle.bn_erase.specs.Recoded.{KeepsSymbols, recoded, recoded_quint, widened}
 use Rattle.bn_erase.proofs.AlikeLemmas.{alike_refused, alike_standard}
 use Rattle.bn_erase.proofs.JointLemmas.{codes_keep_symbols, joint_alphabet, letters_apart, second_in}
 use Rattle.bn_erase.proofs.LetterLemmas.{all_joined, few_letters, number_stands}
-use Rattle.bn_erase.proofs.RecodedLemmas.{recoded_alike, recoded_fits, widened_fits}
+use Rattle.bn_erase.proofs.RecodedLemmas.{recoded_alike, recoded_fits, recoded_machine, widened_fits}
 
 -- the letters of a table are an alphabet
 table_alphabet : (t : Named) → IsTable t → IsAlphabet blank t.letters
@@ -91,6 +92,15 @@ joined_are_judged_alike t u h k =
 pub no_refusal : (p : Program) (why : MachineRefusal) → IsMachine p → IsMachineRefusal p.quints p.states p.symbols why → ⊥
 no_refusal p Empty m e = let none : length p.quints ≡ 0 = ap length e in omega (arith, m.some)
 no_refusal p (Range i) m fault = fault.faulty.2 (quint_in_range p i fault.faulty.0 m fault.faulty.1)
+
+-- nor is the table's recoded one, where the letters have all of the table's
+pub recoded_not_refused : (t : Named) (letters : List ℕ) (quints : List Quint) (states : ℕ) (why : MachineRefusal) → IsTable t → ((l : ℕ) → IsIn t.letters l → IsIn letters l) →
+    quints ≡ map (recoded_quint (code_among letters t.letters)) t.machine.quints → states ≡ t.machine.states → IsMachineRefusal quints states (length letters) why → ⊥
+recoded_not_refused t letters quints states why h known quints_are states_are refused =
+    let code : ℕ → ℕ = code_among letters t.letters in
+    let machine : IsMachine (recoded code (length letters) t.machine) =
+    recoded_machine code (length letters) t.machine (table_machine t h) (λ s low. code_within letters t.letters known s (subst (λ n. s < n) h.symbols low)) in
+    no_refusal (program_of quints states (length letters)) why (subst IsMachine (sym (λ i. program_of (quints_are i) (states_are i) (length letters))) machine) refused
 
 -- the parts that are the joined machines' are the joined machines
 pub joined_is : (t u : Named) (first second : Program) (letters : List ℕ) (n : ℕ) → letters ≡ joint_letters t.letters u.letters → n ≡ length letters → first ≡ widened n t.machine →

@@ -1,5 +1,6 @@
 -- Letters of tables: how many there are at most, and the number of one among others.
-use Rattle.std.specs.Prelude.{◌≡◌, ◌≢◌, ℕ, zero, suc, ◌+◌, ◌<◌, ◌≤◌, ◌||◌, ◌&&◌, ◌==◌, List, [], ◌∷◌, ◌++◌, Bool, true, false, cond, not, nat_eq, nat_lt, filter, length, position, slice_get, take, Option, Some, None, Contains}
+use Rattle.std.specs.Prelude.{◌≡◌, ◌≢◌, ℕ, zero, suc, ◌+◌, ◌<◌, ◌≤◌, ◌||◌, ◌&&◌, ◌==◌, List, [], ◌∷◌, ◌++◌, Bool, true, false, cond, not, nat_eq, nat_lt, filter, length, position, slice_get, take, Option, Some, None, Contains, IfSome, IfNone}
+use Rattle.std.specs.Option.{is_some}
 use Rattle.std.specs.List.{list_all, list_any, position_or_len, range_with_len}
 use Rattle.std.proofs.Common.{refl, sym, ap, ◌∙◌, subst, arith, get_or, inl, inr, append_assoc}
 use Rattle.std.proofs.lemmas.Bool.{cases_Bool}
@@ -92,7 +93,7 @@ number_is (x ∷ letters) letter = elim (cases_Bool (x == letter)) [
   | inr miss ↦ rw miss (omega (arith, number_is letters letter))
 ]
 
-number_most : (letters : List ℕ) (letter : ℕ) → number_in letters letter ≤ length letters
+pub number_most : (letters : List ℕ) (letter : ℕ) → number_in letters letter ≤ length letters
 number_most [] letter = omega arith
 number_most (x ∷ letters) letter = elim (cases_Bool (x == letter)) [
   | inl hit ↦ rw hit (omega arith)
@@ -125,10 +126,10 @@ number_stands (x ∷ letters) l h =
 -- ---- letters that are gathered one by one
 
 -- whether a letter that is looked up is known
-pub known_letter : (letters : List ℕ) (l n : ℕ) → slice_get letters n ≡ Some l → is_among letters l ≡ true
+known_letter : (letters : List ℕ) (l n : ℕ) → slice_get letters n ≡ Some l → is_among letters l ≡ true
 known_letter letters l n e = among_in letters l (record { place = suc n; stands = e })
 
-pub new_letter : (letters : List ℕ) (l : ℕ) → (Contains letters l → ⊥) → is_among letters l ≡ false
+new_letter : (letters : List ℕ) (l : ℕ) → (Contains letters l → ⊥) → is_among letters l ≡ false
 new_letter letters l none = elim (cases_Bool (is_among letters l)) [
   | inl known ↦ let there : IsIn letters l = in_among letters l known in absurd (none (by_place there.place there.stands))
   | inr new ↦ new
@@ -137,6 +138,10 @@ new_letter letters l none = elim (cases_Bool (is_among letters l)) [
     by_place : (n : ℕ) → nth letters n ≡ Some l → Contains letters l
     by_place zero e = absurd (cc)
     by_place (suc i) e = (i, slice_get_within letters i l e, get_or_from_slice_get letters i l l e)
+
+pub known_is : (letters : List ℕ) (l : ℕ) (found : Option ℕ) → IfSome found (λ n. slice_get letters n ≡ Some l) → IfNone found (Contains letters l → ⊥) → is_among letters l ≡ is_some found
+known_is letters l (Some n) at none = known_letter letters l n at
+known_is letters l None at none = new_letter letters l none
 
 -- one more letter of a list
 pub taken_more : (all front new : List ℕ) (i l : ℕ) → slice_get all i ≡ Some l → front ≡ take i all → new ≡ front ++ l ∷ [] → new ≡ take (i + 1) all

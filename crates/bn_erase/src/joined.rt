@@ -1,6 +1,6 @@
 //! Two machines over one alphabet.
 ghost use Rattle.std.specs.Prelude.{◌≡◌, ℕ, ◌<◌, ◌≤◌, ◌^◌, ◌++◌, ◌==◌, All, IfOk, OnOk, IfSome, IfNone, Some, Contains};
-ghost use Rattle.std.specs.Prelude.{filter, length, map, not, slice_get, slice_index};
+ghost use Rattle.std.specs.Prelude.{filter, length, map, not, position, slice_get, slice_index};
 ghost use Rattle.std.specs.List.{list_any};
 ghost use Rattle.bn_machine.specs.Machine.{IsInRange};
 ghost use Rattle.bn_stages.specs.In.{IsIn};
@@ -15,8 +15,7 @@ use std::alloc::Global;
 use std::marker::Model;
 
 /// Two machines over one alphabet, and the letters of its symbols, `_` for symbol 0. Callers see the three. Both
-/// machines
-/// are as tables have them, and have as many symbols as there are letters.
+/// machines are as tables have them, and have as many symbols as there are letters.
 #[derive(Drop)]
 pub struct Joined {
     first: Machine,
@@ -66,7 +65,7 @@ impl Joined {
         ensures found { IfSome result (λ symbol. slice_get self.now.letters symbol ≡ Some letter) }
         ensures none { IfNone result (¬ Contains self.now.letters letter) }
     {
-        match self.letters.iter().position(|known| *known == letter) {
+        match place_of(self.letters.as_slice(), letter) {
             Some(symbol) => Some(symbol as u32),
             None => None,
         }
@@ -74,8 +73,7 @@ impl Joined {
 }
 
 /// The machines of two tables over one alphabet: the letters of the first in their order, then the further letters of
-/// the
-/// second in theirs. The first machine's symbols keep their numbers. (This project's own profile.)
+/// the second in theirs. The first machine's symbols keep their numbers. (This project's own profile.)
 pub fn join_letters(alloc: Global, first: &Table, second: &Table) -> Result<Joined, NoMemory>
     ensures { IfOk result (λ j. j ≡ joined first.now second.now) }
 {
@@ -159,7 +157,12 @@ fn recoded(alloc: Global, table: &Table, letters: &[u8]) -> Result<Machine, NoMe
 }
 
 // The quintuples, each symbol with the number of its letter.
-fn recoded_quints(alloc: Global, table: &Table, letters: &[u8], quints: &[Quint]) -> Result<Vec<Quint>, NoMemory>
+fn recoded_quints(
+    alloc: Global,
+    table: &Table,
+    letters: &[u8],
+    quints: &[Quint],
+) -> Result<Vec<Quint>, NoMemory>
     requires in_range { All (IsInRange table.now.machine.states table.now.machine.symbols) quints.now }
     requires few { length letters.now < 2 ^ 32 }
     ensures { IfOk result (λ made. made.items ≡ map (recoded_quint (λ symbol. number_in letters.now
@@ -190,13 +193,23 @@ fn recoded_quint(table: &Table, letters: &[u8], quint: &Quint) -> Quint
     }
 }
 
-// The number of a letter among others, which have it.
+// The number of a letter among others: how many stand before it.
 fn number_in(letters: &[u8], letter: u8) -> u32
     requires { length letters.now < 2 ^ 32 }
     ensures { result ≡ number_in letters.now letter }
 {
-    match letters.iter().position(|known| *known == letter) {
+    match place_of(letters, letter) {
         Some(number) => number as u32,
         None => letters.len() as u32,
     }
+}
+
+// The place of a letter among others, counted from 0.
+fn place_of(letters: &[u8], letter: u8) -> Option<usize>
+    ensures place { result ≡ position (λ known. known == letter) letters.now }
+    ensures within { IfSome result (λ place. place < length letters.now) }
+    ensures found { IfSome result (λ place. slice_get letters.now place ≡ Some letter) }
+    ensures none { IfNone result (¬ Contains letters.now letter) }
+{
+    letters.iter().position(|known| *known == letter)
 }
