@@ -18,7 +18,7 @@ use Rattle.bn_table.proofs.RowsLemmas.{blank_first, one_symbol}
 use Rattle.bn_erase.specs.Joint.{IsAlphabet, IsCode, IsJoint, joined, joint_letters, joint_of, number_in}
 use Rattle.bn_erase.specs.Laws.{JoinedAreJudgedAlike}
 use Rattle.bn_erase.specs.Recoded.{KeepsSymbols, recoded, recoded_quint, widened}
-use Rattle.bn_erase.proofs.AlikeLemmas.{alike_refused, alike_standard}
+use Rattle.bn_erase.proofs.VerdictLemmas.{alike_refused, alike_standard}
 use Rattle.bn_erase.proofs.JointLemmas.{codes_keep_symbols, joint_alphabet, letters_apart, second_in}
 use Rattle.bn_erase.proofs.LetterLemmas.{all_joined, few_letters, number_stands}
 use Rattle.bn_erase.proofs.RecodedLemmas.{recoded_alike, recoded_fits, recoded_machine, widened_fits}

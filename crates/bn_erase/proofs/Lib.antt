@@ -1,4 +1,5 @@
 pub mod AlikeLemmas
+pub mod VerdictLemmas
 pub mod RecodedLemmas
 pub mod JointLemmas
 pub mod LetterLemmas

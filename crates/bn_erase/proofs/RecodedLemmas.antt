@@ -14,7 +14,7 @@ use Rattle.bn_standard.specs.Standard.{Repeats, BeginsWell, UsesStart, EndsWell,
 use Rattle.bn_table.specs.Rows.{FitsTable, states_in}
 use Rattle.bn_erase.specs.Recoded.{recoded_quint, recoded, widened, KeepsSymbols}
 use Rattle.bn_erase.specs.Laws.{RecodedIsStandard}
-use Rattle.bn_erase.proofs.AlikeLemmas.{AreAlike, alike_standard}
+use Rattle.bn_erase.proofs.VerdictLemmas.{AreAlike, alike_standard}
 
 -- ---- the same states
 
