@@ -1,7 +1,7 @@
 -- The machines of two tables over one alphabet.
-use Rattle.std.specs.Prelude.{◌≡◌, ℕ, suc, ◌<◌, ◌≤◌, ◌==◌, List, ◌++◌, not, filter, length, map, slice_get, slice_index, Some}
+use Rattle.std.specs.Prelude.{◌≡◌, ℕ, suc, ◌<◌, ◌≤◌, ◌==◌, List, not, length, map, slice_get, slice_index, Some}
 use Rattle.std.specs.List.{list_all, list_any}
-use Rattle.std.proofs.Common.{sym, ap, ◌∙◌, subst, arith, get_or, length-append, true, refl}
+use Rattle.std.proofs.Common.{sym, ap, ◌∙◌, subst, arith, get_or, true, refl}
 use Rattle.std.proofs.lemmas.Option.{get_or_from_slice_get, slice_get_within, slice_get-get_or}
 use Rattle.bn_entries.specs.Forms.{is_symbol_byte}
 use Rattle.bn_machine.specs.Machine.{IsMachine, Program, program_of}
@@ -32,14 +32,14 @@ abbrev pub code_among : List ℕ → List ℕ → ℕ → ℕ
 code_among letters own symbol = number_in letters (slice_index own symbol)
 
 -- letters that stand among others have numbers there
-pub is_code : (letters own : List ℕ) → ((l : ℕ) → IsIn own l → IsIn letters l) → IsCode own letters (code_among letters own)
+is_code : (letters own : List ℕ) → ((l : ℕ) → IsIn own l → IsIn letters l) → IsCode own letters (code_among letters own)
 is_code letters own known = record {
   each = λ symbol letter e.
       let is : get_or own symbol 0 ≡ letter = get_or_from_slice_get own symbol letter 0 e in
       subst (λ l. slice_get letters (number_in letters l) ≡ Some letter) (sym is) (number_stands letters letter (known letter (record { place = suc symbol; stands = e })));
 }
 
-pub code_within : (letters own : List ℕ) → ((l : ℕ) → IsIn own l → IsIn letters l) → (s : ℕ) → s < length own → code_among letters own s < length letters
+code_within : (letters own : List ℕ) → ((l : ℕ) → IsIn own l → IsIn letters l) → (s : ℕ) → s < length own → code_among letters own s < length letters
 code_within letters own known s low =
     slice_get_within letters (code_among letters own s) (get_or own s 0) ((is_code letters own known).each s (get_or own s 0) (slice_get-get_or own s 0 low))
 
@@ -89,7 +89,7 @@ joined_are_judged_alike t u h k =
 -- ---- what the calls make
 
 -- a machine isn't refused
-pub no_refusal : (p : Program) (why : MachineRefusal) → IsMachine p → IsMachineRefusal p.quints p.states p.symbols why → ⊥
+no_refusal : (p : Program) (why : MachineRefusal) → IsMachine p → IsMachineRefusal p.quints p.states p.symbols why → ⊥
 no_refusal p Empty m e = let none : length p.quints ≡ 0 = ap length e in omega (arith, m.some)
 no_refusal p (Range i) m fault = fault.faulty.2 (quint_in_range p i fault.faulty.0 m fault.faulty.1)
 
@@ -109,7 +109,3 @@ joined_is t u first second letters n letters_are counted first_is second_is =
     let one : first ≡ (joined t u).first = first_is ∙ ap (λ m. widened m t.machine) (counted ∙ ap length letters_are) in
     let two : second ≡ (joined t u).second = second_is ∙ ap (λ ls. recoded (code_among ls u.letters) (length ls) u.machine) letters_are in
     λ i. joint_of (one i) (two i) (letters_are i)
-
--- the first machine's symbols are among the joint ones
-pub first_narrower : (t u : Named) → IsTable t → t.machine.symbols ≤ length (joint_letters t.letters u.letters)
-first_narrower t u h = omega (arith, h.symbols, length-append t.letters (filter (λ letter. not (list_any (λ known. known == letter) t.letters)) u.letters))

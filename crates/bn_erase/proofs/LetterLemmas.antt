@@ -1,8 +1,8 @@
 -- Letters of tables: how many there are at most, and the number of one among others.
-use Rattle.std.specs.Prelude.{◌≡◌, ◌≢◌, ℕ, zero, suc, ◌+◌, ◌<◌, ◌≤◌, ◌||◌, ◌&&◌, ◌==◌, List, [], ◌∷◌, ◌++◌, Bool, true, false, cond, not, nat_eq, nat_lt, filter, length, position, slice_get, take, Option, Some, None, Contains, IfSome, IfNone}
+use Rattle.std.specs.Prelude.{◌≡◌, ◌≢◌, ℕ, zero, suc, ◌+◌, ◌≤◌, ◌||◌, ◌&&◌, ◌==◌, List, [], ◌∷◌, ◌++◌, Bool, true, false, cond, nat_eq, nat_lt, filter, length, position, slice_get, take, Option, Some, None, Contains, IfSome, IfNone}
 use Rattle.std.specs.Option.{is_some}
 use Rattle.std.specs.List.{list_all, list_any, position_or_len, range_with_len}
-use Rattle.std.proofs.Common.{refl, sym, ap, ◌∙◌, subst, arith, get_or, inl, inr, append_assoc}
+use Rattle.std.proofs.Common.{refl, sym, ap, ◌∙◌, subst, arith, inl, inr, append_assoc}
 use Rattle.std.proofs.lemmas.Bool.{cases_Bool}
 use Rattle.std.proofs.lemmas.Bool.Decides.{Decides-eqb, eqb_tells, nat_tests}
 use Rattle.std.proofs.lemmas.List.{append-nil, take_more}
@@ -93,7 +93,7 @@ number_is (x ∷ letters) letter = elim (cases_Bool (x == letter)) [
   | inr miss ↦ rw miss (omega (arith, number_is letters letter))
 ]
 
-pub number_most : (letters : List ℕ) (letter : ℕ) → number_in letters letter ≤ length letters
+number_most : (letters : List ℕ) (letter : ℕ) → number_in letters letter ≤ length letters
 number_most [] letter = omega arith
 number_most (x ∷ letters) letter = elim (cases_Bool (x == letter)) [
   | inl hit ↦ rw hit (omega arith)

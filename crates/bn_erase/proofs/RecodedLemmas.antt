@@ -1,9 +1,8 @@
 -- Other numbers for the symbols keep a machine in standard form, and keep what speaks against it.
 use Rattle.std.specs.Prelude.{◌≡◌, ℕ, ◌<◌, ◌≤◌, List, [], ◌∷◌, length, map, Some}
-use Rattle.std.specs.List.{flat_map}
 use Rattle.std.proofs.Common.{refl, sym, ap, ◌∙◌, subst, arith, get_or}
 use Rattle.std.proofs.lemmas.List.{length-map}
-use Rattle.std.proofs.lemmas.List.Elements.{All-map, All-weaker}
+use Rattle.std.proofs.lemmas.List.Elements.{All-map}
 use Rattle.std.proofs.lemmas.List.Folds.{flat_map-map}
 use Rattle.bn_entries.specs.Numbering.{AreNumberedByFirst}
 use Rattle.bn_machine.specs.Machine.{Program, IsMachine, IsInRange, start_of, final_of, nth}
@@ -173,13 +172,6 @@ recoded_machine code symbols p m within = record {
   some = omega (arith, m.some, same_length code p.quints);
   few = omega (arith, m.few, same_length code p.quints);
   in_range = All-map (IsInRange p.states symbols) (recoded_quint code) p.quints (λ k d low. recoded_in_range code p.states p.symbols symbols within (get_or p.quints k d) (m.in_range k d low));
-}
-
-pub widened_machine : (symbols : ℕ) (p : Program) → IsMachine p → p.symbols ≤ symbols → IsMachine (widened symbols p)
-widened_machine symbols p m more = record {
-  some = m.some;
-  few = m.few;
-  in_range = All-weaker (IsInRange p.states p.symbols) (IsInRange p.states symbols) (λ q h. record { state = h.state; read = omega (arith, h.read); write = omega (arith, h.write); next = h.next }) p.quints m.in_range;
 }
 
 -- as tables have them, where there aren't too many symbols

@@ -1,5 +1,5 @@
 -- The machines of the two tables over the joint letters.
-use Rattle.std.proofs.Common.{◌≡◌, ◌≤◌, ◌∙◌, List, ℕ, ap, arith, length, subst, sym}
+use Rattle.std.proofs.Common.{◌≡◌, ◌∙◌, List, ℕ, ap, arith, length, subst, sym}
 use Rattle.bn_machine.specs.Machine.{Program}
 use Rattle.bn_stages.specs.In.{IsIn}
 use Rattle.bn_erase.specs.Joint.{IsJoint}
