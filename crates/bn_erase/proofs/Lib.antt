@@ -1,3 +1,6 @@
+pub mod AlikeLemmas
+pub mod VerdictLemmas
 pub mod RecodedLemmas
 pub mod JointLemmas
-pub mod AlikeLemmas
+pub mod LetterLemmas
+pub mod JoinedLemmas

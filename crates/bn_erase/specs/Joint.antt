@@ -1,7 +1,7 @@
 -- Two tables' machines over one alphabet: the letters of the first in their order, then the further letters of the
 -- second
 -- in theirs (this project's own profile).
-use Rattle.std.specs.Prelude.{◌≡◌, ℕ, zero, suc, ◌==◌, List, [], ◌∷◌, ◌++◌, Bool, true, not, filter, length, Some}
+use Rattle.std.specs.Prelude.{◌≡◌, ℕ, zero, suc, ◌==◌, List, [], ◌∷◌, ◌++◌, true, not, filter, length, Some}
 use Rattle.std.specs.Prelude.{if◌then◌else◌, slice_get, slice_index}
 use Rattle.std.specs.List.{list_all, list_any}
 use Rattle.bn_entries.specs.Forms.{is_symbol_byte}
