@@ -1,5 +1,6 @@
 pub mod RecodedLemmas
 pub mod JointLemmas
+pub mod AlikeLemmas
 pub mod WithoutLemmas
 pub mod NewStateLemmas
 pub mod ListLemmas

@@ -4,24 +4,26 @@ use Rattle.std.proofs.Common.{refl, sym, ap, ◌∙◌, subst, arith, get_or, in
 use Rattle.std.proofs.lemmas.Bool.{cases_lt}
 use Rattle.std.proofs.lemmas.Bool.Decides.{eqb_tells}
 use Rattle.std.proofs.lemmas.List.{get_or_past}
-use Rattle.bn_theory.specs.Runs.{Reaches, runs_join}
-use Rattle.bn_machine.specs.Tape.{Tape, scanned, ahead, word_tape, write-scanned, scanned-ahead}
+use Rattle.bn_theory.specs.Runs.{Reaches}
+use Rattle.bn_theory.proofs.RunsLemmas.{runs_join}
+use Rattle.bn_machine.specs.Tape.{Tape, scanned, ahead, word_tape}
+use Rattle.bn_machine.proofs.TapeLemmas.{write-scanned, scanned-ahead}
 use Rattle.bn_machine.specs.Window.{anywhere}
 use Rattle.bn_machine.specs.Machine.{Program, Moment, Goes, IsFinal, start, final_of, nth}
 use Rattle.bn_machine.specs.Machine as machine
 use Rattle.bn_machine.specs.Run.{After, Follows, IsOutput, Ending, EndsAt, halts, sticks, runs}
-use Rattle.bn_machine.specs.Steps.{run_follows}
-use Rattle.bn_machine.specs.OutcomeLaws.{run_goes_on, ending_exists}
+use Rattle.bn_machine.proofs.MachineStepLemmas.{run_follows}
+use Rattle.bn_machine.proofs.OutcomeLemmas.{run_goes_on, ending_exists}
 use Rattle.bn_quad.specs.Quadruples.{Rule, Configuration, AppliesTo, Leads, HasNoRule, turned, turned_list, everywhere}
 use Rattle.bn_quad.specs.Overlap.{IsDeterministic}
-use Rattle.bn_quad.specs.Reversible.{same_configuration}
+use Rattle.bn_quad.proofs.ReversibleLemmas.{same_configuration}
 use Rattle.bn_stages.specs.In.{IsIn}
 use Rattle.bn_stages.specs.List.{bennett, initial_name, final_name, goes_left, passes_letter, ends_copy}
-use Rattle.bn_stages.specs.ListLaws.{each_rule, has_goes_left, has_passes_letter, has_ends_copy}
+use Rattle.bn_stages.proofs.ListLemmas.{each_rule, has_goes_left, has_passes_letter, has_ends_copy}
 use Rattle.bn_stages.specs.Names.{IsUniformFrom}
 use Rattle.bn_stages.specs.Stages.{IsStandardMachine, IsSpelledBy, history, retracing, copying, beginning, ending}
 use Rattle.bn_stages.specs.Steps.{Finished, Stopped, finishes, stops, HasExit}
-use Rattle.bn_stages.specs.StepsLaws.{steps_once, exits_once}
+use Rattle.bn_stages.proofs.StageStepLemmas.{steps_once, exits_once}
 use Rattle.bn_stages.specs.Laws.{HaltsAfter}
 use Rattle.bn_stages.proofs.Moves.{left_leads, ends_leads}
 use Rattle.bn_stages.proofs.Runs.{follow_by, retraces_two_steps}
@@ -61,7 +63,7 @@ module _ (q : Program) where
 
   module _ (c : Moment) (ns x : List ℕ) where
     -- where the two tapes scan different letters, no quadruple applies
-    differing_back : (k : ℕ) → scanned (ahead (suc k) c.tape) ≢ scanned (ahead (suc k) (word_tape x)) → HasNoRule (turned_list (bennett q)) (copying GoLeft c ns x (suc k))
+    pub differing_back : (k : ℕ) → scanned (ahead (suc k) c.tape) ≢ scanned (ahead (suc k) (word_tape x)) → HasNoRule (turned_list (bennett q)) (copying GoLeft c ns x (suc k))
     differing_back k differ =
         no_rule_back (copying GoLeft c ns x (suc k))
         (each_rule (λ r. AppliesTo (turned r) (copying GoLeft c ns x (suc k)) → ⊥) q
@@ -136,11 +138,27 @@ module _ (q : Program) where
             | inr other ↦ stopped_at k other.1
           ]
 
+      -- from the halted machine to the copied word's blank
+      begins_comparing : IsFinal q c → scanned c.tape ≡ 0 → Reaches (StepsBackOf q everywhere) 1 (retracing c ns (word_tape x)) (copying PassLetter c ns x 0)
+      begins_comparing final blank = (copying PassLetter c ns x 0, back_step (ends_copy (final_of q.quints) (length q.quints)) _ _ (has_ends_copy q) (ends_leads c ns (length q.quints) last (final_of q.quints) x final blank) (λ e. cc), refl)
+
       -- from the halted machine on
       compare_halted : IsFinal q c → scanned c.tape ≡ 0 → Compared (retracing c ns (word_tape x))
-      compare_halted final blank =
-          earlier 1 _ _ (copying PassLetter c ns x 0, back_step (ends_copy (final_of q.quints) (length q.quints)) _ _ (has_ends_copy q) (ends_leads c ns (length q.quints) last (final_of q.quints) x final blank) (λ e. cc), refl)
-          (compare (length x) 0 (omega arith) (λ j low. absurd (omega arith)))
+      compare_halted final blank = earlier 1 _ _ (begins_comparing final blank) (compare (length x) 0 (omega arith) (λ j low. absurd (omega arith)))
+
+      -- past the first k letters, which agree, to the next
+      passes_agreeing : (k : ℕ) → k ≤ length x → Agree k → Reaches (StepsBackOf q everywhere) (2 * k + 1) (copying PassLetter c ns x 0) (copying GoLeft c ns x (suc k))
+      passes_agreeing zero low agree = (copying GoLeft c ns x 1, left_step 0, refl)
+      passes_agreeing (suc k) low agree =
+          let count : 2 * suc k + 1 ≡ (2 * k + 1) + 2 = omega arith in
+          let before = passes_agreeing k (omega arith) (λ j less. agree j (omega arith)) in
+          runs_join (StepsBackOf q everywhere) (2 * suc k + 1) (2 * k + 1) 2 _ _ _ count before
+          (copying PassLetter c ns x (suc k), pass_step k (omega arith) (agree k (omega arith)), (copying GoLeft c ns x (suc (suc k)), left_step (suc k), refl))
+
+      -- from the halted machine past the first k letters, which agree
+      pub passes_from_halted : IsFinal q c → scanned c.tape ≡ 0 → (k : ℕ) → k ≤ length x → ((j : ℕ) → j < k → scanned (ahead (suc j) c.tape) ≡ get_or x j 0)
+          → Reaches (StepsBackOf q everywhere) (2 * k + 2) (retracing c ns (word_tape x)) (copying GoLeft c ns x (suc k))
+      passes_from_halted final blank k low agree = runs_join (StepsBackOf q everywhere) (2 * k + 2) 1 (2 * k + 1) _ _ _ (omega arith) (begins_comparing final blank) (passes_agreeing k low agree)
 
 -- ---- the law
 

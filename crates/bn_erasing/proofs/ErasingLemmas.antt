@@ -8,10 +8,12 @@ use Rattle.bn_standard.specs.Standard.{IsStandard}
 use Rattle.bn_quad.specs.Quadruples.{Deed, Rewrite, Move, Rule, deeds_of, turned_deed, turned, turned_list, IsDeedInRange, AreDeedsInRange}
 use Rattle.bn_quad.specs.Overlap.{HasNoClash}
 use Rattle.bn_quad.specs.declared.clash.Clash.TheVariants.{Domain, Range}
-use Rattle.bn_stages.specs.In.{IsIn, from_map, in_map, in_append}
+use Rattle.bn_stages.specs.In.{IsIn}
+use Rattle.bn_stages.proofs.MembershipLemmas.{from_map, in_map, in_append}
 use Rattle.bn_stages.specs.List.{bennett, initial_name, final_name}
 use Rattle.bn_stages.specs.Names.{states_in, IsUniformFrom}
-use Rattle.bn_stages.specs.Renamed.{renamed, KeepsApart, no_clash_renamed, uniform_renamed, from_in, to_in}
+use Rattle.bn_stages.specs.Renamed.{renamed, KeepsApart}
+use Rattle.bn_stages.proofs.RenamedLemmas.{no_clash_renamed, uniform_renamed, from_in, to_in}
 use Rattle.bn_stages.specs.Stages.{IsStandardMachine}
 use Rattle.bn_stages.proofs.Counts.{list_has_ends, list_has_length, list_is_in_range}
 use Rattle.bn_stages.proofs.Tests.{list_deterministic, list_reversible}

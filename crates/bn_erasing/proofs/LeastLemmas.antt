@@ -1,7 +1,8 @@
 -- The two least machines: they are in standard form, halt on the empty word, and the erasing machine comes to its end.
 use Rattle.std.specs.Prelude.{◌≡◌, ℕ, zero, suc, ◌<◌, pos, [], Some}
 use Rattle.std.proofs.Common.{refl, sym, ap, ◌∙◌, subst, arith, get_or, inl, inr, ◌⊎◌}
-use Rattle.bn_machine.specs.Tape.{Tape, scanned, write, shift, blank_tape, write-scanned, cell-word}
+use Rattle.bn_machine.specs.Tape.{Tape, scanned, write, shift, blank_tape}
+use Rattle.bn_machine.proofs.TapeLemmas.{write-scanned, cell-word}
 use Rattle.bn_machine.specs.Window.{anywhere}
 use Rattle.bn_machine.specs.Machine.{IsMachine, IsInRange, Goes, start, nth}
 use Rattle.bn_machine.specs.Run.{IsOutput}

@@ -7,12 +7,11 @@ use Rattle.bn_machine.specs.Tape.{Tape, moved}
 use Rattle.bn_machine.specs.Window.{Room, anywhere, within, IsBetween, Allows}
 use Rattle.bn_machine.specs.declared.quint.Shift.{Shift}
 use Rattle.bn_machine.specs.declared.quint.Shift.TheVariants.{Left, Stay, Right}
-use Rattle.bn_quad.specs.Quadruples.{Deed, Rewrite, Move, Rule, Configuration, done, Rooms, everywhere}
+use Rattle.bn_quad.specs.Quadruples.{Deed, Rewrite, Move, Rule, Configuration, done, Rooms, everywhere, Follows}
 use Rattle.bn_stages.specs.Steps.{Steps, Exit, Leaving, EndsAt, finishes, stops, leaves}
-use Rattle.bn_stages.specs.StepsLaws.{ends_there}
+use Rattle.bn_stages.proofs.StageStepLemmas.{ends_there}
 use Rattle.bn_machine.specs.declared.quint.Side.{Side}
 use Rattle.bn_quad.specs.Overlap.{IsDeterministic}
-use Rattle.bn_quad.specs.Quadruples.{Follows}
 use Rattle.bn_erasing.proofs.ErasingLemmas.{erasing_passes_tests}
 use Rattle.bn_erasing.specs.Erasing.{erasing, erasing_start, erasing_final}
 use Rattle.bn_erasing.specs.Laws.{ReachesFar, RunsStayNear, NoHeadLeaves}

@@ -6,13 +6,14 @@ use Rattle.bn_theory.specs.Runs.{Reaches}
 use Rattle.bn_machine.specs.Machine.{Program, nth}
 use Rattle.bn_quad.specs.Quadruples.{Rule, Configuration, turned, turned_list, Rooms, initial_of, final_of}
 use Rattle.bn_quad.specs.Overlap.{HasNoClash}
-use Rattle.bn_quad.specs.Reversible.{nth-turned_list}
+use Rattle.bn_quad.proofs.ReversibleLemmas.{nth-turned_list}
 use Rattle.bn_quad.specs.declared.clash.Clash.TheVariants.{Domain, Range}
 use Rattle.bn_stages.specs.In.{IsIn}
 use Rattle.bn_stages.specs.List.{bennett}
 use Rattle.bn_stages.specs.Names.{states_in, IsUniformFrom}
-use Rattle.bn_stages.specs.Numbers.{uniform_numbers, run_of_goes, run_of_steps}
-use Rattle.bn_stages.specs.Renamed.{renamed, rename, in_state, to_in, nth_before, no_clash_before, uniform_before, run_renamed, run_before, ends_renamed, ends_before}
+use Rattle.bn_stages.proofs.NumberLemmas.{uniform_numbers, run_of_goes, run_of_steps}
+use Rattle.bn_stages.specs.Renamed.{renamed, rename, in_state}
+use Rattle.bn_stages.proofs.RenamedLemmas.{to_in, nth_before, no_clash_before, uniform_before, run_renamed, run_before, ends_renamed, ends_before}
 use Rattle.bn_stages.specs.Stages.{IsStandardMachine}
 use Rattle.bn_stages.specs.Steps.{Steps, Exit, EndsAt}
 use Rattle.bn_stages.proofs.Counts.{list_has_ends}

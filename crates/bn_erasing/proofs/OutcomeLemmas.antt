@@ -2,14 +2,16 @@
 use Rattle.std.specs.Prelude.{◌≡◌, ℕ, ◌+◌, ◌*◌, ◌<◌, ◌≤◌, ◌⊎◌, List, [], length}
 use Rattle.std.proofs.Common.{refl, sym, ap, ◌∙◌, subst, arith, inl, inr}
 use Rattle.std.proofs.lemmas.Bool.{cases_lt}
-use Rattle.bn_theory.specs.Runs.{Reaches, IsFunction, runs_end_once}
-use Rattle.bn_machine.specs.Tape.{word_tape, blank_tape, scanned-ahead}
+use Rattle.bn_theory.specs.Runs.{Reaches, IsFunction}
+use Rattle.bn_theory.proofs.RunsLemmas.{runs_end_once}
+use Rattle.bn_machine.specs.Tape.{word_tape, blank_tape}
+use Rattle.bn_machine.proofs.TapeLemmas.{scanned-ahead}
 use Rattle.bn_machine.specs.Machine.{Program}
 use Rattle.bn_machine.specs.Run.{IsOutput}
-use Rattle.bn_machine.specs.Output.{output_once, output_exists}
-use Rattle.bn_machine.specs.OutcomeLaws.{run_goes_on}
+use Rattle.bn_machine.proofs.OutputLemmas.{output_once, output_exists}
+use Rattle.bn_machine.proofs.OutcomeLemmas.{run_goes_on}
 use Rattle.bn_quad.specs.Quadruples.{Configuration, HasNoRule, everywhere}
-use Rattle.bn_stages.specs.StepsLaws.{steps_once}
+use Rattle.bn_stages.proofs.StageStepLemmas.{steps_once}
 use Rattle.bn_stages.specs.Stages.{IsStandardMachine, IsSpelledBy}
 use Rattle.bn_stages.specs.Laws.{HaltsAfter}
 use Rattle.bn_stages.proofs.Tapes.{scanned-past}

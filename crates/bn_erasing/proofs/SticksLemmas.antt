@@ -7,14 +7,14 @@ use Rattle.bn_machine.specs.Window.{anywhere}
 use Rattle.bn_machine.specs.Machine.{Program, Moment, start}
 use Rattle.bn_machine.specs.Machine as machine
 use Rattle.bn_machine.specs.Run.{After}
-use Rattle.bn_machine.specs.Steps.{run_follows}
+use Rattle.bn_machine.proofs.MachineStepLemmas.{run_follows}
 use Rattle.bn_quad.specs.Quadruples.{Rule, Configuration, AppliesTo, HasNoRule, turned, turned_list, everywhere}
-use Rattle.bn_stages.specs.In.{in_append}
+use Rattle.bn_stages.proofs.MembershipLemmas.{in_append}
 use Rattle.bn_stages.specs.List.{bennett, initial_name, final_name}
 use Rattle.bn_stages.specs.Renamed.{renamed, in_state}
 use Rattle.bn_stages.specs.Stages.{IsStandardMachine, IsSpelledBy, beginning, ending, computing, retracing, StepsOf}
 use Rattle.bn_stages.specs.Steps.{Steps}
-use Rattle.bn_stages.specs.StepsLaws.{no_first_read}
+use Rattle.bn_stages.proofs.StageStepLemmas.{no_first_read}
 use Rattle.bn_stages.specs.Laws.{HaltsAfter}
 use Rattle.bn_stages.proofs.Runs.{computes_two_steps}
 use Rattle.bn_stages.proofs.Theorem.{stuck_reads, bennetts_theorem}
@@ -50,7 +50,7 @@ module _ (p q : Program) (left : IsStandardMachine p) (right : IsStandardMachine
   }
 
   -- where none of the second list, turned round, applies, none of the joined list does
-  none_second : (c : Configuration Name) → HasNoRule (turned_list (bennett q)) c → HasNoRule (erasing p q) (in_state (second_name p q) (exchanged_tapes c))
+  pub none_second : (c : Configuration Name) → HasNoRule (turned_list (bennett q)) c → HasNoRule (erasing p q) (in_state (second_name p q) (exchanged_tapes c))
   none_second c none = record {
     none = λ n r e applies.
         elim (in_append (first_half p) (second_half p q) r (record { place = n; stands = e })) [
@@ -65,7 +65,7 @@ module _ (p q : Program) (left : IsStandardMachine p) (right : IsStandardMachine
         ];
   }
 
-  run_of_halves : (n i j : ℕ) (x : List ℕ) (d e : Configuration ErasingName) → n ≡ i + j → Reaches (Steps everywhere (first_half p) (erasing_middle p)) i (in_state First (beginning p x)) d → Reaches (Steps everywhere (second_half p q) (erasing_final q)) j d e → Reaches (ErasingSteps p q) n (erasing_start p x) e
+  pub run_of_halves : (n i j : ℕ) (x : List ℕ) (d e : Configuration ErasingName) → n ≡ i + j → Reaches (Steps everywhere (first_half p) (erasing_middle p)) i (in_state First (beginning p x)) d → Reaches (Steps everywhere (second_half p q) (erasing_final q)) j d e → Reaches (ErasingSteps p q) n (erasing_start p x) e
   run_of_halves n i j x d e sum first second =
       subst (λ c. Reaches (ErasingSteps p q) n c e) (start_as_first p q left right x)
       (joined_run (erasing_middle p) (erasing_initial p) (erasing_final q) (first_half p) (second_half p q) (halves_join p q left.standard right.standard) everywhere n i j (in_state First (beginning p x)) d e sum first second)

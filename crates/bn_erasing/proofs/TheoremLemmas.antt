@@ -5,13 +5,15 @@ use Rattle.bn_theory.specs.Runs.{Reaches}
 use Rattle.bn_machine.specs.Tape.{blank_tape}
 use Rattle.bn_machine.specs.Window.{anywhere}
 use Rattle.bn_machine.specs.Machine.{Program, start}
-use Rattle.bn_machine.specs.Steps.{run_follows}
+use Rattle.bn_machine.proofs.MachineStepLemmas.{run_follows}
 use Rattle.bn_quad.specs.Quadruples.{Rule, Configuration, turned_list, everywhere}
-use Rattle.bn_quad.specs.Reversible.{same_configuration}
-use Rattle.bn_stages.specs.In.{IsIn, in_map}
+use Rattle.bn_quad.proofs.ReversibleLemmas.{same_configuration}
+use Rattle.bn_stages.specs.In.{IsIn}
+use Rattle.bn_stages.proofs.MembershipLemmas.{in_map}
 use Rattle.bn_stages.specs.List.{bennett, initial_name, final_name}
 use Rattle.bn_stages.specs.Names.{states_in}
-use Rattle.bn_stages.specs.Renamed.{renamed, in_state, run_renamed, run_before}
+use Rattle.bn_stages.specs.Renamed.{renamed, in_state}
+use Rattle.bn_stages.proofs.RenamedLemmas.{run_renamed, run_before}
 use Rattle.bn_stages.specs.Stages.{IsStandardMachine, IsSpelledBy, history, beginning, ending, StepsOf}
 use Rattle.bn_stages.specs.Steps.{Steps}
 use Rattle.bn_stages.specs.Laws.{HaltsAfter}
@@ -25,7 +27,7 @@ use Rattle.bn_erasing.specs.declared.name.ErasingName.TheVariants.{First}
 use Rattle.bn_quadlists.specs.Lists.{exchanged_tapes}
 use Rattle.bn_erasing.specs.Erasing.{second_name, first_half, backward, second_half, erasing_initial, erasing_middle, erasing_final, IsWord, erasing_start, erasing_end, ErasingSteps, StepsBackOf}
 use Rattle.bn_quadlists.proofs.ExchangedLemmas.{run_exchanged, run_exchanged_back}
-use Rattle.bn_quadlists.proofs.JoinedLemmas.{joined_run, joined_lists_have_run}
+use Rattle.bn_quadlists.proofs.JoinedLemmas.{joined_run, joined_halves}
 use Rattle.bn_erasing.proofs.ErasingLemmas.{first_apart, second_apart, second_once, second_final, halves_join, initial_in, final_in, back_initial_in, back_final_in}
 use Rattle.bn_erasing.proofs.ComparedLemmas.{compares_forth, compares_back}
 use Rattle.bn_erasing.specs.Laws.{ErasesInput}
@@ -123,9 +125,9 @@ module _ (p q : Program) (left : IsStandardMachine p) (right : IsStandardMachine
     pub erases_back : IsWord x → (n : ℕ) (e : Configuration ErasingName) → Reaches (ErasingSteps p q) n (erasing_start p x) e → e.state ≡ erasing_final q → Erased n e
     erases_back word n e run is =
         let halves =
-        joined_lists_have_run (erasing_middle p) (erasing_initial p) (erasing_final q) (first_half p) (second_half p q) (halves_join p q left.standard right.standard)
+        joined_halves (erasing_middle p) (erasing_initial p) (erasing_final q) (first_half p) (second_half p q) (halves_join p q left.standard right.standard)
         first_rule.0 first_rule.1 first_rule.2 everywhere n (erasing_start p x) e refl run is in
-        first_part word n halves.0 halves.1 halves.2 e halves.3 halves.4 halves.5 halves.6 is
+        first_part word n halves.i halves.j halves.meeting e halves.sum halves.meets halves.first halves.second is
 
 pub erases_input : ErasesInput
 erases_input p q x left right same letters word = (erases_forth p q left right x same letters, erases_back p q left right x same letters word)

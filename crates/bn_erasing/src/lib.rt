@@ -1,6 +1,5 @@
 //! The machine that leaves only its output (Bennett 1973), over the definitions alone: the reversible machine for x to
-//! y,
-//! and then the reversible machine for y to x, backward.
+//! y, and then the reversible machine for y to x, backward.
 #![tactic(auto)]
 
 mod laws;

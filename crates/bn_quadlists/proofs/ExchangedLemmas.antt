@@ -6,7 +6,7 @@ use Rattle.bn_quad.specs.Quadruples.{Rule, Configuration, Follows, Rooms}
 use Rattle.bn_quad.specs.Overlap.{IsSilent, Clashes, HasNoClash}
 use Rattle.bn_quad.specs.declared.clash.Clash.{Clash}
 use Rattle.bn_quad.specs.declared.clash.Clash.TheVariants.{Domain, Range, Reads, Writes}
-use Rattle.bn_stages.specs.In.{from_map}
+use Rattle.bn_stages.proofs.MembershipLemmas.{from_map}
 use Rattle.bn_stages.specs.Names.{IsUniformFrom}
 use Rattle.bn_stages.specs.Steps.{Steps}
 use Rattle.bn_quadlists.specs.Lists.{exchanged, exchanged_list, exchanged_tapes, exchanged_rooms}

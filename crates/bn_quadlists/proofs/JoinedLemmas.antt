@@ -1,18 +1,20 @@
 -- Two lists joined in one state: the tests and the runs of both as one.
 use Rattle.std.specs.Prelude.{◌≡◌, ◌≢◌, ℕ, zero, suc, ◌+◌, List, ◌++◌}
 use Rattle.std.proofs.Common.{refl, sym, ap, ◌∙◌, arith, inl, inr}
-use Rattle.bn_theory.specs.Runs.{Reaches, runs_join}
+use Rattle.bn_theory.specs.Runs.{Reaches}
+use Rattle.bn_theory.proofs.RunsLemmas.{runs_join}
 use Rattle.bn_quad.specs.Quadruples.{Rule, Configuration, Leads, Follows, Rooms}
 use Rattle.bn_quad.specs.Overlap.{Clashes, HasNoClash}
 use Rattle.bn_quad.specs.declared.clash.Clash.{Clash}
 use Rattle.bn_quad.specs.declared.clash.Clash.TheVariants.{Domain, Range, Reads, Writes}
-use Rattle.bn_stages.specs.In.{IsIn, in_left, in_right, in_append}
+use Rattle.bn_stages.specs.In.{IsIn}
+use Rattle.bn_stages.proofs.MembershipLemmas.{in_left, in_right, in_append}
 use Rattle.bn_stages.specs.Names.{IsUniformFrom}
 use Rattle.bn_stages.specs.Steps.{Steps}
 use Rattle.bn_stages.proofs.Apart.{apart_append}
 use Rattle.bn_quadlists.specs.Lists.{JoinsAt}
 use Rattle.bn_quadlists.proofs.MappedLemmas.{AreFree, free_of, no_clash_of}
-use Rattle.bn_quadlists.specs.Laws.{JoinedListsPassTests, JoinedListsRun, JoinedListsHaveRun}
+use Rattle.bn_quadlists.specs.Laws.{HasHalves, JoinedListsPassTests, JoinedListsRun, JoinedListsHaveRun}
 
 module _ {Q : Type 0} where
   -- ---- steps by a quadruple that stands in a list
@@ -134,6 +136,16 @@ module _ {Q : Type 0} where
                 (0, suc n, c, omega arith, there, refl, past_run (suc n) c e (λ r h from. joins.not_left r h (sym from ∙ there)) run)
           ]
 
+-- a run of both, from a state that the first leaves, has two halves
+pub joined_halves : {Q : Type 0} (middle initial final : Q) (rs ss : List (Rule Q)) → JoinsAt middle initial final rs ss → (r : Rule Q) → IsIn rs r → r.from ≡ initial
+    → (rooms : Rooms) (n : ℕ) (c e : Configuration Q) → c.state ≡ initial → Reaches (Steps rooms (rs ++ ss) final) n c e → e.state ≡ final → HasHalves middle final rs ss rooms n c e
+joined_halves middle initial final rs ss joins r stands from rooms n c e start run is =
+    let h = parted_run middle initial final rs ss joins rooms n c e (record {
+      through = λ s h leaves. absurd (joins.leave_apart r s stands h (from ∙ sym start ∙ leaves));
+      going = λ there. (joins.before_final r stands).0 (from ∙ sym start ∙ there);
+    }) run is in
+    record { i = h.0; j = h.1; meeting = h.2; sum = h.3; meets = h.4; first = h.5; second = h.6 }
+
 -- ---- the laws
 
 pub joined_lists_pass_tests : JoinedListsPassTests
@@ -147,9 +159,4 @@ pub joined_lists_run : JoinedListsRun
 joined_lists_run middle initial final rs ss joins rooms m n c d e first second = joined_run middle initial final rs ss joins rooms (m + n) m n c d e refl first second
 
 pub joined_lists_have_run : JoinedListsHaveRun
-joined_lists_have_run middle initial final rs ss joins r stands from rooms n c e start run is =
-    let h = parted_run middle initial final rs ss joins rooms n c e (record {
-      through = λ s h leaves. absurd (joins.leave_apart r s stands h (from ∙ sym start ∙ leaves));
-      going = λ there. (joins.before_final r stands).0 (from ∙ sym start ∙ there);
-    }) run is in
-    record { i = h.0; j = h.1; meeting = h.2; sum = h.3; meets = h.4; first = h.5; second = h.6 }
+joined_lists_have_run middle initial final rs ss joins r stands from rooms n c e start run is = joined_halves middle initial final rs ss joins r stands from rooms n c e start run is

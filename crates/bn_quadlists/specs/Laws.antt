@@ -13,8 +13,7 @@ use Rattle.bn_quadlists.specs.Lists.{exchanged_list, exchanged_tapes, exchanged_
 -- ---- lists turned round
 
 -- turned round, a list is deterministic where it was reversible, reversible where it was deterministic, and uniform
--- from
--- b to a where it was uniform from a to b
+-- from b to a where it was uniform from a to b
 abbrev pub TurnedListsPassTests : Type 0
 TurnedListsPassTests =
     (rs : List (Rule Name))
@@ -77,8 +76,7 @@ pub record HasHalves {Q : Type 0} (middle final : Q) (rs ss : List (Rule Q)) (ro
   pub second : Reaches (Steps rooms ss final) j meeting e
 
 -- a run of both from the initial to the final state, where the first has a rule that leaves it, is a run of the first
--- to
--- the middle and then one of the second
+-- to the middle and then one of the second
 abbrev pub JoinedListsHaveRun : Type 0
 JoinedListsHaveRun =
     (middle initial final : Name) (rs ss : List (Rule Name)) → JoinsAt middle initial final rs ss

@@ -1,6 +1,5 @@
 -- Lists of quadruples with two tapes exchanged, and two lists that are joined (Bennett 1973). A list that is turned
--- round
--- is defined beside the quadruples.
+-- round is defined beside the quadruples.
 use Rattle.std.specs.Prelude.{◌≡◌, ◌≢◌, List, map}
 use Rattle.bn_quad.specs.Quadruples.{Rule, Configuration, Rooms}
 use Rattle.bn_stages.specs.In.{IsIn}
@@ -26,10 +25,8 @@ exchanged_rooms rooms = record { one = rooms.three; two = rooms.two; three = roo
 
 -- The first list ends where the second begins, in the state `middle`, and they share no other state that matters: the
 -- first doesn't leave the middle, the second doesn't enter it, no state is left, or entered, by both, the second
--- doesn't
--- lead into the first, the first leads into the second only through the middle, it neither leaves nor enters the
--- second's
--- final state, and the second doesn't enter the first's initial state.
+-- doesn't lead into the first, the first leads into the second only through the middle, it neither leaves nor enters
+-- the second's final state, and the second doesn't enter the first's initial state.
 pub record JoinsAt {Q : Type 0} (middle initial final : Q) (rs ss : List (Rule Q)) : Type 0 where
   pub not_left : (r : Rule Q) → IsIn rs r → r.from ≢ middle
   pub not_entered : (s : Rule Q) → IsIn ss s → s.to ≢ middle
