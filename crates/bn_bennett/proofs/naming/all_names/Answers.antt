@@ -9,5 +9,5 @@ use Rattle.bn_bennett.proofs.naming.all_names.Goals as goal
 pub add_states-requires-clause-printable : goal.add_states-requires-clause-printable
 add_states-requires-clause-printable c =
     let P : List Name → Type 0 = ArePrintable in
-    subst P (sym c.names.ensures)
+    subst P (sym c.names.ensures.value)
     (printable c.args.table.now.machine c.args.translated.now (subst IsMachine c.machine.ensures.value c.quints.ensures.valid) c.machine.ensures.fits c.list_has_names.ensures c.list_counts_names.ensures c.requires)
