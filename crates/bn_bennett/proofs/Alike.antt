@@ -27,7 +27,7 @@ use Rattle.bn_bennett.proofs.Counting.{numbers_states}
 -- ---- any machine
 
 -- the states along a run are states of the quadruples
-run_inside : (q : Quadruples) (rooms : Rooms) (n : ℕ) (c d : Configuration ℕ) → IsIn (states_in q.rules) c.state → Reaches (Goes rooms q) n c d → IsIn (states_in q.rules) d.state
+pub run_inside : (q : Quadruples) (rooms : Rooms) (n : ℕ) (c d : Configuration ℕ) → IsIn (states_in q.rules) c.state → Reaches (Goes rooms q) n c d → IsIn (states_in q.rules) d.state
 run_inside q rooms zero c d here run = subst (λ (x : Configuration ℕ). IsIn (states_in q.rules) x.state) run here
 run_inside q rooms (suc n) c d here run =
     run_inside q rooms n run.0 d (reached_in (λ (k : ℕ). k) q.rules c run.0 (record { number = run.1.0; leads = goes_leads rooms q run.1.0 c run.0 run.1.1 })) run.2

@@ -26,7 +26,7 @@ abbrev room_of : Windowed → Room
 room_of w = within w.left w.right
 
 -- windows that are the same make the same rooms
-rooms_same : (w v : Tapes) → AreSameWindows w v → rooms_of v ≡ rooms_of w
+pub rooms_same : (w v : Tapes) → AreSameWindows w v → rooms_of v ≡ rooms_of w
 rooms_same w v same =
     let one : (x y : Windowed) → y ≡ with_tape x y.tape → room_of y ≡ room_of x = λ x y e. ap room_of e in
     λ i. record { one = one w.one v.one same.one i; two = one w.two v.two same.two i; three = one w.three v.three same.three i }
@@ -34,7 +34,7 @@ rooms_same w v same =
 same_on : (w v x : Windowed) → v ≡ with_tape w v.tape → x ≡ with_tape v x.tape → x ≡ with_tape w x.tape
 same_on w v x e f = f ∙ ap (λ (z : Windowed). with_tape z x.tape) e
 
-windows_on : (w v x : Tapes) → AreSameWindows w v → AreSameWindows v x → AreSameWindows w x
+pub windows_on : (w v x : Tapes) → AreSameWindows w v → AreSameWindows v x → AreSameWindows w x
 windows_on w v x e f = record { one = same_on w.one v.one x.one e.one f.one; two = same_on w.two v.two x.two e.two f.two; three = same_on w.three v.three x.three e.three f.three }
 
 module _ (q : Quadruples) where

@@ -2,13 +2,13 @@
 
 ghost use Rattle.std.specs.Prelude.{◌≡◌, ◌≤◌, [], IfOk, length};
 ghost use Rattle.bn_netlist.specs.Spelling.{most_elements};
-ghost use Rattle.bn_netreply.specs.Refused.{IsRefused, line_text};
 ghost use Rattle.bn_planreply.specs.PlanReply.{PlanIsSettled, PlanReplies, TellsPlan};
 
 use crate::text::plan_text;
 use bn_element::Rotary;
 use bn_net::Net;
-use bn_netlist::{NetlistRefusal, read_config};
+use bn_netlist::read_config;
+use bn_netreply::refuse_config;
 use bn_plan::plan;
 use bn_reply::{NoMemory, Reply, Status};
 use std::alloc::Global;
@@ -20,7 +20,7 @@ pub fn reply_plan(alloc: Global, bytes: &[u8]) -> Result<Reply, NoMemory>
 {
     match read_config(alloc, bytes) {
         Ok(read) => plan_net(alloc, &read.net),
-        Err(refusal) => refuse(alloc, refusal),
+        Err(refusal) => refuse_config(alloc, refusal),
     }
 }
 
@@ -36,34 +36,6 @@ fn plan_net(alloc: Global, net: &Net<Rotary>) -> Result<Reply, NoMemory>
     Ok(Reply {
         text: plan_text(alloc, net.len(), &plan)?,
         status: Status::Done,
-    })
-}
-
-// The line that refuses a text.
-fn refuse(alloc: Global, refusal: NetlistRefusal) -> Result<Reply, NoMemory>
-    ensures { IfOk result (λ r. IsRefused refusal r.status r.text.items) }
-{
-    match refusal {
-        NetlistRefusal::Syntax { line } => refuse_line(alloc, line, "syntax"),
-        NetlistRefusal::Order { line } => refuse_line(alloc, line, "order"),
-        NetlistRefusal::Target { line } => refuse_line(alloc, line, "target"),
-        NetlistRefusal::TwoSources { line } => refuse_line(alloc, line, "two sources"),
-        NetlistRefusal::StartFed { line } => refuse_line(alloc, line, "start fed"),
-        NetlistRefusal::EndWired { line } => refuse_line(alloc, line, "end wired"),
-        NetlistRefusal::LeftWired { line } => refuse_line(alloc, line, "left wired"),
-        NetlistRefusal::TooMany { line } => refuse_line(alloc, line, "too many"),
-        NetlistRefusal::NoMemory => Err(NoMemory),
-    }
-}
-
-// The line that refuses a text for what is wrong with one of its lines.
-fn refuse_line(alloc: Global, line: u64, what: &str) -> Result<Reply, NoMemory>
-    ensures status { IfOk result (λ r. r.status ≡ Status.Text) }
-    ensures text { IfOk result (λ r. r.text.items ≡ line_text line what.now) }
-{
-    Ok(Reply {
-        text: format!(in alloc; "text: line {line} {what}\n")?.into_bytes(),
-        status: Status::Text,
     })
 }
 

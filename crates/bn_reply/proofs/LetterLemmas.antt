@@ -8,22 +8,30 @@ use Rattle.std.proofs.lemmas.Option.{slice_get_within, get_or_from_slice_get, sl
 use Rattle.bn_machine.specs.Machine.{nth, AllBefore}
 use Rattle.bn_machine.proofs.MachineLemmas.{all_before_one, all_before_more}
 use Rattle.bn_table.specs.Rows.{Named, IsTable, blank}
-use Rattle.bn_table.proofs.RowsLemmas.{blank_first}
+use Rattle.bn_table.proofs.RowsLemmas.{blank_first, one_symbol}
 use Rattle.bn_reply.specs.Words.{IsLetterOf, IsLetterSymbol, IsSpelledBy, IsFirstForeign, letters_of}
 use Rattle.bn_reply.specs.Letters.{IsSymbolOf}
+
+-- symbol 0 has the blank's letter, and no two symbols have one letter
+pub record HasAlphabet (t : Named) : Type 0 where
+  pub begins : slice_get t.letters 0 ≡ Some blank
+  pub apart : (m n b : ℕ) → slice_get t.letters m ≡ Some b → slice_get t.letters n ≡ Some b → m ≡ n
+
+pub table_alphabet : (t : Named) → IsTable t → HasAlphabet t
+table_alphabet t h = record { begins = blank_first t h; apart = one_symbol t h }
 
 -- a byte with a place among the letters is one of them
 pub letter_at : (t : Named) (byte symbol : ℕ) → slice_get t.letters symbol ≡ Some byte → Contains t.letters byte
 letter_at t byte symbol here = (symbol, slice_get_within t.letters symbol byte here, get_or_from_slice_get t.letters symbol byte byte here)
 
 -- what a table's answer says of a byte that isn't the blank's letter
-pub symbol_found : (t : Named) → IsTable t → (byte : ℕ) → byte ≢ blank → (o : Option ℕ) → IfSome o (λ s. slice_get t.letters s ≡ Some byte) →
+pub symbol_found : (t : Named) → HasAlphabet t → (byte : ℕ) → byte ≢ blank → (o : Option ℕ) → IfSome o (λ s. slice_get t.letters s ≡ Some byte) →
     IfNone o (Contains t.letters byte → ⊥) → MatchOption o (IsLetterOf t byte → ⊥) (IsSymbolOf t byte)
 symbol_found t h byte apart None found none = λ letter. none letter.known
 symbol_found t h byte apart (Some s) found none = record {
   letter = record { known = letter_at t byte s found; apart = apart };
   nonblank = λ e.
-      let first : slice_get t.letters 0 ≡ Some blank = blank_first t h in
+      let first : slice_get t.letters 0 ≡ Some blank = h.begins in
       let here : slice_get t.letters 0 ≡ Some byte = subst (λ (i : ℕ). slice_get t.letters i ≡ Some byte) e found in
       apart (cc);
   stands = found;

@@ -15,6 +15,7 @@ use Rattle.bn_reply.specs.declared.reply.Reply.{Reply}
 use Rattle.bn_reply.specs.declared.status.Status.{Status}
 use Rattle.bn_reply.specs.declared.status.Status.TheVariants as statuses
 use Rattle.bn_reply.proofs.TableLemmas.{fault_once, one_table, standard_or_told, table_or_told, why_once}
+use Rattle.bn_reply.proofs.LetterLemmas.{HasAlphabet, table_alphabet}
 use Rattle.bn_reply.proofs.WordLemmas.{foreign_once, not_foreign, spelled_once, spelled_or_foreign}
 
 -- two answers that have the same status and text and tell nothing
@@ -93,7 +94,7 @@ standard_tells tells bytes t s text told h (read u reads answer) = by_verdict
 
 -- ---- a word
 
-module _ (tells : List ℕ → Status → List ℕ → List Place → Type 0) (t : Named) (table : IsTable t) (word : List ℕ)
+module _ (tells : List ℕ → Status → List ℕ → List Place → Type 0) (t : Named) (alphabet : HasAlphabet t) (word : List ℕ)
     (settled : (symbols : List ℕ) → IsSpelledBy t word symbols → IsSettled (tells symbols)) where
   word_some : ((symbols : List ℕ) × IsSpelledBy t word symbols) ⊎ ((p : ℕ) × IsFirstForeign t word p) → HasAnswer (WordReplies tells t word)
   word_some (inl s) = let some = (settled s.0 s.1).some in (some.0, some.1, some.2, spelled s.0 s.1 some.3)
@@ -102,18 +103,18 @@ module _ (tells : List ℕ → Status → List ℕ → List Place → Type 0) (t
   word_one : IsOneAnswer (WordReplies tells t word)
   word_one s u a b x y (foreign p h told e n) (foreign q k also f m) = agree statuses.Word s u a b x y e f
       (told ∙ ap foreign_line (foreign_once t word p q h k) ∙ sym also) n m
-  word_one s u a b x y (foreign p h told e n) (spelled symbols k answer) = absurd (not_foreign t table word symbols p k h)
-  word_one s u a b x y (spelled symbols h answer) (foreign q k also f m) = absurd (not_foreign t table word symbols q h k)
+  word_one s u a b x y (foreign p h told e n) (spelled symbols k answer) = absurd (not_foreign t alphabet word symbols p k h)
+  word_one s u a b x y (spelled symbols h answer) (foreign q k also f m) = absurd (not_foreign t alphabet word symbols q h k)
   word_one s u a b x y (spelled xs h answer) (spelled ys k other) =
-      let same : ys ≡ xs = spelled_once t table word ys xs k h in
+      let same : ys ≡ xs = spelled_once t alphabet word ys xs k h in
       (settled xs h).one s u a b x y answer (subst (λ (zs : List ℕ). tells zs u b y) same other)
 
   word_status : (s : Status) (text : List ℕ) (told : List Place) → WordReplies tells t word s text told → IsReplyStatus s
   word_status s text told (foreign p h told_is e n) = subst IsReplyStatus (sym e) tt
   word_status s text told (spelled symbols h answer) = (settled symbols h).status s text told answer
 
-  pub word_settled : IsSettled (WordReplies tells t word)
-  word_settled = record { some = word_some (spelled_or_foreign t table word); one = word_one; status = word_status }
+  pub lettered_settled : IsSettled (WordReplies tells t word)
+  lettered_settled = record { some = word_some (spelled_or_foreign t alphabet word); one = word_one; status = word_status }
 
 -- what the opening of a word answers
 pub foreign_replies : (tells : List ℕ → Status → List ℕ → List Place → Type 0) (t : Named) (word : List ℕ) (reply : Reply) → IsForeign t word reply →
@@ -121,8 +122,18 @@ pub foreign_replies : (tells : List ℕ → Status → List ℕ → List Place �
 foreign_replies tells t word reply h = foreign h.place h.first h.told h.refused refl
 
 -- what is answered to a word that these symbols spell is what is answered to them
+pub lettered_tells : (tells : List ℕ → Status → List ℕ → List Place → Type 0) (t : Named) → HasAlphabet t → (word symbols : List ℕ) (s : Status) (text : List ℕ)
+    (told : List Place) → IsSpelledBy t word symbols → WordReplies tells t word s text told → tells symbols s text told
+lettered_tells tells t alphabet word symbols s text told is (foreign p h told_is e n) = absurd (not_foreign t alphabet word symbols p is h)
+lettered_tells tells t alphabet word symbols s text told is (spelled ys k answer) =
+    subst (λ (zs : List ℕ). tells zs s text told) (spelled_once t alphabet word ys symbols k is) answer
+
+-- ---- a word in a table's letters
+
+pub word_settled : (tells : List ℕ → Status → List ℕ → List Place → Type 0) (t : Named) → IsTable t → (word : List ℕ) →
+    ((symbols : List ℕ) → IsSpelledBy t word symbols → IsSettled (tells symbols)) → IsSettled (WordReplies tells t word)
+word_settled tells t table = lettered_settled tells t (table_alphabet t table)
+
 pub word_tells : (tells : List ℕ → Status → List ℕ → List Place → Type 0) (t : Named) → IsTable t → (word symbols : List ℕ) (s : Status) (text : List ℕ)
     (told : List Place) → IsSpelledBy t word symbols → WordReplies tells t word s text told → tells symbols s text told
-word_tells tells t table word symbols s text told is (foreign p h told_is e n) = absurd (not_foreign t table word symbols p is h)
-word_tells tells t table word symbols s text told is (spelled ys k answer) =
-    subst (λ (zs : List ℕ). tells zs s text told) (spelled_once t table word ys symbols k is) answer
+word_tells tells t table = lettered_tells tells t (table_alphabet t table)

@@ -8,21 +8,20 @@ use Rattle.std.proofs.lemmas.List.{get_or-map, length-map}
 use Rattle.std.proofs.lemmas.Option.{slice_get-get_or, slice_get_within, get_or_from_slice_get}
 use Rattle.std.proofs.Math.Seq.{take-length}
 use Rattle.bn_machine.specs.Machine.{nth}
-use Rattle.bn_table.specs.Rows.{Named, IsTable, blank}
-use Rattle.bn_table.proofs.RowsLemmas.{blank_first, one_symbol}
+use Rattle.bn_table.specs.Rows.{Named, blank}
 use Rattle.bn_reply.specs.Letters.{IsSymbolOf}
 use Rattle.bn_reply.specs.Words.{IsFirstForeign, IsLetterOf, IsSpelledBy}
-use Rattle.bn_reply.proofs.LetterLemmas.{SpelledSoFar, first_foreign, none_so_far, one_more, symbol_found}
+use Rattle.bn_reply.proofs.LetterLemmas.{HasAlphabet, SpelledSoFar, first_foreign, none_so_far, one_more, symbol_found}
 
 -- ---- one list of symbols
 
 -- the letter of a symbol other than the blank is no blank
-symbol_letter : (t : Named) → IsTable t → (symbol : ℕ) → symbol ≢ 0 → symbol < length t.letters → IsLetterOf t (slice_index t.letters symbol)
+symbol_letter : (t : Named) → HasAlphabet t → (symbol : ℕ) → symbol ≢ 0 → symbol < length t.letters → IsLetterOf t (slice_index t.letters symbol)
 symbol_letter t h symbol nonblank known =
     let here : slice_get t.letters symbol ≡ Some (slice_index t.letters symbol) = slice_get-get_or t.letters symbol 0 known in
     record {
       known = (symbol, known, get_or_from_slice_get t.letters symbol (slice_index t.letters symbol) (slice_index t.letters symbol) here);
-      apart = λ e. nonblank (one_symbol t h symbol 0 blank (here ∙ ap (λ (b : ℕ). Some b) e) (blank_first t h));
+      apart = λ e. nonblank (h.apart symbol 0 blank (here ∙ ap (λ (b : ℕ). Some b) e) h.begins);
     }
 
 -- the byte at a place of a word that is spelled
@@ -34,7 +33,7 @@ pub same_length : (t : Named) (word symbols : List ℕ) → IsSpelledBy t word s
 same_length t word symbols h = ap length h.letters ∙ simp length-map
 
 -- each byte of a word that is spelled is a letter other than the blank's
-pub spelled_letter : (t : Named) → IsTable t → (word symbols : List ℕ) (k : ℕ) → IsSpelledBy t word symbols → k < length word →
+pub spelled_letter : (t : Named) → HasAlphabet t → (word symbols : List ℕ) (k : ℕ) → IsSpelledBy t word symbols → k < length word →
     IsLetterOf t (slice_index word k)
 spelled_letter t h word symbols k s inside =
     let count = same_length t word symbols s in
@@ -42,7 +41,7 @@ spelled_letter t h word symbols k s inside =
     let known = s.symbols_known k 0 low in
     subst (IsLetterOf t) (sym (byte_at t word symbols k s low)) (symbol_letter t h (slice_index symbols k) known.letter known.known)
 
-pub not_foreign : (t : Named) → IsTable t → (word symbols : List ℕ) (p : ℕ) → IsSpelledBy t word symbols → IsFirstForeign t word p → ⊥
+pub not_foreign : (t : Named) → HasAlphabet t → (word symbols : List ℕ) (p : ℕ) → IsSpelledBy t word symbols → IsFirstForeign t word p → ⊥
 not_foreign t h word symbols p s f = by_place p f.stands
   where
     by_place : (p : ℕ) → nth word p ≡ Some f.byte → ⊥
@@ -61,7 +60,7 @@ foreign_once t word p q f g = by_order (cases_lt p q) (cases_lt q p)
     by_order (inr h) (inr k) = omega arith
 
 -- a word has one spelling
-pub spelled_once : (t : Named) → IsTable t → (word xs ys : List ℕ) → IsSpelledBy t word xs → IsSpelledBy t word ys → xs ≡ ys
+pub spelled_once : (t : Named) → HasAlphabet t → (word xs ys : List ℕ) → IsSpelledBy t word xs → IsSpelledBy t word ys → xs ≡ ys
 spelled_once t h word xs ys a b =
     let counts : length xs ≡ length ys = sym (same_length t word xs a) ∙ same_length t word ys b in
     same_number_lists xs ys counts (λ k low. same k low counts)
@@ -73,7 +72,7 @@ spelled_once t h word xs ys a b =
         let second = slice_get-get_or t.letters (slice_index ys k) 0 (b.symbols_known k 0 also).known in
         let letters : slice_index t.letters (slice_index xs k) ≡ slice_index t.letters (slice_index ys k) = sym (byte_at t word xs k a low)
         ∙ byte_at t word ys k b also in
-        one_symbol t h (slice_index xs k) (slice_index ys k) (slice_index t.letters (slice_index ys k)) (first ∙ ap (λ (x : ℕ). Some x) letters) second
+        h.apart (slice_index xs k) (slice_index ys k) (slice_index t.letters (slice_index ys k)) (first ∙ ap (λ (x : ℕ). Some x) letters) second
 
 -- ---- one of the two
 
@@ -91,7 +90,7 @@ place_or_none (x ∷ xs) b = elim (eqb_tells x b) [
     further x xs b other none zero inside e = other e
     further x xs b other none (suc k) inside e = none (k, omega arith, e)
 
-symbol_or_none : (t : Named) → IsTable t → (byte : ℕ) → ((s : ℕ) × IsSymbolOf t byte s) ⊎ (IsLetterOf t byte → ⊥)
+symbol_or_none : (t : Named) → HasAlphabet t → (byte : ℕ) → ((s : ℕ) × IsSymbolOf t byte s) ⊎ (IsLetterOf t byte → ⊥)
 symbol_or_none t h byte = elim (eqb_tells byte blank) [
   | inl same ↦ inr (λ letter. letter.apart same.1)
   | inr apart ↦ elim (place_or_none t.letters byte) [
@@ -100,7 +99,7 @@ symbol_or_none t h byte = elim (eqb_tells byte blank) [
   ]
 ]
 
-word_from : (t : Named) → IsTable t → (word : List ℕ) (fuel n : ℕ) (symbols : List ℕ) → n + fuel ≡ length word → SpelledSoFar t word n symbols →
+word_from : (t : Named) → HasAlphabet t → (word : List ℕ) (fuel n : ℕ) (symbols : List ℕ) → n + fuel ≡ length word → SpelledSoFar t word n symbols →
     ((xs : List ℕ) × IsSpelledBy t word xs) ⊎ ((p : ℕ) × IsFirstForeign t word p)
 word_from t h word zero n symbols sum so_far =
     let all : n ≡ length word = omega arith in
@@ -114,5 +113,5 @@ word_from t h word (suc fuel) n symbols sum so_far =
     ]
 
 -- a word is spelled, or it has a first place that is foreign
-pub spelled_or_foreign : (t : Named) → IsTable t → (word : List ℕ) → ((symbols : List ℕ) × IsSpelledBy t word symbols) ⊎ ((p : ℕ) × IsFirstForeign t word p)
+pub spelled_or_foreign : (t : Named) → HasAlphabet t → (word : List ℕ) → ((symbols : List ℕ) × IsSpelledBy t word symbols) ⊎ ((p : ℕ) × IsFirstForeign t word p)
 spelled_or_foreign t h word = word_from t h word (length word) 0 [] (omega arith) (none_so_far t word)

@@ -46,8 +46,8 @@ pub(crate) fn fault_text(alloc: Global, refusal: TableRefusal) -> Result<Vec<u8>
     }
 }
 
-// The line of a demand of standard form that isn't met.
-pub(crate) fn why_text(alloc: Global, refusal: Why) -> Result<Vec<u8>, NoMemory>
+/// The line of a demand of standard form that isn't met.
+pub fn why_text(alloc: Global, refusal: Why) -> Result<Vec<u8>, NoMemory>
     ensures { IfOk result (λ text. (refusal ≢ whys.NoMemory) × (text.items ≡ why_line refusal)) }
 {
     match refusal {

@@ -18,8 +18,8 @@ use Rattle.bn_session.specs.declared.command.Command.{Command}
 use Rattle.bn_session.specs.declared.refusal.ScriptRefusal.{ScriptRefusal}
 use Rattle.bn_session.specs.declared.refusal.ScriptRefusal.TheVariants as refusals
 use Rattle.bn_view.specs.Viewed.{IsBoardFor}
-use Rattle.bn_sessionreply.specs.SessionReply.{SessionReplies, TellsSession, cut, fault_line, faulty, played, states_of}
-use Rattle.bn_sessionreply.specs.Viewing.{IsAnswerTo, IsRefused}
+use Rattle.bn_sessionreply.specs.SessionReply.{SessionReplies, TellsSession, cut, script_fault_line, faulty, played, states_of}
+use Rattle.bn_sessionreply.specs.Viewing.{IsAnswerTo, IsScriptRefused}
 
 -- what is answered of a board at its start
 abbrev Answers : Named → Translation → Flattened → List ℕ → Reply → Type 0
@@ -41,19 +41,19 @@ module _ (t : Named) (m : Translation) (b : Flattened) (script : List ℕ) (name
       let told = text word l f for start in
       played commands told.0 (subst (λ xs. IsScript xs script commands) (states_are t m names is f for.translation) read) told.1 status refl
 
-  told : (number : ℕ) (fault : Fault) → IsFirstFault names.states script number fault → (r : Reply) → r.status ≡ statuses.Text → r.text.items ≡ fault_line number fault → Answers t m b script r
+  told : (number : ℕ) (fault : Fault) → IsFirstFault names.states script number fault → (r : Reply) → r.status ≡ statuses.Text → r.text.items ≡ script_fault_line number fault → Answers t m b script r
   told number fault first r status text word l f for start =
       faulty number fault (subst (λ xs. IsFirstFault xs script number fault) (states_are t m names is f for.translation) first) text status refl
 
   -- a script that was refused
-  refused : (refusal : ScriptRefusal) → IsRefusalOf (IsFirstFault names.states script) refusal → (r : Reply) → IsRefused refusal r.status r.text.items → Answers t m b script r
+  refused : (refusal : ScriptRefusal) → IsRefusalOf (IsFirstFault names.states script) refusal → (r : Reply) → IsScriptRefused refusal r.status r.text.items → Answers t m b script r
   refused (refusals.Form n) first r h = told n malformed first r h.0 h.1
   refused (refusals.NoState n) first r h = told n no_state first r h.0 h.1
   refused (refusals.SameBreak n) first r h = told n same_break first r h.0 h.1
   refused (refusals.NoBreak n) first r h = told n no_break first r h.0 h.1
   refused refusals.NoMemory first r h = absurd h
 
-  pub refused_replies : (refusal : ScriptRefusal) → IsRefusalOf (IsFirstFault names.states script) refusal → (result : Result Reply WantOfMemory) → IfOk result (λ r. IsRefused refusal r.status r.text.items)
+  pub refused_replies : (refusal : ScriptRefusal) → IsRefusalOf (IsFirstFault names.states script) refusal → (result : Result Reply WantOfMemory) → IfOk result (λ r. IsScriptRefused refusal r.status r.text.items)
       → IfOk result (Answers t m b script)
   refused_replies refusal first (Err e) h = tt
   refused_replies refusal first (Ok r) h = refused refusal first r h

@@ -15,14 +15,14 @@ use Rattle.bn_session.specs.declared.command.Command.{Command}
 use Rattle.bn_session.specs.declared.command.Command.TheVariants.{Step, Back, Go, Rev, BreakState, BreakElement, Drop, View}
 use Rattle.bn_session.proofs.PlayedLemmas.{goes-least, on-all, on-by}
 use Rattle.bn_viewreply.specs.Showing.{TellsLayers}
-use Rattle.bn_sessionreply.specs.Laws.{GoesStopAtLeast, IsMove, PlacesAreOfTheRun, PlaysOneOn, SessionsStayOnTheRun}
+use Rattle.bn_sessionreply.specs.Laws.{GoesStopAtLeastHit, IsMove, ToldPlacesAreOfTheRun, PlaysOneWithLayers, SessionsStayOnTheRun}
 
 pub sessions_stay : SessionsStayOnTheRun
 sessions_stay p word l f flat t xs s end text on plays =
     on-all f.circuit (moment_at f.layout) (TellsLayers t f) (flat_start f) refl flat.is_board.circuit xs s end text on plays
 
 -- the line of a command that moves is that of where it ends
-told_place : (t : Named) (f : Flat) (x : Command) (s end : Session) (text : List ℕ) → PlaysOneOn t f x s end text → IsMove x →
+told_place : (t : Named) (f : Flat) (x : Command) (s end : Session) (text : List ℕ) → PlaysOneWithLayers t f x s end text → IsMove x →
     (label : Option (List ℕ)) × (text ≡ place_line end.config label)
 told_place t f (Step e) s end text plays moves = (None, plays.1)
 told_place t f (Back e) s end text plays moves = (None, plays.1)
@@ -33,7 +33,7 @@ told_place t f (BreakElement label e) s end text plays moves = absurd moves
 told_place t f (Drop label) s end text plays moves = absurd moves
 told_place t f View s end text plays moves = absurd moves
 
-pub places_told : PlacesAreOfTheRun
+pub places_told : ToldPlacesAreOfTheRun
 places_told p word l f flat t x s end text on plays moves =
     let there = on-by f.circuit (moment_at f.layout) (TellsLayers t f) (flat_start f) refl flat.is_board.circuit x s end text on plays in
     let told = told_place t f x s end text plays moves in
@@ -41,5 +41,5 @@ places_told p word l f flat t x s end text on plays moves =
     (told.0, told.1 ∙ ap (λ (c : Config). place_line c told.0) at)
 
 -- `go` shows nothing, so it is the same whatever a view may show
-pub goes_least : GoesStopAtLeast
+pub goes_least : GoesStopAtLeastHit
 goes_least t f e s end text on plays = goes-least f.circuit (moment_at f.layout) (λ c. []) (flat_start f) e s end text refl on plays

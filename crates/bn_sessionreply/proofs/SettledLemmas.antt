@@ -51,7 +51,7 @@ use Rattle.bn_reply.proofs.CutLemmas.{cuts-never_both, cuts-one}
 use Rattle.bn_session.proofs.OneReading.{faults-one, faulty-none, scripts-one}
 use Rattle.bn_session.proofs.PlayedLemmas.{follow-all, on-by, one-all, there-all}
 use Rattle.bn_session.proofs.SomeReading.{read_or_fault}
-use Rattle.bn_sessionreply.specs.SessionReply.{SessionIsSettled, SessionReplies, TellsSession, cut, fault_line, faulty, played, states_of, uncut, uncut_line}
+use Rattle.bn_sessionreply.specs.SessionReply.{SessionIsSettled, SessionReplies, TellsSession, cut, script_fault_line, faulty, played, states_of, uncut, uncut_line}
 use Rattle.bn_sessionreply.proofs.AlikeLemmas.{plays_alike}
 use Rattle.bn_reply.proofs.CutOrNot.{cut_or_not}
 
@@ -125,7 +125,7 @@ module _ (f : Flat) (p : Program) (symbols : List ℕ) (l : Limits) (flat : IsFl
       let same = faults-one (states_of t f) script n m e d apart h k in
       record {
         statuses = status_is ∙ sym other_status;
-        texts = text_is ∙ (λ i. fault_line (same.0 i) (same.1 i)) ∙ sym other_is;
+        texts = text_is ∙ (λ i. script_fault_line (same.0 i) (same.1 i)) ∙ sym other_is;
         places = silent ∙ sym quiet;
       }
   one_told apart s u a b x y (faulty n e h text_is status_is silent) (played xs end is plays other_status quiet) =
@@ -146,7 +146,7 @@ module _ (f : Flat) (p : Program) (symbols : List ℕ) (l : Limits) (flat : IsFl
         (λ s on. let v = views_some p symbols l f flat accepted s.config.steps s.config on in (view_text t f v.0, (v.0, v.1, refl)))
         read.0 (session (flat_start f) []) (starts f) in
         (statuses.Done, made.1, [], played read.0 made.0 read.1 made.2 refl refl)
-    | inr found ↦ (statuses.Text, fault_line found.0 found.1, [], faulty found.0 found.1 found.2 refl refl refl)
+    | inr found ↦ (statuses.Text, script_fault_line found.0 found.1, [], faulty found.0 found.1 found.2 refl refl refl)
   ]
 
 told_status : (script : List ℕ) (t : Named) (f : Flat) (s : Status) (text : List ℕ) (told : List Place) → TellsSession script t f s text told → IsReplyStatus s

@@ -14,18 +14,18 @@ use Rattle.bn_session.specs.declared.command.Command.TheVariants.{Step, Back, Go
 use Rattle.bn_viewreply.specs.Showing.{TellsLayers}
 
 -- a script on the board of f, with every layer for a view
-abbrev pub PlaysOn : Named → Flat → List Command → Session → Session → List ℕ → Type 0
-PlaysOn t f = Plays f.circuit (moment_at f.layout) (TellsLayers t f)
+abbrev pub PlaysWithLayers : Named → Flat → List Command → Session → Session → List ℕ → Type 0
+PlaysWithLayers t f = Plays f.circuit (moment_at f.layout) (TellsLayers t f)
 
-abbrev pub PlaysOneOn : Named → Flat → Command → Session → Session → List ℕ → Type 0
-PlaysOneOn t f = PlaysOne f.circuit (moment_at f.layout) (TellsLayers t f)
+abbrev pub PlaysOneWithLayers : Named → Flat → Command → Session → Session → List ℕ → Type 0
+PlaysOneWithLayers t f = PlaysOne f.circuit (moment_at f.layout) (TellsLayers t f)
 
 -- a script that begins on the run of the board from its start stays on it
 abbrev pub SessionsStayOnTheRun : Type 0
 SessionsStayOnTheRun =
     (p : Program) (word : List ℕ) (l : Limits) (f : Flat) → IsFlatOf p word l f
     → (t : Named) (xs : List Command) (s end : Session) (text : List ℕ) → IsOnRun f.circuit (flat_start f) s
-    → PlaysOn t f xs s end text → IsOnRun f.circuit (flat_start f) end
+    → PlaysWithLayers t f xs s end text → IsOnRun f.circuit (flat_start f) end
 
 -- the command moves along the run
 abbrev pub IsMove : Command → Type 0
@@ -36,17 +36,17 @@ IsMove (Rev e) = Unit {0}
 IsMove _ = ⊥
 
 -- each place that is told is that of the run from the start, after as many steps as its line says
-abbrev pub PlacesAreOfTheRun : Type 0
-PlacesAreOfTheRun =
+abbrev pub ToldPlacesAreOfTheRun : Type 0
+ToldPlacesAreOfTheRun =
     (p : Program) (word : List ℕ) (l : Limits) (f : Flat) → IsFlatOf p word l f
     → (t : Named) (x : Command) (s end : Session) (text : List ℕ) → IsOnRun f.circuit (flat_start f) s
-    → PlaysOneOn t f x s end text → IsMove x
+    → PlaysOneWithLayers t f x s end text → IsMove x
     → (label : Option (List ℕ)) × (text ≡ place_line (run f.circuit (flat_start f) end.config.steps) label)
 
 -- `go` stops at the least later step, within its number, at which a condition holds; where there is none, where the run
 -- of so many steps ends
-abbrev pub GoesStopAtLeast : Type 0
-GoesStopAtLeast =
+abbrev pub GoesStopAtLeastHit : Type 0
+GoesStopAtLeastHit =
     (t : Named) (f : Flat) (e : ℕ) (s end : Session) (text : List ℕ) → IsOnRun f.circuit (flat_start f) s
-    → PlaysOneOn t f (Go e) s end text
+    → PlaysOneWithLayers t f (Go e) s end text
     → IsLeastHit f.circuit (stops (moment_at f.layout) s.breaks) (flat_start f) s.config e end.config

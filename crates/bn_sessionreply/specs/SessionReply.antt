@@ -26,8 +26,8 @@ fault_text same_break = codes "same break"
 fault_text no_break = codes "no break"
 
 -- the line of a fault in this line of the script, counted from 1, and of an input without a script
-abbrev pub fault_line : ℕ → Fault → List ℕ
-fault_line number fault = line (codes "text: script line " ∷ decimal number ∷ codes " " ∷ fault_text fault ∷ [])
+abbrev pub script_fault_line : ℕ → Fault → List ℕ
+script_fault_line number fault = line (codes "text: script line " ∷ decimal number ∷ codes " " ∷ fault_text fault ∷ [])
 
 abbrev pub uncut_line : List ℕ
 uncut_line = line (codes "text: no script" ∷ [])
@@ -41,7 +41,8 @@ states_of t f = (names_of t f.translation).states
 pub data TellsSession (script : List ℕ) (t : Named) (f : Flat) (status : Status) (text : List ℕ)
     (told : List Place) : Type 0 where
   faulty : (number : ℕ) (fault : Fault) → IsFirstFault (states_of t f) script number fault
-      → text ≡ fault_line number fault → status ≡ statuses.Text → told ≡ [] → TellsSession script t f status text told
+      → text ≡ script_fault_line number fault → status ≡ statuses.Text → told ≡ []
+      → TellsSession script t f status text told
   played : (commands : List Command) (end : Session) → IsScript (states_of t f) script commands
       → Plays f.circuit (moment_at f.layout) (TellsLayers t f) commands (session (flat_start f) []) end text
       → status ≡ statuses.Done → told ≡ [] → TellsSession script t f status text told

@@ -22,7 +22,7 @@ use Rattle.bn_session.specs.declared.refusal.ScriptRefusal.{ScriptRefusal}
 use Rattle.bn_session.specs.declared.refusal.ScriptRefusal.TheVariants as refusals
 use Rattle.bn_view.specs.Viewed.{IsBoardFor}
 use Rattle.bn_viewreply.specs.Showing.{TellsLayers}
-use Rattle.bn_sessionreply.specs.SessionReply.{fault_line}
+use Rattle.bn_sessionreply.specs.SessionReply.{script_fault_line}
 
 -- The board is that of a table's machine and of this translation, and the table has names for whatever exit its layout
 -- finds on its run.
@@ -51,9 +51,9 @@ abbrev pub what_line : ℕ → List ℕ → List ℕ
 what_line number what = line (codes "text: script line " ∷ decimal number ∷ codes " " ∷ what ∷ [])
 
 -- the status and the line of a refusal
-abbrev pub IsRefused : ScriptRefusal → Status → List ℕ → Type 0
-IsRefused (refusals.Form n) status text = (status ≡ statuses.Text) × (text ≡ fault_line n malformed)
-IsRefused (refusals.NoState n) status text = (status ≡ statuses.Text) × (text ≡ fault_line n no_state)
-IsRefused (refusals.SameBreak n) status text = (status ≡ statuses.Text) × (text ≡ fault_line n same_break)
-IsRefused (refusals.NoBreak n) status text = (status ≡ statuses.Text) × (text ≡ fault_line n no_break)
-IsRefused refusals.NoMemory status text = ⊥
+abbrev pub IsScriptRefused : ScriptRefusal → Status → List ℕ → Type 0
+IsScriptRefused (refusals.Form n) status text = (status ≡ statuses.Text) × (text ≡ script_fault_line n malformed)
+IsScriptRefused (refusals.NoState n) status text = (status ≡ statuses.Text) × (text ≡ script_fault_line n no_state)
+IsScriptRefused (refusals.SameBreak n) status text = (status ≡ statuses.Text) × (text ≡ script_fault_line n same_break)
+IsScriptRefused (refusals.NoBreak n) status text = (status ≡ statuses.Text) × (text ≡ script_fault_line n no_break)
+IsScriptRefused refusals.NoMemory status text = ⊥

@@ -1,5 +1,5 @@
 //! Laws on what `session` answers. Each function does nothing but name the laws below it: its contract is the law.
-ghost use Rattle.bn_sessionreply.specs.Laws.{GoesStopAtLeast, PlacesAreOfTheRun, SessionsStayOnTheRun};
+ghost use Rattle.bn_sessionreply.specs.Laws.{GoesStopAtLeastHit, ToldPlacesAreOfTheRun, SessionsStayOnTheRun};
 ghost use Rattle.bn_sessionreply.specs.SessionReply.{SessionIsSettled};
 
 use bn_boardanswers::{boards_are_counted, exits_are_named};
@@ -24,11 +24,12 @@ pub fn session_has_one_reply()
     inputs_are_cut_once();
 }
 
-/// A script stays on the run of its board from the start: each place that is told is that of the run after as many steps
+/// A script stays on the run of its board from the start: each place that is told is that of the run after as many
+/// steps
 /// as its line says, which `step` and `view` come to as well; and `go` stops at the least later step at which a
 /// breakpoint holds.
 pub fn sessions_stay_on_the_run()
     ensures stay { SessionsStayOnTheRun }
-    ensures places { PlacesAreOfTheRun }
-    ensures least { GoesStopAtLeast }
+    ensures places { ToldPlacesAreOfTheRun }
+    ensures least { GoesStopAtLeastHit }
 {}

@@ -10,7 +10,7 @@ ghost use Rattle.bn_reply.specs.Words.{IsLetterSymbol};
 ghost use Rattle.bn_boardanswers.specs.Windows.{BoardReplies, WindowReplies};
 ghost use Rattle.bn_view.specs.Viewed.{IsBoardFor};
 ghost use Rattle.bn_sessionreply.specs.SessionReply.{SessionReplies, TellsSession};
-ghost use Rattle.bn_sessionreply.specs.Viewing.{IsAnswerTo, IsRefused, MayShow, what_line};
+ghost use Rattle.bn_sessionreply.specs.Viewing.{IsAnswerTo, IsScriptRefused, MayShow, what_line};
 
 use crate::viewer::Viewer;
 use bn_assembly::Windows;
@@ -190,7 +190,7 @@ fn play_script(
 
 // The answer to a script with a fault.
 fn refuse(alloc: Global, refusal: ScriptRefusal) -> Result<Reply, NoMemory>
-    ensures { IfOk result (λ r. IsRefused refusal r.status r.text.items) }
+    ensures { IfOk result (λ r. IsScriptRefused refusal r.status r.text.items) }
 {
     match refusal {
         ScriptRefusal::Form { line } => refuse_line(alloc, line, "form"),

@@ -1,7 +1,7 @@
 pub mod CheckLemmas
 pub mod MachineLemmas
 mod RunLemmas
-mod OutputLemmas
+pub mod OutputLemmas
 mod WholeRunLemmas
 pub mod FitLemmas
 mod ClashOrNot

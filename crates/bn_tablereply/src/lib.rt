@@ -10,4 +10,5 @@ mod reversible;
 pub use bennett::{bennett_has_one_reply, reply_bennett};
 pub use check::{check_has_one_reply, reply_check};
 pub use machine::{machine_has_one_reply, reply_machine};
+pub use machine_run::letter_at;
 pub use reversible::{reply_reversible, reversible_has_one_reply};

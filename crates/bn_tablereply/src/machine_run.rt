@@ -112,8 +112,8 @@ fn output_of(alloc: Global, tape: &Tape) -> Result<Vec<u32>, NoMemory>
     Ok(output)
 }
 
-// The symbol at a position, `None` exactly where it is the blank.
-fn letter_at(tape: &Tape, position: i64) -> Option<u32>
+/// The symbol at a position of a tape, `None` exactly where it is the blank, as it is outside of the window.
+pub fn letter_at(tape: &Tape, position: i64) -> Option<u32>
     requires { IsWindowed tape.now }
     ensures { MatchOption result (cell tape.now.tape position ≡ 0) (IsLetterAt tape.now position) }
 {

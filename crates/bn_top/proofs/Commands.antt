@@ -7,7 +7,7 @@ use Rattle.bn_words.specs.Forms.{most_increments, most_limit, most_number, row_o
 use Rattle.bn_words.specs.Requests.{AreWithin, HasForm, Request, letters_at, number_at}
 use Rattle.bn_words.specs.declared.form.Form.{Form}
 use Rattle.bn_words.specs.declared.form.Form.TheVariants.{Step, Back, Check, Machine, Reversible, Bennett, Realise, Standard}
-use Rattle.bn_words.specs.declared.form.Form.TheVariants.{Compile, Run, RunWithin, View, Session, Plan, Generate}
+use Rattle.bn_words.specs.declared.form.Form.TheVariants.{Compile, Run, RunWithin, View, Session, Plan, Generate, Erase, EraseRun}
 use Rattle.bn_words.specs.declared.kind.Kind.{Kind}
 use Rattle.bn_words.specs.declared.kind.Kind.TheVariants.{Count, Ordinal}
 use Rattle.bn_words.proofs.ArgumentLemmas.{count_most, form-AreWithin, ordinal_least, ordinal_most}
@@ -17,6 +17,8 @@ use Rattle.bn_reply.specs.declared.reply.Reply.{Reply}
 use Rattle.bn_reply.specs.declared.status.Status.{Status}
 use Rattle.bn_reply.specs.declared.reply.NoMemory.{NoMemory as WantOfMemory}
 use Rattle.bn_reply.proofs.ReplyLemmas.{silent}
+use Rattle.bn_erasereply.specs.EraseReply.{EraseReplies, EraseRunReplies}
+use Rattle.bn_erasereply.proofs.SettledLemmas.{erase_settled, erase_run_settled}
 use Rattle.bn_gen.specs.Increments.{IsRoundCount}
 use Rattle.bn_genreply.specs.GenerateReply.{GenerateReplies}
 use Rattle.bn_genreply.proofs.GenerateLemmas.{generate_settled}
@@ -94,6 +96,8 @@ settled_by Session request within = λ bytes.
     session_settled (letters_at request 0) (limits_at request) bytes (small_limits (row_of Session).kinds request within refl refl refl refl)
 settled_by Plan request within = plan_settled
 settled_by Generate request within = λ bytes. generate_settled (number_at request 0) (round_count request within)
+settled_by Erase request within = erase_settled
+settled_by EraseRun request within = erase_run_settled (letters_at request 0) (number_at request 1)
 
 -- what is asked for has one answer and only one
 pub settled : (words : List (List ℕ)) (request : Request) → HasForm words request → (bytes : List ℕ) → IsSettled (Replies request bytes)
@@ -130,6 +134,15 @@ module _ (request : Request) (form : Form) (of : form ≡ request.form) (bytes :
     machine_reply word n is word_is n_is h =
         let counted = subst (λ m. Silent result (MachineReplies word m bytes)) n_is h in
         silent_by Machine is (subst (λ w. Silent result (MachineReplies w (number_at request 1) bytes)) word_is counted)
+
+    pub erase_reply : form ≡ Erase → Silent result (EraseReplies bytes) → Replied result told told (Replies request bytes)
+    erase_reply is h = silent_by Erase is h
+
+    pub erase_run_reply : (word : List ℕ) (n : ℕ) → form ≡ EraseRun → word ≡ letters_at request 0 → n ≡ number_at request 1 →
+        Silent result (EraseRunReplies word n bytes) → Replied result told told (Replies request bytes)
+    erase_run_reply word n is word_is n_is h =
+        let counted = subst (λ m. Silent result (EraseRunReplies word m bytes)) n_is h in
+        silent_by EraseRun is (subst (λ w. Silent result (EraseRunReplies w (number_at request 1) bytes)) word_is counted)
 
     pub reversible_reply : form ≡ Reversible → Silent result (ReversibleReplies bytes) → Replied result told told (Replies request bytes)
     reversible_reply is h = silent_by Reversible is h
@@ -236,6 +249,8 @@ pub ruleset replies = (
   back_part,
   check_reply,
   machine_reply,
+  erase_reply,
+  erase_run_reply,
   reversible_reply,
   bennett_reply,
   realise_reply,

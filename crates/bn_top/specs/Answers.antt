@@ -7,10 +7,11 @@ use Rattle.bn_words.specs.Requests.{Request, HasForm, HasNoForm, letters_at, num
 use Rattle.bn_words.specs.Forms.{reads_input}
 use Rattle.bn_words.specs.declared.form.Form.{Form}
 use Rattle.bn_words.specs.declared.form.Form.TheVariants.{Step, Back, Check, Machine, Reversible, Bennett, Realise, Standard}
-use Rattle.bn_words.specs.declared.form.Form.TheVariants.{Compile, Run, RunWithin, View, Session, Plan, Generate}
+use Rattle.bn_words.specs.declared.form.Form.TheVariants.{Compile, Run, RunWithin, View, Session, Plan, Generate, Erase, EraseRun}
 use Rattle.bn_boardanswers.specs.CompileReply.{CompileReplies}
 use Rattle.bn_boardanswers.specs.Headline.{most_bytes}
 use Rattle.bn_boardanswers.specs.RunReply.{RunReplies}
+use Rattle.bn_erasereply.specs.EraseReply.{EraseReplies, EraseRunReplies}
 use Rattle.bn_genreply.specs.GenerateReply.{GenerateReplies}
 use Rattle.bn_netreply.specs.CircuitReply.{BackReplies, StepReplies}
 use Rattle.bn_netreply.specs.RealiseReply.{RealiseReplies}
@@ -75,6 +76,8 @@ RepliesBy View request = ViewReplies (number_at request 5) (letters_at request 0
 RepliesBy Session request = SessionReplies (letters_at request 0) (limits_at request)
 RepliesBy Plan request = PlanReplies
 RepliesBy Generate request = λ bytes. GenerateReplies (number_at request 0)
+RepliesBy Erase request = EraseReplies
+RepliesBy EraseRun request = EraseRunReplies (letters_at request 0) (number_at request 1)
 
 abbrev pub Replies : Request → List ℕ → Status → List ℕ → List Place → Type 0
 Replies request = RepliesBy request.form request

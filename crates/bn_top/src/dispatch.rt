@@ -7,6 +7,7 @@ ghost use Rattle.bn_top.specs.Answers.{HasWindow, Replies, limits_at};
 
 use bn_assembly::Windows;
 use bn_boardreply::{reply_compile, reply_run};
+use bn_erasereply::{reply_erase, reply_erase_run};
 use bn_genreply::reply_generate;
 use bn_net::Watch;
 use bn_netreply::{reply_back, reply_realise, reply_step};
@@ -73,6 +74,10 @@ pub(crate) fn reply_to<W: Watch>(
         Form::Session => reply_session(alloc, request.letters(0), &windows_of(request), bytes),
         Form::Plan => reply_plan(alloc, bytes),
         Form::Generate => reply_generate(alloc, request.number(0) as u32, watch),
+        Form::Erase => reply_erase(alloc, bytes),
+        Form::EraseRun => {
+            reply_erase_run(alloc, request.letters(0), request.number(1) as u32, bytes)
+        }
     }
 }
 

@@ -5,7 +5,7 @@ use Rattle.bn_words.specs.declared.kind.Kind.{Kind}
 use Rattle.bn_words.specs.declared.kind.Kind.TheVariants.{Count, Ordinal, Letters}
 use Rattle.bn_words.specs.declared.form.Form.{Form}
 use Rattle.bn_words.specs.declared.form.Form.TheVariants.{Step, Back, Check, Machine, Reversible, Bennett, Realise, Standard}
-use Rattle.bn_words.specs.declared.form.Form.TheVariants.{Compile, Run, RunWithin, View, Session, Plan, Generate}
+use Rattle.bn_words.specs.declared.form.Form.TheVariants.{Compile, Run, RunWithin, View, Session, Plan, Generate, Erase, EraseRun}
 
 -- a row: the command's name, and the kinds of the words behind it
 pub record Row : Type 0 where
@@ -47,6 +47,8 @@ row_of View = row (codes "view") (window_kinds (Count greatest ∷ []))
 row_of Session = row (codes "session") (window_kinds [])
 row_of Plan = row (codes "plan") []
 row_of Generate = row (codes "generate") (Ordinal most_increments ∷ [])
+row_of Erase = row (codes "erase") []
+row_of EraseRun = row (codes "erase") (Letters ∷ Count most_number ∷ [])
 
 -- whether the command reads an input
 abbrev pub reads_input : Form → Bool

@@ -71,6 +71,10 @@ pub enum Form {
     Plan,
     /// `generate k`: the run of the machine of k increments. It reads no input.
     Generate,
+    /// `erase`: the machine of two tables that leaves only its output.
+    Erase,
+    /// `erase =W n`: the run of that machine from the word W, of at most n steps.
+    EraseRun,
 }
 
 /// A row of the table: a name, and the kinds of the words behind it.
@@ -82,7 +86,7 @@ pub(crate) struct Row {
 
 impl Form {
     /// All forms.
-    pub const ALL: [Form; 15] = [
+    pub const ALL: [Form; 17] = [
         Form::Step,
         Form::Back,
         Form::Check,
@@ -98,6 +102,8 @@ impl Form {
         Form::Session,
         Form::Plan,
         Form::Generate,
+        Form::Erase,
+        Form::EraseRun,
     ];
 
     /// Whether the command reads an input.
@@ -128,6 +134,8 @@ impl Form {
             Form::Session => Row::new("session", &WINDOW),
             Form::Plan => Row::new("plan", &[]),
             Form::Generate => Row::new("generate", &[Ordinal(MOST_INCREMENTS)]),
+            Form::Erase => Row::new("erase", &[]),
+            Form::EraseRun => Row::new("erase", &[Letters, Count(MOST_NUMBER)]),
         }
     }
 }

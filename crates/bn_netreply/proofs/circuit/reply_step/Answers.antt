@@ -4,8 +4,8 @@ use Rattle.bn_netreply.proofs.CircuitLemmas.{refused, replied, unwritten, read-I
 use Rattle.bn_netreply.proofs.circuit.reply_step.Goals as goal
 
 pub returns-in-Err-clause-replied : goal.returns-in-Err-clause-replied
-returns-in-Err-clause-replied g c = refused (λ k d. run k d c.args.count) (λ k d. places k c.args.count d) c.args.bytes.now c.in-Err.refusal c.refuse.result
-    (g.W.Watch.told c.args.watch.now) c.in-Err.ensures.refused c.refuse.ensures
+returns-in-Err-clause-replied g c = refused (λ k d. run k d c.args.count) (λ k d. places k c.args.count d) c.args.bytes.now c.in-Err.refusal c.refuse_config.result
+    (g.W.Watch.told c.args.watch.now) c.in-Err.ensures.refused c.refuse_config.ensures
 
 pub from_net-requires : goal.from_net-requires
 from_net-requires g c = read-IsConfig c.in-Ok.read c.args.bytes.now c.in-Ok.ensures.spelled

@@ -1,0 +1,5 @@
+pub mod PairLemmas
+pub mod JudgedLemmas
+pub mod SettledLemmas
+pub mod TextLemmas
+pub mod RunLemmas

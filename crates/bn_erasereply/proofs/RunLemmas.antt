@@ -1,0 +1,214 @@
+-- The run of the machine of numbers on tapes in windows is the erasing machine's run on tapes without ends.
+use Rattle.std.specs.Prelude.{◌≡◌, ◌≢◌, ℕ, zero, suc, ◌+◌, ◌<◌, ◌≤◌, ◌⊎◌, ◌∷◌, List, [], length, max, Some, refl}
+use Rattle.std.proofs.Common.{sym, subst, ap, ◌∙◌, arith, inl, inr}
+use Rattle.std.proofs.lemmas.Bool.{cases_lt}
+use Rattle.std.proofs.lemmas.Option.{get_or_from_slice_get, slice_get_within}
+use Rattle.bn_theory.specs.Runs.{Reaches}
+use Rattle.bn_theory.proofs.RunsLemmas.{runs_more}
+use Rattle.bn_machine.specs.Machine.{Program, nth}
+use Rattle.bn_machine.specs.Run.{IsOutput}
+use Rattle.bn_machine.specs.Tape.{blank_tape, word_tape}
+use Rattle.bn_machine.specs.Window.{Windowed, new_window, within}
+use Rattle.bn_machine.specs.declared.quint.Side.{Side}
+use Rattle.bn_quad.specs.Quadruples.{Configuration, Goes, GoesBy, IsQuadMachine, IsRuleInRange, IsStuck, Quadruples, Rooms, Rule, everywhere, final_of, initial_of}
+use Rattle.bn_quad.specs.Calls.{AreSameWindows, IsQuadTurn, configuration, rooms_of}
+use Rattle.bn_quad.specs.declared.tapes.Tapes.{Tapes}
+use Rattle.bn_quad.specs.declared.tapes.QuadTurn.{QuadTurn}
+use Rattle.bn_quad.specs.declared.tapes.QuadTurn.TheVariants as turns
+use Rattle.bn_stages.specs.In.{IsIn}
+use Rattle.bn_stages.specs.Names.{states_in}
+use Rattle.bn_stages.specs.Renamed.{KeepsApart, in_state, rename}
+use Rattle.bn_stages.specs.Stages.{IsStandardMachine}
+use Rattle.bn_stages.specs.Steps.{EndsAt, Exit, Finished, Leaving, Steps, Stopped, finishes, leaves, stops}
+use Rattle.bn_stages.proofs.MembershipLemmas.{each_of_two, from_flat_map, in_head}
+use Rattle.bn_stages.proofs.NumberLemmas.{goes_steps, leaving_ends, stuck_ends}
+use Rattle.bn_bennett.proofs.Alike.{run_inside}
+use Rattle.bn_bennett.proofs.CallByCall.{rooms_same, windows_on}
+use Rattle.bn_erasing.specs.Erasing.{ErasingSteps, erasing, erasing_final, erasing_initial, erasing_start}
+use Rattle.bn_erasing.specs.Laws.{ErasingNumbersRunAlike, NoHeadLeaves, ReachesFar}
+use Rattle.bn_erasing.specs.Outcome as free
+use Rattle.bn_erasing.specs.Outcome.{ComesOut, HasOutcome, rewound}
+use Rattle.bn_erasing.specs.declared.name.ErasingName.{ErasingName}
+use Rattle.bn_erase.specs.Laws.{ErasingsAreUniform}
+use Rattle.bn_erase.specs.Made.{Erasure, IsErasing, name_of}
+use Rattle.bn_erasereply.specs.EraseRun.{ComesOutOf, HasEnded, IsEndingOf, IsErasingOfSome, IsRun, IsStep, Reached, StaysInside, outcome_of}
+use Rattle.bn_erasereply.specs.declared.run.Ending.{Ending}
+use Rattle.bn_erasereply.specs.declared.run.Ending.TheVariants.{Halted, Stuck, Running}
+
+-- ---- steps in windows, one after another
+
+pub none_made : (p : Quadruples) (state : ℕ) (w : Tapes) → Reached p 0 state w state w
+none_made p state w = record { same = record { one = refl; two = refl; three = refl }; run = refl }
+
+pub one_step_more : (p : Quadruples) (made state : ℕ) (w : Tapes) (at : ℕ) (v : Tapes) (quad after : ℕ) (u : Tapes) → Reached p made state w at v →
+    IsQuadTurn p (turns.Moved quad) at v after u → Reached p (made + 1) state w after u
+one_step_more p made state w at v quad after u r turn = record {
+  same = windows_on w v u r.same turn.1;
+  run =
+      let step : GoesBy (rooms_of w) p quad (configuration at v) (configuration after u) = subst (λ (rooms : Rooms). GoesBy rooms p quad (configuration at v) (configuration after u))
+      (rooms_same w v r.same) turn.0 in
+      runs_more (Goes (rooms_of w) p) made (configuration state w) (configuration at v) (configuration after u) r.run (quad, step);
+}
+
+-- a turn that is no step comes early
+pub early_turn : (p : Quadruples) (n made state : ℕ) (w : Tapes) (at : ℕ) (v : Tapes) (turn : QuadTurn) (after : ℕ) (u : Tapes) → made < n →
+    Reached p made state w at v → IsQuadTurn p turn at v after u → (IsStep turn → ⊥) → IsRun p n state w made turn after u
+early_turn p n made state w at v turn after u low r turn_is other =
+    record { at = at; tapes = v; reached = r; in_time = omega arith; last = turn_is; early = λ h. other }
+
+-- the turn behind the last of the steps that were asked for
+pub last_turn : (p : Quadruples) (n made state : ℕ) (w : Tapes) (at : ℕ) (v : Tapes) (turn : QuadTurn) (after : ℕ) (u : Tapes) → made ≡ n →
+    Reached p made state w at v → IsQuadTurn p turn at v after u → IsRun p n state w n turn after u
+last_turn p n made state w at v turn after u e r turn_is = record {
+  at = at;
+  tapes = v;
+  reached = subst (λ (i : ℕ). Reached p i state w at v) e r;
+  in_time = omega arith;
+  last = turn_is;
+  early = λ h. absurd (omega arith);
+}
+
+-- ---- what the program starts from
+
+-- tapes that reach to both sides further than n steps lead, the first with the word
+pub record Starts (p : Quadruples) (word : List ℕ) (n state : ℕ) (w : Tapes) : Type 0 where
+  pub state_is : state ≡ initial_of p.rules
+  pub one : w.one ≡ new_window (n + 1) (max (n + 1) (length word)) word
+  pub two : w.two ≡ new_window (n + 1) (max (n + 1) 0) []
+  pub three : w.three ≡ new_window (n + 1) (max (n + 1) 0) []
+
+room_far : (n right : ℕ) (word : List ℕ) (w : Windowed) → w ≡ new_window (n + 1) (max (n + 1) right) word → ReachesFar (n + 1) (within w.left w.right)
+room_far n right word w e =
+    let left : w.left ≡ n + 1 = ap (λ (x : Windowed). x.left) e in
+    let side : w.right ≡ max (n + 1) right = ap (λ (x : Windowed). x.right) e in
+    (omega (arith, left), omega (arith, side))
+
+some_rule : (rs : List (Rule ℕ)) → 0 < length rs → IsIn (states_in rs) (initial_of rs)
+some_rule [] low = absurd (omega arith)
+some_rule (r ∷ rs) low = in_head r.from (r.to ∷ states_in rs)
+
+-- a state of the quadruples is one of the machine's
+in_range : (e : Erasure) → IsQuadMachine e.machine → (state : ℕ) → IsIn (states_in e.machine.rules) state → state < e.machine.states
+in_range e machine state h =
+    let found = from_flat_map (λ (r : Rule ℕ). r.from ∷ r.to ∷ []) e.machine.rules state h in
+    each_of_two (λ s. s < e.machine.states) found.0.from found.0.to (rule found.0 found.1).from (rule found.0 found.1).to state found.2
+  where
+    rule : (r : Rule ℕ) → IsIn e.machine.rules r → IsRuleInRange e.machine.states e.machine.symbols r
+    rule r there = by_place there.place there.stands
+      where
+        by_place : (k : ℕ) → nth e.machine.rules k ≡ Some r → IsRuleInRange e.machine.states e.machine.symbols r
+        by_place zero at = absurd (cc)
+        by_place (suc k) at =
+            let P : Rule ℕ → Type 0 = IsRuleInRange e.machine.states e.machine.symbols in
+            subst P (get_or_from_slice_get e.machine.rules k r r at) (machine.in_range k r (slice_get_within e.machine.rules k r at))
+
+module _ (p q : Program) (e : Erasure) (made_of : IsErasing p q e) (first : IsStandardMachine p) (second : IsStandardMachine q) (uniform : ErasingsAreUniform)
+    (alike : ErasingNumbersRunAlike) (word : List ℕ) (n : ℕ) (w : Tapes) (starts : Starts e.machine word n (initial_of e.machine.rules) w) where
+  abbrev begin : Configuration ℕ
+  begin = configuration (initial_of e.machine.rules) w
+
+  begin_in : IsIn (states_in e.machine.rules) (initial_of e.machine.rules)
+  begin_in = some_rule e.machine.rules made_of.machine.some
+
+  begin_is : in_state (name_of e) begin ≡ erasing_start p word
+  begin_is =
+      let name = (uniform p q e first second made_of).1 in
+      λ i. record { state = name i; one = (starts.one i).tape; two = (starts.two i).tape; three = (starts.three i).tape }
+
+  both : ((m : ℕ) (d : Configuration ℕ) → Reaches (Goes (rooms_of w) e.machine) m begin d → Reaches (Steps (rooms_of w) (erasing p q) (erasing_final q)) m (in_state (name_of e) begin) (in_state (name_of e) d))
+      × ((m : ℕ) (c : Configuration ErasingName) → Reaches (Steps (rooms_of w) (erasing p q) (erasing_final q)) m (in_state (name_of e) begin) c → (d : Configuration ℕ) × Reaches (Goes (rooms_of w) e.machine) m begin d × (c ≡ in_state (name_of e) d) × IsIn (states_in e.machine.rules) d.state)
+  both =
+      let all = alike p q first second (name_of e) e.machine made_of.rules (uniform p q e first second made_of).3 (rooms_of w) begin begin_in in
+      (all.0, all.1)
+
+  -- the run over names, in the windows and without ends
+  named_run : (m at : ℕ) (v : Tapes) → Reached e.machine m (initial_of e.machine.rules) w at v → Reaches (Steps (rooms_of w) (erasing p q) (erasing_final q)) m (erasing_start p word) (in_state (name_of e) (configuration at v))
+  named_run m at v r =
+      subst (λ c. Reaches (Steps (rooms_of w) (erasing p q) (erasing_final q)) m c (in_state (name_of e) (configuration at v))) begin_is (both.0 m (configuration at v) r.run)
+
+  wide : (c d : Configuration ErasingName) → Steps (rooms_of w) (erasing p q) (erasing_final q) c d → ErasingSteps p q c d
+  wide c d s = record { going = s.going; follows = s.follows; stays = record { one = tt; two = tt; three = tt } }
+
+  wide_run : (m : ℕ) (c d : Configuration ErasingName) → Reaches (Steps (rooms_of w) (erasing p q) (erasing_final q)) m c d → Reaches (ErasingSteps p q) m c d
+  wide_run zero c d run = run
+  wide_run (suc m) c d run = (run.0, wide c run.0 run.1, wide_run m run.0 d run.2)
+
+  free_run : (m at : ℕ) (v : Tapes) → Reached e.machine m (initial_of e.machine.rules) w at v → Reaches (ErasingSteps p q) m (erasing_start p word) (in_state (name_of e) (configuration at v))
+  free_run m at v r = wide_run m (erasing_start p word) (in_state (name_of e) (configuration at v)) (named_run m at v r)
+
+  state_in : (m at : ℕ) (v : Tapes) → Reached e.machine m (initial_of e.machine.rules) w at v → IsIn (states_in e.machine.rules) at
+  state_in m at v r = run_inside e.machine (rooms_of w) m begin (configuration at v) begin_in r.run
+
+  -- the ends are the same at a configuration that is reached
+  ends_alike : (at : ℕ) (v : Tapes) (x : Exit) → IsIn (states_in e.machine.rules) at → EndsAt (rooms_of w) e.machine.rules (final_of e.machine.rules) (configuration at v) x →
+      EndsAt (rooms_of w) (erasing p q) (erasing_final q) (in_state (name_of e) (configuration at v)) x
+  ends_alike at v x there ends =
+      (alike p q first second (name_of e) e.machine made_of.rules (uniform p q e first second made_of).3 (rooms_of w) (configuration at v) there).2 x .0 ends
+
+  -- no head leaves its window
+  pub turn_inside : NoHeadLeaves → (m at : ℕ) (v : Tapes) (turn : QuadTurn) (after : ℕ) (u : Tapes) → m ≤ n → Reached e.machine m (initial_of e.machine.rules) w at v →
+      IsQuadTurn e.machine turn at v after u → StaysInside turn
+  turn_inside near m at v turns.Final after u low r turn = tt
+  turn_inside near m at v turns.Stuck after u low r turn = tt
+  turn_inside near m at v (turns.Moved quad) after u low r turn = tt
+  turn_inside near m at v (turns.Left tape side) after u low r turn =
+      let leaving : EndsAt (rooms_of w) e.machine.rules (final_of e.machine.rules) (configuration at v) (Leaving tape side) = subst
+      (λ (rooms : Rooms). EndsAt rooms e.machine.rules (final_of e.machine.rules) (configuration at v) (Leaving tape side)) (rooms_same w v r.same) (leaving_ends e.machine at v tape side turn.0) in
+      near p q first second word (n + 1) m (rooms_of w) (in_state (name_of e) (configuration at v))
+      (room_far n (length word) word w.one starts.one) (room_far n 0 [] w.two starts.two) (room_far n 0 [] w.three starts.three) (omega arith)
+      (named_run m at v r) tape side (ends_alike at v (Leaving tape side) (state_in m at v r) leaving)
+
+  -- how the run comes out
+  pub comes_out : (m at : ℕ) (v : Tapes) (turn : QuadTurn) (after : ℕ) (u : Tapes) (ending : Ending) → m ≤ n → (m < n → IsStep turn → ⊥) →
+      Reached e.machine m (initial_of e.machine.rules) w at v → IsQuadTurn e.machine turn at v after u → ComesOutOf turn after u ending →
+      HasOutcome p q word n m (outcome_of e ending) × IsEndingOf e ending
+  comes_out m at v turns.Final after u (Halted work output) low early r turn out = (
+    record {
+      moment = in_state (name_of e) (configuration at v);
+      run = free_run m at v r;
+      in_time = low;
+      ends = free.halts work.items output.items (ap (name_of e) turn.0 ∙ (uniform p q e first second made_of).2)
+          (subst (λ (x : Tapes). IsOutput (rewound x.one.tape) work.items) turn.2 out.0) (subst (λ (x : Tapes). IsOutput (rewound x.three.tape) output.items) turn.2 out.1) refl;
+    },
+    tt,
+  )
+  comes_out m at v turns.Stuck after u (Stuck state) low early r turn out =
+      let same : state ≡ at = out ∙ turn.1 in
+      let ends = ends_alike at v Stopped (state_in m at v r) (stuck_ends (rooms_of w) e.machine (configuration at v) turn.0) in (
+        record {
+          moment = in_state (name_of e) (configuration at v);
+          run = free_run m at v r;
+          in_time = low;
+          ends = stopped ends (ap (λ s. free.Stuck (name_of e s)) same);
+        },
+        subst (λ s. s < e.machine.states) (sym same) (in_range e made_of.machine at (state_in m at v r)),
+      )
+    where
+      stopped : EndsAt (rooms_of w) (erasing p q) (erasing_final q) (in_state (name_of e) (configuration at v)) Stopped → outcome_of e (Stuck state) ≡ free.Stuck (name_of e at) →
+          ComesOut p q n m (in_state (name_of e) (configuration at v)) (outcome_of e (Stuck state))
+      stopped (finishes final why) is = absurd (cc)
+      stopped (stops going none why) is = free.sticks going none is
+      stopped (leaves tape side d going follows outside why) is = absurd (cc)
+  comes_out m at v (turns.Moved quad) after u Running low early r turn out =
+      let next : Reached e.machine (m + 1) (initial_of e.machine.rules) w after u = one_step_more e.machine m (initial_of e.machine.rules) w at v quad after u r turn in
+      let step = one_named at v quad after u (state_in m at v r) (subst (λ (rooms : Rooms). GoesBy rooms e.machine quad (configuration at v) (configuration after u)) (rooms_same w v r.same) turn.0) in (
+        record {
+          moment = in_state (name_of e) (configuration at v);
+          run = free_run m at v r;
+          in_time = low;
+          ends = free.runs (in_state (name_of e) (configuration after u)) step (by_count (cases_lt m n)) refl;
+        },
+        tt,
+      )
+    where
+      by_count : (m < n) ⊎ (n ≤ m) → m ≡ n
+      by_count (inl less) = absurd (early less tt)
+      by_count (inr more) = omega arith
+
+      one_named : (at : ℕ) (v : Tapes) (quad after : ℕ) (u : Tapes) → IsIn (states_in e.machine.rules) at → GoesBy (rooms_of w) e.machine quad (configuration at v) (configuration after u) →
+          ErasingSteps p q (in_state (name_of e) (configuration at v)) (in_state (name_of e) (configuration after u))
+      one_named at v quad after u there goes =
+          let all = alike p q first second (name_of e) e.machine made_of.rules (uniform p q e first second made_of).3 (rooms_of w) (configuration at v) there in
+          let run = all.0 1 (configuration after u) (configuration after u, (quad, goes), refl) in
+          wide (in_state (name_of e) (configuration at v)) (in_state (name_of e) (configuration after u)) (subst (λ c. Steps (rooms_of w) (erasing p q) (erasing_final q) (in_state (name_of e) (configuration at v)) c) run.2 run.1)
+  comes_out m at v turn after u ending low early r turn_is out = absurd out

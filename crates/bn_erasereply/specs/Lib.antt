@@ -1,0 +1,4 @@
+pub mod Pairs
+pub mod EraseReply
+pub mod EraseRun
+pub mod Laws
