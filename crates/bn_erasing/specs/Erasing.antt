@@ -12,6 +12,7 @@ use Rattle.bn_stages.specs.Steps.{Steps}
 use Rattle.bn_stages.specs.declared.name.Name.{Name}
 use Rattle.bn_stages.specs.declared.name.Name.TheVariants.{Compute, ComputeWithin, GoRight, CopyLetter, GoLeft}
 use Rattle.bn_stages.specs.declared.name.Name.TheVariants.{PassLetter, Retrace, RetraceWithin}
+use Rattle.bn_quadlists.specs.Lists.{exchanged_list}
 use Rattle.bn_erasing.specs.declared.name.ErasingName.{ErasingName}
 use Rattle.bn_erasing.specs.declared.name.ErasingName.TheVariants.{First, Second}
 
