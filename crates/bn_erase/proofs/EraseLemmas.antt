@@ -31,7 +31,7 @@ use Rattle.bn_erasing.specs.declared.name.ErasingName.TheVariants.{First, Second
 use Rattle.bn_erasing.proofs.DistinctLemmas.{distinct_numbers, in_numbers, numbers_apart, numbers_in}
 use Rattle.bn_erasing.proofs.ErasingLemmas.{second_final, second_own}
 use Rattle.bn_erase.specs.Numbered.{AreErasing, joint_names, joint_quads, meeting_of, new_state}
-use Rattle.bn_erase.specs.declared.erase.Meeting.{Meeting}
+use Rattle.bn_erase.specs.declared.erasing.Meeting.{Meeting}
 use Rattle.bn_erase.proofs.ListLemmas.{all_from, final_low, from_backward, holds_of, joint_kept, joint_rules, rename_backward, rename_same, rename_twice}
 use Rattle.bn_erase.proofs.NewStateLemmas.{Placed, final, before, behind, placed}
 use Rattle.bn_erase.proofs.WithoutLemmas.{apart_without, in_without, left_out, length-without, others_stay, place_before, place_behind, without, without_is}

@@ -1,20 +1,21 @@
 -- Lists of quadruples with other states, turned round, with tapes exchanged, and as they are kept.
-use Rattle.std.specs.Prelude.{◌≡◌, ℕ, zero, suc, ◌<◌, List, [], ◌∷◌, ◌++◌, length, map, reverse, All, Some}
+use Rattle.std.specs.Prelude.{◌≡◌, ℕ, zero, suc, ◌<◌, ◌≤◌, List, [], ◌∷◌, ◌++◌, length, map, reverse, All, Some}
 use Rattle.std.proofs.Common.{refl, sym, ap, ◌∙◌, subst, arith, get_or}
 use Rattle.std.proofs.lemmas.List.{map-append, reverse-append}
-use Rattle.std.proofs.lemmas.List.Elements.{All-tail}
+use Rattle.std.proofs.lemmas.List.Elements.{All-map, All-same, All-tail}
 use Rattle.std.proofs.lemmas.Option.{get_or_from_slice_get, slice_get-get_or, slice_get_within}
 use Rattle.bn_machine.specs.Machine.{nth}
 use Rattle.bn_quad.specs.Kept.{quad_of}
-use Rattle.bn_quad.specs.Quadruples.{IsRuleInRange, Rule, final_of, turned, turned_list}
+use Rattle.bn_quad.specs.Quadruples.{IsQuadMachine, IsRuleInRange, Quadruples, Rule, final_of, inverse_of, turned, turned_list}
 use Rattle.bn_quad.specs.declared.quad.Quad.{Quad}
+use Rattle.bn_bennett.specs.Draft.{IsBelow}
 use Rattle.bn_stages.specs.In.{IsIn}
 use Rattle.bn_stages.proofs.MembershipLemmas.{in_head, in_tail, from_map}
 use Rattle.bn_stages.specs.Renamed.{renamed, rename}
 use Rattle.bn_quadlists.specs.Lists.{exchanged, exchanged_list}
 use Rattle.bn_quadlists.proofs.TurnedLemmas.{from_turned}
 use Rattle.bn_erase.specs.Numbered.{backward_quad, joint_quads, new_state}
-use Rattle.bn_erase.specs.declared.erase.Meeting.{Meeting}
+use Rattle.bn_erase.specs.declared.erasing.Meeting.{Meeting}
 
 -- ---- what stands in a list
 
@@ -92,3 +93,11 @@ pub joint_kept : (m : Meeting) (rs ss : List (Rule ℕ)) → joint_quads m rs ss
 joint_kept m rs ss =
     ap (λ (qs : List Quad). map quad_of rs ++ qs) (backward_kept m (turned_list ss))
     ∙ sym (map-append quad_of rs (rename (new_state m) (exchanged_list (turned_list ss))))
+
+-- the states of a machine backward are few where the machine's are
+pub backward_below : (m u : Quadruples) (quads : List Quad) (count : ℕ) → IsQuadMachine m → m ≡ inverse_of u → quads ≡ map quad_of m.rules → u.states ≤ count → All (IsBelow count) quads
+backward_below m u quads count valid turns kept few =
+    let states : m.states ≡ u.states = ap (λ (x : Quadruples). x.states) turns in
+    All-same (IsBelow count) quads (map quad_of m.rules) kept (All-map (IsBelow count) quad_of m.rules (λ k d inside.
+    let range = valid.in_range k d inside in
+    record { state = omega (arith, range.from); next = omega (arith, range.to) }))

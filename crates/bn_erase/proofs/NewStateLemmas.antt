@@ -3,7 +3,7 @@ use Rattle.std.specs.Prelude.{◌≡◌, ℕ, suc, ◌+◌, ◌-◌, ◌<◌, �
 use Rattle.std.proofs.Common.{refl, arith, inl, inr}
 use Rattle.std.proofs.lemmas.Bool.{cases_order, eq-eqb, ne_eqb, lt-ltb, le-ltb}
 use Rattle.bn_erase.specs.Numbered.{new_state}
-use Rattle.bn_erase.specs.declared.erase.Meeting.{Meeting}
+use Rattle.bn_erase.specs.declared.erasing.Meeting.{Meeting}
 
 -- the final state's number, or one before it or behind it
 pub data Placed (m : Meeting) (s : ℕ) : Type 0 where

@@ -13,7 +13,7 @@ use Rattle.bn_stages.specs.declared.name.Name.TheVariants.{GoRight}
 use Rattle.bn_erasing.specs.Erasing.{erasing}
 use Rattle.bn_erasing.specs.declared.name.ErasingName.{ErasingName}
 use Rattle.bn_erasing.specs.declared.name.ErasingName.TheVariants.{First, Second}
-use Rattle.bn_erase.specs.declared.erase.Meeting.{Meeting}
+use Rattle.bn_erase.specs.declared.erasing.Meeting.{Meeting}
 
 -- ---- numbers
 

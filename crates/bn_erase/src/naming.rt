@@ -7,7 +7,7 @@ ghost use Rattle.bn_erase.specs.Made.{IsErasing};
 ghost use Rattle.bn_erase.specs.Printable.{ArePrintable};
 ghost use Rattle.bn_erase.specs.Printed.{erasing_text, letter_names, names_of};
 
-use crate::erase::Erasing;
+use crate::erasing::Erasing;
 use crate::joined::Joined;
 use crate::laws::erasings_have_names;
 use bn_bennett::{add_history_symbols, name_text};

@@ -13,7 +13,9 @@ ghost use Rattle.bn_erase.specs.Numbered.{AreErasing, backward_quad, joint_names
 
 use crate::refusal::EraseRefusal;
 use bn_bennett::{Translated, translate};
-use bn_erasing::{ErasingName, erasing_counts, erasing_names as erasing_has_names, erasing_numbers};
+use bn_erasing::{
+    ErasingName, erasing_counts, erasing_names as erasing_has_names, erasing_numbers,
+};
 use bn_quad::{NoMemory, Quad, QuadMachine, Uniform};
 use bn_stages::{Name, list_counts_names, list_has_names, numbers_pass_tests};
 use bn_standard::Standard;
@@ -288,7 +290,12 @@ fn symbols_of(first: &Standard, second: &Standard) -> [u32; 3]
 }
 
 // The uniform machine of quadruples that are the list over these names.
-fn uniform_of(names: &[ErasingName], quads: Vec<Quad>, first: &Standard, second: &Standard) -> Uniform
+fn uniform_of(
+    names: &[ErasingName],
+    quads: Vec<Quad>,
+    first: &Standard,
+    second: &Standard,
+) -> Uniform
     requires first { FitsTable first.now }
     requires second { FitsTable second.now }
     requires symbols { first.now.symbols ≡ second.now.symbols }

@@ -3,7 +3,7 @@ use Rattle.std.proofs.Common.{ℕ, List, arith, length, subst}
 use Rattle.bn_quad.specs.Calls.{IsMadeOf, IsQuadRefusal}
 use Rattle.bn_erasing.specs.Erasing.{erasing_symbols}
 use Rattle.bn_erase.proofs.MachineLemmas.{few_quads, made_erasing, none_refused, own_erasing, own_made, passes}
-use Rattle.bn_erase.proofs.erase.uniform_of.Goals as goal
+use Rattle.bn_erase.proofs.erasing.uniform_of.Goals as goal
 
 pub overflow_cast-names : goal.overflow_cast-names
 overflow_cast-names c = omega (arith, c.requires.list.few)
