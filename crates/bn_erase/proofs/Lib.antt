@@ -4,3 +4,9 @@ pub mod RecodedLemmas
 pub mod JointLemmas
 pub mod LetterLemmas
 pub mod JoinedLemmas
+pub mod WithoutLemmas
+pub mod NewStateLemmas
+pub mod ListLemmas
+pub mod EraseLemmas
+pub mod MachineLemmas
+pub mod PrintedLemmas

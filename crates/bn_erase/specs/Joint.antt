@@ -5,7 +5,7 @@ use Rattle.std.specs.Prelude.{◌≡◌, ℕ, zero, suc, ◌==◌, List, [], ◌
 use Rattle.std.specs.Prelude.{if◌then◌else◌, slice_get, slice_index}
 use Rattle.std.specs.List.{list_all, list_any}
 use Rattle.bn_entries.specs.Forms.{is_symbol_byte}
-use Rattle.bn_machine.specs.Machine.{Program}
+use Rattle.bn_machine.specs.Machine.{IsMachine, Program}
 use Rattle.bn_table.specs.Rows.{FitsTable, Named, blank}
 use Rattle.bn_erase.specs.Recoded.{recoded, widened}
 
@@ -48,11 +48,13 @@ pub record IsCode (before after : List ℕ) (code : ℕ → ℕ) : Type 0 where
   pub each : (symbol letter : ℕ) → slice_get before symbol ≡ Some letter → slice_get after (code symbol) ≡ Some letter
 
 -- what holds of two machines over one alphabet: its letters are those of tables, both have as many symbols as it has
--- letters, and both are as tables have them
+-- letters, both are machines, and both are as tables have them
 pub record IsJoint (j : Joint) : Type 0 where
   pub alphabet : IsAlphabet blank j.letters
   pub letters_form : list_all is_symbol_byte j.letters ≡ true
   pub first_symbols : j.first.symbols ≡ length j.letters
   pub second_symbols : j.second.symbols ≡ length j.letters
+  pub first_machine : IsMachine j.first
+  pub second_machine : IsMachine j.second
   pub first_fits : FitsTable j.first
   pub second_fits : FitsTable j.second

@@ -1,5 +1,7 @@
 pub mod Recoded
 pub mod Joint
 pub mod Made
+pub mod Numbered
 pub mod Printed
+pub mod Printable
 pub mod Laws

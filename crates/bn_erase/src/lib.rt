@@ -3,7 +3,7 @@
 //! two machines in standard form, and the printed names of its states and symbols.
 #![tactic(auto)]
 
-mod erase;
+mod erasing;
 mod joined;
 mod laws;
 mod naming;
@@ -11,7 +11,7 @@ mod refusal;
 
 pub use bn_erasing::ErasingName;
 pub use bn_quad::NoMemory;
-pub use erase::{Erasing, MOST_QUADRUPLES, erase};
+pub use erasing::{Erasing, MOST_QUADRUPLES, erase};
 pub use joined::{Joined, join_letters};
 pub use laws::{
     erasings_are_uniform, erasings_erase, erasings_have_names, joined_are_judged_alike,

@@ -1,16 +1,19 @@
 //! The printed names of the erasing machine's states and symbols.
-ghost use Rattle.std.specs.Prelude.{◌≡◌, ◌<◌, ◌≤◌, [], IfOk, OnOk, length, map};
+ghost use Rattle.std.specs.Prelude.{◌≡◌, ◌<◌, ◌≤◌, [], ◌∷◌, IfOk, OnOk, length, map};
 ghost use Rattle.bn_quad.specs.Names.{nameless, symbols_on};
 ghost use Rattle.bn_qtable.specs.Named.{HasNames};
-ghost use Rattle.bn_bennett.specs.Printed.{on_tape, with_states};
+ghost use Rattle.bn_bennett.specs.Printed.{on_tape, state_text, with_states};
 ghost use Rattle.bn_erase.specs.Made.{IsErasing};
+ghost use Rattle.bn_erase.specs.Printable.{ArePrintable};
 ghost use Rattle.bn_erase.specs.Printed.{erasing_text, letter_names, names_of};
 
-use crate::erase::Erasing;
+use crate::erasing::Erasing;
 use crate::joined::Joined;
+use crate::laws::erasings_have_names;
 use bn_bennett::{add_history_symbols, name_text};
-use bn_erasing::ErasingName;
+use bn_erasing::{ErasingName, erasing_names as erasing_has_names};
 use bn_quad::{NoMemory, QuadNames};
+use bn_stages::Name;
 use std::alloc::Global;
 
 /// The names of an erasing machine's states and symbols: each state of the first machine has `F` and its name, each of
@@ -25,6 +28,18 @@ pub fn erasing_names(
     ensures names { IfOk result (λ names. names ≡ names_of joined.now erasing.now) }
     ensures forms { IfOk result (HasNames erasing.now.machine) }
 {
+    erasings_have_names();
+    let _first = joined.first().quints();
+    let _second = joined.second().quints();
+    all_names(alloc, joined, erasing)
+}
+
+// All names.
+fn all_names(alloc: Global, joined: &Joined, erasing: &Erasing) -> Result<QuadNames, NoMemory>
+    requires { IsErasing joined.now.first joined.now.second erasing.now }
+    ensures { IfOk result (λ names. names ≡ names_of joined.now erasing.now) }
+{
+    erasing_has_names();
     let mut names = QuadNames::empty(alloc);
     let first = joined.first().quints().len() as u32;
     let second = joined.second().quints().len() as u32;
@@ -38,6 +53,7 @@ pub fn erasing_names(
 // Names each state.
 fn add_states(alloc: Global, names: &mut QuadNames, states: &[ErasingName]) -> Result<(), NoMemory>
     requires empty { names.old ≡ nameless }
+    requires printable { ArePrintable states.now }
     ensures { OnOk result (names.new ≡ with_states (map erasing_text states.now)) }
 {
     for name in states {
@@ -52,8 +68,23 @@ fn text_of(alloc: Global, name: ErasingName) -> Result<Vec<u8>, NoMemory>
     ensures { IfOk result (λ text. text.items ≡ erasing_text name) }
 {
     match name {
-        ErasingName::First(name) => marked(alloc, b'F', name),
-        ErasingName::Second(name) => marked(alloc, b'G', name),
+        ErasingName::First(name) => marked_text(alloc, b'F', name),
+        ErasingName::Second(name) => marked_text(alloc, b'G', name),
+    }
+}
+
+// The text of a name of one machine, with a letter before it.
+fn marked_text(alloc: Global, letter: u8, name: Name) -> Result<Vec<u8>, NoMemory>
+    ensures { IfOk result (λ text. text.items ≡ letter ∷ state_text name) }
+{
+    let own = name_text(alloc, name)?;
+    let mut text = Vec::new(alloc);
+    if text.push(letter).is_err() {
+        return Err(NoMemory);
+    }
+    match text.extend_from_slice(own.as_slice()) {
+        Ok(()) => Ok(text),
+        Err(_) => Err(NoMemory),
     }
 }
 

@@ -11,7 +11,12 @@ pub enum EraseRefusal {
 }
 
 impl From<NoMemory> for EraseRefusal {
-    fn from(_want: NoMemory) -> EraseRefusal {
+    ghost use Rattle.bn_erase.specs.declared.refusal.EraseRefusal.TheVariants as refusal;
+    ghost use Rattle.std.specs.Prelude.{◌≡◌};
+
+    ghost from_gives = { λ _ result. result ≡ refusal.NoMemory };
+
+    fn from(_: NoMemory) -> EraseRefusal {
         EraseRefusal::NoMemory
     }
 }

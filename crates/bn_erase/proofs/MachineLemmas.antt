@@ -1,0 +1,119 @@
+-- The machine of quadruples that are the erasing machine's list: they are sound, and they are deterministic, reversible and uniform.
+use Rattle.std.specs.Prelude.{◌≡◌, ℕ, suc, ◌+◌, ◌*◌, ◌<◌, ◌≤◌, ◌^◌, List, [], ◌∷◌, length, map, All, Some}
+use Rattle.std.specs.Option.{option_map}
+use Rattle.std.proofs.Common.{refl, sym, ap, ◌∙◌, subst, arith, get_or}
+use Rattle.std.proofs.lemmas.List.{length-map}
+use Rattle.std.proofs.lemmas.Option.{slice_get-map}
+use Rattle.bn_machine.specs.Machine.{IsMachine, Program, nth}
+use Rattle.bn_machine.proofs.MachineLemmas.{nth-get_or, nth_once}
+use Rattle.bn_quad.specs.Calls.{IsMadeOf, IsQuadRefusal, IsUniformMachine}
+use Rattle.bn_quad.specs.Kept.{Agree, IsActInRange, IsReadInRange, IsSound, act_of, quad_of, read_of, rule_of, rules_of}
+use Rattle.bn_quad.specs.Quadruples.{AreDeedsInRange, Deed, IsDeedInRange, IsQuadMachine, Move, Quadruples, Rewrite, Rule, deeds_of}
+use Rattle.bn_quad.proofs.KeptLemmas.{nth-rules_of, quads-apart}
+use Rattle.bn_quad.specs.declared.quad.Quad.{Quad}
+use Rattle.bn_quad.specs.declared.refusal.QuadRefusal.{QuadRefusal}
+use Rattle.bn_stages.specs.In.{IsIn}
+use Rattle.bn_stages.proofs.MembershipLemmas.{in_map}
+use Rattle.bn_stages.specs.Renamed.{rename, renamed, name_at}
+use Rattle.bn_stages.specs.Stages.{IsStandardMachine}
+use Rattle.bn_stages.specs.declared.name.Name.TheVariants.{GoRight}
+use Rattle.bn_table.specs.Rows.{FitsTable}
+use Rattle.bn_bennett.specs.Draft.{IsBelow}
+use Rattle.bn_bennett.proofs.Machines.{no_quad_refusal, some_symbols}
+use Rattle.bn_erasing.specs.Erasing.{erasing, erasing_symbols}
+use Rattle.bn_erasing.specs.Laws.{ErasingHasLength, ErasingIsInRange, ErasingNumbersPassTests}
+use Rattle.bn_erasing.specs.declared.name.ErasingName.{ErasingName}
+use Rattle.bn_erasing.specs.declared.name.ErasingName.TheVariants.{First}
+use Rattle.bn_erase.specs.Made.{IsErasing, erasure_of}
+use Rattle.bn_erase.specs.Numbered.{AreErasing}
+
+-- ---- a kept rule in range is sound
+
+read_in : (z : ℕ) (d : Deed) → IsDeedInRange z d → IsReadInRange z (read_of d)
+read_in z (Rewrite r w) h = h.0
+read_in z (Move s) h = tt
+
+act_in : (z : ℕ) (d : Deed) → IsDeedInRange z d → IsActInRange z (act_of d)
+act_in z (Rewrite r w) h = h.1
+act_in z (Move s) h = tt
+
+agree : (d : Deed) → Agree (read_of d) (act_of d)
+agree (Rewrite r w) = tt
+agree (Move s) = tt
+
+sound_kept : (states a b c : ℕ) (r : Rule ℕ) → IsBelow states (quad_of r) → AreDeedsInRange (a ∷ b ∷ c ∷ []) (deeds_of r) → IsSound states (a ∷ b ∷ c ∷ []) (quad_of r)
+sound_kept states a b c r below deeds = record {
+  reads = refl;
+  acts = refl;
+  in_range = record {
+    state = below.state;
+    one = record { read = read_in a r.one deeds.0; act = act_in a r.one deeds.0 };
+    two = record { read = read_in b r.two deeds.1.0; act = act_in b r.two deeds.1.0 };
+    three = record { read = read_in c r.three deeds.1.1.0; act = act_in c r.three deeds.1.1.0 };
+    next = below.next;
+  };
+  unmixed = record { one = agree r.one; two = agree r.two; three = agree r.three };
+}
+
+-- ---- how many quadruples
+
+-- a table's machine makes few
+pub few_quadruples : (p q : Program) → IsMachine p → IsMachine q → ErasingHasLength → length (erasing p q) ≡ (4 * length p.quints + 2 * p.symbols + 3) + (4 * length q.quints + 2 * q.symbols + 3)
+few_quadruples p q left right has_length =
+    let long : length (erasing p q) ≡ 4 * (length p.quints + length q.quints) + 2 * (p.symbols + q.symbols) + 6 = has_length p q (some_symbols p left) (some_symbols q right) in
+    omega (arith, long)
+
+module _ (p q : Program) (names : List ErasingName) (quads : List Quad) (left : IsMachine p) (right : IsMachine q) (d : AreErasing p q names quads) where
+  length-quads : length quads ≡ length (erasing p q)
+  length-quads = sym (length-map quads rule_of) ∙ sym (length-map (rules_of quads) (renamed (name_at (First GoRight) names))) ∙ ap length d.list
+
+  pub some_quads : ErasingHasLength → 0 < length quads
+  some_quads has_length = omega (arith, length-quads, few_quadruples p q left right has_length)
+
+  pub few_quads : ErasingHasLength → FitsTable p → FitsTable q → length quads < 2 ^ 32
+  few_quads has_length fits also = omega (arith, length-quads, few_quadruples p q left right has_length, fits.quints, fits.symbols, also.quints, also.symbols)
+
+  -- the rules of the machine that is made of them
+  pub made_list : (m : Quadruples) (states : ℕ) (symbols : List ℕ) → IsMadeOf m quads states symbols → rename (name_at (First GoRight) names) m.rules ≡ erasing p q
+  made_list m states symbols made = ap (rename (name_at (First GoRight) names)) (quads-apart m.rules (rules_of quads) (made.listed ∙ sym d.kept)) ∙ d.list
+
+  pub made_erasing : (m : Quadruples) → IsMadeOf m quads (length names) (erasing_symbols p q) → IsQuadMachine m → IsErasing p q (erasure_of names m)
+  made_erasing m made valid = record {
+    rules = made_list m (length names) (erasing_symbols p q) made;
+    numbered = d.numbered;
+    machine = valid;
+    states = made.counted;
+    symbols = made.lettered;
+  }
+
+  pub passes : ErasingNumbersPassTests → IsStandardMachine p → IsStandardMachine q → (m : Quadruples) (states : ℕ) (symbols : List ℕ) → IsMadeOf m quads states symbols → IsUniformMachine m
+  passes tests one two m states symbols made =
+      let all = tests p q one two (name_at (First GoRight) names) m.rules (made_list m states symbols made) in
+      record { deterministic = all.0; reversible = all.1; uniform = all.2 }
+
+  -- ---- none is refused
+
+  module _ (ranges : ErasingIsInRange) (same : p.symbols ≡ q.symbols) where
+    sound : All (IsSound (length names) (erasing_symbols p q)) quads
+    sound = λ k e inside.
+        let quad = get_or quads k e in
+        let at : nth (rules_of quads) (suc k) ≡ Some (rule_of quad) = nth-rules_of quads k e inside in
+        let kept : quad_of (rule_of quad) ≡ quad =
+        nth_once quads (suc k) (quad_of (rule_of quad)) quad (ap (λ qs. nth qs (suc k)) (sym d.kept) ∙ slice_get-map quad_of (rules_of quads) k ∙ ap (option_map quad_of) at) (nth-get_or quads k e inside) in
+        let there : IsIn (rules_of quads) (rule_of quad) = record { place = suc k; stands = at } in
+        let listed : IsIn (erasing p q) (renamed (name_at (First GoRight) names) (rule_of quad)) =
+        subst (λ rs. IsIn rs (renamed (name_at (First GoRight) names) (rule_of quad))) d.list (in_map (renamed (name_at (First GoRight) names)) (rules_of quads) (rule_of quad) there) in
+        let below : IsBelow (length names) (quad_of (rule_of quad)) = subst (IsBelow (length names)) (sym kept) (d.below k e inside) in
+        let range : AreDeedsInRange (erasing_symbols p q) (deeds_of (rule_of quad)) = ranges p q left right same (renamed (name_at (First GoRight) names) (rule_of quad)) listed in
+        subst (IsSound (length names) (erasing_symbols p q)) kept (sound_kept (length names) _ _ _ (rule_of quad) below range)
+
+    pub none_refused : ErasingHasLength → (why : QuadRefusal) → IsQuadRefusal quads (length names) (erasing_symbols p q) why → ⊥
+    none_refused has_length why refused = no_quad_refusal (length names) (erasing_symbols p q) quads why (some_quads has_length) sound refused
+
+-- ---- what holds of a machine holds of an equal one
+
+pub own_made : (p q : Program) (m : Quadruples) (quads : List Quad) (states : ℕ) (zs : List ℕ) → zs ≡ erasing_symbols p q → IsMadeOf m quads states zs → IsMadeOf m quads states (erasing_symbols p q)
+own_made p q m quads states zs e made = let P : List ℕ → Type 0 = IsMadeOf m quads states in subst P e made
+
+pub own_erasing : (p q : Program) (names : List ErasingName) (m u : Quadruples) → u ≡ m → IsErasing p q (erasure_of names m) → IsErasing p q (erasure_of names u)
+own_erasing p q names m u e h = let P : Quadruples → Type 0 = λ x. IsErasing p q (erasure_of names x) in subst P (sym e) h

@@ -1,0 +1,24 @@
+-- Each state's text is new.
+use Rattle.std.proofs.Common.{◌≡◌, ◌<◌, ◌∙◌, arith, length, get_or}
+use Rattle.bn_stages.specs.declared.name.Name.TheVariants.{Compute}
+use Rattle.bn_bennett.proofs.Texts.{states_more}
+use Rattle.bn_erasing.specs.declared.name.ErasingName.TheVariants.{First}
+use Rattle.bn_erase.specs.Printed.{erasing_text}
+use Rattle.bn_erase.proofs.PrintedLemmas.{state_new, state_room}
+use Rattle.bn_erase.proofs.naming.add_states.Goals as goal
+
+pub add_state-requires : goal.add_state-requires
+add_state-requires c =
+    let names = c.args.states.now in
+    let i = c.loop-name.name-index in
+    let inside : i < length names = omega arith in
+    let is : c.as_slice.result.now ≡ erasing_text (get_or names i (First (Compute 0))) = c.as_slice.ensures.value ∙ c.in_ok-text.ensures in
+    record {
+      new = state_new names c.requires.printable i (First (Compute 0)) c.loop-name.names c.as_slice.result.now inside c.loop-name.invariant is;
+      room = state_room names c.requires.printable i (First (Compute 0)) c.loop-name.names c.as_slice.result.now inside c.loop-name.invariant is;
+    }
+
+pub loop-name-preserved : goal.loop-name-preserved
+loop-name-preserved c =
+    let is : c.as_slice.result.now ≡ erasing_text (get_or c.args.states.now c.loop-name.name-index (First (Compute 0))) = c.as_slice.ensures.value ∙ c.in_ok-text.ensures in
+    states_more erasing_text c.args.states.now c.loop-name.name-index (First (Compute 0)) c.loop-name.names c.add_state.new.self c.as_slice.result.now (omega arith) c.loop-name.invariant is c.in_ok-add_state.ensures.ok
