@@ -1,7 +1,7 @@
 -- The machines of two tables over one alphabet.
 use Rattle.std.specs.Prelude.{◌≡◌, ℕ, suc, ◌<◌, ◌≤◌, ◌==◌, List, not, length, map, slice_get, slice_index, Some}
 use Rattle.std.specs.List.{list_all, list_any}
-use Rattle.std.proofs.Common.{sym, ap, ◌∙◌, subst, arith, get_or, true, refl}
+use Rattle.std.proofs.Common.{sym, ap, ◌∙◌, subst, arith, get_or, true, refl, filter, length-append}
 use Rattle.std.proofs.lemmas.Option.{get_or_from_slice_get, slice_get_within, slice_get-get_or}
 use Rattle.bn_entries.specs.Forms.{is_symbol_byte}
 use Rattle.bn_machine.specs.Machine.{IsMachine, Program, program_of}
@@ -43,6 +43,16 @@ code_within : (letters own : List ℕ) → ((l : ℕ) → IsIn own l → IsIn le
 code_within letters own known s low =
     slice_get_within letters (code_among letters own s) (get_or own s 0) ((is_code letters own known).each s (get_or own s 0) (slice_get-get_or own s 0 low))
 
+-- a machine with more symbols is one
+widened_machine : (n : ℕ) (p : Program) → IsMachine p → p.symbols ≤ n → IsMachine (widened n p)
+widened_machine n p m low = record {
+  some = m.some;
+  few = m.few;
+  in_range = λ i d inside.
+      let r = m.in_range i d inside in
+      record { state = r.state; read = omega (arith, r.read); write = omega (arith, r.write); next = r.next };
+}
+
 module _ (t u : Named) (h : IsTable t) (k : IsTable u) where
   abbrev both : List ℕ
   both = joint_letters t.letters u.letters
@@ -68,6 +78,11 @@ module _ (t u : Named) (h : IsTable t) (k : IsTable u) where
     letters_form = joint_form;
     first_symbols = refl;
     second_symbols = refl;
+    first_machine =
+        let more = length-append t.letters (filter (λ letter. not (list_any (λ known. known == letter) t.letters)) u.letters) in
+        widened_machine (length both) t.machine (table_machine t h) (omega (arith, h.symbols));
+    second_machine = recoded_machine (code_among both u.letters) (length both) u.machine (table_machine u k)
+        (λ s low. code_within both u.letters (second_in t.letters u.letters) s (subst (λ n. s < n) k.symbols low));
     first_fits = widened_fits (length both) t.machine (fits_table t h) joint_few;
     second_fits = recoded_fits (code_among both u.letters) (length both) u.machine (fits_table u k) joint_few;
   }

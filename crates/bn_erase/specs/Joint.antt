@@ -1,6 +1,5 @@
 -- Two tables' machines over one alphabet: the letters of the first in their order, then the further letters of the
--- second
--- in theirs (this project's own profile).
+-- second in theirs (this project's own profile).
 use Rattle.std.specs.Prelude.{◌≡◌, ℕ, zero, suc, ◌==◌, List, [], ◌∷◌, ◌++◌, true, not, filter, length, Some}
 use Rattle.std.specs.Prelude.{if◌then◌else◌, slice_get, slice_index}
 use Rattle.std.specs.List.{list_all, list_any}
@@ -28,8 +27,7 @@ abbrev pub joint_of : Program → Program → List ℕ → Joint
 joint_of first second letters = record { first = first; second = second; letters = letters }
 
 -- the machines of two tables over one alphabet: the first one's symbols keep their numbers, and each symbol of the
--- second
--- gets that of its letter
+-- second gets that of its letter
 abbrev pub joined : Named → Named → Joint
 joined t u = record {
   first = widened (length (joint_letters t.letters u.letters)) t.machine;

@@ -26,8 +26,7 @@ use std::marker::Model;
 pub const MOST_QUADRUPLES: u32 = 20_000;
 
 /// The machine that leaves only its output (Bennett 1973), with the names of its states, each at its number. Callers
-/// see
-/// both.
+/// see both.
 #[derive(Drop)]
 pub struct Erasing {
     names: Vec<ErasingName>,
@@ -65,10 +64,9 @@ impl Erasing {
 }
 
 /// The erasing machine of two machines (Bennett 1973): the reversible machine of the first, which leaves x and y, and
-/// then
-/// the reversible machine of the second backward, with tapes 1 and 3 exchanged, which takes x away where the second
-/// machine makes x of y. Both machines are as tables have them, with the same number of symbols. For N and M quintuples
-/// and z symbols it has 4(N + M) + 4z + 6 quadruples; `Many` comes exactly where these are more than 20,000.
+/// then the reversible machine of the second backward, with tapes 1 and 3 exchanged, which takes x away where the
+/// second machine makes x of y. Both machines are as tables have them, with the same number of symbols. For N and M
+/// quintuples and z symbols it has 4(N + M) + 4z + 6 quadruples; `Many` comes exactly where these are more than 20,000.
 pub fn erase(alloc: Global, first: &Standard, second: &Standard) -> Result<Erasing, EraseRefusal>
     requires first { FitsTable first.now }
     requires second { FitsTable second.now }
