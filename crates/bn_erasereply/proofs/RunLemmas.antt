@@ -143,7 +143,9 @@ module _ (p q : Program) (e : Erasure) (made_of : IsErasing p q e) (first : IsSt
   ends_alike : (at : ℕ) (v : Tapes) (x : Exit) → IsIn (states_in e.machine.rules) at → EndsAt (rooms_of w) e.machine.rules (final_of e.machine.rules) (configuration at v) x →
       EndsAt (rooms_of w) (erasing p q) (erasing_final q) (in_state (name_of e) (configuration at v)) x
   ends_alike at v x there ends =
-      (alike p q first second (name_of e) e.machine made_of.rules (uniform p q e first second made_of).3 (rooms_of w) (configuration at v) there).2 x .0 ends
+      let all = alike p q first second (name_of e) e.machine made_of.rules (uniform p q e first second made_of).3 (rooms_of w) (configuration at v) there in
+      let same = all.2 x in
+      same.0 ends
 
   -- no head leaves its window
   pub turn_inside : NoHeadLeaves → (m at : ℕ) (v : Tapes) (turn : QuadTurn) (after : ℕ) (u : Tapes) → m ≤ n → Reached e.machine m (initial_of e.machine.rules) w at v →

@@ -1,4 +1,5 @@
 pub mod Pairs
 pub mod EraseReply
 pub mod EraseRun
+pub mod Opened
 pub mod Laws

@@ -35,7 +35,9 @@ pub(crate) fn open_word(alloc: Global, joined: &Joined, word: &[u8]) -> Result<O
                 status: Status::Word,
             }));
         };
-        symbols.push(symbol)?;
+        if symbols.push(symbol).is_err() {
+            return Err(NoMemory);
+        }
     }
     Ok(OpenedWord::Symbols(symbols))
 }
@@ -62,7 +64,9 @@ pub(crate) fn push_letters(
     ensures { OnOk result (text.new.items ≡ text.old.items ++ letters_of (lettered joined.now) symbols.now) }
 {
     for symbol in symbols {
-        text.push(joined.letter(*symbol))?;
+        if text.push(joined.letter(*symbol)).is_err() {
+            return Err(NoMemory);
+        }
     }
     Ok(())
 }
