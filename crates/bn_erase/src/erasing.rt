@@ -26,8 +26,7 @@ use std::marker::Model;
 pub const MOST_QUADRUPLES: u32 = 20_000;
 
 /// The machine that leaves only its output (Bennett 1973), with the names of its states, each at its number. Callers
-/// see
-/// both.
+/// see both.
 #[derive(Drop)]
 pub struct Erasing {
     names: Vec<ErasingName>,
@@ -65,10 +64,9 @@ impl Erasing {
 }
 
 /// The erasing machine of two machines (Bennett 1973): the reversible machine of the first, which leaves x and y, and
-/// then
-/// the reversible machine of the second backward, with tapes 1 and 3 exchanged, which takes x away where the second
-/// machine makes x of y. Both machines are as tables have them, with the same number of symbols. For N and M quintuples
-/// and z symbols it has 4(N + M) + 4z + 6 quadruples; `Many` comes exactly where these are more than 20,000.
+/// then the reversible machine of the second backward, with tapes 1 and 3 exchanged, which takes x away where the
+/// second machine makes x of y. Both machines are as tables have them, with the same number of symbols. For N and M
+/// quintuples and z symbols it has 4(N + M) + 4z + 6 quadruples; `Many` comes exactly where these are more than 20,000.
 pub fn erase(alloc: Global, first: &Standard, second: &Standard) -> Result<Erasing, EraseRefusal>
     requires first { FitsTable first.now }
     requires second { FitsTable second.now }
@@ -159,7 +157,7 @@ fn meeting_of(translated: &Translated, other: &Translated) -> Meeting
     }
 }
 
-// The number that a state of the second one gets.
+// The number that a state of the second machine gets.
 fn new_state(meeting: Meeting, state: u32) -> u32
     requires { state < 2 ^ 32 - meeting.states }
     ensures { result ≡ new_state meeting state }
@@ -274,7 +272,8 @@ fn backward_quad(quad: &Quad, meeting: Meeting) -> Quad
 
 // ---- the machine
 
-// How many symbols each tape has, tape 1 first: the history has one for each quintuple of the longer machine.
+// How many symbols each tape has, tape 1 first: the history has the blank, and one for each quintuple of the longer
+// machine.
 fn symbols_of(first: &Standard, second: &Standard) -> [u32; 3]
     requires first { length first.now.quints ≤ 4000 }
     requires second { length second.now.quints ≤ 4000 }
