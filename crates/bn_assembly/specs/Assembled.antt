@@ -48,8 +48,10 @@ assembled_code =
 abbrev pub network_of : Assembled → Circuit
 network_of a = circuit module_table a.net
 
--- The network is the machine's, for this window: module 0 is its control, the others are its cells, the wires are those of the network, the board would not have too many elements, and it is at the start with this word.
-pub record IsAssembled (m : Quadruples) (l : Limits) (word : List ℕ) (names : List ControlState) (a : Assembled) : Type 0 where
+-- The network is the machine's, for this window: module 0 is its control, the others are its cells, the wires are those
+-- of the network, the board would not have too many elements, and it is at the start with this word.
+pub record IsAssembled (m : Quadruples) (l : Limits) (word : List ℕ) (names : List ControlState)
+    (a : Assembled) : Type 0 where
   pub control : Controlled
   pub first : slice_get a.net.elements 0 ≡ Some (Control control)
   pub is_control : IsControlOf m names control
@@ -64,7 +66,8 @@ pub record IsAssembled (m : Quadruples) (l : Limits) (word : List ℕ) (names : 
 abbrev pub IsWordOf : Quadruples → List ℕ → Type 0
 IsWordOf m word = All (λ s. (0 < s) × (s < letters m 1)) word
 
--- What every assembly keeps: there is a machine with its control's states in order and a word for which it is assembled.
+-- What every assembly keeps: there is a machine with its control's states in order and a word for which it is
+-- assembled.
 pub record IsKept (a : Assembled) : Type 0 where
   pub machine : Quadruples
   pub names : List ControlState
@@ -83,7 +86,8 @@ pub record IsKept (a : Assembled) : Type 0 where
 abbrev pub CountsElements : Quadruples → Limits → ℕ → Type 0
 CountsElements m l count = (names : List ControlState) × IsNumbering m names × (count ≡ elements_by m l (length names))
 
--- what a refusal says: the word is longer than the right side of tape 1; or it isn't, and the board would have too many elements. Want of memory says only that the word fits.
+-- what a refusal says: the word is longer than the right side of tape 1; or it isn't, and the board would have too many
+-- elements. Want of memory says only that the word fits.
 abbrev pub IsRefusal : Quadruples → Limits → List ℕ → AssembleRefusal → Type 0
 IsRefusal m l word (WordOutside needs) = (needs ≡ length word) × (l.right < length word)
 IsRefusal m l word (Elements count) = (length word ≤ l.right) × CountsElements m l count × (MOST_ELEMENTS < count)

@@ -1,4 +1,5 @@
--- Codes by which ghost values keep an assembly: its modules, wires, configuration and window, part by part. They say nothing of it.
+-- Codes by which ghost values keep an assembly: its modules, wires, configuration and window, part by part. They say
+-- nothing of it.
 use Rattle.std.specs.Prelude.{◌≡◌, ◌⊎◌, ℕ, List, refl}
 use Rattle.std.specs.Coded.{Coded, coded_ℕ, coded_list, coded×, coded⊎, code_by}
 use Rattle.std.proofs.Common.{inl, inr}
@@ -27,7 +28,8 @@ module_whole (Control v) = refl
 module_whole (Cell c) = refl
 
 abbrev pub module_code : Coded Module
-module_code = code_by (Controlled ⊎ CellTable) (coded⊎ controlled_code cell.the_row.coded) module_parts module_from module_whole
+module_code = code_by (Controlled ⊎ CellTable)
+    (coded⊎ controlled_code cell.the_row.coded) module_parts module_from module_whole
 
 abbrev pub place_parts : Place → (ℕ × ℕ) ⊎ (ℕ × ℕ)
 place_parts (Enter e i) = inl (e, i)

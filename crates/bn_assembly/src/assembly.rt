@@ -74,7 +74,8 @@ impl Assembly {
     pub fn symbols(&self, tape: u32) -> u32
         requires first { 1 ≤ tape }
         requires last { tape ≤ 3 }
-        ensures { (m : Quadruples) (word : List ℕ) (names : List ControlState) → IsAssembled m self.now.limits word names self.now → result ≡ letters m tape }
+        ensures { (m : Quadruples) (word : List ℕ) (names : List ControlState)
+            → IsAssembled m self.now.limits word names self.now → result ≡ letters m tape }
     {
         match self.net.element(self.windows.first_cell(tape)) {
             Module::Control(_) => 0,

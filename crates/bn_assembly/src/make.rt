@@ -43,9 +43,11 @@ pub fn assemble(
     requires windows { AreSmall (limits_of windows.now) }
     requires few { length word.now < 2 ^ 32 }
     requires word { IsWordOf machine.now word.now }
-    ensures made { IfOk result (λ a. (names : List ControlState) × IsAssembled machine.now (limits_of windows.now) word.now names a) }
+    ensures made { IfOk result (λ a. (names : List ControlState)
+        × IsAssembled machine.now (limits_of windows.now) word.now names a) }
     ensures refused { IfErr result (IsRefusal machine.now (limits_of windows.now) word.now) }
-    ensures word { (limits_of windows.now).right < length word.now → result ≡ Err (AssembleRefusal.WordOutside (length word.now)) }
+    ensures word { (limits_of windows.now).right < length word.now
+        → result ≡ Err (AssembleRefusal.WordOutside (length word.now)) }
 {
     if word.len() > windows.right1 as usize {
         return Err(AssembleRefusal::WordOutside {
@@ -66,7 +68,8 @@ fn assemble_fitting(
     requires windows { AreSmall (limits_of windows.now) }
     requires word { IsWordOf machine.now word.now }
     requires fits { length word.now ≤ (limits_of windows.now).right }
-    ensures made { IfOk result (λ a. (names : List ControlState) × IsAssembled machine.now (limits_of windows.now) word.now names a) }
+    ensures made { IfOk result (λ a. (names : List ControlState)
+        × IsAssembled machine.now (limits_of windows.now) word.now names a) }
     ensures refused { IfErr result (IsRefusal machine.now (limits_of windows.now) word.now) }
 {
     let Ok(control) = control(alloc, machine) else {
@@ -88,7 +91,8 @@ fn assemble_fitting(
 pub fn element_count(machine: &Uniform, windows: &Windows) -> u64
     requires machine { IsWithinLimits machine.now }
     requires windows { AreSmall (limits_of windows.now) }
-    ensures { (names : List ControlState) → IsNumbering machine.now names → result ≡ elements_by machine.now (limits_of windows.now) (length names) }
+    ensures { (names : List ControlState) → IsNumbering machine.now names
+        → result ≡ elements_by machine.now (limits_of windows.now) (length names) }
 {
     let machine = machine.machine();
     count_elements(machine, windows, state_count(machine))
@@ -127,7 +131,8 @@ fn join(
     requires fits { length word.now ≤ (limits_of windows.now).right }
     requires control { (names : List ControlState) × IsControlOf machine.now names control }
     requires few { elements_by machine.now (limits_of windows.now) control.machine.states ≤ MOST_ELEMENTS }
-    ensures { IfOk result (λ a. (names : List ControlState) × IsAssembled machine.now (limits_of windows.now) word.now names a) }
+    ensures { IfOk result (λ a. (names : List ControlState)
+        × IsAssembled machine.now (limits_of windows.now) word.now names a) }
 {
     let wires = network_wires(alloc, machine, windows)?;
     let states = start_states(alloc, machine, windows, word)?;

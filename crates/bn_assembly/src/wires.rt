@@ -85,7 +85,8 @@ fn push_joint(wires: &mut Vec<Wire>, cell: u32, symbols: u32) -> Result<(), NoMe
 fn push_bundle(wires: &mut Vec<Wire>, from: Line, to: Line, count: u32) -> Result<(), NoMemory>
     requires from { from.line + count < 2 ^ 32 }
     requires to { to.line + count < 2 ^ 32 }
-    ensures { OnOk result (wires.new.items ≡ wires.old.items ++ bundle from.element from.line to.element to.line count) }
+    ensures { OnOk result (wires.new.items
+        ≡ wires.old.items ++ bundle from.element from.line to.element to.line count) }
 {
     for number in 0..count {
         let wire = Wire {

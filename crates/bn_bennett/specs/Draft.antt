@@ -23,7 +23,8 @@ renamed_back names quads = rename (name_at GoRight names) (rules_of quads)
 abbrev pub drafted : Draft → List (Rule Name)
 drafted d = renamed_back d.names.keys d.quads.items
 
--- the names are those of the quadruples, by first appearance; each quadruple is its rule as it is kept, and each of its states has a name
+-- the names are those of the quadruples, by first appearance; each quadruple is its rule as it is kept, and each of its
+-- states has a name
 pub record AreDrafted (names : List Name) (quads : List Quad) : Type 0 where
   pub in_order : names ≡ firsts_by is_same (states_in (renamed_back names quads))
   pub kept : map quad_of (rules_of quads) ≡ quads

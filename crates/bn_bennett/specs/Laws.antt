@@ -23,20 +23,27 @@ TranslationsAreOne = (p : Program) (t u : Translation) → IsTranslation p t →
 abbrev pub TranslationsAreThere : Type 0
 TranslationsAreThere = (p : Program) → IsStandardMachine p → FitsTable p → (t : Translation) × IsTranslation p t
 
--- the machine of a translation is deterministic, reversible and uniform; its initial state is the first quintuple's state in compute and its final state the same in retrace; no two of its states have one name
+-- the machine of a translation is deterministic, reversible and uniform; its initial state is the first quintuple's
+-- state in compute and its final state the same in retrace; no two of its states have one name
 abbrev pub TranslationsAreUniform : Type 0
 TranslationsAreUniform =
     (p : Program) (t : Translation) → IsStandardMachine p → IsTranslation p t
-    → IsUniformMachine t.machine × (name_of t (initial_of t.machine.rules) ≡ initial_name p) × (name_of t (final_of t.machine.rules) ≡ final_name p) × KeepsApart (name_of t) t.machine.rules
+    → IsUniformMachine t.machine × (name_of t (initial_of t.machine.rules) ≡ initial_name p)
+    × (name_of t (final_of t.machine.rules) ≡ final_name p) × KeepsApart (name_of t) t.machine.rules
 
--- Bennett's theorem: where the one-tape machine halts after v steps with an output y of L letters, the machine of its translation comes from (word, blank, blank) to (word, blank, y) in 4v + 4L + 5 steps, all heads at 0 again and the state final; and where it comes to its final state, it is that run.
+-- Bennett's theorem: where the one-tape machine halts after v steps with an output y of L letters, the machine of its
+-- translation comes from (word, blank, blank) to (word, blank, y) in 4v + 4L + 5 steps, all heads at 0 again and the
+-- state final; and where it comes to its final state, it is that run.
 abbrev pub TranslationsHaltAlike : Type 0
 TranslationsHaltAlike =
     (p : Program) (t : Translation) (word : List ℕ) → IsStandardMachine p → IsTranslation p t → IsSpelledBy p word
-    → ((v : ℕ) (y : List ℕ) → HaltsAfter p word v y → Runs t word everywhere (4 * v + 4 * length y + 5) (ending_of t word y))
-    × ((n : ℕ) (c : Configuration ℕ) → Runs t word everywhere n c → c.state ≡ final_of t.machine.rules → (v : ℕ) × (y : List ℕ) × HaltsAfter p word v y × (n ≡ 4 * v + 4 * length y + 5) × (c ≡ ending_of t word y))
+    → ((v : ℕ) (y : List ℕ) → HaltsAfter p word v y
+    → Runs t word everywhere (4 * v + 4 * length y + 5) (ending_of t word y))
+    × ((n : ℕ) (c : Configuration ℕ) → Runs t word everywhere n c → c.state ≡ final_of t.machine.rules → (v : ℕ)
+    × (y : List ℕ) × HaltsAfter p word v y × (n ≡ 4 * v + 4 * length y + 5) × (c ≡ ending_of t word y))
 
--- within limits the one-tape machine's own run comes out so after i steps exactly where the run of its translation's machine ends as that outcome says
+-- within limits the one-tape machine's own run comes out so after i steps exactly where the run of its translation's
+-- machine ends as that outcome says
 abbrev pub TranslationsEndAlike : Type 0
 TranslationsEndAlike =
     (p : Program) (t : Translation) (word : List ℕ) → IsStandardMachine p → IsTranslation p t → IsSpelledBy p word
@@ -48,17 +55,21 @@ CallsEndAlike =
     (p : Program) (t : Translation) (word : List ℕ) → IsStandardMachine p → IsTranslation p t → IsSpelledBy p word
     → (l : Limits) (i : ℕ) (o : Outcome) → HasOutcome p word l i o ↔ CallsEndAs t word l i o
 
--- every moment of the machine's run from a word stands for a moment of the one-tape machine's own run, and a run within limits makes at most 4 steps for each step of the history, 4 for each cell of the output tape, and 5 more
+-- every moment of the machine's run from a word stands for a moment of the one-tape machine's own run, and a run within
+-- limits makes at most 4 steps for each step of the history, 4 for each cell of the output tape, and 5 more
 abbrev pub TranslationsStand : Type 0
 TranslationsStand =
     (p : Program) (t : Translation) (word : List ℕ) → IsStandardMachine p → IsTranslation p t → IsSpelledBy p word
     → ((rooms : Rooms) (n : ℕ) (c : Configuration ℕ) → Runs t word rooms n c → Stands p word (in_state (name_of t) c))
     × ((l : Limits) (n : ℕ) (c : Configuration ℕ) → Runs t word (rooms_of l) n c → n ≤ 4 * l.steps + 4 * l.output + 5)
 
--- every state and every symbol of a table's translation has a printed name, in the form of its kind, with which its quadruples can be written as a table
+-- every state and every symbol of a table's translation has a printed name, in the form of its kind, with which its
+-- quadruples can be written as a table
 abbrev pub TranslationsHaveNames : Type 0
-TranslationsHaveNames = (t : Named) (s : Translation) → IsMachine t.machine → IsTable t → FitsTable t.machine → IsTranslation t.machine s → HasNames s.machine (names_of t s)
+TranslationsHaveNames = (t : Named) (s : Translation) → IsMachine t.machine → IsTable t → FitsTable t.machine
+    → IsTranslation t.machine s → HasNames s.machine (names_of t s)
 
 -- a table's translation with its names is a table of quadruples: what is written of it is read as it again
 abbrev pub TranslationsAreTables : Type 0
-TranslationsAreTables = (t : Named) (s : Translation) → IsMachine t.machine → IsTable t → FitsTable t.machine → IsTranslation t.machine s → QuadTables.IsTable (QuadTables.table_of s.machine (names_of t s))
+TranslationsAreTables = (t : Named) (s : Translation) → IsMachine t.machine → IsTable t → FitsTable t.machine
+    → IsTranslation t.machine s → QuadTables.IsTable (QuadTables.table_of s.machine (names_of t s))

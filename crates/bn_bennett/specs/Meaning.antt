@@ -1,7 +1,8 @@
 -- What a state of the reversible machine says of the one-tape machine (Bennett 1973; the names are this project's own).
 use Rattle.std.specs.Prelude.{ℕ}
 use Rattle.bn_stages.specs.declared.name.Name.{Name}
-use Rattle.bn_stages.specs.declared.name.Name.TheVariants.{Compute, ComputeWithin, GoRight, CopyLetter, GoLeft, PassLetter, Retrace, RetraceWithin}
+use Rattle.bn_stages.specs.declared.name.Name.TheVariants.{Compute, ComputeWithin, GoRight, CopyLetter, GoLeft}
+use Rattle.bn_stages.specs.declared.name.Name.TheVariants.{PassLetter, Retrace, RetraceWithin}
 use Rattle.bn_bennett.specs.declared.translated.Stage.{Stage}
 use Rattle.bn_bennett.specs.declared.translated.Stage.TheVariants as stage
 use Rattle.bn_bennett.specs.declared.translated.MachineState.{MachineState}
@@ -18,7 +19,8 @@ stage_by PassLetter = stage.Copy
 stage_by (Retrace j) = stage.Retrace
 stage_by (RetraceWithin m) = stage.Retrace
 
--- the one-tape machine's state, or the quintuple within whose step it is; while the output is copied it stands in its final state
+-- the one-tape machine's state, or the quintuple within whose step it is; while the output is copied it stands in its
+-- final state
 abbrev pub machine_state_by : ℕ → Name → MachineState
 machine_state_by final (Compute j) = AtState j
 machine_state_by final (ComputeWithin m) = Within m

@@ -1,9 +1,11 @@
 -- The printed names of the reversible machine's states and symbols (this project's own profile).
-use Rattle.std.specs.Prelude.{◌≡◌, ℕ, zero, suc, ◌+◌, ◌^◌, ◌<◌, Bool, true, false, List, [], ◌∷◌, ◌++◌, length, map, Some, slice_get, decimal, if◌then◌else◌}
+use Rattle.std.specs.Prelude.{◌≡◌, ℕ, zero, suc, ◌+◌, ◌^◌, ◌<◌, Bool, true, false, List, [], ◌∷◌, ◌++◌, length, map}
+use Rattle.std.specs.Prelude.{Some, slice_get, decimal, if◌then◌else◌}
 use Rattle.std.specs.List.{range_with_len}
 use Rattle.bn_quad.specs.Names.{Naming, naming_of}
 use Rattle.bn_stages.specs.declared.name.Name.{Name}
-use Rattle.bn_stages.specs.declared.name.Name.TheVariants.{Compute, ComputeWithin, GoRight, CopyLetter, GoLeft, PassLetter, Retrace, RetraceWithin}
+use Rattle.bn_stages.specs.declared.name.Name.TheVariants.{Compute, ComputeWithin, GoRight, CopyLetter, GoLeft}
+use Rattle.bn_stages.specs.declared.name.Name.TheVariants.{PassLetter, Retrace, RetraceWithin}
 use Rattle.bn_table.specs.Rows.{Named, blank}
 use Rattle.bn_bennett.specs.Translation.{Translation}
 use Rattle.bn_bennett.specs.declared.naming.Print.{Print}
@@ -63,6 +65,8 @@ on_tape n (suc zero) names = naming_of n.states names n.two n.three
 on_tape n (suc (suc zero)) names = naming_of n.states n.one names n.three
 on_tape n (suc (suc (suc tape))) names = naming_of n.states n.one n.two names
 
--- the names of a table's translation: its states' texts; on tapes 1 and 3 the table's letters; on tape 2 the history's symbols
+-- the names of a table's translation: its states' texts; on tapes 1 and 3 the table's letters; on tape 2 the history's
+-- symbols
 abbrev pub names_of : Named → Translation → Naming
-names_of table t = naming_of (map state_text t.names) (map one_byte table.letters) (number_names (length table.machine.quints)) (map one_byte table.letters)
+names_of table t = naming_of (map state_text t.names) (map one_byte table.letters)
+    (number_names (length table.machine.quints)) (map one_byte table.letters)

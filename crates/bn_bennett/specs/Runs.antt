@@ -19,11 +19,21 @@ use Rattle.bn_bennett.specs.Translation.{Translation, name_of}
 
 -- the start: the initial state, the word on tape 1, tapes 2 and 3 blank, all heads at 0
 abbrev pub beginning_of : Translation → List ℕ → Configuration ℕ
-beginning_of t word = record { state = initial_of t.machine.rules; one = word_tape word; two = blank_tape; three = blank_tape }
+beginning_of t word = record {
+  state = initial_of t.machine.rules;
+  one = word_tape word;
+  two = blank_tape;
+  three = blank_tape;
+}
 
 -- the end: the final state, the word on tape 1 again, tape 2 blank, y on tape 3, all heads at 0
 abbrev pub ending_of : Translation → List ℕ → List ℕ → Configuration ℕ
-ending_of t word y = record { state = final_of t.machine.rules; one = word_tape word; two = blank_tape; three = word_tape y }
+ending_of t word y = record {
+  state = final_of t.machine.rules;
+  one = word_tape word;
+  two = blank_tape;
+  three = word_tape y;
+}
 
 -- from the word exactly n steps in these rooms lead to d
 abbrev pub Runs : Translation → List ℕ → Rooms → ℕ → Configuration ℕ → Type 0
@@ -34,11 +44,16 @@ pub record Comes (t : Translation) (word : List ℕ) (l : Limits) (n : ℕ) (d :
   pub run : Runs t word (rooms_of l) n d
   pub ends : EndsAt (rooms_of l) t.machine.rules (final_of t.machine.rules) d e
 
--- The machine's run from the word, in these limits, ends as the outcome says: halted with the output y, stuck in a state at a symbol, which no quadruple of that state reads, or where a head would leave its tape. The number i is that of the one-tape machine's own steps.
+-- The machine's run from the word, in these limits, ends as the outcome says: halted with the output y, stuck in a
+-- state at a symbol, which no quadruple of that state reads, or where a head would leave its tape. The number i is that
+-- of the one-tape machine's own steps.
 abbrev pub MachineEndsAs : Translation → List ℕ → Limits → ℕ → Outcome → Type 0
-MachineEndsAs t word l i (outcome.Halted y) = All (λ s. s ≢ 0) y × Comes t word l (4 * i + 4 * length y + 5) (ending_of t word y) Finished
-MachineEndsAs t word l i (outcome.Stuck state symbol) = (d : Configuration ℕ) × Comes t word l (2 * i) d Stopped × (name_of t d.state ≡ Compute state) × (scanned d.one ≡ symbol) × HasNoFirstRead t.machine.rules d
-MachineEndsAs t word l i (outcome.Outside tape side) = (n : ℕ) × (d : Configuration ℕ) × Comes t word l n d (Leaving tape side) × IsAfter i n (name_of t d.state) d.two.head d.three.head
+MachineEndsAs t word l i (outcome.Halted y) = All (λ s. s ≢ 0) y
+    × Comes t word l (4 * i + 4 * length y + 5) (ending_of t word y) Finished
+MachineEndsAs t word l i (outcome.Stuck state symbol) = (d : Configuration ℕ) × Comes t word l (2 * i) d Stopped
+    × (name_of t d.state ≡ Compute state) × (scanned d.one ≡ symbol) × HasNoFirstRead t.machine.rules d
+MachineEndsAs t word l i (outcome.Outside tape side) = (n : ℕ) × (d : Configuration ℕ)
+    × Comes t word l n d (Leaving tape side) × IsAfter i n (name_of t d.state) d.two.head d.three.head
 
 -- ---- call by call of `QuadMachine::step`
 
@@ -60,19 +75,33 @@ Answers p a answer = IsQuadTurn p answer a.state a.tapes a.state a.tapes
 
 -- new tapes for the word within these limits
 abbrev pub new_tapes : Limits → List ℕ → Tapes
-new_tapes l word = record { one = new_window l.left l.right word; two = new_window 0 l.steps []; three = new_window 0 l.output [] }
+new_tapes l word = record {
+  one = new_window l.left l.right word;
+  two = new_window 0 l.steps [];
+  three = new_window 0 l.output [];
+}
 
 -- the same tapes with y on tape 3
 abbrev pub ended_tapes : Limits → List ℕ → List ℕ → Tapes
-ended_tapes l word y = record { one = new_window l.left l.right word; two = new_window 0 l.steps []; three = new_window 0 l.output y }
+ended_tapes l word y = record {
+  one = new_window l.left l.right word;
+  two = new_window 0 l.steps [];
+  three = new_window 0 l.output y;
+}
 
 -- from the initial state, on new tapes for the word, n calls of `step` move to this stand, and the next one answers so
-pub record Answered (t : Translation) (word : List ℕ) (l : Limits) (n : ℕ) (b : Stand) (answer : QuadTurn) : Type 0 where
+pub record Answered (t : Translation) (word : List ℕ) (l : Limits) (n : ℕ) (b : Stand)
+    (answer : QuadTurn) : Type 0 where
   pub moved : Reaches (Moves t.machine) n (stand (initial_of t.machine.rules) (new_tapes l word)) b
   pub answers : Answers t.machine b answer
 
--- The calls of `step` come out as the outcome says: `Final` with the word, a blank history and the output y; `Stuck` in a state at a symbol, which no quadruple of that state reads; or `Left`, at this tape and this end.
+-- The calls of `step` come out as the outcome says: `Final` with the word, a blank history and the output y; `Stuck` in
+-- a state at a symbol, which no quadruple of that state reads; or `Left`, at this tape and this end.
 abbrev pub CallsEndAs : Translation → List ℕ → Limits → ℕ → Outcome → Type 0
-CallsEndAs t word l i (outcome.Halted y) = All (λ s. s ≢ 0) y × Answered t word l (4 * i + 4 * length y + 5) (stand (final_of t.machine.rules) (ended_tapes l word y)) turn.Final
-CallsEndAs t word l i (outcome.Stuck state symbol) = (b : Stand) × Answered t word l (2 * i) b turn.Stuck × (name_of t b.state ≡ Compute state) × (scanned b.tapes.one.tape ≡ symbol) × HasNoFirstRead t.machine.rules (configuration b.state b.tapes)
-CallsEndAs t word l i (outcome.Outside tape side) = (n : ℕ) × (b : Stand) × Answered t word l n b (turn.Left tape side) × IsAfter i n (name_of t b.state) b.tapes.two.tape.head b.tapes.three.tape.head
+CallsEndAs t word l i (outcome.Halted y) = All (λ s. s ≢ 0) y
+    × Answered t word l (4 * i + 4 * length y + 5) (stand (final_of t.machine.rules) (ended_tapes l word y)) turn.Final
+CallsEndAs t word l i (outcome.Stuck state symbol) = (b : Stand) × Answered t word l (2 * i) b turn.Stuck
+    × (name_of t b.state ≡ Compute state) × (scanned b.tapes.one.tape ≡ symbol)
+    × HasNoFirstRead t.machine.rules (configuration b.state b.tapes)
+CallsEndAs t word l i (outcome.Outside tape side) = (n : ℕ) × (b : Stand) × Answered t word l n b (turn.Left tape side)
+    × IsAfter i n (name_of t b.state) b.tapes.two.tape.head b.tapes.three.tape.head

@@ -8,7 +8,8 @@ use Rattle.bn_stages.specs.List.{bennett, symbols_of}
 use Rattle.bn_stages.specs.Names.{states_in}
 use Rattle.bn_stages.specs.Renamed.{rename, name_at}
 use Rattle.bn_stages.specs.declared.name.Name.{Name}
-use Rattle.bn_stages.specs.declared.name.Name.TheVariants.{Compute, ComputeWithin, GoRight, CopyLetter, GoLeft, PassLetter, Retrace, RetraceWithin}
+use Rattle.bn_stages.specs.declared.name.Name.TheVariants.{Compute, ComputeWithin, GoRight, CopyLetter, GoLeft}
+use Rattle.bn_stages.specs.declared.name.Name.TheVariants.{PassLetter, Retrace, RetraceWithin}
 
 -- whether two names are one
 abbrev pub is_same : Name → Name → Bool
@@ -26,7 +27,8 @@ is_same a b = false
 abbrev pub with_name : List Name → Name → List Name
 with_name names name = if list_any (is_same name) names then names else names ++ name ∷ []
 
--- a quadruple machine, the name of each of its states by the state's number, and the one-tape machine's final state, counted from 0
+-- a quadruple machine, the name of each of its states by the state's number, and the one-tape machine's final state,
+-- counted from 0
 pub record Translation : Type 0 where
   pub names : List Name
   pub final_state : ℕ
@@ -39,7 +41,8 @@ translation_of names final_state machine = record { names = names; final_state =
 abbrev pub name_of : Translation → ℕ → Name
 name_of t state = name_at GoRight t.names state
 
--- The translation of a machine: its quadruples are Bennett's list with numbers in place of names. The names are numbered by their first appearance in the list, in each quadruple the state before and then the state after.
+-- The translation of a machine: its quadruples are Bennett's list with numbers in place of names. The names are
+-- numbered by their first appearance in the list, in each quadruple the state before and then the state after.
 pub record IsTranslation (p : Program) (t : Translation) : Type 0 where
   pub names : t.names ≡ firsts_by is_same (states_in (bennett p))
   pub rules : rename (name_of t) t.machine.rules ≡ bennett p

@@ -1,5 +1,7 @@
 //! Laws on the machine of a translation. Each function only names the laws below it; its contract is the law.
-ghost use Rattle.bn_bennett.specs.Laws.{CallsEndAlike, TranslationsAreOne, TranslationsAreTables, TranslationsAreThere, TranslationsAreUniform, TranslationsEndAlike, TranslationsHaltAlike, TranslationsHaveNames, TranslationsStand};
+ghost use Rattle.bn_bennett.specs.Laws.{CallsEndAlike, TranslationsAreOne, TranslationsAreTables, TranslationsAreThere};
+ghost use Rattle.bn_bennett.specs.Laws.{TranslationsAreUniform, TranslationsEndAlike, TranslationsHaltAlike};
+ghost use Rattle.bn_bennett.specs.Laws.{TranslationsHaveNames, TranslationsStand};
 
 use bn_stages::{
     bennetts_theorem, bounded_runs_agree, bounded_runs_are_short, every_moment_stands,

@@ -150,8 +150,10 @@ fn with_machine(alloc: Global, draft: Draft, standard: &Standard) -> Result<Tran
     requires draft { IsDraft draft }
     requires list { drafted draft ≡ bennett standard.now }
     ensures made { IfOk result (IsTranslation standard.now) }
-    ensures states { IfOk result (λ t. t.machine.states ≡ 2 * standard.now.states + 2 * length standard.now.quints + 4) }
-    ensures quadruples { IfOk result (λ t. length t.machine.rules ≡ 4 * length standard.now.quints + 2 * standard.now.symbols + 3) }
+    ensures states { IfOk result (λ t. t.machine.states
+        ≡ 2 * standard.now.states + 2 * length standard.now.quints + 4) }
+    ensures quadruples { IfOk result (λ t. length t.machine.rules
+        ≡ 4 * length standard.now.quints + 2 * standard.now.symbols + 3) }
 {
     let Draft { names, quads } = draft;
     let Ok(names) = Vec::from_slice(alloc, names.as_slice()) else {
@@ -171,8 +173,10 @@ fn with_machine(alloc: Global, draft: Draft, standard: &Standard) -> Result<Tran
 pub fn translate(alloc: Global, standard: &Standard) -> Result<Translated, NoMemory>
     requires { FitsTable standard.now }
     ensures made { IfOk result (IsTranslation standard.now) }
-    ensures states { IfOk result (λ t. t.machine.states ≡ 2 * standard.now.states + 2 * length standard.now.quints + 4) }
-    ensures quadruples { IfOk result (λ t. length t.machine.rules ≡ 4 * length standard.now.quints + 2 * standard.now.symbols + 3) }
+    ensures states { IfOk result (λ t. t.machine.states
+        ≡ 2 * standard.now.states + 2 * length standard.now.quints + 4) }
+    ensures quadruples { IfOk result (λ t. length t.machine.rules
+        ≡ 4 * length standard.now.quints + 2 * standard.now.symbols + 3) }
 {
     let mut draft = new_draft(alloc);
     add_list(&mut draft, standard.machine())?;

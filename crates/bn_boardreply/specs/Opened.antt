@@ -15,8 +15,10 @@ use Rattle.bn_boardanswers.specs.Windows.{ComesTo, CountsElements, long_line, la
 use Rattle.bn_boardreply.specs.declared.opening.OpenedBoard.{OpenedBoard}
 use Rattle.bn_boardreply.specs.declared.opening.OpenedBoard.TheVariants.{Made, Refused}
 
--- The machine, the word of these symbols and the limits come to f, whose reversible machine is this translation; and this is its board, at the start.
-pub record IsMade (p : Program) (l : Limits) (symbols : List ℕ) (f : Flat) (t : Translation) (b : Flattened) : Type 0 where
+-- The machine, the word of these symbols and the limits come to f, whose reversible machine is this translation; and
+-- this is its board, at the start.
+pub record IsMade (p : Program) (l : Limits) (symbols : List ℕ) (f : Flat) (t : Translation)
+    (b : Flattened) : Type 0 where
   pub comes : ComesTo p l symbols f
   pub translation : f.translation ≡ t
   pub circuit : f.circuit ≡ rotary_circuit b.net

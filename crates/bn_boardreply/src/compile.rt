@@ -71,7 +71,8 @@ fn compile_word(
     requires fit { IsStandard table.now.machine.quints }
     requires windows { AreSmall (limits_of windows.now) }
     ensures { IfOk result (λ r. WordReplies
-        (BoardReplies TellsStart table.now.machine (limits_of windows.now)) table.now word.now r.status r.text.items []) }
+        (BoardReplies TellsStart table.now.machine
+        (limits_of windows.now)) table.now word.now r.status r.text.items []) }
 {
     match open_word(alloc, table, word)? {
         OpenedWord::Refused(reply) => Ok(reply),

@@ -67,7 +67,8 @@ fn run_table<W: Watch>(
 ) -> Result<Reply, NoMemory>
     requires { AreSmall (limits_of windows.now) }
     ensures { IsAnswered (JudgedReplies (WordReplies
-        (BoardReplies (TellsRun given table.now) table.now.machine (limits_of windows.now)) table.now word.now) table.now)
+        (BoardReplies (TellsRun given table.now) table.now.machine
+        (limits_of windows.now)) table.now word.now) table.now)
         result (W.told watch.old) (W.told watch.new) }
 {
     match judge_table(alloc, table) {

@@ -7,7 +7,8 @@ ghost use Rattle.bn_bennett.specs.Meaning.{machine_state_by};
 ghost use Rattle.bn_bennett.specs.declared.translated.MachineState.TheVariants.{AtState};
 ghost use Rattle.bn_layout.specs.Layouts.{letters_at};
 ghost use Rattle.bn_layout.specs.Flats.{Flat};
-ghost use Rattle.bn_boardanswers.specs.RunText.{exit_line, output_from, output_line, quadruple_line, rest_text, run_text};
+ghost use Rattle.bn_boardanswers.specs.RunText.{exit_line, output_from, output_line, quadruple_line, rest_text};
+ghost use Rattle.bn_boardanswers.specs.RunText.{run_text};
 ghost use Rattle.bn_boardanswers.specs.RunText.{state_text, stuck_line, tape_lines, window_line};
 ghost use Rattle.bn_boardreply.specs.Shown.{HasNames, HaveLetters, IsKnownStuck, IsShown};
 
@@ -22,7 +23,8 @@ use bn_reply::{NoMemory, push_letters};
 use bn_table::Table;
 use std::alloc::Global;
 
-// The text of a run that has come to where this board is, by this exit, over so many steps of the machine of quadruples.
+// The text of a run that has come to where this board is, by this exit, over so many steps of the machine of
+// quadruples.
 pub(crate) fn run_text(
     alloc: Global,
     table: &Table,

@@ -1,7 +1,8 @@
 -- Laws on cells.
 use Rattle.std.specs.Prelude.{◌≡◌, ℕ, ◌*◌, ◌<◌}
 use Rattle.bn_theory.specs.Tables.{IsReversible}
-use Rattle.bn_modules.specs.Cells.{CellState, Plain, Head, IsLineOf, cell_table, line_number, line_of, lines_of, state_number, state_of}
+use Rattle.bn_modules.specs.Cells.{CellState, Plain, Head, IsLineOf, cell_table, line_number, line_of, lines_of}
+use Rattle.bn_modules.specs.Cells.{state_number, state_of}
 use Rattle.bn_modules.specs.declared.cell_line.CellLine.{CellLine}
 
 -- a cell's moves are one to one and in range, also for no symbols

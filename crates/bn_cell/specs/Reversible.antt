@@ -1,10 +1,13 @@
--- That a cell's table is reversible, which each element hands to the trait: its moves by names are one to one, and so are its numbers.
+-- That a cell's table is reversible, which each element hands to the trait: its moves by names are one to one, and so
+-- are its numbers.
 use Rattle.std.proofs.Common.{◌≡◌, inl, inr, ℕ, zero, suc, ◌*◌, ◌<◌, nat_lt, Option, Some, None, refl, ap, subst, arith}
 use Rattle.std.proofs.lemmas.Bool.{cases_Bool, lt-ltb, ltb-true, ltb-false}
 use Rattle.std.proofs.lemmas.Bool.Decides.{nat_tests}
 use Rattle.bn_modules.specs.declared.cell_line.CellLine.{CellLine}
-use Rattle.bn_modules.specs.declared.cell_line.CellLine.TheVariants.{Read, Write, ShiftRight, ShiftLeft, TakeRight, Answer, DoneWrite, DoneRight, DoneLeft, TakeLeft}
-use Rattle.bn_modules.specs.Cells.{CellState, Plain, Head, cell_go, cell_back, IsLineOf, numbered, within, line_number, line_of, lines_of, state_number, state_of}
+use Rattle.bn_modules.specs.declared.cell_line.CellLine.TheVariants.{Read, Write, ShiftRight, ShiftLeft, TakeRight}
+use Rattle.bn_modules.specs.declared.cell_line.CellLine.TheVariants.{Answer, DoneWrite, DoneRight, DoneLeft, TakeLeft}
+use Rattle.bn_modules.specs.Cells.{CellState, Plain, Head, cell_go, cell_back, IsLineOf, numbered, within, line_number}
+use Rattle.bn_modules.specs.Cells.{line_of, lines_of, state_number, state_of}
 use Rattle.bn_cell.specs.Laws.{CellsAreReversible, IsStateOf}
 
 -- ---- moves by names
@@ -116,7 +119,8 @@ seconds v w e = let same : v ≡ w = cc in ap (λ (k : ℕ × ℕ). k.1) same
 -- moves by names, one to one, on the states and lines of z symbols, make moves by numbers that are so
 module _ (z : ℕ) (go back_go : CellState → CellLine → Option (CellState × CellLine))
     (turns : (q : CellState) (i : CellLine) → Whole (go q i) (λ m. back_go m.0 m.1 ≡ Some (q, i)))
-    (keeps : (q : CellState) (l : CellLine) → 0 < z → IsStateOf z q → IsLineOf z l → Whole (go q l) (λ m. IsStateOf z m.0 × IsLineOf z m.1)) where
+    (keeps : (q : CellState) (l : CellLine) → 0 < z → IsStateOf z q → IsLineOf z l
+    → Whole (go q l) (λ m. IsStateOf z m.0 × IsLineOf z m.1)) where
   record Both (q i r o : ℕ) : Type 0 where
     state : q < 2 * z
     line : i < lines_of z
@@ -127,7 +131,8 @@ module _ (z : ℕ) (go back_go : CellState → CellLine → Option (CellState ×
   both : (q i r o : ℕ) → within z q i (numbered z (go (state_of z q) (line_of z i))) ≡ Some (r, o) → Both q i r o
   both q i r o e = elim (cases_Bool (nat_lt q (2 * z))) [
     | inl a ↦ elim (cases_Bool (nat_lt i (lines_of z))) [
-      | inl b ↦ found (go (state_of z q) (line_of z i)) refl (rw (a, b) at e) (ltb-true q (2 * z) a) (ltb-true i (lines_of z) b)
+      | inl b ↦ found (go (state_of z q) (line_of z i)) refl (rw (a, b) at e) (ltb-true q (2 * z) a)
+          (ltb-true i (lines_of z) b)
       | inr b ↦ absurd (none None refl (rw (a, b) at e))
     ]
     | inr a ↦ absurd (none None refl (rw a at e))
@@ -144,7 +149,8 @@ module _ (z : ℕ) (go back_go : CellState → CellLine → Option (CellState ×
           (keeps (state_of z q) (line_of z i) (omega arith) (valid_state z q qn) (valid_line z i inn)) f in
           let first = firsts (state_number z m.0, line_number z m.1) (r, o) g in
           let second = seconds (state_number z m.0, line_number z m.1) (r, o) g in
-          let there = whole (go (state_of z q) (line_of z i)) (λ m. back_go m.0 m.1 ≡ Some (state_of z q, line_of z i)) m
+          let there = whole (go (state_of z q) (line_of z i))
+          (λ m. back_go m.0 m.1 ≡ Some (state_of z q, line_of z i)) m
           (turns (state_of z q) (line_of z i)) f in
           let rn = state_within z m.0 valid.0 in
           let on = line_within z m.1 valid.1 in
@@ -166,7 +172,8 @@ module _ (z : ℕ) (go back_go : CellState → CellLine → Option (CellState ×
             ) refl;
           }
 
-keeps_go : (z : ℕ) (q : CellState) (l : CellLine) → 0 < z → IsStateOf z q → IsLineOf z l → Whole (cell_go q l) (λ m. IsStateOf z m.0 × IsLineOf z m.1)
+keeps_go : (z : ℕ) (q : CellState) (l : CellLine) → 0 < z → IsStateOf z q → IsLineOf z l
+    → Whole (cell_go q l) (λ m. IsStateOf z m.0 × IsLineOf z m.1)
 keeps_go z (Plain t) Read some is line = (is, line)
 keeps_go z (Plain t) (Write u) some is line = (is, line)
 keeps_go z (Plain t) ShiftRight some is line = (is, line)
@@ -184,7 +191,8 @@ keeps_go z (Head t) ShiftRight some is line = (is, tt)
 keeps_go z (Head t) ShiftLeft some is line = (is, tt)
 keeps_go z (Head t) _ some is line = tt
 
-keeps_back : (z : ℕ) (q : CellState) (l : CellLine) → 0 < z → IsStateOf z q → IsLineOf z l → Whole (cell_back q l) (λ m. IsStateOf z m.0 × IsLineOf z m.1)
+keeps_back : (z : ℕ) (q : CellState) (l : CellLine) → 0 < z → IsStateOf z q → IsLineOf z l
+    → Whole (cell_back q l) (λ m. IsStateOf z m.0 × IsLineOf z m.1)
 keeps_back z (Plain t) Read some is line = (is, line)
 keeps_back z (Plain t) (Write u) some is line = (is, line)
 keeps_back z (Plain t) ShiftRight some is line = (is, line)

@@ -47,7 +47,8 @@ fn moves_of(alloc: Global, cell: &CellTable) -> Result<Vec<RsmMove>, AllocError>
 // The moves from a state, by rising line.
 fn push_row(moves: &mut Vec<RsmMove>, cell: &CellTable, state: u32) -> Result<(), AllocError>
     requires { state < 2 * cell.now.symbols }
-    ensures { OnOk result (moves.new.items ≡ moves.old.items ++ row (cell_table cell.now.symbols) state (lines_of cell.now.symbols)) }
+    ensures { OnOk result (moves.new.items
+        ≡ moves.old.items ++ row (cell_table cell.now.symbols) state (lines_of cell.now.symbols)) }
 {
     for line in 0..cell.lines_in() {
         if let Some((next, out)) = cell.go(state, line) {

@@ -1,14 +1,19 @@
 -- A control with what its states say of the machine of quadruples.
-use Rattle.std.specs.Prelude.{◌≡◌, ◌≢◌, ◌↔◌, ℕ, ◌+◌, ◌-◌, ◌<◌, ◌≤◌, ◌^◌, List, [], All, length, Option, Some, None, slice_get, slice_index, refl}
+use Rattle.std.specs.Prelude.{◌≡◌, ◌≢◌, ◌↔◌, ℕ, ◌+◌, ◌-◌, ◌<◌, ◌≤◌, ◌^◌, List, [], All, length, Option, Some, None}
+use Rattle.std.specs.Prelude.{slice_get, slice_index, refl}
 use Rattle.std.specs.Coded.{Coded, coded_ℕ, coded_list, coded_option, coded×, code_by}
 use Rattle.bn_quad.specs.Quadruples.{Quadruples, final_of}
 use Rattle.bn_rsm.specs.Machines.{Machine, machine_code, machine_table}
 use Rattle.bn_modules.specs.declared.cell_line.CellLine.TheVariants.{Read}
-use Rattle.bn_modules.specs.Controls.{ControlState, Reads, ControlMove, Tape, IsEntry, IsNumbering, IsControlTable, lines_before, out_number}
+use Rattle.bn_modules.specs.Controls.{ControlState, Reads, ControlMove, Tape, IsEntry, IsNumbering, IsControlTable}
+use Rattle.bn_modules.specs.Controls.{lines_before, out_number}
 use Rattle.bn_cell.specs.declared.numbers.TheConstants.{MOST_SYMBOLS}
 use Rattle.bn_control.specs.declared.make.TheConstants.{MOST_QUADRUPLES, MOST_STATES}
 
--- The control as a sequential machine; how many symbols each tape has, tape 1 first; for each state of the machine of quadruples the control's state that awaits the answer to its first command, and the output line by which that is given, nothing for the final state; and for each state of the control the state of the machine of quadruples and the tape whose first read it awaits, if it awaits one.
+-- The control as a sequential machine; how many symbols each tape has, tape 1 first; for each state of the machine of
+-- quadruples the control's state that awaits the answer to its first command, and the output line by which that is
+-- given, nothing for the final state; and for each state of the control the state of the machine of quadruples and the
+-- tape whose first read it awaits, if it awaits one.
 pub record Controlled : Type 0 where
   pub machine : Machine
   pub symbols : List ℕ
@@ -57,7 +62,8 @@ pub record IsControlOf (m : Quadruples) (names : List ControlState) (v : Control
   pub firsts : (a : ℕ) (f : Option (ℕ × ℕ)) → slice_get v.firsts a ≡ Some f → IsFirstKept m names a f
   pub awaited_counted : length v.awaited ≡ length names
   pub awaiting : (n a t : ℕ)
-      → (slice_get v.awaited n ≡ Some (Some (a, t))) ↔ ((q : ControlState) × (slice_get names n ≡ Some q) × IsAwaiting m q a t)
+      → (slice_get v.awaited n ≡ Some (Some (a, t)))
+      ↔ ((q : ControlState) × (slice_get names n ≡ Some q) × IsAwaiting m q a t)
 
 -- ---- where the machine is stuck
 
@@ -66,7 +72,8 @@ pub record IsAnswer (symbols : List ℕ) (t j c : ℕ) : Type 0 where
   pub among : c < slice_index symbols (t - 1)
   pub line : j ≡ lines_before symbols (t - 1) + c
 
--- The state n of the control awaits the first read of state a on some tape, line j answers that this tape has symbol c, and there is no move.
+-- The state n of the control awaits the first read of state a on some tape, line j answers that this tape has symbol c,
+-- and there is no move.
 pub record IsStuckAt (v : Controlled) (n j a c : ℕ) : Type 0 where
   pub tape : ℕ
   pub awaits : slice_get v.awaited n ≡ Some (Some (a, tape))
@@ -80,7 +87,8 @@ abbrev pub IsTapeAwaited : Option (ℕ × ℕ) → Type 0
 IsTapeAwaited None = Unit {0}
 IsTapeAwaited (Some p) = (1 ≤ p.1) × (p.1 ≤ 3)
 
--- three numbers of symbols that aren't too great, fewer than 2^32 states of the machine, a list as long as the control has states, and in it tapes from 1 to 3
+-- three numbers of symbols that aren't too great, fewer than 2^32 states of the machine, a list as long as the control
+-- has states, and in it tapes from 1 to 3
 pub record IsKept (machine : Machine) (symbols : List ℕ) (firsts awaited : List (Option (ℕ × ℕ))) : Type 0 where
   pub tapes : length symbols ≡ 3
   pub few_symbols : All (λ z. z ≤ MOST_SYMBOLS) symbols

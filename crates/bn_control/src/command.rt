@@ -3,7 +3,8 @@ ghost use Rattle.std.specs.Prelude.{◌≡◌, ℕ, ◌++◌, ◌∷◌, [], Opt
 ghost use Rattle.bn_quad.specs.Quadruples.{Rule};
 ghost use Rattle.bn_quad.specs.Kept.{quad_of};
 ghost use Rattle.bn_control.specs.States.{symbols_of};
-ghost use Rattle.bn_control.specs.Commands.{commands_by, read_commands, shift_commands, write_commands, read_command, shift_command, write_command, written};
+ghost use Rattle.bn_control.specs.Commands.{commands_by, read_commands, shift_commands, write_commands, read_command};
+ghost use Rattle.bn_control.specs.Commands.{shift_command, write_command, written};
 
 use crate::line::{Line, Sending};
 use crate::state::{State, Symbols};
@@ -40,7 +41,8 @@ pub(crate) fn commands_of(
 
 // The reads, by rising tape.
 fn push_reads(commands: &mut Vec<Command>, quad: &Quad) -> Result<(), AllocError>
-    ensures { (r : Rule ℕ) → quad.now ≡ quad_of r → OnOk result (commands.new.items ≡ commands.old.items ++ read_commands r) }
+    ensures { (r : Rule ℕ) → quad.now ≡ quad_of r
+        → OnOk result (commands.new.items ≡ commands.old.items ++ read_commands r) }
 {
     let [one, two, three] = quad.read;
     push_read(commands, quad.state, symbols(None, None), 1, one)?;

@@ -29,7 +29,8 @@ impl Draft {
     ghost use Rattle.bn_control.specs.Controlled.{IsTapeAwaited, IsFirstKept};
     ghost use Rattle.bn_control.specs.Entries.{IsFirstSent};
     ghost use Rattle.bn_control.specs.States.{name_of, IsProper};
-    ghost use Rattle.bn_control.specs.Made.{IsDraft, IsSomeDraft, IsSomeEntry, OccursInDraft, AreFirsts, AreAwaited, TellsAwaited};
+    ghost use Rattle.bn_control.specs.Made.{IsDraft, IsSomeDraft, IsSomeEntry, OccursInDraft, AreFirsts, AreAwaited};
+    ghost use Rattle.bn_control.specs.Made.{TellsAwaited};
 
     /// The control as a sequential machine.
     pub(crate) fn rsm(&self, alloc: Global) -> Result<Rsm, AllocError>
@@ -81,7 +82,8 @@ impl Draft {
     /// For each state of the control the state of the machine of quadruples and the tape whose first read it awaits.
     pub(crate) fn awaited(&self, alloc: Global) -> Result<Vec<Option<(u32, u32)>>, AllocError>
         requires { IsSomeDraft self.now }
-        ensures awaited { (m : Quadruples) → IsDraft m self.now → IfOk result (λ v. AreAwaited m self.now.states.items v.items) }
+        ensures awaited { (m : Quadruples) → IsDraft m self.now
+            → IfOk result (λ v. AreAwaited m self.now.states.items v.items) }
         ensures tapes { IfOk result (λ v. All IsTapeAwaited v.items) }
     {
         let mut awaited = Vec::new(alloc);

@@ -27,7 +27,12 @@ impl Model for Control {
 
     ghost coded = { controlled_code };
 
-    ghost view = { λ c. record { machine = c.rsm; symbols = c.symbols; firsts = c.firsts.items; awaited = c.awaited.items } };
+    ghost view = { λ c. record {
+      machine = c.rsm;
+      symbols = c.symbols;
+      firsts = c.firsts.items;
+      awaited = c.awaited.items;
+    } };
 
     ghost invariant = { λ c. IsKept c.rsm c.symbols c.firsts.items c.awaited.items };
 }

@@ -41,7 +41,8 @@ pub(crate) fn numbered(
     requires few_states { length states.now < 2 ^ 32 }
     requires few_symbols { All (λ z. z ≤ MOST_SYMBOLS) symbols.now }
     requires known { (n : ℕ) (x : NamedMove) → slice_get moves.now n ≡ Some x → HasNumbers states.now symbols.now x }
-    ensures numbers { (m : Quadruples) → m.symbols ≡ symbols.now → IfOk result (λ v. AreNumbered m states.now moves.now v.items) }
+    ensures numbers { (m : Quadruples) → m.symbols ≡ symbols.now
+        → IfOk result (λ v. AreNumbered m states.now moves.now v.items) }
     ensures few { IfOk result (λ v. length v.items ≡ length moves.now) }
 {
     let mut numbered = Vec::new(alloc);

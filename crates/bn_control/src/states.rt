@@ -19,7 +19,8 @@ pub(crate) fn states_of(
     entries: &[Sending],
     moves: &[NamedMove],
 ) -> Result<Vec<State>, AllocError>
-    ensures ordered { (m : Quadruples) → IsUniformMachine m → IsQuadMachine m → AreEntries m entries.now → AreMoves m moves.now
+    ensures ordered { (m : Quadruples) → IsUniformMachine m → IsQuadMachine m → AreEntries m entries.now
+        → AreMoves m moves.now
         → IfOk result (λ v. AreOrdered m v.items) }
     ensures few { IfOk result (λ v. length v.items ≤ 1 + length entries.now + length moves.now) }
 {

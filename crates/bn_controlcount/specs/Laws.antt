@@ -27,7 +27,8 @@ is_entered qs j = list_any (λ q. q.next == j) qs
 abbrev pub without_shift : Program → ℕ
 without_shift p = count_by (λ q. stays q.shift) p.quints
 
--- how many states other than the start are no quintuple's next, and how many other than the final are no quintuple's state
+-- how many states other than the start are no quintuple's next, and how many other than the final are no quintuple's
+-- state
 abbrev pub never_entered : Program → ℕ
 never_entered p =
     count_by (λ j. not (j == start_of p.quints) && not (is_entered p.quints j)) (range_with_len 0 p.states)

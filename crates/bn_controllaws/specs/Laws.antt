@@ -2,11 +2,13 @@
 use Rattle.std.specs.Prelude.{◌≡◌, ℕ, ◌<◌, List, Some}
 use Rattle.bn_theory.specs.Tables.{Table}
 use Rattle.bn_machine.specs.Machine.{nth}
-use Rattle.bn_quad.specs.Overlap.{HaveSameTapes, OverlapsInDomain, OverlapsInRange, IsDeterministic, IsReversible, HasNoClash}
+use Rattle.bn_quad.specs.Overlap.{HaveSameTapes, OverlapsInDomain, OverlapsInRange, IsDeterministic, IsReversible}
+use Rattle.bn_quad.specs.Overlap.{HasNoClash}
 use Rattle.bn_quad.specs.declared.clash.Clash.TheVariants.{Reads, Writes}
 use Rattle.bn_quad.specs.Quadruples.{Rule, Quadruples, IsQuadMachine}
 use Rattle.bn_quad.specs.Calls.{IsUniformMachine}
-use Rattle.bn_modules.specs.Controls.{ControlState, ControlLine, ControlMove, ControlGoes, IsEntry, IsNumbering, IsControlTable}
+use Rattle.bn_modules.specs.Controls.{ControlState, ControlLine, ControlMove, ControlGoes, IsEntry, IsNumbering}
+use Rattle.bn_modules.specs.Controls.{IsControlTable}
 
 -- quadruples of one state read the same tapes, and those into one state write the same tapes, whichever stands first
 abbrev pub TapesAreSame : Type 0

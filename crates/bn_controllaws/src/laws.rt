@@ -1,5 +1,6 @@
 //! Laws on the finite control of a uniform machine of quadruples. Each function does nothing; its contract is the law.
-ghost use Rattle.bn_controllaws.specs.Laws.{ControlsAreOne, ControlsAreOneToOne, OverlapsAreOne, StatesHaveEntries, TapesAreSame};
+ghost use Rattle.bn_controllaws.specs.Laws.{ControlsAreOne, ControlsAreOneToOne, OverlapsAreOne, StatesHaveEntries};
+ghost use Rattle.bn_controllaws.specs.Laws.{TapesAreSame};
 
 /// Quadruples of one state read the same tapes, and those into one state write the same tapes.
 pub fn tapes_are_same()

@@ -1,15 +1,17 @@
 -- The joint alphabet of two machines, and the codes of their symbols in it.
-use Rattle.std.specs.Prelude.{◌≡◌, ◌≢◌, ℕ, zero, suc, ◌<◌, ◌≤◌, ◌⊎◌, List, [], ◌∷◌, Bool, true, false, cond, not, nat_eq, filter, slice_get, Some}
+use Rattle.std.specs.Prelude.{◌≡◌, ◌≢◌, ℕ, zero, suc, ◌<◌, ◌≤◌, ◌⊎◌, ◌||◌, ◌==◌, List, [], ◌∷◌, Bool, true, false, cond, not, filter, slice_get, Some}
+use Rattle.std.specs.List.{list_any}
 use Rattle.std.proofs.Common.{refl, sym, ap, ◌∙◌, subst, arith, get_or, inl, inr}
 use Rattle.std.proofs.lemmas.Bool.{cases_lt}
 use Rattle.std.proofs.lemmas.Bool.Decides.{eqb_tells}
 use Rattle.std.proofs.lemmas.Option.{slice_get_within, slice_get-get_or}
+use Rattle.bn_entries.proofs.NumberingLemmas.{number_stays}
 use Rattle.bn_machine.specs.Machine.{nth}
-use Rattle.bn_stages.specs.In.{IsIn, in_head, in_tail, in_cases, not_in_empty, in_left, in_right}
+use Rattle.bn_stages.specs.In.{IsIn}
 use Rattle.bn_stages.proofs.Apart.{Apart, apart_append, apart_places, apart_from_places}
-use Rattle.bn_erase.specs.Joint.{is_among, joint_letters, IsAlphabet}
+use Rattle.bn_stages.proofs.MembershipLemmas.{in_head, in_tail, in_cases, not_in_empty, in_left, in_right}
+use Rattle.bn_erase.specs.Joint.{joint_letters, IsAlphabet}
 use Rattle.bn_erase.specs.Laws.{CodesKeepSymbols, JointAlphabet}
-use Rattle.bn_erasing.proofs.NumberedLemmas.{nth_left}
 
 -- ---- filtered lists
 
@@ -31,7 +33,7 @@ from_filter test (x ∷ xs) y h =
       | inr further ↦ let found = from_filter test xs y further in (in_tail x y xs found.0, found.1)
     ]
 
-in_filter : {X : Type 0} (test : X → Bool) (xs : List X) (y : X) → IsIn xs y → test y ≡ true → IsIn (filter test xs) y
+pub in_filter : {X : Type 0} (test : X → Bool) (xs : List X) (y : X) → IsIn xs y → test y ≡ true → IsIn (filter test xs) y
 in_filter test [] y h passes = absurd (not_in_empty y h)
 in_filter test (x ∷ xs) y h passes =
     elim (in_cases x y xs h) [
@@ -49,32 +51,33 @@ apart_filter R test (x ∷ xs) a = kept_apart R (test x) x (filter test xs) (λ 
 
 -- ---- letters
 
-among_head : (b : Bool) (x y : ℕ) (rest : Bool) → nat_eq x y ≡ b → b ≡ true → cond (nat_eq x y) true rest ≡ true
-among_head b x y rest is e = ap (λ c. cond c true rest) (is ∙ e)
+-- whether a letter stands among others
+abbrev pub is_among : List ℕ → ℕ → Bool
+is_among letters letter = list_any (λ known. known == letter) letters
 
 -- a letter that stands among the others is told so, and one that doesn't isn't
-among_in : (letters : List ℕ) (l : ℕ) → IsIn letters l → is_among letters l ≡ true
+pub among_in : (letters : List ℕ) (l : ℕ) → IsIn letters l → is_among letters l ≡ true
 among_in [] l h = absurd (not_in_empty l h)
 among_in (x ∷ letters) l h =
     elim (eqb_tells x l) [
-      | inl same ↦ ap (λ c. cond c true (is_among letters l)) same.0
+      | inl same ↦ ap (λ b. b || is_among letters l) same.0
       | inr other ↦ elim (in_cases x l letters h) [
         | inl same ↦ absurd (other.1 same)
-        | inr further ↦ ap (λ c. cond c true (is_among letters l)) other.0 ∙ among_in letters l further
+        | inr further ↦ ap (λ b. b || is_among letters l) other.0 ∙ among_in letters l further
       ]
     ]
 
-in_among : (letters : List ℕ) (l : ℕ) → is_among letters l ≡ true → IsIn letters l
+pub in_among : (letters : List ℕ) (l : ℕ) → is_among letters l ≡ true → IsIn letters l
 in_among [] l e = absurd (cc)
 in_among (x ∷ letters) l e =
     elim (eqb_tells x l) [
       | inl same ↦ subst (IsIn (x ∷ letters)) same.1 (in_head x letters)
-      | inr other ↦ in_tail x l letters (in_among letters l (sym (ap (λ c. cond c true (is_among letters l)) other.0) ∙ e))
+      | inr other ↦ in_tail x l letters (in_among letters l (sym (ap (λ b. b || is_among letters l) other.0) ∙ e))
     ]
 
 -- ---- alphabets
 
-letters_apart : (blank : ℕ) (letters : List ℕ) → IsAlphabet blank letters → Apart (λ x y. x ≢ y) letters
+pub letters_apart : (blank : ℕ) (letters : List ℕ) → IsAlphabet blank letters → Apart (λ x y. x ≢ y) letters
 letters_apart blank letters a = apart_from_places (λ x y. x ≢ y) letters (λ i j v w low h k same. absurd (by_places i j v w low h k same))
   where
     by_places : (i j v w : ℕ) → i < j → nth letters i ≡ Some v → nth letters j ≡ Some w → v ≡ w → ⊥
@@ -104,19 +107,24 @@ module _ (blank : ℕ) (first second : List ℕ) (one : IsAlphabet blank first) 
       cc)
 
   joint_begins : slice_get (joint_letters first second) 0 ≡ Some blank
-  joint_begins = nth_left first (filter test second) 1 blank one.begins
+  joint_begins = number_stays first (filter test second) 0 blank one.begins
 
-  second_in : (l : ℕ) → IsIn second l → (b : Bool) → is_among first l ≡ b → IsIn (joint_letters first second) l
-  second_in l h true is = in_left first (filter test second) l (in_among first l is)
-  second_in l h false is = in_right first (filter test second) l (in_filter test second l h (ap not is))
+-- each letter of the second stands in the joint alphabet
+pub second_in : (first second : List ℕ) (l : ℕ) → IsIn second l → IsIn (joint_letters first second) l
+second_in first second l h = by_test (is_among first l) refl
+  where
+    by_test : (b : Bool) → is_among first l ≡ b → IsIn (joint_letters first second) l
+    by_test true is = in_left first (filter (λ letter. not (is_among first letter)) second) l (in_among first l is)
+    by_test false is =
+        in_right first (filter (λ letter. not (is_among first letter)) second) l (in_filter (λ letter. not (is_among first letter)) second l h (ap not is))
 
 -- ---- the laws
 
 pub joint_alphabet : JointAlphabet
 joint_alphabet blank first second one two = (
   apart_alphabet blank (joint_letters first second) (joint_begins blank first second one two) (joint_apart blank first second one two),
-  record { each = λ s l e. nth_left first (filter (λ letter. not (is_among first letter)) second) (suc s) l e },
-  λ l h. second_in blank first second one two l h (is_among first l) refl,
+  record { each = λ s l e. number_stays first (filter (λ letter. not (is_among first letter)) second) s l e },
+  λ l h. second_in first second l h,
 )
 
 some_once : {X : Type 0} {x y : X} → Some x ≡ Some y → x ≡ y

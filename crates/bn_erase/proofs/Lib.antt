@@ -1,6 +1,9 @@
+pub mod AlikeLemmas
+pub mod VerdictLemmas
 pub mod RecodedLemmas
 pub mod JointLemmas
-pub mod AlikeLemmas
+pub mod LetterLemmas
+pub mod JoinedLemmas
 pub mod WithoutLemmas
 pub mod NewStateLemmas
 pub mod ListLemmas

@@ -1,11 +1,10 @@
 -- Two tables' machines over one alphabet: the letters of the first in their order, then the further letters of the
--- second
--- in theirs (this project's own profile).
-use Rattle.std.specs.Prelude.{◌≡◌, ℕ, zero, suc, ◌==◌, List, [], ◌∷◌, ◌++◌, Bool, true, not, filter, length, Some}
+-- second in theirs (this project's own profile).
+use Rattle.std.specs.Prelude.{◌≡◌, ℕ, zero, suc, ◌==◌, List, [], ◌∷◌, ◌++◌, true, not, filter, length, Some}
 use Rattle.std.specs.Prelude.{if◌then◌else◌, slice_get, slice_index}
 use Rattle.std.specs.List.{list_all, list_any}
 use Rattle.bn_entries.specs.Forms.{is_symbol_byte}
-use Rattle.bn_machine.specs.Machine.{Program}
+use Rattle.bn_machine.specs.Machine.{IsMachine, Program}
 use Rattle.bn_table.specs.Rows.{FitsTable, Named, blank}
 use Rattle.bn_erase.specs.Recoded.{recoded, widened}
 
@@ -28,8 +27,7 @@ abbrev pub joint_of : Program → Program → List ℕ → Joint
 joint_of first second letters = record { first = first; second = second; letters = letters }
 
 -- the machines of two tables over one alphabet: the first one's symbols keep their numbers, and each symbol of the
--- second
--- gets that of its letter
+-- second gets that of its letter
 abbrev pub joined : Named → Named → Joint
 joined t u = record {
   first = widened (length (joint_letters t.letters u.letters)) t.machine;
@@ -48,11 +46,13 @@ pub record IsCode (before after : List ℕ) (code : ℕ → ℕ) : Type 0 where
   pub each : (symbol letter : ℕ) → slice_get before symbol ≡ Some letter → slice_get after (code symbol) ≡ Some letter
 
 -- what holds of two machines over one alphabet: its letters are those of tables, both have as many symbols as it has
--- letters, and both are as tables have them
+-- letters, both are machines, and both are as tables have them
 pub record IsJoint (j : Joint) : Type 0 where
   pub alphabet : IsAlphabet blank j.letters
   pub letters_form : list_all is_symbol_byte j.letters ≡ true
   pub first_symbols : j.first.symbols ≡ length j.letters
   pub second_symbols : j.second.symbols ≡ length j.letters
+  pub first_machine : IsMachine j.first
+  pub second_machine : IsMachine j.second
   pub first_fits : FitsTable j.first
   pub second_fits : FitsTable j.second

@@ -23,8 +23,7 @@ use Rattle.bn_erase.specs.Recoded.{KeepsSymbols, recoded}
 -- ---- one alphabet
 
 -- with other numbers for its symbols, that keep them apart and the blank the blank, a machine in standard form is one
--- in
--- standard form
+-- in standard form
 abbrev pub RecodedIsStandard : Type 0
 RecodedIsStandard =
     (p : Program) (code : ℕ → ℕ) (symbols : ℕ) → KeepsSymbols code p.symbols symbols → IsStandardMachine p
@@ -58,8 +57,7 @@ JoinedAreJudgedAlike =
 -- ---- the erasing machine
 
 -- it is deterministic, reversible and uniform; it begins and ends in the states of those names, and no two of its
--- states
--- have one name
+-- states have one name
 abbrev pub ErasingsAreUniform : Type 0
 ErasingsAreUniform =
     (p q : Program) (e : Erasure) → IsStandardMachine p → IsStandardMachine q → IsErasing p q e

@@ -1,7 +1,10 @@
 //! Two machines over one alphabet.
-ghost use Rattle.std.specs.Prelude.{◌≡◌, ◌<◌, ◌≤◌, ◌^◌, ◌++◌, IfOk, OnOk, IfSome, IfNone, Some, Contains, filter, not};
-ghost use Rattle.std.specs.Prelude.{length, map, slice_get, slice_index};
+ghost use Rattle.std.specs.Prelude.{◌≡◌, ℕ, ◌<◌, ◌≤◌, ◌^◌, ◌++◌, ◌==◌, All, IfOk, OnOk, IfSome, IfNone, Some, Contains};
+ghost use Rattle.std.specs.Prelude.{filter, length, map, not, position, slice_get, slice_index};
 ghost use Rattle.std.specs.List.{list_any};
+ghost use Rattle.bn_machine.specs.Machine.{IsInRange};
+ghost use Rattle.bn_stages.specs.In.{IsIn};
+ghost use Rattle.bn_table.specs.Rows.{IsTable};
 ghost use Rattle.bn_erase.specs.Joint.{joined, joint_letters, number_in};
 ghost use Rattle.bn_erase.specs.Recoded.{recoded, recoded_quint, widened};
 
@@ -12,8 +15,7 @@ use std::alloc::Global;
 use std::marker::Model;
 
 /// Two machines over one alphabet, and the letters of its symbols, `_` for symbol 0. Callers see the three. Both
-/// machines
-/// are as tables have them, and have as many symbols as there are letters.
+/// machines are as tables have them, and have as many symbols as there are letters.
 #[derive(Drop)]
 pub struct Joined {
     first: Machine,
@@ -63,7 +65,7 @@ impl Joined {
         ensures found { IfSome result (λ symbol. slice_get self.now.letters symbol ≡ Some letter) }
         ensures none { IfNone result (¬ Contains self.now.letters letter) }
     {
-        match self.letters.iter().position(|known| *known == letter) {
+        match place_of(self.letters.as_slice(), letter) {
             Some(symbol) => Some(symbol as u32),
             None => None,
         }
@@ -71,8 +73,7 @@ impl Joined {
 }
 
 /// The machines of two tables over one alphabet: the letters of the first in their order, then the further letters of
-/// the
-/// second in theirs. The first machine's symbols keep their numbers. (This project's own profile.)
+/// the second in theirs. The first machine's symbols keep their numbers. (This project's own profile.)
 pub fn join_letters(alloc: Global, first: &Table, second: &Table) -> Result<Joined, NoMemory>
     ensures { IfOk result (λ j. j ≡ joined first.now second.now) }
 {
@@ -88,7 +89,9 @@ pub fn join_letters(alloc: Global, first: &Table, second: &Table) -> Result<Join
 
 // The letters of both tables.
 fn joint_letters(alloc: Global, first: &Table, second: &Table) -> Result<Vec<u8>, NoMemory>
-    ensures { IfOk result (λ letters. letters.items ≡ joint_letters first.now.letters second.now.letters) }
+    ensures made { IfOk result (λ letters. letters.items ≡ joint_letters first.now.letters second.now.letters) }
+    ensures first { OnOk result (IsTable first.now) }
+    ensures second { OnOk result (IsTable second.now) }
 {
     let mut letters = letters_of(alloc, first)?;
     add_further_letters(&mut letters, first, second)?;
@@ -97,7 +100,8 @@ fn joint_letters(alloc: Global, first: &Table, second: &Table) -> Result<Vec<u8>
 
 // The letters of a table.
 fn letters_of(alloc: Global, table: &Table) -> Result<Vec<u8>, NoMemory>
-    ensures { IfOk result (λ letters. letters.items ≡ table.now.letters) }
+    ensures made { IfOk result (λ letters. letters.items ≡ table.now.letters) }
+    ensures valid { IsTable table.now }
 {
     let mut letters = Vec::new(alloc);
     for symbol in 0..table.machine().symbols() {
@@ -110,8 +114,9 @@ fn letters_of(alloc: Global, table: &Table) -> Result<Vec<u8>, NoMemory>
 
 // Appends the letters of the second table that the first hasn't.
 fn add_further_letters(letters: &mut Vec<u8>, first: &Table, second: &Table) -> Result<(), NoMemory>
-    ensures { OnOk result (letters.new.items ≡ letters.old.items
+    ensures added { OnOk result (letters.new.items ≡ letters.old.items
         ++ filter (λ letter. not (list_any (λ known. known == letter) first.now.letters)) second.now.letters) }
+    ensures valid { IsTable second.now }
 {
     for symbol in 0..second.machine().symbols() {
         let letter = second.letter(symbol);
@@ -138,24 +143,44 @@ fn widened(alloc: Global, machine: &Machine, symbols: u32) -> Result<Machine, No
 
 // The table's machine, each symbol with the number of its letter among these, which have them all.
 fn recoded(alloc: Global, table: &Table, letters: &[u8]) -> Result<Machine, NoMemory>
+    requires known { (letter : ℕ) → IsIn table.now.letters letter → IsIn letters.now letter }
+    requires few { length letters.now < 2 ^ 32 }
     ensures { IfOk result (λ m. m ≡ recoded (λ symbol. number_in letters.now (slice_index table.now.letters symbol))
         (length letters.now) table.now.machine) }
 {
     let machine = table.machine();
-    let mut quints = Vec::new(alloc);
-    for quint in machine.quints() {
-        if quints.push(recoded_quint(table, letters, quint)).is_err() {
-            return Err(NoMemory);
-        }
-    }
+    let quints = recoded_quints(alloc, table, letters, machine.quints())?;
     match Machine::try_new(quints, machine.states(), letters.len() as u32) {
         Ok(machine) => Ok(machine),
         Err(_) => unreachable!(),
     }
 }
 
+// The quintuples, each symbol with the number of its letter.
+fn recoded_quints(
+    alloc: Global,
+    table: &Table,
+    letters: &[u8],
+    quints: &[Quint],
+) -> Result<Vec<Quint>, NoMemory>
+    requires in_range { All (IsInRange table.now.machine.states table.now.machine.symbols) quints.now }
+    requires few { length letters.now < 2 ^ 32 }
+    ensures { IfOk result (λ made. made.items ≡ map (recoded_quint (λ symbol. number_in letters.now
+        (slice_index table.now.letters symbol))) quints.now) }
+{
+    let mut made = Vec::new(alloc);
+    for quint in quints {
+        if made.push(recoded_quint(table, letters, quint)).is_err() {
+            return Err(NoMemory);
+        }
+    }
+    Ok(made)
+}
+
 // The quintuple, each symbol with the number of its letter.
 fn recoded_quint(table: &Table, letters: &[u8], quint: &Quint) -> Quint
+    requires in_range { IsInRange table.now.machine.states table.now.machine.symbols quint.now }
+    requires few { length letters.now < 2 ^ 32 }
     ensures { result ≡ recoded_quint (λ symbol. number_in letters.now
         (slice_index table.now.letters symbol)) quint.now }
 {
@@ -168,12 +193,23 @@ fn recoded_quint(table: &Table, letters: &[u8], quint: &Quint) -> Quint
     }
 }
 
-// The number of a letter among others, which have it.
+// The number of a letter among others: how many stand before it.
 fn number_in(letters: &[u8], letter: u8) -> u32
+    requires { length letters.now < 2 ^ 32 }
     ensures { result ≡ number_in letters.now letter }
 {
-    match letters.iter().position(|known| *known == letter) {
+    match place_of(letters, letter) {
         Some(number) => number as u32,
         None => letters.len() as u32,
     }
+}
+
+// The place of a letter among others, counted from 0.
+fn place_of(letters: &[u8], letter: u8) -> Option<usize>
+    ensures place { result ≡ position (λ known. known == letter) letters.now }
+    ensures within { IfSome result (λ place. place < length letters.now) }
+    ensures found { IfSome result (λ place. slice_get letters.now place ≡ Some letter) }
+    ensures none { IfNone result (¬ Contains letters.now letter) }
+{
+    letters.iter().position(|known| *known == letter)
 }

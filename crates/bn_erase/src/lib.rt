@@ -1,6 +1,5 @@
 //! The machine that leaves only its output (Bennett 1973): two tables' machines over one alphabet, the erasing machine
-//! of
-//! two machines in standard form, and the printed names of its states and symbols.
+//! of two machines in standard form, and the printed names of its states and symbols.
 #![tactic(auto)]
 
 mod erasing;

@@ -49,8 +49,7 @@ abbrev pub long_line : ℕ → List ℕ
 long_line count = line (codes "size: word needs " ∷ decimal count ∷ [])
 
 -- What is answered to two machines, where `tells` is what is answered where the erasing machine has 20,000 quadruples
--- at
--- most: that it has more, or that.
+-- at most: that it has more, or that.
 pub data CountedReplies (tells : Status → List ℕ → List Place → Type 0) (j : Joint) (status : Status) (text : List ℕ)
     (told : List Place) : Type 0 where
   many : most_quadruples < length (erasing_of j) → text ≡ many_line (length (erasing_of j)) → status ≡ statuses.Size
@@ -72,8 +71,7 @@ abbrev pub most_letters : ℕ
 most_letters = 1048576
 
 -- the lines of a run that halts after i steps with these words on the work tape and the output tape; of one that is
--- stuck
--- after i steps in this state; and of one that has made all n steps
+-- stuck after i steps in this state; and of one that has made all n steps
 abbrev pub halted_lines : Joint → ℕ → List ℕ → List ℕ → List ℕ
 halted_lines j i work output =
     line (codes "halted " ∷ decimal i ∷ []) ++ line (codes "work =" ∷ letters_of (lettered j) work ∷ [])

@@ -46,8 +46,7 @@ IsStep (turns.Moved quad) = Unit {0}
 IsStep _ = ⊥
 
 -- From a state and tapes, so many steps, n at most, lead to where the machine answers this turn and leaves this state
--- and
--- these tapes. Where it makes fewer steps than n, the turn is no further step.
+-- and these tapes. Where it makes fewer steps than n, the turn is no further step.
 pub record IsRun (p : Quadruples) (n state : ℕ) (w : Tapes) (made : ℕ) (turn : QuadTurn) (after : ℕ)
     (v : Tapes) : Type 0 where
   pub at : ℕ
@@ -90,8 +89,7 @@ pub record IsErasingOfSome (e : Erasure) : Type 0 where
   pub second_standard : IsStandardMachine second
 
 -- the run of the erasing machine from a word, of at most n steps, comes out so after so many steps, whatever two
--- machines
--- in standard form it is of
+-- machines in standard form it is of
 pub record HasEnded (e : Erasure) (word : List ℕ) (n steps : ℕ) (ending : Ending) : Type 0 where
   pub state : (p q : Program) → IsErasing p q e → IsStandardMachine p → IsStandardMachine q → IsEndingOf e ending
   pub comes_out : (p q : Program) → IsErasing p q e → IsStandardMachine p → IsStandardMachine q

@@ -14,8 +14,7 @@ use Rattle.bn_reply.specs.declared.status.Status.TheVariants.{Done}
 use Rattle.bn_erasereply.specs.EraseReply.{EraseRunReplies, erasing_of, halted_lines, lettered, most_letters}
 
 -- the bytes are two tables with machines in standard form, the word is spelled by these symbols of the joint letters,
--- and
--- neither the word nor the erasing machine is too large
+-- and neither the word nor the erasing machine is too large
 pub record IsAskedOf (bytes word : List ℕ) (t u : Named) (symbols : List ℕ) : Type 0 where
   pub first : List ℕ
   pub second : List ℕ
@@ -29,8 +28,7 @@ pub record IsAskedOf (bytes word : List ℕ) (t u : Named) (symbols : List ℕ) 
   pub few : length (erasing_of (joined t u)) ≤ most_quadruples
 
 -- Over the joint alphabet the first machine halts on these symbols after v steps with the output y, the second on y
--- after
--- w steps with these symbols as its output, and i is the erasing machine's number of steps, at most n.
+-- after w steps with these symbols as its output, and i is the erasing machine's number of steps, at most n.
 pub record BothHalt (t u : Named) (symbols : List ℕ) (n i : ℕ) (y : List ℕ) : Type 0 where
   pub v : ℕ
   pub w : ℕ

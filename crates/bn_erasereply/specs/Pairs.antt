@@ -1,7 +1,6 @@
 -- What the commands on two tables answer: the input is a first table, a line `%`, and a second table. What is wrong
--- with
--- the texts comes first, then what is wrong with the machines, each time the first table's before the second's (this
--- project's own profile).
+-- with the texts comes first, then what is wrong with the machines, each time the first table's before the second's
+-- (this project's own profile).
 use Rattle.std.specs.Prelude.{◌≡◌, ℕ, List, [], ◌∷◌, ◌++◌, codes, if◌then◌else◌, ◌==◌}
 use Rattle.bn_theory.specs.declared.place.Place.{Place}
 use Rattle.bn_table.specs.Reading.{Reads}
@@ -31,8 +30,7 @@ pub data SecondReplies (tells : Named → Status → List ℕ → List Place →
   read : (t : Named) → Reads bytes t → tells t status text told → SecondReplies tells bytes status text told
 
 -- What is answered to a second table, where `tells` is what is answered where its machine is in standard form: the
--- demand
--- that it doesn't meet, or that.
+-- demand that it doesn't meet, or that.
 pub data SecondJudged (tells : Status → List ℕ → List Place → Type 0) (t : Named) (status : Status) (text : List ℕ)
     (told : List Place) : Type 0 where
   unfit : (refusal : List ℕ) → TellsWhy t refusal → text ≡ with_second refusal → status ≡ statuses.Machine → told ≡ []

@@ -1,6 +1,5 @@
 //! The replies of the commands on two tables, `erase` and `erase =W n`: the machine that leaves only its output, and
-//! its
-//! run from a word.
+//! its run from a word.
 #![tactic(auto)]
 
 mod erase;

@@ -77,8 +77,7 @@ fn wide_tape(alloc: Global, side: u32, word: &[u32]) -> Result<Tape, NoMemory>
 }
 
 // Makes at most `steps` steps, and then one more where all are made. Answers how many were made before the last turn,
-// and
-// that turn.
+// and that turn.
 fn run(machine: &QuadMachine, state: &mut u32, tapes: &mut Tapes, steps: u32) -> (u32, QuadTurn)
     ensures { IsRun machine.now steps state.old tapes.old result.0 result.1 state.new tapes.new }
 {

@@ -9,3 +9,4 @@ pub mod DistinctLemmas
 pub mod NamesLemmas
 pub mod LeastLemmas
 pub mod SticksLemmas
+pub mod UnequalLemmas

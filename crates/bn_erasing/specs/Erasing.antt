@@ -1,10 +1,9 @@
 -- The machine that erases its input (Bennett 1973), over the names of its states: the reversible machine for x to y,
 -- and then the reversible machine for y to x, turned round, with its first and third tape exchanged.
-use Rattle.std.specs.Prelude.{◌≡◌, ◌≢◌, ℕ, ◌+◌, List, [], ◌∷◌, ◌++◌, length, map, max, cond, nat_eq, All}
+use Rattle.std.specs.Prelude.{◌≢◌, ℕ, ◌+◌, List, [], ◌∷◌, ◌++◌, length, max, cond, nat_eq, All}
 use Rattle.bn_machine.specs.Tape.{word_tape, blank_tape}
 use Rattle.bn_machine.specs.Machine.{Program, start_of}
 use Rattle.bn_quad.specs.Quadruples.{Rule, Configuration, turned_list, everywhere, Rooms}
-use Rattle.bn_stages.specs.In.{IsIn}
 use Rattle.bn_stages.specs.List.{bennett, initial_name, final_name}
 use Rattle.bn_stages.specs.Names.{IsNameOf}
 use Rattle.bn_stages.specs.Renamed.{rename}

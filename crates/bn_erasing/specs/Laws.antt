@@ -1,5 +1,5 @@
 -- What the laws of this crate say, each the contract of a function with an empty body.
-use Rattle.std.specs.Prelude.{◌≡◌, ◌↔◌, ℕ, ◌+◌, ◌*◌, ◌<◌, ◌≤◌, ⊤, List, [], ◌++◌, length, Some}
+use Rattle.std.specs.Prelude.{◌≡◌, ◌≢◌, ◌↔◌, ℕ, ◌+◌, ◌*◌, ◌<◌, ◌≤◌, ⊤, List, [], length, Some, slice_get}
 use Rattle.bn_theory.specs.Runs.{Reaches}
 use Rattle.bn_machine.specs.Machine.{Program, Moment, IsMachine, IsStuck, nth}
 use Rattle.bn_machine.specs.Run.{After}
@@ -19,7 +19,7 @@ use Rattle.bn_stages.specs.Names.{states_in, NumbersStates, IsUniformFrom, Menti
 use Rattle.bn_stages.specs.Stages.{IsStandardMachine, IsSpelledBy, beginning, ending}
 use Rattle.bn_stages.specs.Laws.{HaltsAfter, least}
 use Rattle.bn_stages.specs.declared.name.Name.{Name}
-use Rattle.bn_stages.specs.declared.name.Name.TheVariants.{Compute, ComputeWithin, Retrace, RetraceWithin}
+use Rattle.bn_stages.specs.declared.name.Name.TheVariants.{Compute, ComputeWithin, GoLeft, Retrace, RetraceWithin}
 use Rattle.bn_erasing.specs.declared.name.ErasingName.{ErasingName}
 use Rattle.bn_erasing.specs.declared.name.ErasingName.TheVariants.{First, Second}
 use Rattle.bn_quadlists.specs.Lists.{JoinsAt}
@@ -129,6 +129,27 @@ SecondSticks =
     → (v w : ℕ) (y : List ℕ) (c : Moment) → HaltsAfter p x v y → After q y w c → IsStuck q c
     → (n : ℕ) → 4 * v + 4 * length y + 5 + 2 * w ≤ n
     → HasOutcome p q x n (4 * v + 4 * length y + 5 + 2 * w) (Stuck (second_name p q (Retrace c.state)))
+
+-- the first place where two words part, counted from 0: before it they have the same letters, and there other letters,
+-- or one of them ends
+pub record PartAt (x z : List ℕ) (k : ℕ) : Type 0 where
+  pub agree : (j : ℕ) → j < k → slice_get x j ≡ slice_get z j
+  pub differ : slice_get x k ≢ slice_get z k
+
+-- two words that aren't one part somewhere, and no word parts from itself
+abbrev pub UnequalWordsPart : Type 0
+UnequalWordsPart = (x z : List ℕ) → (x ≢ z) ↔ ((k : ℕ) × PartAt x z k)
+
+-- where the first halts on x after v steps with the output y, and the second on y after w steps with an output z that
+-- parts from x after k letters, the run is stuck after 4v + 4|y| + 5 + 2w + 2k + 2: the second's copying, backward,
+-- begins in one step, passes each of the k letters in two, and goes one cell further, to where the two part. There it
+-- is in the state that goes left, whichever letters differ, and if one of the words ends.
+abbrev pub UnequalOutputsStop : Type 0
+UnequalOutputsStop =
+    (p q : Program) (x : List ℕ) → IsStandardMachine p → IsStandardMachine q → p.symbols ≡ q.symbols → IsSpelledBy p x
+    → IsWord x → (v w : ℕ) (y z : List ℕ) → HaltsAfter p x v y → HaltsAfter q y w z → (k : ℕ) → PartAt x z k
+    → (n : ℕ) → 4 * v + 4 * length y + 2 * w + 2 * k + 7 ≤ n
+    → HasOutcome p q x n (4 * v + 4 * length y + 2 * w + 2 * k + 7) (Stuck (Second GoLeft))
 
 -- ---- numbers in place of names
 

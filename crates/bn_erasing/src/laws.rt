@@ -19,6 +19,8 @@ ghost use Rattle.bn_erasing.specs.Laws.{
   ErasingCountsNames,
   FirstSticks,
   SecondSticks,
+  UnequalOutputsStop,
+  UnequalWordsPart,
 };
 
 /// The erasing machine is deterministic, reversible and uniform.
@@ -77,4 +79,10 @@ pub fn erasing_names()
 pub fn runs_stick()
     ensures first { FirstSticks }
     ensures second { SecondSticks }
+{}
+
+/// Where a run is stuck because the second machine makes another word of y than x.
+pub fn unequal_outputs_stop()
+    ensures words { UnequalWordsPart }
+    ensures stop { UnequalOutputsStop }
 {}

@@ -7,6 +7,6 @@ mod name;
 
 pub use laws::{
     bounded_runs_come_out, erasing_counts, erasing_erases, erasing_names, erasing_numbers,
-    erasing_passes_tests, least_is_listed, runs_stay_near, runs_stick,
+    erasing_passes_tests, least_is_listed, runs_stay_near, runs_stick, unequal_outputs_stop,
 };
 pub use name::ErasingName;

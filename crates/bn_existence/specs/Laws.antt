@@ -1,4 +1,5 @@
--- What the laws of this crate say, each the contract of a function that only names the laws below it: each machine has a network, a layout and a board.
+-- What the laws of this crate say, each the contract of a function that only names the laws below it: each machine has
+-- a network, a layout and a board.
 use Rattle.std.specs.Prelude.{◌≡◌, ℕ, List}
 use Rattle.bn_theory.specs.Circuits.{Circuit}
 use Rattle.bn_machine.specs.Machine.{Program}
@@ -15,7 +16,8 @@ use Rattle.bn_layout.specs.Layouts.{Layout, IsLayout}
 use Rattle.bn_layout.specs.Flats.{Flat, IsFlatOf, AreSameFlats}
 use Rattle.bn_theory.specs.Alike.{AreAlike}
 
--- a uniform machine with a symbol on each tape has a network in any limits, and two of them have the same tables and the same wires
+-- a uniform machine with a symbol on each tape has a network in any limits, and two of them have the same tables and
+-- the same wires
 abbrev pub NetworksAreThere : Type 0
 NetworksAreThere =
     ((m : Quadruples) (l : Limits) (names : List ControlState) → IsQuadMachine m → IsUniformMachine m → HasLetters m
@@ -36,7 +38,8 @@ LayoutsAreThere =
     × ((m : Quadruples) (l : Limits) (names : List ControlState) (b c : Layout) → IsQuadMachine m
     → IsUniformMachine m → IsNumbering m names → IsLayout m l names b → IsLayout m l names c → b ≡ c)
 
--- a machine in standard form within the limits of tables has a board for each word and limits, and two of them are the same up to the order of wires
+-- a machine in standard form within the limits of tables has a board for each word and limits, and two of them are the
+-- same up to the order of wires
 abbrev pub FlatsAreThere : Type 0
 FlatsAreThere =
     (p : Program) (word : List ℕ) (l : Limits) → IsStandardMachine p → FitsTable p

@@ -20,8 +20,8 @@ pub fn layouts_are_there()
     ensures { LayoutsAreThere }
 {}
 
-/// A machine in standard form within the limits of tables has a board for each word and limits, and two of them are the same
-/// up to the order of wires.
+/// A machine in standard form within the limits of tables has a board for each word and limits, and two of them are the
+/// same up to the order of wires.
 pub fn flats_are_there()
     ensures { FlatsAreThere }
 {

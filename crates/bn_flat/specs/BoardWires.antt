@@ -38,7 +38,10 @@ pub data IsWireBefore (n : Circuit) (e o : ℕ) (from to : Line) : Type 0 where
 -- the wire from output line `line` of module `number` to the input line `to` of another, on the board
 pub record IsBetween (n : Circuit) (number line : ℕ) (to : Line) (w : Wire) : Type 0 where
   pub wire : (t : Table) → slice_get n.tables number ≡ Some t
-      → w ≡ record { from = output_line (base n.tables number) t line; to = input_line (base n.tables to.element) to.line }
+      → w ≡ record {
+        from = output_line (base n.tables number) t line;
+        to = input_line (base n.tables to.element) to.line;
+      }
 
 -- ---- the wires of a net, output line by output line
 

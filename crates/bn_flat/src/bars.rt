@@ -41,7 +41,8 @@ fn push_bank(bars: &mut Vec<u32>, bank: &Module, state: u32) -> Result<(), NoMem
     requires few { length bars.old.items + size_of (module_table bank.now) ≤ MOST_ELEMENTS }
     requires state { state < (module_table bank.now).states }
     ensures { OnOk result (bars.new.items ≡ bars.old.items
-        ++ slice_set (replicate (size_of (module_table bank.now)) vertical) (bottom_at 0 (module_table bank.now).inputs state) horizontal) }
+        ++ slice_set (replicate (size_of (module_table bank.now)) vertical)
+        (bottom_at 0 (module_table bank.now).inputs state) horizontal) }
 {
     let lines = bank.lines_in();
     let first = bars.len();

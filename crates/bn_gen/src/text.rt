@@ -60,7 +60,8 @@ fn state_name(k: u32, state: u32) -> &'static [u8]
 fn write_quint(writer: &mut EntryWriter, k: u32, quint: &Quint) -> Result<(), NoMemory>
     requires count { IsRoundCount k }
     requires range { IsInRange (3 * k + 2) 3 quint.now }
-    ensures { OnOk result (writer.new ≡ writer.old ++ line_of (entry_of (said_of (text.names_of k) text.letters quint.now))) }
+    ensures { OnOk result (writer.new ≡ writer.old
+        ++ line_of (entry_of (said_of (text.names_of k) text.letters quint.now))) }
 {
     write_row(
         writer,

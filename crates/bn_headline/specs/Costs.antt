@@ -14,6 +14,7 @@ pub record HasCost (f : Flat) (cost : ℕ) : Type 0 where
   pub ended : IsAtEnd f.network last
   pub is : cost ≡ run_cost f.network (moves + 1) (situation_at_start f)
 
--- a bound on the cost of every board with this layout: at most 4 n + 4 r + 6 steps of the machine of quadruples are begun, for n history cells and r output cells after the first, and each is at most six commands
+-- a bound on the cost of every board with this layout: at most 4 n + 4 r + 6 steps of the machine of quadruples are
+-- begun, for n history cells and r output cells after the first, and each is at most six commands
 abbrev pub bound_of : Layout → ℕ
 bound_of b = 48 * elements_of b * (4 * b.limits.steps + 4 * b.limits.output + 7)

@@ -1,4 +1,5 @@
--- The headline over the definitions: a board runs to the exit that the machine's own bounded run names, in exactly its cost.
+-- The headline over the definitions: a board runs to the exit that the machine's own bounded run names, in exactly its
+-- cost.
 use Rattle.std.specs.Prelude.{◌≡◌, ℕ, ◌+◌, ◌*◌, ◌<◌, ◌≤◌, List, length, Some, slice_get}
 use Rattle.bn_theory.specs.Tables.{Table}
 use Rattle.bn_theory.specs.Runs.{Reaches}
@@ -31,7 +32,8 @@ IsExitFor f (outcome.Outside t side) e = e ≡ exit.Window t side
 abbrev pub Spells : Flat → List ℕ → Configuration ℕ → Type 0
 Spells f states c = spelled_by f.layout states ≡ spelled_config f.limits c
 
--- At the end: the word on tape 1 again, tape 2 blank, y alone on tape 3, all heads at 0; every bank at rest, and the control in its last state.
+-- At the end: the word on tape 1 again, tape 2 blank, y alone on tape 3, all heads at 0; every bank at rest, and the
+-- control in its last state.
 pub record SpellsRestored (f : Flat) (states : List ℕ) (y : List ℕ) : Type 0 where
   pub spells : Spells f states (ending_of f.translation f.word y)
   pub control : (u : Table) (q : ℕ) → slice_get f.network.tables 0 ≡ Some u → slice_get f.names q ≡ Some End
@@ -45,7 +47,8 @@ EndsWith f d i (outcome.Halted y) = SpellsRestored f d.states y
     × (moments f.layout f.circuit d.steps (flat_start f) ≡ 4 * i + 4 * length y + 6)
 EndsWith f d i _ = Unit {0}
 
--- The board of a machine whose bounded run comes out so after i steps: in exactly its cost, which is within the bound, the signal comes to its exit, by which the outcome is named.
+-- The board of a machine whose bounded run comes out so after i steps: in exactly its cost, which is within the bound,
+-- the signal comes to its exit, by which the outcome is named.
 pub record RunsToExit (p : Program) (f : Flat) (i : ℕ) (o : Outcome) : Type 0 where
   pub cost : ℕ
   pub has_cost : HasCost f cost

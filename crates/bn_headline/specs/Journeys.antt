@@ -26,7 +26,8 @@ pub record Strides (f : Flat) (test : Situation → Bool) (x y : Situation × Co
   pub shows : IsMomentOf (machine_of f) f.limits f.names f.network y.0 y.1
   pub told : test y.0 ≡ true
 
--- From the start the network comes to its first moment, then over n steps to the moment of d, and from there to its end.
+-- From the start the network comes to its first moment, then over n steps to the moment of d, and from there to its
+-- end.
 pub record NetworkComes (f : Flat) (test : Situation → Bool) (n : ℕ) (d : Configuration ℕ) (e : Exit) : Type 0 where
   pub first : Situation
   pub starts : Travels f.network test 1 (4 * elements_in f) (situation_at_start f) first
@@ -44,7 +45,8 @@ pub record NetworkComes (f : Flat) (test : Situation → Bool) (n : ℕ) (d : Co
 
 -- it ends as the outcome says
 abbrev pub NetworkEndsAs : Flat → (Situation → Bool) → ℕ → Outcome → Type 0
-NetworkEndsAs f test i (outcome.Halted y) = NetworkComes f test (4 * i + 4 * length y + 5) (ending_of f.translation f.word y) Finished
+NetworkEndsAs f test i (outcome.Halted y) = NetworkComes f test (4 * i + 4 * length y + 5)
+    (ending_of f.translation f.word y) Finished
 NetworkEndsAs f test i (outcome.Stuck j c) = (d : Configuration ℕ) × NetworkComes f test (2 * i) d Stopped
     × (name_of f.translation d.state ≡ Compute j) × (scanned d.one ≡ c)
     × HasNoFirstRead (machine_of f).rules d

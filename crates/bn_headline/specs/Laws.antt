@@ -44,7 +44,8 @@ ExitsTellOutcomes =
     → HasCost f cost → (i : ℕ) (o : Outcome) → HasOutcome p word l i o
     → (e : Exit) → IsExit f.layout (run f.circuit (flat_start f) cost).place e ↔ IsExitFor f o e
 
--- a place by which a board was left: by the end exactly where the machine halts, stuck in a state at a symbol exactly where the machine is, by an end of a tape exactly where the machine is, and by no other line
+-- a place by which a board was left: by the end exactly where the machine halts, stuck in a state at a symbol exactly
+-- where the machine is, by an end of a tape exactly where the machine is, and by no other line
 pub record LeavesByOutcome (p : Program) (word : List ℕ) (l : Limits) (f : Flat) (at_end : Place) : Type 0 where
   pub by_end : IsExit f.layout at_end exit.End ↔ ((i : ℕ) × (y : List ℕ) × HasOutcome p word l i (outcome.Halted y))
   pub by_stuck : (a c : ℕ) → IsExit f.layout at_end (exit.Stuck a c) ↔ ((i : ℕ) × (j : ℕ)
@@ -59,7 +60,8 @@ BoardsLeaveByOutcomes =
     (p : Program) (word : List ℕ) (l : Limits) (f : Flat) → IsFlatOf p word l f → IsAccepted p word l f → (cost : ℕ)
     → HasCost f cost → LeavesByOutcome p word l f (run f.circuit (flat_start f) cost).place
 
--- a board's cost is within its bound, which is within the clock; below the cost the signal is inside, and at the cost it has left
+-- a board's cost is within its bound, which is within the clock; below the cost the signal is inside, and at the cost
+-- it has left
 pub record EndsInTime (f : Flat) (cost : ℕ) : Type 0 where
   pub bounded : cost ≤ bound_of f.layout
   pub in_time : bound_of f.layout < clock
@@ -70,7 +72,8 @@ abbrev pub BoardsEndInTime : Type 0
 BoardsEndInTime = (p : Program) (word : List ℕ) (l : Limits) (f : Flat) → IsFlatOf p word l f → IsAccepted p word l f
     → (cost : ℕ) → HasCost f cost → EndsInTime f cost
 
--- a board that was left by its end is restored, with the machine's output on tape 3, and has been at one moment more than the quadruple machine makes steps
+-- a board that was left by its end is restored, with the machine's output on tape 3, and has been at one moment more
+-- than the quadruple machine makes steps
 abbrev pub BoardsAreRestored : Type 0
 BoardsAreRestored =
     (p : Program) (word : List ℕ) (l : Limits) (f : Flat) → IsFlatOf p word l f → IsAccepted p word l f → (cost : ℕ)
@@ -79,7 +82,8 @@ BoardsAreRestored =
     × SpellsRestored f (run f.circuit (flat_start f) cost).states y
     × (moments f.layout f.circuit cost (flat_start f) ≡ 4 * i + 4 * length y + 6)
 
--- A run of a board taken back in part is a shorter run: after t steps of at most the cost, s steps back lead to the configuration after t - s, inside a column too.
+-- A run of a board taken back in part is a shorter run: after t steps of at most the cost, s steps back lead to the
+-- configuration after t - s, inside a column too.
 abbrev pub BoardsRunBack : Type 0
 BoardsRunBack =
     (p : Program) (word : List ℕ) (l : Limits) (f : Flat) → IsFlatOf p word l f → IsAccepted p word l f

@@ -1,4 +1,5 @@
--- The moments of a board: at the sums of the network's costs alone, one more for each step of the machine of quadruples; never two marks in a bank, never two heads on a tape.
+-- The moments of a board: at the sums of the network's costs alone, one more for each step of the machine of
+-- quadruples; never two marks in a bank, never two heads on a tape.
 use Rattle.std.specs.Prelude.{◌≡◌, ◌↔◌, ℕ, ◌+◌, ◌*◌, ◌<◌, ◌≤◌, List, Some, slice_get}
 use Rattle.bn_theory.specs.Tables.{Table}
 use Rattle.bn_theory.specs.Runs.{Reaches}
@@ -30,7 +31,9 @@ MomentsAreTold =
     → (s : Situation) (d : Config) (a : ℕ) → StandsFor f.network s d
     → (moment_at f.layout d ≡ Some a) ↔ IsMoment (machine_of f) f.names f.network s a
 
--- After t steps the board is at the moment of a: t is the cost of the network's moves to its moment of a; the machine is in a after some steps, which are one fewer than the moments so far; the network shows its tapes, and the board's cells spell them.
+-- After t steps the board is at the moment of a: t is the cost of the network's moves to its moment of a; the machine
+-- is in a after some steps, which are one fewer than the moments so far; the network shows its tapes, and the board's
+-- cells spell them.
 pub record MomentOnBoard (f : Flat) (t a : ℕ) : Type 0 where
   pub moves : ℕ
   pub at : Situation
@@ -52,22 +55,28 @@ MomentsAreByMarks =
     → (d : Config) (a : ℕ) → HasOneState f d
     → (moment_at f.layout d ≡ Some a) ↔ IsBoardMoment (machine_of f) l f.names f.network d a
 
--- Up to its cost a board is at a moment exactly at the sums of costs at which its network is at one, in its own words and by the layout; and at every step, past its end too, no bank has two marked columns and no tape shows two heads.
+-- Up to its cost a board is at a moment exactly at the sums of costs at which its network is at one, in its own words
+-- and by the layout; and at every step, past its end too, no bank has two marked columns and no tape shows two heads.
 pub record HasMoments (l : Limits) (f : Flat) : Type 0 where
   pub sums : (cost t a : ℕ) → HasCost f cost → t ≤ cost
       → IsBoardMoment (machine_of f) l f.names f.network (run f.circuit (flat_start f) t) a ↔ MomentOnBoard f t a
   pub found : (cost t a : ℕ) → HasCost f cost → t ≤ cost
       → (moment_at f.layout (run f.circuit (flat_start f) t) ≡ Some a) ↔ MomentOnBoard f t a
   pub each : (moves a : ℕ) (at : Situation) → Reaches (Turns f.network) moves (situation_at_start f) at
-      → IsMoment (machine_of f) f.names f.network at a → MomentOnBoard f (run_cost f.network moves (situation_at_start f)) a
+      → IsMoment (machine_of f) f.names f.network at a
+      → MomentOnBoard f (run_cost f.network moves (situation_at_start f)) a
   pub marks : (t m j i : ℕ) (u : Table) → slice_get f.network.tables m ≡ Some u → j < u.states → i < u.states
-      → slice_get (run f.circuit (flat_start f) t).states (bottom_at (base f.network.tables m) u.inputs j) ≡ Some horizontal
-      → slice_get (run f.circuit (flat_start f) t).states (bottom_at (base f.network.tables m) u.inputs i) ≡ Some horizontal → i ≡ j
+      → slice_get (run f.circuit (flat_start f) t).states (bottom_at (base f.network.tables m) u.inputs j)
+      ≡ Some horizontal
+      → slice_get (run f.circuit (flat_start f) t).states (bottom_at (base f.network.tables m) u.inputs i)
+      ≡ Some horizontal → i ≡ j
   pub heads : (t tape p q i j : ℕ) → 0 < tape → tape ≤ 3 → p < cells_in l tape → q < cells_in l tape
       → letters_at f.layout tape ≤ i → i < 2 * letters_at f.layout tape → letters_at f.layout tape ≤ j
       → j < 2 * letters_at f.layout tape
-      → slice_get (run f.circuit (flat_start f) t).states (bottom_at (cell_element f.layout tape p) (lines_of (letters_at f.layout tape)) i) ≡ Some horizontal
-      → slice_get (run f.circuit (flat_start f) t).states (bottom_at (cell_element f.layout tape q) (lines_of (letters_at f.layout tape)) j) ≡ Some horizontal → p ≡ q
+      → slice_get (run f.circuit (flat_start f) t).states
+      (bottom_at (cell_element f.layout tape p) (lines_of (letters_at f.layout tape)) i) ≡ Some horizontal
+      → slice_get (run f.circuit (flat_start f) t).states
+      (bottom_at (cell_element f.layout tape q) (lines_of (letters_at f.layout tape)) j) ≡ Some horizontal → p ≡ q
 
 abbrev pub BoardsHaveMoments : Type 0
 BoardsHaveMoments = (p : Program) (word : List ℕ) (l : Limits) (f : Flat) → IsFlatOf p word l f

@@ -1,5 +1,6 @@
 //! The headline over the definitions, law by law. Each function only names the laws below it; its contract is the law.
-ghost use Rattle.bn_headline.specs.Laws.{BoardsAreRestored, BoardsEndInTime, BoardsLeaveByOutcomes, BoardsRunBack, BoardsRunToTheirExit, CostsAreOne, ExitsTellOutcomes, NetworksEndAlike};
+ghost use Rattle.bn_headline.specs.Laws.{BoardsAreRestored, BoardsEndInTime, BoardsLeaveByOutcomes, BoardsRunBack};
+ghost use Rattle.bn_headline.specs.Laws.{BoardsRunToTheirExit, CostsAreOne, ExitsTellOutcomes, NetworksEndAlike};
 ghost use Rattle.bn_headline.specs.Moments.{BoardsHaveMoments, MomentsAreByMarks, MomentsAreTold};
 
 use bn_bennett::{translations_are_uniform, translations_end_alike, translations_stand};
@@ -53,7 +54,8 @@ pub fn exits_tell_outcomes()
     boards_run_to_their_exit();
 }
 
-/// A board is left by each exit exactly where the machine's own bounded run comes out so, and by no line without a name.
+/// A board is left by each exit exactly where the machine's own bounded run comes out so, and by no line without a
+/// name.
 pub fn boards_leave_by_outcomes()
     ensures { BoardsLeaveByOutcomes }
 {
@@ -92,8 +94,8 @@ pub fn moments_are_by_marks()
     states_have_entries();
 }
 
-/// A board is at a moment exactly at the sums of costs at which its network is at one; at every step no bank has two marked
-/// columns and no tape shows two heads.
+/// A board is at a moment exactly at the sums of costs at which its network is at one; at every step no bank has two
+/// marked columns and no tape shows two heads.
 pub fn boards_have_moments()
     ensures { BoardsHaveMoments }
 {

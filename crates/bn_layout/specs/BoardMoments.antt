@@ -14,8 +14,11 @@ use Rattle.bn_modules.specs.Networks.{IsNetWire, line_at}
 use Rattle.bn_boards.specs.Boards.{base}
 use Rattle.bn_layout.specs.Flats.{Flat, machine_of}
 
--- The board is at the moment of the final state where the signal has left by the control's line to the outside; of another state where it enters the line of that state's first command at the first cell of the tape, and the control's column of the command's state is marked.
-pub data IsBoardMoment (m : Quadruples) (l : Limits) (names : List ControlState) (n : Circuit) (d : Config) (a : ℕ) : Type 0 where
+-- The board is at the moment of the final state where the signal has left by the control's line to the outside; of
+-- another state where it enters the line of that state's first command at the first cell of the tape, and the control's
+-- column of the command's state is marked.
+pub data IsBoardMoment (m : Quadruples) (l : Limits) (names : List ControlState) (n : Circuit) (d : Config)
+    (a : ℕ) : Type 0 where
   left_by_end : a ≡ final_of m.rules → (control : Table) → slice_get n.tables 0 ≡ Some control
       → d.place ≡ Left (output_line 0 control (out_number m Outside)).element east → IsBoardMoment m l names n d a
   enters_first : a ≢ final_of m.rules → (first : ControlMove) → IsEntry m a first → (into : Line)

@@ -1,4 +1,5 @@
--- A machine's translation with its control, its network, its board and its layout: what a machine, a word and limits are compiled to.
+-- A machine's translation with its control, its network, its board and its layout: what a machine, a word and limits
+-- are compiled to.
 use Rattle.std.specs.Prelude.{◌≡◌, ◌≢◌, ℕ, ◌≤◌, List, length, All}
 use Rattle.bn_theory.specs.Alike.{AreAlike}
 use Rattle.bn_theory.specs.Circuits.{Circuit}
@@ -43,7 +44,8 @@ situation_at_start f = network_start f.translation.machine f.limits f.word
 abbrev pub flat_start : Flat → Config
 flat_start f = board_start f.network.tables (situation_at_start f)
 
--- what may be compiled: a machine in standard form, a word of its letters that fits, limits and elements within the greatest numbers
+-- what may be compiled: a machine in standard form, a word of its letters that fits, limits and elements within the
+-- greatest numbers
 pub record IsAccepted (p : Program) (word : List ℕ) (l : Limits) (f : Flat) : Type 0 where
   pub standard : IsStandardMachine p
   pub letters : IsSpelledBy p word

@@ -1,5 +1,7 @@
 -- The numbers by which a board is read (this project's own profile): its exits, its moments, and what its cells spell.
-use Rattle.std.specs.Prelude.{◌≡◌, ◌≢◌, ◌↔◌, ℕ, zero, suc, ◌+◌, ◌-◌, ◌*◌, ◌<◌, ◌≤◌, ℤ, pos, ◌-ℤ◌, Bool, false, not, List, [], length, map, position, Option, Some, None, slice_get, if◌then◌else◌, ◌==◌, ◌&&◌, nat_lt, is_some}
+use Rattle.std.specs.Prelude.{◌≡◌, ◌≢◌, ◌↔◌, ℕ, zero, suc, ◌+◌, ◌-◌, ◌*◌, ◌<◌, ◌≤◌, ℤ, pos, ◌-ℤ◌, Bool, false, not}
+use Rattle.std.specs.Prelude.{List, [], length, map, position, Option, Some, None, slice_get, if◌then◌else◌, ◌==◌, ◌&&◌}
+use Rattle.std.specs.Prelude.{nat_lt, is_some}
 use Rattle.std.specs.List.{range_with_len, slice_index_or}
 use Rattle.std.specs.Option.{option_map}
 use Rattle.bn_theory.specs.Circuits.{Circuit}
@@ -19,10 +21,13 @@ use Rattle.bn_layout.specs.declared.spelled.Spelled.{Spelled}
 use Rattle.bn_modules.specs.declared.cell_line.CellLine.TheVariants.{Read, TakeRight, TakeLeft}
 use Rattle.bn_theory.specs.Counting.{tally, one_if}
 use Rattle.bn_modules.specs.Cells.{line_number, lines_of}
-use Rattle.bn_modules.specs.Controls.{ControlState, Reads, Tape as to_tape, ControlMove, IsEntry, lines_before, out_number}
+use Rattle.bn_modules.specs.Controls.{ControlState, Reads, Tape as to_tape, ControlMove, IsEntry, lines_before}
+use Rattle.bn_modules.specs.Controls.{out_number}
 use Rattle.bn_modules.specs.Networks.{cells_in, left_of, bank_size, cell_size}
 
--- What a board keeps beside its net: the limits; the numbers of symbols; how many states the control has; for each state of the quadruple machine the control state and the output line of its first command, nothing for the final state; for each control state that awaits a first read, the state of the quadruple machine and the tape.
+-- What a board keeps beside its net: the limits; the numbers of symbols; how many states the control has; for each
+-- state of the quadruple machine the control state and the output line of its first command, nothing for the final
+-- state; for each control state that awaits a first read, the state of the quadruple machine and the tape.
 pub record Layout : Type 0 where
   pub limits : Limits
   pub symbols : List ℕ
@@ -54,7 +59,8 @@ elements_of b = first_element b 4
 
 -- the output line of a cell
 abbrev pub cell_output : Layout → ℕ → ℕ → ℕ → Place
-cell_output b t p l = Left (column_at (cell_element b t p) (lines_of (letters_at b t)) (2 * letters_at b t - 1) + l) east
+cell_output b t p l = Left (column_at (cell_element b t p) (lines_of (letters_at b t))
+    (2 * letters_at b t - 1) + l) east
 
 abbrev pub end_place : Layout → Place
 end_place b = Left (column_at 0 (lines_at b) (b.states - 1)) east
@@ -85,7 +91,8 @@ same_place (Enter e i) (Left f j) = false
 same_place (Left e i) (Enter f j) = false
 same_place (Left e i) (Left f j) = e == f && i == j
 
--- where a command of the control leads, by its output line: to the line with the same place among those of its tape's first cell
+-- where a command of the control leads, by its output line: to the line with the same place among those of its tape's
+-- first cell
 abbrev pub command_place : Layout → ℕ → Place
 command_place b o =
     if nat_lt o (lines_before b.symbols 1) then Enter (first_element b 1 + (o - lines_before b.symbols 0)) west
@@ -128,16 +135,26 @@ has_head z None = false
 has_head z (Some q) = not (nat_lt q z)
 
 abbrev pub cells_shown : Layout → List ℕ → ℕ → List (Option ℕ)
-cells_shown b states t = map (λ p. option_map (symbol_by (letters_at b t)) (cell_state_at b states t p)) (range_with_len 0 (cells_in b.limits t))
+cells_shown b states t = map (λ p. option_map (symbol_by (letters_at b t)) (cell_state_at b states t p))
+    (range_with_len 0 (cells_in b.limits t))
 
 abbrev pub head_shown : Layout → List ℕ → ℕ → Option ℤ
-head_shown b states t = option_map (λ p. pos p -ℤ pos (left_of b.limits t)) (position (λ p. has_head (letters_at b t) (cell_state_at b states t p)) (range_with_len 0 (cells_in b.limits t)))
+head_shown b states t = option_map (λ p. pos p -ℤ pos (left_of b.limits t))
+    (position (λ p. has_head (letters_at b t) (cell_state_at b states t p)) (range_with_len 0 (cells_in b.limits t)))
 
 abbrev pub spelled_tape : Layout → List ℕ → ℕ → SpelledTape
-spelled_tape b states t = record { first = pos 0 -ℤ pos (left_of b.limits t); head = head_shown b states t; cells = cells_shown b states t }
+spelled_tape b states t = record {
+  first = pos 0 -ℤ pos (left_of b.limits t);
+  head = head_shown b states t;
+  cells = cells_shown b states t;
+}
 
 abbrev pub spelled_by : Layout → List ℕ → Spelled
-spelled_by b states = record { one = spelled_tape b states 1; two = spelled_tape b states 2; three = spelled_tape b states 3 }
+spelled_by b states = record {
+  one = spelled_tape b states 1;
+  two = spelled_tape b states 2;
+  three = spelled_tape b states 3;
+}
 
 -- what the cells spell of a configuration of the machine whose tapes lie inside the limits
 abbrev pub config_tape : Limits → ℕ → Tape → SpelledTape
@@ -148,7 +165,11 @@ config_tape l t tape = record {
 }
 
 abbrev pub spelled_config : Limits → Configuration ℕ → Spelled
-spelled_config l c = record { one = config_tape l 1 c.one; two = config_tape l 2 c.two; three = config_tape l 3 c.three }
+spelled_config l c = record {
+  one = config_tape l 1 c.one;
+  two = config_tape l 2 c.two;
+  three = config_tape l 3 c.three;
+}
 
 -- ---- the layout of a machine's board
 

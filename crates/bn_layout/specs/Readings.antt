@@ -10,7 +10,8 @@ use Rattle.bn_modules.specs.Moments.{TellsMoments}
 use Rattle.bn_boards.specs.Boards.{AreModules, StandsFor, IsAmid, IsLoose, size}
 use Rattle.bn_element.specs.Rotary.{west}
 use Rattle.bn_realise.specs.Banks.{column_at}
-use Rattle.bn_layout.specs.Layouts.{is_moment, elements_of, end_place, cell_output, letters_at, lines_at, spelled_by, spelled_config}
+use Rattle.bn_layout.specs.Layouts.{is_moment, elements_of, end_place, cell_output, letters_at, lines_at, spelled_by}
+use Rattle.bn_layout.specs.Layouts.{spelled_config}
 use Rattle.bn_layout.specs.Flats.{Flat, machine_of, situation_at_start, flat_start}
 
 -- the elements of the board, by the machine, the limits and the control's number of states
@@ -23,7 +24,8 @@ pub record MomentsAgree (f : Flat) (test : Situation → Bool) : Type 0 where
   pub amid : (s t : Situation) (d : Config) → IsAmid f.network s t d → is_moment f.layout d ≡ false
   pub loose : (s : Situation) (d : Config) → IsLoose f.network s d → is_moment f.layout d ≡ false
 
--- What a board of modules, banks and a layout give: numbers agree, and places and cells stand for what they are named after.
+-- What a board of modules, banks and a layout give: numbers agree, and places and cells stand for what they are named
+-- after.
 pub record BoardReads (f : Flat) (test : Situation → Bool) : Type 0 where
   pub modules : AreModules f.network
   pub starts : StandsFor f.network (situation_at_start f) (flat_start f)

@@ -1,8 +1,10 @@
--- A tape cell (this project's own profile): a reversible sequential machine (Morita 2017) that keeps one symbol and maybe the head, by names and by numbers. Symbols are counted from 0, the blank first; z is the number of symbols.
+-- A tape cell (this project's own profile): a reversible sequential machine (Morita 2017) that keeps one symbol and
+-- maybe the head, by names and by numbers. Symbols are counted from 0, the blank first; z is the number of symbols.
 use Rattle.std.specs.Prelude.{ℕ, zero, suc, ◌+◌, ◌-◌, ◌*◌, ◌<◌, ◌==◌, nat_lt, Option, Some, None, if◌then◌else◌}
 use Rattle.bn_theory.specs.Tables.{Table}
 use Rattle.bn_modules.specs.declared.cell_line.CellLine.{CellLine}
-use Rattle.bn_modules.specs.declared.cell_line.CellLine.TheVariants.{Read, Write, ShiftRight, ShiftLeft, TakeRight, Answer, DoneWrite, DoneRight, DoneLeft, TakeLeft}
+use Rattle.bn_modules.specs.declared.cell_line.CellLine.TheVariants.{Read, Write, ShiftRight, ShiftLeft, TakeRight}
+use Rattle.bn_modules.specs.declared.cell_line.CellLine.TheVariants.{Answer, DoneWrite, DoneRight, DoneLeft, TakeLeft}
 
 -- ---- names
 
@@ -20,7 +22,8 @@ abbrev pub unread : ℕ → ℕ → Option (CellState × CellLine)
 unread zero t = Some (Head t, Read)
 unread (suc u) t = None
 
--- A cell without the head lets everything pass, and takes the head when it comes; the cell with the head answers, or hands the head on. The other pairs have no move.
+-- A cell without the head lets everything pass, and takes the head when it comes; the cell with the head answers, or
+-- hands the head on. The other pairs have no move.
 abbrev pub cell_go : CellState → CellLine → Option (CellState × CellLine)
 cell_go (Plain t) TakeRight = Some (Head t, DoneRight)
 cell_go (Plain t) TakeLeft = Some (Head t, DoneLeft)

@@ -1,5 +1,7 @@
--- The finite control of a uniform machine of quadruples (this project's own profile), by names, and its table: it sends the commands of a quadruple to the tapes one after another, and awaits the answer to each.
-use Rattle.std.specs.Prelude.{◌≡◌, ◌≢◌, ◌↔◌, ℕ, zero, suc, ◌+◌, ◌-◌, ◌<◌, List, [], ◌∷◌, ◌++◌, length, map, reverse, Some, slice_get, slice_index}
+-- The finite control of a uniform machine of quadruples (this project's own profile), by names, and its table: it sends
+-- the commands of a quadruple to the tapes one after another, and awaits the answer to each.
+use Rattle.std.specs.Prelude.{◌≡◌, ◌≢◌, ◌↔◌, ℕ, zero, suc, ◌+◌, ◌-◌, ◌<◌, List, [], ◌∷◌, ◌++◌, length, map, reverse}
+use Rattle.std.specs.Prelude.{Some, slice_get, slice_index}
 use Rattle.std.specs.Ordering.{nat_cmp}
 use Rattle.std.specs.Cmp.Lexicographic.{slice_cmp}
 use Rattle.std.specs.declared.cmp.Ordering.TheVariants.{Less}
@@ -11,7 +13,8 @@ use Rattle.bn_machine.specs.declared.quint.Side.{Side}
 use Rattle.bn_machine.specs.declared.quint.Side.TheVariants as side
 use Rattle.bn_quad.specs.Quadruples.{Deed, Rewrite, Move, Rule, deeds_of, Quadruples, initial_of, final_of}
 use Rattle.bn_modules.specs.declared.cell_line.CellLine.{CellLine}
-use Rattle.bn_modules.specs.declared.cell_line.CellLine.TheVariants.{Read, Write, ShiftRight, ShiftLeft, Answer, DoneWrite, DoneRight, DoneLeft}
+use Rattle.bn_modules.specs.declared.cell_line.CellLine.TheVariants.{Read, Write, ShiftRight, ShiftLeft, Answer}
+use Rattle.bn_modules.specs.declared.cell_line.CellLine.TheVariants.{DoneWrite, DoneRight, DoneLeft}
 
 -- ---- what a quadruple commands: first its reads by rising tape, then its shifts other than 0 by rising tape, then its writes by falling tape. Tapes are counted from 1.
 
@@ -50,7 +53,10 @@ writes_of r = reverse (rising 1 (deeds_of r))
 
 -- ---- states and lines
 
--- `Begin` before all; `End` in the machine's final state. `Reads a s`: in state a of the machine, awaiting the answer to the next read, after the symbols s. `Shifts n t`: in quadruple n, counted from 1, awaiting the answer to the shift of tape t. `Writes a t u`: on the way into state a, awaiting the answer to the write on tape t, with the symbols u still to be written on lower tapes, in falling order.
+-- `Begin` before all; `End` in the machine's final state. `Reads a s`: in state a of the machine, awaiting the answer
+-- to the next read, after the symbols s. `Shifts n t`: in quadruple n, counted from 1, awaiting the answer to the shift
+-- of tape t. `Writes a t u`: on the way into state a, awaiting the answer to the write on tape t, with the symbols u
+-- still to be written on lower tapes, in falling order.
 pub data ControlState : Type 0 where
   Begin : ControlState
   End : ControlState
@@ -86,7 +92,8 @@ to_shift n p = (Shifts n p.0, Tape p.0 (shift_line p.1))
 abbrev pub to_write : ℕ → (ℕ × ℕ) → List (ℕ × ℕ) → ControlMove
 to_write a p rest = (Writes a p.0 (symbols_in rest), Tape p.0 (Write p.1))
 
--- what follows in quadruple n where these writes are left, these shifts, these reads; e is the next state's first command
+-- what follows in quadruple n where these writes are left, these shifts, these reads; e is the next state's first
+-- command
 abbrev pub to_writes : ControlMove → ℕ → List (ℕ × ℕ) → ControlMove
 to_writes e a [] = e
 to_writes e a (p ∷ rest) = to_write a p rest
@@ -109,14 +116,19 @@ IsFirstOf n r (p ∷ rest) ss k = k ≡ to_read r.from [] p
 pub record IsNotLeft (m : Quadruples) (a : ℕ) : Type 0 where
   pub none : (n : ℕ) (r : Rule ℕ) → nth m.rules n ≡ Some r → r.from ≢ a
 
--- The first command of a state of the machine, with the control's state that awaits its answer: in the final state the signal leaves; else it is the first read, or where nothing is read the first shift, of a quadruple that leaves the state; and where none leaves it, a read of tape 1.
+-- The first command of a state of the machine, with the control's state that awaits its answer: in the final state the
+-- signal leaves; else it is the first read, or where nothing is read the first shift, of a quadruple that leaves the
+-- state; and where none leaves it, a read of tape 1.
 pub data IsEntry (m : Quadruples) (a : ℕ) (k : ControlMove) : Type 0 where
   finishes : a ≡ final_of m.rules → k ≡ (End, Outside) → IsEntry m a k
   leaves : (n : ℕ) (r : Rule ℕ) → nth m.rules n ≡ Some r → r.from ≡ a → IsFirstOf n r (reads_of r) (shifts_of r) k
       → IsEntry m a k
   waits : a ≢ final_of m.rules → a < m.states → IsNotLeft m a → k ≡ to_read a [] (1, 0) → IsEntry m a k
 
--- The control's moves, from a state and an input line to a state and an output line: it begins with the first command of the initial state; after a read it goes on to the next read of the quadruple, or else to what follows its reads; after a shift and after a write likewise, at last to the first command of the next state. Where no quadruple's reads begin with what was answered there is no move.
+-- The control's moves, from a state and an input line to a state and an output line: it begins with the first command
+-- of the initial state; after a read it goes on to the next read of the quadruple, or else to what follows its reads;
+-- after a shift and after a write likewise, at last to the first command of the next state. Where no quadruple's reads
+-- begin with what was answered there is no move.
 pub data ControlGoes (m : Quadruples) (q : ControlState) (i : ControlLine) (k : ControlMove) : Type 0 where
   begins : q ≡ Begin → i ≡ Outside → IsEntry m (initial_of m.rules) k → ControlGoes m q i k
   reads_on : (n : ℕ) (r : Rule ℕ) → nth m.rules n ≡ Some r → (e : ControlMove) → IsEntry m r.to e
@@ -131,7 +143,8 @@ pub data ControlGoes (m : Quadruples) (q : ControlState) (i : ControlLine) (k : 
       → q ≡ Writes r.to p.0 (symbols_in rest) → i ≡ Tape p.0 DoneWrite → k ≡ to_writes e r.to rest
       → ControlGoes m q i k
 
--- The states of the control: the first and the last; one for each state that isn't final and that no quadruple leaves, which awaits tape 1 for ever; and one for each read, shift and write of each quadruple.
+-- The states of the control: the first and the last; one for each state that isn't final and that no quadruple leaves,
+-- which awaits tape 1 for ever; and one for each read, shift and write of each quadruple.
 pub data Occurs (m : Quadruples) (q : ControlState) : Type 0 where
   is_begin : q ≡ Begin → Occurs m q
   is_end : q ≡ End → Occurs m q
@@ -143,7 +156,8 @@ pub data Occurs (m : Quadruples) (q : ControlState) : Type 0 where
   is_write : (n : ℕ) (r : Rule ℕ) → nth m.rules n ≡ Some r → (before rest : List (ℕ × ℕ)) (p : ℕ × ℕ)
       → writes_of r ≡ before ++ (p ∷ rest) → q ≡ Writes r.to p.0 (symbols_in rest) → Occurs m q
 
--- What the states are ordered by, as words of numbers: kinds in their order; reads by state, by how many symbols were read, by these; shifts by quadruple and tape; writes by state, by falling tape, by the symbols.
+-- What the states are ordered by, as words of numbers: kinds in their order; reads by state, by how many symbols were
+-- read, by these; shifts by quadruple and tape; writes by state, by falling tape, by the symbols.
 abbrev pub key_of : ControlState → List ℕ
 key_of Begin = 0 ∷ []
 key_of End = 1 ∷ []

@@ -1,5 +1,7 @@
--- Moments of the network (this project's own profile): where it stands for a configuration of the machine of quadruples.
-use Rattle.std.specs.Prelude.{◌≡◌, ◌≢◌, ℕ, ◌+◌, ◌*◌, ◌<◌, ◌≤◌, pos, ◌+ℤ◌, Bool, true, false, not, List, Some, slice_get, ◌⊎◌}
+-- Moments of the network (this project's own profile): where it stands for a configuration of the machine of
+-- quadruples.
+use Rattle.std.specs.Prelude.{◌≡◌, ◌≢◌, ℕ, ◌+◌, ◌*◌, ◌<◌, ◌≤◌, pos, ◌+ℤ◌, Bool, true, false, not, List, Some, slice_get}
+use Rattle.std.specs.Prelude.{◌⊎◌}
 use Rattle.std.specs.Int.RustNames.{unsigned_abs}
 use Rattle.bn_theory.specs.Runs.{Passes}
 use Rattle.bn_theory.specs.Circuits.{Circuit, place_after}
@@ -16,14 +18,18 @@ use Rattle.bn_modules.specs.Cells.{line_number}
 use Rattle.bn_modules.specs.Controls.{ControlState, ControlMove, IsEntry, letters, out_number}
 use Rattle.bn_modules.specs.Networks.{line_at, ShowsTapes, IsControlAt, first_cell, cells_in, IsTape}
 
--- The network is at the moment of a state of the machine: of the final one where the signal has left by the control's line to the outside; of another where the control waits for the answer to that state's first command, and the signal is where that command leads.
+-- The network is at the moment of a state of the machine: of the final one where the signal has left by the control's
+-- line to the outside; of another where the control waits for the answer to that state's first command, and the signal
+-- is where that command leads.
 pub data IsMoment (m : Quadruples) (names : List ControlState) (k : Circuit) (s : Situation) (a : ℕ) : Type 0 where
   at_end : a ≡ final_of m.rules → s.place ≡ Left 0 0 → IsMoment m names k s a
   sent : a ≢ final_of m.rules → (first : ControlMove) → IsEntry m a first → IsControlAt names s.states first.0
       → s.place ≡ place_after k.wires (line_at 0 (out_number m first.1)) → IsMoment m names k s a
 
--- it is at the moment of this configuration: the control waits in the state of the first command, in the final state too, and the cells show the tapes
-pub record IsMomentOf (m : Quadruples) (l : Limits) (names : List ControlState) (k : Circuit) (s : Situation) (c : Configuration ℕ) : Type 0 where
+-- it is at the moment of this configuration: the control waits in the state of the first command, in the final state
+-- too, and the cells show the tapes
+pub record IsMomentOf (m : Quadruples) (l : Limits) (names : List ControlState) (k : Circuit) (s : Situation)
+    (c : Configuration ℕ) : Type 0 where
   pub first : ControlMove
   pub entry : IsEntry m c.state first
   pub waits : IsControlAt names s.states first.0
@@ -53,7 +59,8 @@ abbrev pub head_cell : ℕ → Tape → ℕ
 head_cell left t = unsigned_abs (t.head +ℤ pos left)
 
 abbrev pub quad_moves : Limits → Rule ℕ → Configuration ℕ → ℕ
-quad_moves l r c = deed_moves (head_cell l.left c.one) r.one + deed_moves (head_cell 0 c.two) r.two + deed_moves (head_cell 0 c.three) r.three
+quad_moves l r c = deed_moves (head_cell l.left c.one) r.one + deed_moves (head_cell 0 c.two) r.two + deed_moves
+    (head_cell 0 c.three) r.three
 
 -- ---- from moment to moment
 
@@ -74,4 +81,6 @@ pub record HasHeads (m : Quadruples) (l : Limits) (s : Situation) : Type 0 where
       → slice_get s.states (first_cell l t + p) ≡ Some i → slice_get s.states (first_cell l t + q) ≡ Some j
       → letters m t ≤ i → letters m t ≤ j → p ≡ q
   pub carried : (t p q i : ℕ) → IsTape t → p < cells_in l t → q < cells_in l t
-      → (s.place ≡ Enter (first_cell l t + p) (line_number (letters m t) TakeRight)) ⊎ (s.place ≡ Enter (first_cell l t + p) (line_number (letters m t) TakeLeft)) → slice_get s.states (first_cell l t + q) ≡ Some i → i < letters m t
+      → (s.place ≡ Enter (first_cell l t + p) (line_number (letters m t) TakeRight))
+      ⊎ (s.place ≡ Enter (first_cell l t + p) (line_number (letters m t) TakeLeft))
+      → slice_get s.states (first_cell l t + q) ≡ Some i → i < letters m t

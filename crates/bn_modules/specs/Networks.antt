@@ -1,5 +1,7 @@
--- The network of control and cells (this project's own profile), and what it shows. Tapes are counted from 1; modules from 0: the control, then each tape's cells from left to right.
-use Rattle.std.specs.Prelude.{◌≡◌, ◌≢◌, ◌↔◌, ℕ, zero, suc, ◌+◌, ◌*◌, ◌<◌, ◌≤◌, ℤ, pos, ◌-ℤ◌, List, [], ◌∷◌, ◌++◌, replicate, map, Some, slice_get, if◌then◌else◌}
+-- The network of control and cells (this project's own profile), and what it shows. Tapes are counted from 1; modules
+-- from 0: the control, then each tape's cells from left to right.
+use Rattle.std.specs.Prelude.{◌≡◌, ◌≢◌, ◌↔◌, ℕ, zero, suc, ◌+◌, ◌*◌, ◌<◌, ◌≤◌, ℤ, pos, ◌-ℤ◌, List, [], ◌∷◌, ◌++◌}
+use Rattle.std.specs.Prelude.{replicate, map, Some, slice_get, if◌then◌else◌}
 use Rattle.std.specs.Ordering.{int_eq}
 use Rattle.std.specs.List.{range_with_len}
 use Rattle.bn_theory.specs.Tables.{Table}
@@ -11,10 +13,12 @@ use Rattle.bn_machine.specs.Window.{IsBetween}
 use Rattle.bn_machine.specs.Outcome.{Limits}
 use Rattle.bn_quad.specs.Quadruples.{Configuration, Quadruples}
 use Rattle.bn_modules.specs.declared.cell_line.CellLine.{CellLine}
-use Rattle.bn_modules.specs.declared.cell_line.CellLine.TheVariants.{Read, Write, ShiftRight, ShiftLeft, TakeRight, Answer, DoneWrite, DoneRight, DoneLeft, TakeLeft}
+use Rattle.bn_modules.specs.declared.cell_line.CellLine.TheVariants.{Read, Write, ShiftRight, ShiftLeft, TakeRight}
+use Rattle.bn_modules.specs.declared.cell_line.CellLine.TheVariants.{Answer, DoneWrite, DoneRight, DoneLeft, TakeLeft}
 use Rattle.bn_theory.specs.Situations.{Situation, situation}
 use Rattle.bn_modules.specs.Cells.{CellState, Plain, Head, IsLineOf, cell_table, line_number, state_number, lines_of}
-use Rattle.bn_modules.specs.Controls.{ControlState, Tape as to_tape, IsControlTable, letters, in_number, out_number, control_lines}
+use Rattle.bn_modules.specs.Controls.{ControlState, Tape as to_tape, IsControlTable, letters, in_number, out_number}
+use Rattle.bn_modules.specs.Controls.{control_lines}
 
 abbrev pub line_at : ℕ → ℕ → Line
 line_at e l = record { element = e; line = l }
@@ -85,9 +89,11 @@ pub data IsNetWire (m : Quadruples) (l : Limits) (from to : Line) : Type 0 where
       → to ≡ line_at (first_cell l t + p) (line_number (letters m t) c) → IsNetWire m l from to
 
 abbrev pub module_tables : Quadruples → Limits → Table → List Table
-module_tables m l control = control ∷ replicate (cells_in l 1) (cell_table (letters m 1)) ++ replicate (cells_in l 2) (cell_table (letters m 2)) ++ replicate (cells_in l 3) (cell_table (letters m 3))
+module_tables m l control = control ∷ replicate (cells_in l 1) (cell_table (letters m 1))
+    ++ replicate (cells_in l 2) (cell_table (letters m 2)) ++ replicate (cells_in l 3) (cell_table (letters m 3))
 
--- This circuit of modules is the network of the machine in these limits; `names` are the control's states in order, so each law that speaks of costs or numbers also has that they are.
+-- This circuit of modules is the network of the machine in these limits; `names` are the control's states in order, so
+-- each law that speaks of costs or numbers also has that they are.
 pub record IsNetwork (m : Quadruples) (l : Limits) (names : List ControlState) (k : Circuit) : Type 0 where
   pub circuit : IsCircuit k
   pub control : Table
@@ -103,7 +109,8 @@ abbrev pub cell_size : ℕ → ℕ
 cell_size z = bank_size (2 * z) (lines_of z)
 
 abbrev pub elements_by : Quadruples → Limits → ℕ → ℕ
-elements_by m l control_states = bank_size control_states (control_lines m) + cells_in l 1 * cell_size (letters m 1) + cells_in l 2 * cell_size (letters m 2) + cells_in l 3 * cell_size (letters m 3)
+elements_by m l control_states = bank_size control_states (control_lines m) + cells_in l 1 * cell_size
+    (letters m 1) + cells_in l 2 * cell_size (letters m 2) + cells_in l 3 * cell_size (letters m 3)
 
 -- ---- what the cells show
 
@@ -131,8 +138,11 @@ pub record IsControlAt (names : List ControlState) (states : List ℕ) (q : Cont
 
 -- the states of the cells from -left to right of a tape that holds this word at 1 and on, with the head at 0
 abbrev pub start_cells : ℕ → ℕ → List ℕ → ℕ → List ℕ
-start_cells z left word right = map (λ j. state_number z (cell_of (word_tape word) (pos j -ℤ pos left))) (range_with_len 0 (left + right + 1))
+start_cells z left word right = map (λ j. state_number z (cell_of (word_tape word) (pos j -ℤ pos left)))
+    (range_with_len 0 (left + right + 1))
 
--- the start: the control in its first state, the word on tape 1 from cell 1 on, all else blank, the heads at 0, the signal at the control's line from outside
+-- the start: the control in its first state, the word on tape 1 from cell 1 on, all else blank, the heads at 0, the
+-- signal at the control's line from outside
 abbrev pub network_start : Quadruples → Limits → List ℕ → Situation
-network_start m l word = situation (0 ∷ start_cells (letters m 1) l.left word l.right ++ start_cells (letters m 2) 0 [] l.steps ++ start_cells (letters m 3) 0 [] l.output) (Enter 0 0)
+network_start m l word = situation (0 ∷ start_cells (letters m 1) l.left word l.right
+    ++ start_cells (letters m 2) 0 [] l.steps ++ start_cells (letters m 3) 0 [] l.output) (Enter 0 0)

@@ -20,15 +20,18 @@ tape_of c (suc zero) = c.one
 tape_of c (suc (suc zero)) = c.two
 tape_of c (suc (suc (suc t))) = c.three
 
--- The machine is stuck at its first read: the first command of the state reads tape t, and no quadruple that leaves the state reads there first what stands there. Nothing is said of a stop at a later read.
+-- The machine is stuck at its first read: the first command of the state reads tape t, and no quadruple that leaves the
+-- state reads there first what stands there. Nothing is said of a stop at a later read.
 pub record IsStoppedAt (m : Quadruples) (c : Configuration ℕ) (t : ℕ) : Type 0 where
   pub tape : IsTape t
   pub entry : IsEntry m c.state (Reads c.state [], to_tape t Read)
   pub none : (n : ℕ) (r : Rule ℕ) (rest : List (ℕ × ℕ)) → nth m.rules n ≡ Some r → r.from ≡ c.state
       → reads_of r ≡ (t, scanned (tape_of c t)) ∷ rest → ⊥
 
--- how the network's run ends: by the control's line to the outside, with the tapes shown; at the control, with an answer to its first read for which it has no move; by the last or by the first cell of a tape
-pub data EndsBy (m : Quadruples) (l : Limits) (names : List ControlState) (s : Situation) (c : Configuration ℕ) : Exit → Type 0 where
+-- how the network's run ends: by the control's line to the outside, with the tapes shown; at the control, with an
+-- answer to its first read for which it has no move; by the last or by the first cell of a tape
+pub data EndsBy (m : Quadruples) (l : Limits) (names : List ControlState) (s : Situation) (c : Configuration ℕ) : Exit
+    → Type 0 where
   by_end : s.place ≡ Left 0 0 → IsControlAt names s.states End → ShowsTapes m l s.states c
       → EndsBy m l names s c Finished
   by_stop : (t : ℕ) → IsStoppedAt m c t → s.place ≡ Enter 0 (in_number m (to_tape t (Answer (scanned (tape_of c t)))))

@@ -1,4 +1,5 @@
--- What the laws of this crate say, each the contract of a function that only names the laws below it: from moment to moment, for every uniform machine and every window.
+-- What the laws of this crate say, each the contract of a function that only names the laws below it: from moment to
+-- moment, for every uniform machine and every window.
 use Rattle.std.specs.Prelude.{◌≡◌, ℕ, ◌+◌, ◌*◌, ◌<◌, ◌≤◌, Bool, true, false, List, length, All, ◌⊎◌}
 use Rattle.bn_theory.specs.Circuits.{Circuit}
 use Rattle.bn_machine.specs.Tape.{word_tape, blank_tape}
@@ -14,7 +15,8 @@ use Rattle.bn_modules.specs.Networks.{IsNetwork, network_start, elements_by}
 use Rattle.bn_modules.specs.Moments.{HasLetters, HasHeads, IsMomentOf, TellsMoments, Travels, quad_moves}
 use Rattle.bn_network.specs.Ends.{EndsBy, IsEarlyStop}
 
--- From the start the network comes in one move of the control to the moment of the initial state: the word on tape 1 from cell 1 on, all else blank, the heads at 0.
+-- From the start the network comes in one move of the control to the moment of the initial state: the word on tape 1
+-- from cell 1 on, all else blank, the heads at 0.
 abbrev pub FirstMoment : Type 0
 FirstMoment =
     (m : Quadruples) (l : Limits) (names : List ControlState) (k : Circuit) (test : Situation → Bool) (word : List ℕ)
@@ -22,9 +24,15 @@ FirstMoment =
     → TellsMoments m names k test
     → All (λ x. x < letters m 1) word → length word ≤ l.right
     → (t : Situation) × Travels k test 1 (4 * elements_by m l (length names)) (network_start m l word) t
-    × IsMomentOf m l names k t (record { state = initial_of m.rules; one = word_tape word; two = blank_tape; three = blank_tape }) × (test t ≡ true)
+    × IsMomentOf m l names k t (record {
+      state = initial_of m.rules;
+      one = word_tape word;
+      two = blank_tape;
+      three = blank_tape;
+    }) × (test t ≡ true)
 
--- From the moment of a configuration it comes to the moment of the one that follows, in a counted number of moves, with no moment strictly between, at a bounded cost.
+-- From the moment of a configuration it comes to the moment of the one that follows, in a counted number of moves, with
+-- no moment strictly between, at a bounded cost.
 abbrev pub NextMoment : Type 0
 NextMoment =
     (m : Quadruples) (l : Limits) (names : List ControlState) (k : Circuit) (test : Situation → Bool)
@@ -36,7 +44,8 @@ NextMoment =
     × Travels k test (quad_moves l by.rule c) (48 * elements_by m l (length names)) s t × IsMomentOf m l names k t d
     × (test t ≡ true)
 
--- From the moment of a configuration at which the machine goes on no more, for one of those reasons, the network comes to its end, with no moment after the first; the cost is bounded, that of the move which can't be made among it.
+-- From the moment of a configuration at which the machine goes on no more, for one of those reasons, the network comes
+-- to its end, with no moment after the first; the cost is bounded, that of the move which can't be made among it.
 abbrev pub LastMoment : Type 0
 LastMoment =
     (m : Quadruples) (l : Limits) (names : List ControlState) (k : Circuit) (test : Situation → Bool)

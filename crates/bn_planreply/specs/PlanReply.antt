@@ -16,7 +16,8 @@ use Rattle.bn_reply.specs.declared.status.Status.TheVariants.{Done, Text}
 
 -- the line of a wire: its output line, its input line, and its track
 abbrev pub wire_line : Tracked → List ℕ
-wire_line t = line (codes "wire " ∷ line_text t.from ∷ codes " " ∷ line_text t.to ∷ codes " track " ∷ decimal t.track ∷ [])
+wire_line t = line (codes "wire " ∷ line_text t.from ∷ codes " " ∷ line_text t.to ∷ codes " track " ∷ decimal t.track
+    ∷ [])
 
 abbrev pub wire_lines : List Tracked → List ℕ
 wire_lines [] = []

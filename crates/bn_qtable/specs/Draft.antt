@@ -25,7 +25,8 @@ pub record IsDraft (d : Draft) : Type 0 where
 
 -- the deed is what is said, by these names
 abbrev pub Stands : List (List ℕ) → Deed → Says → Type 0
-Stands names (Rewrite read written) (Rewrites r w) = (slice_get names read ≡ Some r) × (slice_get names written ≡ Some w)
+Stands names (Rewrite read written) (Rewrites r w) = (slice_get names read ≡ Some r)
+    × (slice_get names written ≡ Some w)
 Stands names (Rewrite read written) (Moves t) = ⊥
 Stands names (Move s) (Rewrites r w) = ⊥
 Stands names (Move s) (Moves t) = s ≡ t

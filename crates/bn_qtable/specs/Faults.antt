@@ -1,5 +1,6 @@
 -- The first fault of a table's entries. Entries and fields are counted from 1.
-use Rattle.std.specs.Prelude.{ℕ, Bool, ◌+◌, ◌||◌, not, nat_lt, if◌then◌else◌, List, [], ◌∷◌, Option, Some, None, bytes_eq}
+use Rattle.std.specs.Prelude.{ℕ, Bool, ◌+◌, ◌||◌, not, nat_lt, if◌then◌else◌, List, [], ◌∷◌, Option, Some, None}
+use Rattle.std.specs.Prelude.{bytes_eq}
 use Rattle.bn_entries.specs.Forms.{is_state_name, is_symbol}
 use Rattle.bn_qtable.specs.Entry.{is_shift, slash}
 use Rattle.bn_qtable.specs.declared.refusal.QuadTableRefusal.{QuadTableRefusal}
@@ -18,7 +19,8 @@ abbrev pub act_fault : ℕ → ℕ → List ℕ → QuadTableRefusal
 act_fault entry field read = if bytes_eq read slash then refusal.Shift entry field else refusal.Symbol entry field
 
 -- the first field, in order, that isn't of its form: a state's name, three reads, three acts, a state's name
-abbrev pub field_fault : ℕ → List ℕ → List ℕ → List ℕ → List ℕ → List ℕ → List ℕ → List ℕ → List ℕ → Option QuadTableRefusal
+abbrev pub field_fault : ℕ → List ℕ → List ℕ → List ℕ → List ℕ → List ℕ → List ℕ → List ℕ → List ℕ
+    → Option QuadTableRefusal
 field_fault entry state read1 read2 read3 act1 act2 act3 next =
     if not (is_state_name state) then Some (refusal.Name entry 1)
     else if not (is_read read1) then Some (refusal.Symbol entry 2)
@@ -32,7 +34,8 @@ field_fault entry state read1 read2 read3 act1 act2 act3 next =
 
 -- the fault of an entry's fields: there are not eight, or one isn't of its form
 abbrev pub form_fault : ℕ → List (List ℕ) → Option QuadTableRefusal
-form_fault entry (state ∷ read1 ∷ read2 ∷ read3 ∷ act1 ∷ act2 ∷ act3 ∷ next ∷ []) = field_fault entry state read1 read2 read3 act1 act2 act3 next
+form_fault entry (state ∷ read1 ∷ read2 ∷ read3 ∷ act1 ∷ act2 ∷ act3 ∷ next
+    ∷ []) = field_fault entry state read1 read2 read3 act1 act2 act3 next
 form_fault entry fields = Some (refusal.FieldCount entry)
 
 -- the first fault of the entry with this number: it comes after 20,000 others, or its fields have a fault

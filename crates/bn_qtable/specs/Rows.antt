@@ -1,5 +1,6 @@
 -- Tables of quadruples and their entries (this project's own profile).
-use Rattle.std.specs.Prelude.{◌≡◌, ℕ, ◌<◌, ◌≤◌, ◌+◌, ◌∷◌, [], List, true, length, map, slice_index_or, All, if◌then◌else◌, bytes_eq}
+use Rattle.std.specs.Prelude.{◌≡◌, ℕ, ◌<◌, ◌≤◌, ◌+◌, ◌∷◌, [], List, true, length, map, slice_index_or, All}
+use Rattle.std.specs.Prelude.{if◌then◌else◌, bytes_eq}
 use Rattle.std.specs.List.{flat_map, list_all}
 use Rattle.bn_entries.specs.Forms.{is_state_name, is_symbol}
 use Rattle.bn_entries.specs.Numbering.{firsts}
@@ -48,7 +49,8 @@ states_in entries = flat_map (λ fields. field_at fields 0 ∷ field_at fields 7
 
 -- the symbols of a tape, counted from 1, in an entry: none where it isn't read, else the one read, then the one written
 abbrev pub symbols_at : ℕ → List (List ℕ) → List (List ℕ)
-symbols_at tape fields = if bytes_eq (field_at fields tape) slash then [] else field_at fields tape ∷ field_at fields (tape + 3) ∷ []
+symbols_at tape fields = if bytes_eq (field_at fields tape) slash then [] else field_at fields tape
+    ∷ field_at fields (tape + 3) ∷ []
 
 -- the symbols of a tape in entries, in the order in which they appear
 abbrev pub symbols_in : ℕ → List (List (List ℕ)) → List (List ℕ)

@@ -38,7 +38,8 @@ fn add_fields(draft: &mut Draft, fields: &Fields) -> Result<(), NoMemory>
     requires draft { IsDraft draft.old }
     requires forms { HasForms (said fields.now) }
     requires passes { entry_fault (length draft.old.quads.items + 1) (entry_of (said fields.now)) ≡ None }
-    ensures { OnOk result (IsDraft draft.new × (drafted draft.new ≡ drafted draft.old ++ entry_of (said fields.now) ∷ [])) }
+    ensures { OnOk result (IsDraft draft.new
+        × (drafted draft.new ≡ drafted draft.old ++ entry_of (said fields.now) ∷ [])) }
 {
     let quad = draft.lists.number(fields)?;
     if draft.quads.push(quad).is_err() {
@@ -53,7 +54,8 @@ pub fn add_entry(draft: &mut Draft, entry: &Entry) -> Result<(), QuadTableRefusa
     requires few { length draft.old.quads.items ≤ 20000 }
     ensures ok { OnOk result (IsDraft draft.new × (drafted draft.new ≡ drafted draft.old ++ entry.now ∷ [])) }
     ensures passes { OnOk result (entry_fault (length draft.old.quads.items + 1) entry.now ≡ None) }
-    ensures fault { IfErr result (λ e. e ≢ refusal.NoMemory → entry_fault (length draft.old.quads.items + 1) entry.now ≡ Some e) }
+    ensures fault { IfErr result (λ e. e ≢ refusal.NoMemory
+        → entry_fault (length draft.old.quads.items + 1) entry.now ≡ Some e) }
 {
     let number = draft.quads.len() as u32 + 1;
     let fields = read_fields(entry, number)?;

@@ -1,7 +1,8 @@
 //! One entry of a table of quadruples.
 
 ghost use Rattle.std.specs.Prelude.{◌≡◌, ◌∷◌, [], true, false, MatchOption, IfOk, IfSome, IfNone, bytes_eq};
-ghost use Rattle.bn_qtable.specs.Entry.{HasForms, SaysHasForms, entry_of, is_shift, shift_text, slash, read_field, act_field};
+ghost use Rattle.bn_qtable.specs.Entry.{HasForms, SaysHasForms, entry_of, is_shift, shift_text, slash, read_field};
+ghost use Rattle.bn_qtable.specs.Entry.{act_field};
 ghost use Rattle.bn_qtable.specs.Fields.{said, says, err_of};
 ghost use Rattle.bn_qtable.specs.Faults as fault;
 ghost use Rattle.bn_qtable.specs.Faults.{entry_fault, field_fault};
@@ -34,7 +35,8 @@ pub struct Fields<'a> {
 
 // The shift that a field is.
 fn shift_of(field: &[u8]) -> Option<Shift>
-    ensures { MatchOption result (is_shift field.now ≡ false) (λ s. (is_shift field.now ≡ true) × (field.now ≡ shift_text s)) }
+    ensures { MatchOption result (is_shift field.now ≡ false)
+        (λ s. (is_shift field.now ≡ true) × (field.now ≡ shift_text s)) }
 {
     match field {
         b"-" => Some(Shift::Left),
@@ -101,9 +103,11 @@ fn eight_fields<'a>(
     act3: &'a [u8],
     next: &'a [u8],
 ) -> Result<Fields<'a>, QuadTableRefusal>
-    ensures says { IfOk result (λ f. entry_of (said f) ≡ state.now ∷ read1.now ∷ read2.now ∷ read3.now ∷ act1.now ∷ act2.now ∷ act3.now ∷ next.now ∷ []) }
+    ensures says { IfOk result (λ f. entry_of (said f)
+        ≡ state.now ∷ read1.now ∷ read2.now ∷ read3.now ∷ act1.now ∷ act2.now ∷ act3.now ∷ next.now ∷ []) }
     ensures forms { IfOk result (λ f. HasForms (said f)) }
-    ensures fault { field_fault entry state.now read1.now read2.now read3.now act1.now act2.now act3.now next.now ≡ err_of result }
+    ensures fault { field_fault entry state.now read1.now read2.now read3.now act1.now act2.now act3.now next.now
+        ≡ err_of result }
 {
     if !is_state_name(state) {
         return Err(QuadTableRefusal::Name { entry, field: 1 });

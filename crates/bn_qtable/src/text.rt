@@ -99,7 +99,8 @@ pub fn write_quads(
     requires { HasNames machine.now names.now }
     ensures text { IfOk result (λ text. text.items ≡ lines_of (rows_by names.now machine.now.rules)) }
     ensures entries { IfOk result (λ text. entries_of text.items ≡ rows_by names.now machine.now.rules) }
-    ensures read_back { IfOk result (λ text. IsTable (table_of machine.now names.now) → Reads text.items (table_of machine.now names.now)) }
+    ensures read_back { IfOk result (λ text. IsTable (table_of machine.now names.now)
+        → Reads text.items (table_of machine.now names.now)) }
 {
     let mut writer = EntryWriter::new(alloc);
     for quad in machine.quads() {

@@ -1,8 +1,10 @@
 -- What the calls of a quadruple machine answer.
 use Rattle.std.specs.Prelude.{◌≡◌, ◌≢◌, ◌↔◌, ℕ, zero, suc, ◌+◌, List, [], ◌∷◌, length, map}
 use Rattle.bn_machine.specs.Window.{Windowed, IsInside, Leaves, within, with_tape}
-use Rattle.bn_quad.specs.Quadruples.{Deed, Rewrite, Move, Rule, deeds_of, Configuration, done, LeadsBy, Quadruples, final_of, IsFirstRule, IsStuck, Rooms, GoesBy}
-use Rattle.bn_quad.specs.Overlap.{HasNoClash, IsLeastClash, HasNoFlaw, IsFirstFlaw, IsDeterministic, IsReversible, IsUniform, initial_flaw, final_flaw}
+use Rattle.bn_quad.specs.Quadruples.{Deed, Rewrite, Move, Rule, deeds_of, Configuration, done, LeadsBy, Quadruples}
+use Rattle.bn_quad.specs.Quadruples.{final_of, IsFirstRule, IsStuck, Rooms, GoesBy}
+use Rattle.bn_quad.specs.Overlap.{HasNoClash, IsLeastClash, HasNoFlaw, IsFirstFlaw, IsDeterministic, IsReversible}
+use Rattle.bn_quad.specs.Overlap.{IsUniform, initial_flaw, final_flaw}
 use Rattle.bn_quad.specs.Kept.{quad_of, IsFirstFault, IsQuadInRange, IsUnmixed}
 use Rattle.bn_machine.specs.declared.quint.Side.{Side}
 use Rattle.bn_quad.specs.declared.quad.Quad.{Quad}
@@ -26,21 +28,28 @@ pub record IsMadeOf (p : Quadruples) (qs : List Quad) (states : ℕ) (symbols : 
   pub counted : p.states ≡ states
   pub lettered : p.symbols ≡ symbols
 
--- when quadruples are refused: there is none, or the first faulty one has a number out of range, or else is read and shifted or unread and written on some tape
+-- when quadruples are refused: there is none, or the first faulty one has a number out of range, or else is read and
+-- shifted or unread and written on some tape
 abbrev pub IsQuadRefusal : List Quad → ℕ → List ℕ → QuadRefusal → Type 0
 IsQuadRefusal qs states symbols refusal.Empty = qs ≡ []
-IsQuadRefusal qs states symbols (refusal.Range i) = (q : Quad) × IsFirstFault states symbols qs i q × (IsQuadInRange states symbols q → ⊥)
-IsQuadRefusal qs states symbols (refusal.Mixed i) = (q : Quad) × IsFirstFault states symbols qs i q × IsQuadInRange states symbols q × (IsUnmixed q → ⊥)
+IsQuadRefusal qs states symbols (refusal.Range i) = (q : Quad) × IsFirstFault states symbols qs i q
+    × (IsQuadInRange states symbols q → ⊥)
+IsQuadRefusal qs states symbols (refusal.Mixed i) = (q : Quad) × IsFirstFault states symbols qs i q
+    × IsQuadInRange states symbols q × (IsUnmixed q → ⊥)
 
 -- ---- the tests
 
--- why quadruples aren't uniform: the first of the five demands that fails, in this order, with the least numbers that show it
+-- why quadruples aren't uniform: the first of the five demands that fails, in this order, with the least numbers that
+-- show it
 abbrev pub IsNotUniform : List (Rule ℕ) → NotUniform → Type 0
 IsNotUniform rs (uneven.ReadMask i j) = IsLeastClash clash.Reads rs i j
 IsNotUniform rs (uneven.WriteMask i j) = HasNoClash clash.Reads rs × IsLeastClash clash.Writes rs i j
-IsNotUniform rs (uneven.Silent i) = HasNoClash clash.Reads rs × HasNoClash clash.Writes rs × IsFirstFlaw flaw.Silent rs i
-IsNotUniform rs (uneven.InitialEntered i) = HasNoClash clash.Reads rs × HasNoClash clash.Writes rs × HasNoFlaw flaw.Silent rs × IsFirstFlaw (initial_flaw rs) rs i
-IsNotUniform rs (uneven.FinalLeft i) = HasNoClash clash.Reads rs × HasNoClash clash.Writes rs × HasNoFlaw flaw.Silent rs × HasNoFlaw (initial_flaw rs) rs × IsFirstFlaw (final_flaw rs) rs i
+IsNotUniform rs (uneven.Silent i) = HasNoClash clash.Reads rs × HasNoClash clash.Writes rs
+    × IsFirstFlaw flaw.Silent rs i
+IsNotUniform rs (uneven.InitialEntered i) = HasNoClash clash.Reads rs × HasNoClash clash.Writes rs
+    × HasNoFlaw flaw.Silent rs × IsFirstFlaw (initial_flaw rs) rs i
+IsNotUniform rs (uneven.FinalLeft i) = HasNoClash clash.Reads rs × HasNoClash clash.Writes rs
+    × HasNoFlaw flaw.Silent rs × HasNoFlaw (initial_flaw rs) rs × IsFirstFlaw (final_flaw rs) rs i
 
 -- why a machine isn't deterministic, reversible and uniform: the first of the three that fails, in this order
 abbrev pub IsUniformRefusal : List (Rule ℕ) → UniformRefusal → Type 0
@@ -54,7 +63,8 @@ pub record IsUniformMachine (p : Quadruples) : Type 0 where
   pub reversible : IsReversible p.rules
   pub uniform : IsUniform p.rules
 
--- Each step by a quadruple of the first list is turned round by a quadruple of the second, the n-th from the front by the n-th from the back.
+-- Each step by a quadruple of the first list is turned round by a quadruple of the second, the n-th from the front by
+-- the n-th from the back.
 abbrev pub StepsBack : List (Rule ℕ) → List (Rule ℕ) → Type 0
 StepsBack rs ss = (n m : ℕ) (c d : Configuration ℕ) → n + m ≡ length rs + 1 → (LeadsBy rs n c d ↔ LeadsBy ss m d c)
 
@@ -69,7 +79,11 @@ windows_of w = w.one ∷ w.two ∷ w.three ∷ []
 
 -- the windows, as rooms for the three heads
 abbrev pub rooms_of : Tapes → Rooms
-rooms_of w = record { one = within w.one.left w.one.right; two = within w.two.left w.two.right; three = within w.three.left w.three.right }
+rooms_of w = record {
+  one = within w.one.left w.one.right;
+  two = within w.two.left w.two.right;
+  three = within w.three.left w.three.right;
+}
 
 -- the deed takes the head out of the window at this end, or it leaves it inside
 abbrev pub DeedLeaves : Deed → Windowed → Side → Type 0
@@ -101,9 +115,11 @@ pub record AreSameWindows (w v : Tapes) : Type 0 where
   pub two : v.two ≡ with_tape w.two v.two.tape
   pub three : v.three ≡ with_tape w.three v.three.tape
 
--- What a step in windows answers, and what it leaves of the state and the tapes. Where it answers anything but `Moved` nothing has changed.
+-- What a step in windows answers, and what it leaves of the state and the tapes. Where it answers anything but `Moved`
+-- nothing has changed.
 abbrev pub IsQuadTurn : Quadruples → QuadTurn → ℕ → Tapes → ℕ → Tapes → Type 0
 IsQuadTurn p turn.Final state w next v = (state ≡ final_of p.rules) × (next ≡ state) × (v ≡ w)
 IsQuadTurn p turn.Stuck state w next v = IsStuck p (configuration state w) × (next ≡ state) × (v ≡ w)
 IsQuadTurn p (turn.Left tape side) state w next v = IsLeaving p state w tape side × (next ≡ state) × (v ≡ w)
-IsQuadTurn p (turn.Moved quad) state w next v = GoesBy (rooms_of w) p quad (configuration state w) (configuration next v) × AreSameWindows w v
+IsQuadTurn p (turn.Moved quad) state w next v = GoesBy (rooms_of w) p quad (configuration state w)
+    (configuration next v) × AreSameWindows w v

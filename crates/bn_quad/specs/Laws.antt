@@ -1,7 +1,8 @@
 -- What the laws of this crate say, each the contract of a function with an empty body.
 use Rattle.std.specs.Prelude.{◌≡◌, ◌≢◌, ◌↔◌, ℕ, List, Some, map}
 use Rattle.bn_machine.specs.Machine.{nth}
-use Rattle.bn_quad.specs.Quadruples.{Rule, Configuration, AppliesTo, Leads, LeadsBy, Quadruples, turned, final_of, Rooms, everywhere, GoesBy, Goes}
+use Rattle.bn_quad.specs.Quadruples.{Rule, Configuration, AppliesTo, Leads, LeadsBy, Quadruples, turned, final_of}
+use Rattle.bn_quad.specs.Quadruples.{Rooms, everywhere, GoesBy, Goes}
 use Rattle.bn_theory.specs.Runs.{IsFunction}
 use Rattle.bn_quad.specs.Overlap.{IsDeterministic}
 use Rattle.bn_quad.specs.Kept.{quad_of}
@@ -15,18 +16,21 @@ use Rattle.bn_quad.specs.declared.tapes.QuadTurn.{QuadTurn}
 
 -- a step in windows answers one turn and leaves one state and the same tapes
 abbrev pub QuadTurnsAreOne : Type 0
-QuadTurnsAreOne = (p : Quadruples) (a b : QuadTurn) (s : ℕ) (w : Tapes) (t u : ℕ) (v x : Tapes) → IsQuadTurn p a s w t v → IsQuadTurn p b s w u x → (a ≡ b) × (t ≡ u) × (v ≡ x)
+QuadTurnsAreOne = (p : Quadruples) (a b : QuadTurn) (s : ℕ) (w : Tapes) (t u : ℕ) (v x : Tapes)
+    → IsQuadTurn p a s w t v → IsQuadTurn p b s w u x → (a ≡ b) × (t ≡ u) × (v ≡ x)
 
 -- two refusals that fit the same quadruples are one
 abbrev pub RefusalsAreOne : Type 0
 RefusalsAreOne =
-    ((qs : List Quad) (states : ℕ) (symbols : List ℕ) (a b : QuadRefusal) → IsQuadRefusal qs states symbols a → IsQuadRefusal qs states symbols b → a ≡ b)
+    ((qs : List Quad) (states : ℕ) (symbols : List ℕ) (a b : QuadRefusal) → IsQuadRefusal qs states symbols a
+    → IsQuadRefusal qs states symbols b → a ≡ b)
     × ((rs : List (Rule ℕ)) (a b : NotUniform) → IsNotUniform rs a → IsNotUniform rs b → a ≡ b)
     × ((rs : List (Rule ℕ)) (a b : UniformRefusal) → IsUniformRefusal rs a → IsUniformRefusal rs b → a ≡ b)
 
 -- of quadruples that are apart in domain one at most applies
 abbrev pub OneRuleApplies : Type 0
-OneRuleApplies = (rs : List (Rule ℕ)) (m n : ℕ) (r s : Rule ℕ) (c : Configuration ℕ) → IsDeterministic rs → nth rs m ≡ Some r → nth rs n ≡ Some s → AppliesTo r c → AppliesTo s c → m ≡ n
+OneRuleApplies = (rs : List (Rule ℕ)) (m n : ℕ) (r s : Rule ℕ) (c : Configuration ℕ) → IsDeterministic rs
+    → nth rs m ≡ Some r → nth rs n ≡ Some s → AppliesTo r c → AppliesTo s c → m ≡ n
 
 -- a quadruple leads from c to d exactly where the turned one leads from d to c
 abbrev pub TurnedRulesLeadBack : Type 0
@@ -42,4 +46,5 @@ QuadStepsAreFunctions = (rooms : Rooms) (p : Quadruples) → IsFunction (Goes ro
 
 -- In a deterministic machine, and outside of its final state, the steps without ends are those that quadruples lead to.
 abbrev pub StepsAreLeads : Type 0
-StepsAreLeads = (p : Quadruples) (n : ℕ) (c d : Configuration ℕ) → IsDeterministic p.rules → c.state ≢ final_of p.rules → (GoesBy everywhere p n c d ↔ LeadsBy p.rules n c d)
+StepsAreLeads = (p : Quadruples) (n : ℕ) (c d : Configuration ℕ) → IsDeterministic p.rules → c.state ≢ final_of p.rules
+    → (GoesBy everywhere p n c d ↔ LeadsBy p.rules n c d)

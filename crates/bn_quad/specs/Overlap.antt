@@ -1,4 +1,5 @@
--- The local tests on quadruples: overlap in domain and in range (Bennett 1973), and uniform tapes by state (this project's own profile).
+-- The local tests on quadruples: overlap in domain and in range (Bennett 1973), and uniform tapes by state (this
+-- project's own profile).
 use Rattle.std.specs.Prelude.{◌≡◌, ℕ, ◌<◌, List, [], ◌∷◌, Some, ⊤}
 use Rattle.bn_machine.specs.Machine.{nth}
 use Rattle.bn_quad.specs.declared.clash.Clash.{Clash}
@@ -64,7 +65,8 @@ pub record DiffersInWrites {Q : Type 0} (r s : Rule Q) : Type 0 where
 
 -- ---- pairs of a list
 
--- Two quadruples clash: they overlap in domain, they overlap in range, or with one state before, or after, they read, or write, different tapes.
+-- Two quadruples clash: they overlap in domain, they overlap in range, or with one state before, or after, they read,
+-- or write, different tapes.
 abbrev pub Clashes : {Q : Type 0} → Clash → Rule Q → Rule Q → Type 0
 Clashes Domain r s = OverlapsInDomain r s
 Clashes Range r s = OverlapsInRange r s
@@ -134,7 +136,8 @@ initial_flaw rs = Enters (initial_of rs)
 abbrev pub final_flaw : List (Rule ℕ) → Flaw
 final_flaw rs = Leaves (final_of rs)
 
--- Uniform: quadruples of one state read the same tapes, those that lead to one state write the same tapes, each reads a tape or moves a head, none leads to the initial state, and none leaves the final one.
+-- Uniform: quadruples of one state read the same tapes, those that lead to one state write the same tapes, each reads a
+-- tape or moves a head, none leads to the initial state, and none leaves the final one.
 pub record IsUniform (rs : List (Rule ℕ)) : Type 0 where
   pub reads : HasNoClash Reads rs
   pub writes : HasNoClash Writes rs

@@ -1,5 +1,6 @@
 -- Quadruple machines of three tapes and their step (Bennett 1973).
--- A quadruple does one of two things on each tape: it reads a symbol and writes one in its place, or it shifts the head without reading.
+-- A quadruple does one of two things on each tape: it reads a symbol and writes one in its place, or it shifts the head
+-- without reading.
 use Rattle.std.specs.Prelude.{◌≡◌, ◌≢◌, ℕ, ◌<◌, ◌^◌, List, [], ◌∷◌, length, map, reverse, Some, ⊤, All}
 use Rattle.bn_machine.specs.Tape.{Tape, scanned, write, shift, opposite}
 use Rattle.bn_machine.specs.Window.{Room, anywhere, Allows}
@@ -11,7 +12,8 @@ pub data Deed : Type 0 where
   Rewrite : ℕ → ℕ → Deed
   Move : Shift → Deed
 
--- a quadruple over states of any kind: the state that it leaves, its deeds on the tapes 1, 2 and 3, and the state that it leads to
+-- a quadruple over states of any kind: the state that it leaves, its deeds on the tapes 1, 2 and 3, and the state that
+-- it leads to
 pub record Rule (Q : Type 0) : Type 0 where
   pub from : Q
   pub one : Deed
@@ -83,7 +85,13 @@ turned_deed (Rewrite read written) = Rewrite written read
 turned_deed (Move s) = Move (opposite s)
 
 abbrev pub turned : {Q : Type 0} → Rule Q → Rule Q
-turned r = record { from = r.to; one = turned_deed r.one; two = turned_deed r.two; three = turned_deed r.three; to = r.from }
+turned r = record {
+  from = r.to;
+  one = turned_deed r.one;
+  two = turned_deed r.two;
+  three = turned_deed r.three;
+  to = r.from;
+}
 
 -- the list in the opposite order, each quadruple turned round
 abbrev pub turned_list : {Q : Type 0} → List (Rule Q) → List (Rule Q)
@@ -171,7 +179,8 @@ pub record AreAllowed {Q : Type 0} (rooms : Rooms) (c : Configuration Q) : Type 
   pub two : Allows rooms.two c.two.head
   pub three : Allows rooms.three c.three.head
 
--- One step of the machine, by quadruple n: the state isn't the final one, the first quadruple that applies leads from c to d, and the heads come to positions that the rooms allow.
+-- One step of the machine, by quadruple n: the state isn't the final one, the first quadruple that applies leads from c
+-- to d, and the heads come to positions that the rooms allow.
 pub record GoesBy (rooms : Rooms) (p : Quadruples) (n : ℕ) (c d : Configuration ℕ) : Type 0 where
   pub going : c.state ≢ final_of p.rules
   pub rule : Rule ℕ

@@ -1,6 +1,7 @@
 //! What the tests look for in a pair of quadruples, and in a single one.
 ghost use Rattle.std.specs.Prelude.{◌≡◌, ◌↔◌, IsTrue};
-ghost use Rattle.bn_quad.specs.Kept.{ReadsMeet, ActsMeet, ActsAreAlike, IsStaying, QuadsMeetInDomain, QuadsMeetInRange, QuadsAreAlike, QuadIsSilent, IsUnmixed, rule_of};
+ghost use Rattle.bn_quad.specs.Kept.{ReadsMeet, ActsMeet, ActsAreAlike, IsStaying, QuadsMeetInDomain, QuadsMeetInRange};
+ghost use Rattle.bn_quad.specs.Kept.{QuadsAreAlike, QuadIsSilent, IsUnmixed, rule_of};
 ghost use Rattle.bn_quad.specs.Overlap.{Clashes, IsFlawed};
 
 use crate::quad::{Act, Quad};

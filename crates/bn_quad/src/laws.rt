@@ -1,5 +1,6 @@
 //! Laws on the answers of a quadruple machine. Each function does nothing; its contract is the law.
-ghost use Rattle.bn_quad.specs.Laws.{OneRuleApplies, QuadStepsAreFunctions, QuadTurnsAreOne, RefusalsAreOne, RulesAreTheirQuads, StepsAreLeads, TurnedRulesLeadBack};
+ghost use Rattle.bn_quad.specs.Laws.{OneRuleApplies, QuadStepsAreFunctions, QuadTurnsAreOne, RefusalsAreOne};
+ghost use Rattle.bn_quad.specs.Laws.{RulesAreTheirQuads, StepsAreLeads, TurnedRulesLeadBack};
 
 /// The contract of `QuadMachine::step` allows one answer, one state and three tapes.
 pub fn quad_turns_are_one()

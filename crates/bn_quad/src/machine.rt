@@ -34,7 +34,8 @@ impl Model for QuadMachine {
 
 impl QuadMachine {
     ghost use Rattle.bn_machine.specs.Machine.{nth};
-    ghost use Rattle.bn_quad.specs.Quadruples.{IsQuadMachine, initial_of, final_of, inverse_of, HasOneSuccessor, HasOnePredecessor};
+    ghost use Rattle.bn_quad.specs.Quadruples.{IsQuadMachine, initial_of, final_of, inverse_of, HasOneSuccessor};
+    ghost use Rattle.bn_quad.specs.Quadruples.{HasOnePredecessor};
     ghost use Rattle.bn_quad.specs.Overlap.{IsDeterministic, IsReversible, IsUniform, IsLeastClash};
     ghost use Rattle.bn_quad.specs.Kept.{quad_of, IsSound};
     ghost use Rattle.bn_quad.specs.Calls.{IsMadeOf, IsQuadRefusal, IsNotUniform, StepsBack, IsQuadTurn};

@@ -1,5 +1,6 @@
 //! Names of the states and the symbols of a quadruple machine.
-ghost use Rattle.std.specs.Prelude.{◌≡◌, ℕ, ◌<◌, ◌≤◌, ◌-◌, ◌^◌, ◌++◌, ◌∷◌, [], length, slice_get, Some, IfSome, IfNone, OnOk, OnErr, Contains};
+ghost use Rattle.std.specs.Prelude.{◌≡◌, ℕ, ◌<◌, ◌≤◌, ◌-◌, ◌^◌, ◌++◌, ◌∷◌, [], length, slice_get, Some, IfSome, IfNone};
+ghost use Rattle.std.specs.Prelude.{OnOk, OnErr, Contains};
 ghost use Rattle.bn_quad.specs.Names.{AreApart};
 
 use crate::refusal::NoMemory;

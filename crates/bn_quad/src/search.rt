@@ -17,7 +17,8 @@ fn first_partner(quads: &[Quad], clash: Clash, i: u32) -> Option<u32>
     requires unmixed { All IsUnmixed quads.now }
     requires starts { 1 ≤ i }
     requires inside { i ≤ length quads.now }
-    ensures { MatchOption result (HasNoPartner clash (rules_of quads.now) i) (IsLeastPartner clash (rules_of quads.now) i) }
+    ensures { MatchOption result (HasNoPartner clash (rules_of quads.now) i)
+        (IsLeastPartner clash (rules_of quads.now) i) }
 {
     let first = &quads[i as usize - 1];
     for index in i as usize..quads.len() {
@@ -32,7 +33,8 @@ fn first_partner(quads: &[Quad], clash: Clash, i: u32) -> Option<u32>
 pub fn first_clash(quads: &[Quad], clash: Clash) -> Option<(u32, u32)>
     requires few { length quads.now < 2 ^ 32 }
     requires unmixed { All IsUnmixed quads.now }
-    ensures { MatchOption result (HasNoClash clash (rules_of quads.now)) (λ p. IsLeastClash clash (rules_of quads.now) p.0 p.1) }
+    ensures { MatchOption result (HasNoClash clash (rules_of quads.now))
+        (λ p. IsLeastClash clash (rules_of quads.now) p.0 p.1) }
 {
     for index in 0..quads.len() {
         let i = index as u32 + 1;

@@ -1,6 +1,7 @@
 //! Which quadruples a machine can keep.
 ghost use Rattle.std.specs.Prelude.{◌≡◌, ◌↔◌, ◌<◌, ◌^◌, ℕ, IsTrue, IfSome, IfNone, All, length, slice_index_or};
-ghost use Rattle.bn_quad.specs.Kept.{IsReadInRange, IsActInRange, IsTapeInRange, IsQuadInRange, Agree, IsUnmixed, IsSound, IsFirstFault, read_at, act_at};
+ghost use Rattle.bn_quad.specs.Kept.{IsReadInRange, IsActInRange, IsTapeInRange, IsQuadInRange, Agree, IsUnmixed};
+ghost use Rattle.bn_quad.specs.Kept.{IsSound, IsFirstFault, read_at, act_at};
 
 use crate::quad::{Act, Quad};
 

@@ -65,7 +65,8 @@ fn leaving(act: Act, tape: &Tape) -> Option<Side>
 /// The least tape whose head a quadruple that reads and writes the same tapes would take out of its window.
 pub fn first_leaving(quad: &Quad, tapes: &Tapes) -> Option<(u32, Side)>
     requires { IsUnmixed quad.now }
-    ensures { MatchOption result (AreAllowed (rooms_of tapes.now) (after (rule_of quad.now) (configuration quad.now.state tapes.now)))
+    ensures { MatchOption result (AreAllowed (rooms_of tapes.now)
+        (after (rule_of quad.now) (configuration quad.now.state tapes.now)))
         (λ l. LeavesAt (deeds_of (rule_of quad.now)) (windows_of tapes.now) l.0 l.1) }
 {
     if let Some(side) = leaving(quad.act[0], &tapes.one) {
@@ -96,8 +97,10 @@ fn perform(act: Act, tape: &mut Tape)
 /// Does on each tape what a quadruple that reads and writes the same tapes does.
 pub fn perform_all(quad: &Quad, tapes: &mut Tapes)
     requires unmixed { IsUnmixed quad.now }
-    requires stays { AreAllowed (rooms_of tapes.old) (after (rule_of quad.now) (configuration quad.now.state tapes.old)) }
-    ensures done { configuration quad.now.next tapes.new ≡ after (rule_of quad.now) (configuration quad.now.state tapes.old) }
+    requires stays { AreAllowed (rooms_of tapes.old)
+        (after (rule_of quad.now) (configuration quad.now.state tapes.old)) }
+    ensures done { configuration quad.now.next tapes.new
+        ≡ after (rule_of quad.now) (configuration quad.now.state tapes.old) }
     ensures windows { AreSameWindows tapes.old tapes.new }
 {
     perform(quad.act[0], &mut tapes.one);

@@ -13,6 +13,8 @@ mod circuits;
 #[cfg(test)]
 mod desk;
 #[cfg(test)]
+mod erased;
+#[cfg(test)]
 mod faults;
 #[cfg(test)]
 mod generated;

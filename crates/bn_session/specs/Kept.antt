@@ -1,6 +1,7 @@
 -- How breakpoints are kept: their conditions in a slab, the slab's keys by label, and a mark at each element at which
 -- one may hold.
-use Rattle.std.specs.Prelude.{◌≡◌, ◌≢◌, ℕ, nat_lt, Bool, true, false, List, [], ◌∷◌, length, map, slice_index_or, slice_set, IsSome, if◌then◌else◌}
+use Rattle.std.specs.Prelude.{◌≡◌, ◌≢◌, ℕ, nat_lt, Bool, true, false, List, [], ◌∷◌, length, map, slice_index_or}
+use Rattle.std.specs.Prelude.{slice_set, IsSome, if◌then◌else◌}
 use Rattle.std.specs.Option.{unwrap_or}
 use Rattle.std.proofs.Common.{Vec, Global}
 use Rattle.slab.specs.Slab.{Slab, get}

@@ -1,13 +1,15 @@
 -- How a script is played on a circuit, where it is known of which state a configuration is the moment, and what a view
 -- of it may show (this project's own profile).
-use Rattle.std.specs.Prelude.{◌≡◌, ℕ, ◌<◌, ◌≤◌, ◌==◌, Bool, true, false, List, [], ◌∷◌, ◌++◌, Option, Some, None, codes, decimal, if◌then◌else◌}
+use Rattle.std.specs.Prelude.{◌≡◌, ℕ, ◌<◌, ◌≤◌, ◌==◌, Bool, true, false, List, [], ◌∷◌, ◌++◌, Option, Some, None, codes}
+use Rattle.std.specs.Prelude.{decimal, if◌then◌else◌}
 use Rattle.bn_theory.specs.Circuits.{Circuit}
 use Rattle.bn_theory.specs.Stepping.{run, back}
 use Rattle.bn_theory.specs.declared.config.Config.{Config}
 use Rattle.bn_netlist.specs.Sentences.{place_text}
 use Rattle.bn_session.specs.Breakpoints.{Breakpoint, breakpoint, first_label, some_holds, without_break}
 use Rattle.bn_session.specs.declared.command.Command.{Command}
-use Rattle.bn_session.specs.declared.command.Command.TheVariants.{Step, Back, Go, Rev, BreakState, BreakElement, Drop, View}
+use Rattle.bn_session.specs.declared.command.Command.TheVariants.{Step, Back, Go, Rev, BreakState, BreakElement, Drop}
+use Rattle.bn_session.specs.declared.command.Command.TheVariants.{View}
 use Rattle.bn_session.specs.declared.condition.Condition.TheVariants.{AtState, AtElement}
 
 -- what a session is at between two commands: a configuration, and the breakpoints in the order in which they were set

@@ -1,5 +1,6 @@
 -- Reading a line of a script as a function of its bytes: proofs go through it, and no public clause cites it.
-use Rattle.std.specs.Prelude.{bytes_eq, ℕ, nat_le, List, take, drop, Option, Some, None, option_map, option_and_then, if◌then◌else◌, codes}
+use Rattle.std.specs.Prelude.{bytes_eq, ℕ, nat_le, List, take, drop, Option, Some, None, option_map, option_and_then}
+use Rattle.std.specs.Prelude.{if◌then◌else◌, codes}
 use Rattle.std.specs.List.{prefix_len}
 use Rattle.std.specs.Option.{option_or}
 use Rattle.std.specs.Char.{is_ascii_alphanumeric}

@@ -2,7 +2,8 @@
 -- before it ask for.
 use Rattle.std.specs.Prelude.{◌≡◌, ◌≢◌, ℕ, ◌+◌, true, false, List, [], ◌∷◌, ◌++◌, length, slice_get, Some, Contains}
 use Rattle.bn_session.specs.Labels.{stands, standing_after, standing_by}
-use Rattle.bn_session.specs.Sentences.{Sentence, Step, Back, Go, Rev, BreakState, BreakElement, Drop, View, IsSayable, sentence_text, lines_text}
+use Rattle.bn_session.specs.Sentences.{Sentence, Step, Back, Go, Rev, BreakState, BreakElement, Drop, View, IsSayable}
+use Rattle.bn_session.specs.Sentences.{sentence_text, lines_text}
 use Rattle.bn_session.specs.declared.command.Command.{Command}
 use Rattle.bn_session.specs.declared.command.Command.TheVariants as commands
 use Rattle.bn_session.specs.declared.refusal.ScriptRefusal.{ScriptRefusal}

@@ -3,7 +3,8 @@
 ghost use Rattle.std.specs.Prelude.{◌≡◌, ◌==◌, ◌≤◌, length, None, Some, MatchOption};
 ghost use Rattle.std.specs.Option.{option_map};
 ghost use Rattle.bn_netlist.specs.Reading.{word_taken, number_after};
-ghost use Rattle.bn_session.specs.Reading.{said, ordinal_after, label_after, name_after, label_len, condition_in, breakpoint_in, breakpoint_after, sentence_in};
+ghost use Rattle.bn_session.specs.Reading.{said, ordinal_after, label_after, name_after, label_len, condition_in};
+ghost use Rattle.bn_session.specs.Reading.{breakpoint_in, breakpoint_after, sentence_in};
 
 use crate::label::is_label;
 use bn_base::read_u64;

@@ -1,5 +1,6 @@
 -- The list of quadruples of Bennett's reversible machine (Bennett 1973), over the names of its states.
--- Tape 1 is the work tape, tape 2 the history, tape 3 the output. Symbol 0 of each is its blank; history symbol m stands for quintuple m.
+-- Tape 1 is the work tape, tape 2 the history, tape 3 the output. Symbol 0 of each is its blank; history symbol m
+-- stands for quintuple m.
 use Rattle.std.specs.Prelude.{ℕ, ◌+◌, ◌-◌, List, [], ◌∷◌, ◌++◌, length, map, reverse}
 use Rattle.std.specs.List.{flat_map, enumerate_from, range_with_len}
 use Rattle.bn_machine.specs.Tape.{opposite}
@@ -8,7 +9,8 @@ use Rattle.bn_machine.specs.declared.quint.Quint.{Quint}
 use Rattle.bn_machine.specs.declared.quint.Shift.TheVariants.{Left, Stay, Right}
 use Rattle.bn_quad.specs.Quadruples.{Deed, Rewrite, Move, Rule}
 use Rattle.bn_stages.specs.declared.name.Name.{Name}
-use Rattle.bn_stages.specs.declared.name.Name.TheVariants.{Compute, ComputeWithin, GoRight, CopyLetter, GoLeft, PassLetter, Retrace, RetraceWithin}
+use Rattle.bn_stages.specs.declared.name.Name.TheVariants.{Compute, ComputeWithin, GoRight, CopyLetter, GoLeft}
+use Rattle.bn_stages.specs.declared.name.Name.TheVariants.{PassLetter, Retrace, RetraceWithin}
 
 -- a quadruple: the state that it leaves, what it does on the tapes 1, 2 and 3, and the state that it leads to
 abbrev pub rule : Name → Deed → Deed → Deed → Name → Rule Name
@@ -24,7 +26,8 @@ rest = Move Stay
 
 -- ---- each kind of quadruple
 
--- Quintuple m in compute: it rewrites the symbol, and the history's head goes to the next blank; then the head shifts, and m is written into the history.
+-- Quintuple m in compute: it rewrites the symbol, and the history's head goes to the next blank; then the head shifts,
+-- and m is written into the history.
 abbrev pub writes_ahead : ℕ → Quint → Rule Name
 writes_ahead m q = rule (Compute q.state) (Rewrite q.read q.write) (Move Right) (keep 0) (ComputeWithin m)
 
@@ -55,7 +58,8 @@ passes_letter n x = rule PassLetter (keep x) (keep n) (keep x) GoLeft
 abbrev pub ends_copy : ℕ → ℕ → Rule Name
 ends_copy final n = rule PassLetter (keep 0) (keep n) (keep 0) (Retrace final)
 
--- Quintuple m in retrace: the head shifts back, and m is taken out of the history; then the symbol is written back, and the history's head goes left.
+-- Quintuple m in retrace: the head shifts back, and m is taken out of the history; then the symbol is written back, and
+-- the history's head goes left.
 abbrev pub shifts_back : ℕ → Quint → Rule Name
 shifts_back m q = rule (Retrace q.next) (Move (opposite q.shift)) (Rewrite m 0) rest (RetraceWithin m)
 
@@ -94,7 +98,8 @@ retrace_rules qs = flat_map retrace_pair (reverse (numbered qs))
 
 -- Bennett's list for a machine in standard form: compute, copy, retrace
 unfoldable pub bennett : Program → List (Rule Name)
-bennett p = compute_rules p.quints ++ copy_rules (final_of p.quints) (length p.quints) p.symbols ++ retrace_rules p.quints
+bennett p = compute_rules p.quints ++ copy_rules (final_of p.quints) (length p.quints) p.symbols
+    ++ retrace_rules p.quints
 
 -- its initial state and its final state: that of the first quadruple, and the last one's next
 abbrev pub initial_name : Program → Name

@@ -8,7 +8,8 @@ use Rattle.bn_quad.specs.Overlap.{HasNoClash, IsSilent}
 use Rattle.bn_quad.specs.declared.clash.Clash.TheVariants.{Reads, Writes}
 use Rattle.bn_stages.specs.In.{IsIn}
 use Rattle.bn_stages.specs.declared.name.Name.{Name}
-use Rattle.bn_stages.specs.declared.name.Name.TheVariants.{Compute, ComputeWithin, GoRight, CopyLetter, GoLeft, PassLetter, Retrace, RetraceWithin}
+use Rattle.bn_stages.specs.declared.name.Name.TheVariants.{Compute, ComputeWithin, GoRight, CopyLetter, GoLeft}
+use Rattle.bn_stages.specs.declared.name.Name.TheVariants.{PassLetter, Retrace, RetraceWithin}
 
 -- the states of a list of rules, rule by rule, before and after, as often as they appear
 abbrev pub states_in : {Q : Type 0} → List (Rule Q) → List Q
@@ -20,7 +21,9 @@ pub record NumbersStates {Q : Type 0} (rs : List (Rule Q)) (order : List Q) : Ty
   pub only : (n : ℕ) (q : Q) → slice_get order n ≡ Some q → IsIn (states_in rs) q
   pub apart : (m n : ℕ) (q : Q) → slice_get order m ≡ Some q → slice_get order n ≡ Some q → m ≡ n
 
--- Uniform, for rules over states of any kind: those of one state read the same tapes, those that lead to one state write the same tapes, each reads a tape or moves a head, none leads to the initial state, and none leaves the final one.
+-- Uniform, for rules over states of any kind: those of one state read the same tapes, those that lead to one state
+-- write the same tapes, each reads a tape or moves a head, none leads to the initial state, and none leaves the final
+-- one.
 pub record IsUniformFrom {Q : Type 0} (initial final : Q) (rs : List (Rule Q)) : Type 0 where
   pub reads : HasNoClash Reads rs
   pub writes : HasNoClash Writes rs
@@ -35,7 +38,8 @@ pub record Mentions (qs : List Quint) (state : ℕ) : Type 0 where
   pub stands : nth qs number ≡ Some quint
   pub names : (quint.state ≡ state) ⊎ (quint.next ≡ state)
 
--- the names that stand in Bennett's list: two for each state that a quintuple has, two for each quintuple, and the four of copying
+-- the names that stand in Bennett's list: two for each state that a quintuple has, two for each quintuple, and the four
+-- of copying
 abbrev pub IsNameOf : Program → Name → Type 0
 IsNameOf p (Compute state) = Mentions p.quints state
 IsNameOf p (ComputeWithin m) = (0 < m) × (m ≤ length p.quints)

@@ -1,4 +1,5 @@
--- Rules with other states in place of theirs: a renaming that keeps the states of the rules apart keeps the tests, the runs, and how they end.
+-- Rules with other states in place of theirs: a renaming that keeps the states of the rules apart keeps the tests, the
+-- runs, and how they end.
 use Rattle.std.specs.Prelude.{◌≡◌, ℕ, List, map}
 use Rattle.std.specs.List.{slice_index_or}
 use Rattle.bn_quad.specs.Quadruples.{Rule, Configuration}

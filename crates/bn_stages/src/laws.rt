@@ -1,5 +1,8 @@
 //! Laws on Bennett's reversible machine. Each function does nothing; its contract is the law.
-ghost use Rattle.bn_stages.specs.Laws.{BennettsTheorem, BoundedRunsAgree, BoundedRunsAreShort, ComputesTwoSteps, CopiesOutput, EveryMomentStands, HaltedIsReady, LeastIsListed, ListCountsNames, ListHasEnds, ListHasLength, ListHasNames, ListIsInRange, ListPassesTests, NumbersPassTests, NumbersRunAlike, RetracesTwoSteps};
+ghost use Rattle.bn_stages.specs.Laws.{BennettsTheorem, BoundedRunsAgree, BoundedRunsAreShort, ComputesTwoSteps};
+ghost use Rattle.bn_stages.specs.Laws.{CopiesOutput, EveryMomentStands, HaltedIsReady, LeastIsListed, ListCountsNames};
+ghost use Rattle.bn_stages.specs.Laws.{ListHasEnds, ListHasLength, ListHasNames, ListIsInRange, ListPassesTests};
+ghost use Rattle.bn_stages.specs.Laws.{NumbersPassTests, NumbersRunAlike, RetracesTwoSteps};
 
 /// A step of the machine is two steps of the reversible machine, which keeps its number in the
 /// history (Bennett 1973, compute).

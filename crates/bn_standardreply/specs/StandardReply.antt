@@ -1,5 +1,5 @@
--- What the command `standard` answers: the table of the machine in standard form that is equivalent to a table's machine
--- whose run begins on the first letter (this project's own profile).
+-- What the command `standard` answers: the table of the machine in standard form that is equivalent to a table's
+-- machine whose run begins on the first letter (this project's own profile).
 use Rattle.std.specs.Prelude.{◌≡◌, ◌≢◌, ℕ, List, [], ◌∷◌, codes, decimal}
 use Rattle.bn_theory.specs.declared.place.Place.{Place}
 use Rattle.bn_table.specs.Rows.{Named}

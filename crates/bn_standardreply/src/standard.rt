@@ -1,7 +1,8 @@
 //! The command `standard`.
 
 ghost use Rattle.std.specs.Prelude.{[], IfOk};
-ghost use Rattle.bn_standardreply.specs.StandardReply.{IsRefusedReply, StandardIsSettled, StandardTableReplies, TellsStandard};
+ghost use Rattle.bn_standardreply.specs.StandardReply.{IsRefusedReply, StandardIsSettled, StandardTableReplies};
+ghost use Rattle.bn_standardreply.specs.StandardReply.{TellsStandard};
 
 use bn_reply::{NoMemory, OpenedTable, Reply, Status, open_table};
 use bn_standardise::{LooseRefusal, standard_text};

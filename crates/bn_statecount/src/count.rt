@@ -5,7 +5,8 @@ ghost use Rattle.bn_quad.specs.Kept.{read_at, act_at};
 ghost use Rattle.bn_quad.specs.Quadruples.{IsQuadMachine};
 ghost use Rattle.bn_modules.specs.Controls.{ControlState, IsNumbering};
 ghost use Rattle.bn_control.specs.Controlled.{IsWithinLimits};
-ghost use Rattle.bn_statecount.specs.Shown.{listed, IsCount, IsReadState, IsWriteState, shifts_in, ShowsRead, ShowsShift, ShowsWrite, Shows, IsShownBefore, IsNew, IsOpenBelow, IsLeftBy};
+ghost use Rattle.bn_statecount.specs.Shown.{listed, IsCount, IsReadState, IsWriteState, shifts_in, ShowsRead};
+ghost use Rattle.bn_statecount.specs.Shown.{ShowsShift, ShowsWrite, Shows, IsShownBefore, IsNew, IsOpenBelow, IsLeftBy};
 
 use crate::shown::{Word, is_read_before, is_written_before, symbols, written};
 use bn_control::MOST_QUADRUPLES;
@@ -64,7 +65,8 @@ fn shown_count(quads: &[Quad]) -> u32
 // How many states this quadruple shows that no earlier one shows.
 fn new_states(quads: &[Quad], index: usize) -> u32
     requires inside { index < length quads.now }
-    ensures new { (quad : _) → slice_get quads.now index ≡ Some quad → IsCount (IsNew quads.now index (Shows (suc index) quad)) result }
+    ensures new { (quad : _) → slice_get quads.now index ≡ Some quad
+        → IsCount (IsNew quads.now index (Shows (suc index) quad)) result }
     ensures few { result ≤ 9 }
 {
     let quad = quads[index];

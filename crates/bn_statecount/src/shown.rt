@@ -2,7 +2,8 @@
 ghost use Rattle.std.specs.Prelude.{◌≡◌, ◌≤◌, ℕ, length, Bool, true, false};
 ghost use Rattle.bn_quad.specs.Kept.{read_at, act_at};
 ghost use Rattle.bn_modules.specs.Controls.{Reads, Writes};
-ghost use Rattle.bn_statecount.specs.Shown.{in_row, listed, written, IsWriteState, ShowsRead, ShowsWrite, IsShownBefore};
+ghost use Rattle.bn_statecount.specs.Shown.{in_row, listed, written, IsWriteState, ShowsRead, ShowsWrite};
+ghost use Rattle.bn_statecount.specs.Shown.{IsShownBefore};
 
 use bn_quad::{Act, Quad};
 
@@ -52,8 +53,10 @@ fn shows_read(quad: &Quad, from: u32, before: Word) -> bool
 
 // Whether this is a write, on this tape and before these symbols.
 fn is_write(slot: u32, lower: Word, written: Option<u32>, tape: u32, rest: Word) -> bool
-    ensures yes { (to : ℕ) → result ≡ true → IsWriteState to slot (listed lower) written (Writes to tape (listed rest)) }
-    ensures no { (to : ℕ) → result ≡ false → IsWriteState to slot (listed lower) written (Writes to tape (listed rest)) → ⊥ }
+    ensures yes { (to : ℕ) → result ≡ true
+        → IsWriteState to slot (listed lower) written (Writes to tape (listed rest)) }
+    ensures no { (to : ℕ) → result ≡ false → IsWriteState to slot (listed lower) written (Writes to tape (listed rest))
+        → ⊥ }
 {
     written.is_some() && slot == tape && lower == rest
 }

@@ -1,4 +1,5 @@
--- One command of the control to one tape of the network (this project's own profile): what the row of its cells does with it, in how many moves and at what cost.
+-- One command of the control to one tape of the network (this project's own profile): what the row of its cells does
+-- with it, in how many moves and at what cost.
 use Rattle.std.specs.Prelude.{◌≡◌, ℕ, zero, suc, ◌+◌, ◌-◌, ◌*◌, ◌<◌, ◌≤◌, Bool, false, not, List, slice_get, ◌⊎◌}
 use Rattle.bn_theory.specs.Runs.{Passes}
 use Rattle.bn_theory.specs.Circuits.{Circuit}
@@ -13,7 +14,8 @@ use Rattle.bn_machine.specs.declared.quint.Side.{Side}
 use Rattle.bn_machine.specs.declared.quint.Side.TheVariants as side
 use Rattle.bn_quad.specs.Quadruples.{Quadruples}
 use Rattle.bn_modules.specs.declared.cell_line.CellLine.{CellLine}
-use Rattle.bn_modules.specs.declared.cell_line.CellLine.TheVariants.{Read, Write, ShiftRight, ShiftLeft, TakeRight, Answer, DoneWrite, DoneRight, DoneLeft, TakeLeft}
+use Rattle.bn_modules.specs.declared.cell_line.CellLine.TheVariants.{Read, Write, ShiftRight, ShiftLeft, TakeRight}
+use Rattle.bn_modules.specs.declared.cell_line.CellLine.TheVariants.{Answer, DoneWrite, DoneRight, DoneLeft, TakeLeft}
 use Rattle.bn_theory.specs.Situations.{Situation, Turns}
 use Rattle.bn_rsm.specs.RunCosts.{run_cost}
 use Rattle.bn_modules.specs.Cells.{line_number}
@@ -40,8 +42,10 @@ head_of l t tape = head_cell (left_of l t) tape
 abbrev pub tape_elements : Quadruples → Limits → ℕ → ℕ
 tape_elements m l t = cells_in l t * cell_size (letters m t)
 
--- a command that stays in the window: its answer, the tape after it, and how many moves pass from the first cell's line to the control's
-pub data Does (m : Quadruples) (l : Limits) (t : ℕ) (tape : Tape) (command answer : CellLine) (after : Tape) (n : ℕ) : Type 0 where
+-- a command that stays in the window: its answer, the tape after it, and how many moves pass from the first cell's line
+-- to the control's
+pub data Does (m : Quadruples) (l : Limits) (t : ℕ) (tape : Tape) (command answer : CellLine) (after : Tape)
+    (n : ℕ) : Type 0 where
   does_read : command ≡ Read → answer ≡ Answer (scanned tape) → after ≡ write tape 0 → n ≡ 2 * head_of l t tape + 1
       → Does m l t tape command answer after n
   does_write : (u : ℕ) → u < letters m t → scanned tape ≡ 0 → command ≡ Write u → answer ≡ DoneWrite
@@ -63,12 +67,14 @@ abbrev pub loose_place : Quadruples → Limits → ℕ → Side → Place
 loose_place m l t side.Left = Left (first_cell l t) (line_number (letters m t) TakeLeft)
 loose_place m l t side.Right = Left (first_cell l t + (cells_in l t - 1)) (line_number (letters m t) TakeRight)
 
--- the test says no where the signal is past the first cell, or enters the first cell by a line that is none of a command
+-- the test says no where the signal is past the first cell, or enters the first cell by a line that is none of a
+-- command
 pub record IsCalm (m : Quadruples) (l : Limits) (t : ℕ) (test : Situation → Bool) : Type 0 where
   pub calm : (x : Situation) (p i : ℕ) → p < cells_in l t → (0 < p) ⊎ (letters m t + 2 < i)
       → x.place ≡ Enter (first_cell l t + p) i → test x ≡ false
 
--- from s the signal comes back in n moves, the test saying no strictly between; the cells show the tape after it, and all other modules are as before
+-- from s the signal comes back in n moves, the test saying no strictly between; the cells show the tape after it, and
+-- all other modules are as before
 pub record Answered (m : Quadruples) (l : Limits) (k : Circuit) (test : Situation
     → Bool) (t : ℕ) (s : Situation) (answer : CellLine) (after : Tape) (n : ℕ) : Type 0 where
   pub last : Situation

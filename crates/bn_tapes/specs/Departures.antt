@@ -20,7 +20,8 @@ abbrev pub leaving_moves : Limits → ℕ → Tape → Side → ℕ
 leaving_moves l t tape side.Left = 1
 leaving_moves l t tape side.Right = head_of l t tape + 1
 
--- The signal leaves by the loose line at this side in that many moves, and the next step, which can't be made, costs nothing.
+-- The signal leaves by the loose line at this side in that many moves, and the next step, which can't be made, costs
+-- nothing.
 pub record Departs (m : Quadruples) (l : Limits) (k : Circuit) (test : Situation
     → Bool) (t : ℕ) (s : Situation) (tape : Tape) (to : Side) : Type 0 where
   pub parted : Parted m l k test t s to

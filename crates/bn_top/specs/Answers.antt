@@ -6,8 +6,10 @@ use Rattle.bn_machine.specs.Outcome.{Limits}
 use Rattle.bn_words.specs.Requests.{Request, HasForm, HasNoForm, letters_at, number_at}
 use Rattle.bn_words.specs.Forms.{reads_input}
 use Rattle.bn_words.specs.declared.form.Form.{Form}
-use Rattle.bn_words.specs.declared.form.Form.TheVariants.{Step, Back, Check, Machine, Reversible, Bennett, Realise, Standard}
-use Rattle.bn_words.specs.declared.form.Form.TheVariants.{Compile, Run, RunWithin, View, Session, Plan, Generate, Erase, EraseRun}
+use Rattle.bn_words.specs.declared.form.Form.TheVariants.{Step, Back, Check, Machine, Reversible, Bennett, Realise}
+use Rattle.bn_words.specs.declared.form.Form.TheVariants.{Standard}
+use Rattle.bn_words.specs.declared.form.Form.TheVariants.{Compile, Run, RunWithin, View, Session, Plan, Generate, Erase}
+use Rattle.bn_words.specs.declared.form.Form.TheVariants.{EraseRun}
 use Rattle.bn_boardanswers.specs.CompileReply.{CompileReplies}
 use Rattle.bn_boardanswers.specs.Headline.{most_bytes}
 use Rattle.bn_boardanswers.specs.RunReply.{RunReplies}
@@ -89,7 +91,8 @@ pub data Answers (words : List (List ℕ)) (bytes : List ℕ) (status : Status) 
   no_form : HasNoForm words → status ≡ Usage → text ≡ usage_text → told ≡ [] → Answers words bytes status text told
   unread : (request : Request) → HasForm words request → reads_input request.form ≡ false →
       Replies request [] status text told → Answers words bytes status text told
-  too_long : (request : Request) → HasForm words request → reads_input request.form ≡ true → input_limit < length bytes →
+  too_long : (request : Request) → HasForm words request → reads_input request.form ≡ true
+      → input_limit < length bytes →
       status ≡ Size → text ≡ size_text → told ≡ [] → Answers words bytes status text told
   replied : (request : Request) → HasForm words request → reads_input request.form ≡ true → length bytes ≤ input_limit →
       Replies request bytes status text told → Answers words bytes status text told

@@ -59,8 +59,8 @@ pub fn workbench<S: Source, K: Sink, W: Watch>(
     ensures unread { HasNoForm (map string_bytes words.now.items) → source.new ≡ source.old }
     ensures untold { HasNoForm (map string_bytes words.now.items) → Hears (W.told watch.old) [] (W.told watch.new) }
 
-    // The words that ask for what needs no input: nothing is read, and the answer is the same whatever the source holds,
-    // and whether or not it tells its bytes.
+    // The words that ask for what needs no input: nothing is read, and the answer is the same whatever the source
+    // holds, and whether or not it tells its bytes.
     ensures inputless { NeedsNoInput (map string_bytes words.now.items) → source.new ≡ source.old }
     ensures inputless_ends { NeedsNoInput (map string_bytes words.now.items) →
         EndsWithoutInput (map string_bytes words.now.items) result (K.taken sink.old) (K.taken sink.new)

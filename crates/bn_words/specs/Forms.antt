@@ -4,8 +4,10 @@ use Rattle.bn_base.specs.Number.{greatest}
 use Rattle.bn_words.specs.declared.kind.Kind.{Kind}
 use Rattle.bn_words.specs.declared.kind.Kind.TheVariants.{Count, Ordinal, Letters}
 use Rattle.bn_words.specs.declared.form.Form.{Form}
-use Rattle.bn_words.specs.declared.form.Form.TheVariants.{Step, Back, Check, Machine, Reversible, Bennett, Realise, Standard}
-use Rattle.bn_words.specs.declared.form.Form.TheVariants.{Compile, Run, RunWithin, View, Session, Plan, Generate, Erase, EraseRun}
+use Rattle.bn_words.specs.declared.form.Form.TheVariants.{Step, Back, Check, Machine, Reversible, Bennett, Realise}
+use Rattle.bn_words.specs.declared.form.Form.TheVariants.{Standard}
+use Rattle.bn_words.specs.declared.form.Form.TheVariants.{Compile, Run, RunWithin, View, Session, Plan, Generate, Erase}
+use Rattle.bn_words.specs.declared.form.Form.TheVariants.{EraseRun}
 
 -- a row: the command's name, and the kinds of the words behind it
 pub record Row : Type 0 where
