@@ -1,12 +1,12 @@
 -- Two translations make the erasing machine's list over numbers.
-use Rattle.std.specs.Prelude.{◌≡◌, ◌≢◌, ℕ, suc, ◌+◌, ◌*◌, ◌<◌, ◌≤◌, ◌^◌, ◌⊎◌, List, [], ◌∷◌, ◌++◌, length, map, take, drop, Some, slice_get}
-use Rattle.std.proofs.Common.{refl, sym, ap, ◌∙◌, subst, arith, inl, inr, get_or, length-append}
+use Rattle.std.specs.Prelude.{◌≡◌, ◌≢◌, ℕ, suc, ◌+◌, ◌*◌, ◌<◌, ◌≤◌, ◌^◌, List, ◌++◌, length, map, Some, slice_get}
+use Rattle.std.proofs.Common.{sym, ap, ◌∙◌, subst, arith, inl, inr, get_or, length-append}
 use Rattle.std.proofs.lemmas.List.{get_or-append-add, get_or-map, get_or_append_left, length-map, map-append}
 use Rattle.std.proofs.lemmas.List.Elements.{All-map}
 use Rattle.std.proofs.lemmas.Option.{slice_get-get_or}
 use Rattle.bn_machine.specs.Machine.{IsMachine, Program}
-use Rattle.bn_quad.specs.Kept.{quad_of, rules_of}
-use Rattle.bn_quad.specs.Quadruples.{IsRuleInRange, Quadruples, Rule, final_of, turned, turned_list}
+use Rattle.bn_quad.specs.Kept.{quad_of}
+use Rattle.bn_quad.specs.Quadruples.{IsRuleInRange, Rule, final_of, turned_list}
 use Rattle.bn_quad.proofs.KeptLemmas.{rules_of-quads}
 use Rattle.bn_quad.specs.declared.quad.Quad.{Quad}
 use Rattle.bn_stages.specs.In.{IsIn}
@@ -14,7 +14,7 @@ use Rattle.bn_stages.proofs.MembershipLemmas.{from_map, in_append, in_left, in_m
 use Rattle.bn_stages.proofs.Apart.{Apart, apart_append, apart_map, apart_weaker}
 use Rattle.bn_stages.specs.Laws.{ListCountsNames, ListHasNames, NumbersPassTests}
 use Rattle.bn_stages.specs.List.{bennett, final_name}
-use Rattle.bn_stages.specs.Names.{NumbersStates, states_in}
+use Rattle.bn_stages.specs.Names.{NumbersStates}
 use Rattle.bn_stages.specs.Renamed.{renamed, rename, name_at}
 use Rattle.bn_stages.specs.Stages.{IsStandardMachine}
 use Rattle.bn_stages.specs.declared.name.Name.{Name}
@@ -23,7 +23,7 @@ use Rattle.bn_table.specs.Rows.{FitsTable}
 use Rattle.bn_bennett.specs.Draft.{IsBelow}
 use Rattle.bn_bennett.specs.Translation.{IsTranslation, Translation, name_of}
 use Rattle.bn_bennett.proofs.Counting.{each_mentioned, numbers_states}
-use Rattle.bn_quadlists.specs.Lists.{exchanged, exchanged_list}
+use Rattle.bn_quadlists.specs.Lists.{exchanged_list}
 use Rattle.bn_erasing.specs.Erasing.{IsErasingName, backward, erasing, first_half, second_half, second_name}
 use Rattle.bn_erasing.specs.Laws.{ErasingHasNames}
 use Rattle.bn_erasing.specs.declared.name.ErasingName.{ErasingName}

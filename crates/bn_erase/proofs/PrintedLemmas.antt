@@ -7,28 +7,27 @@ use Rattle.std.proofs.lemmas.Bool.Decides.{nat_tests}
 use Rattle.std.proofs.lemmas.Fmt.{length-decimal-le}
 use Rattle.std.proofs.lemmas.List.{length-map, length-take-le, map-append, take_more}
 use Rattle.std.proofs.lemmas.Option.{get_or_from_slice_get, same_Some, slice_get-get_or}
-use Rattle.bn_entries.specs.Forms.{is_name_byte, is_state_name, is_symbol, is_symbol_byte}
+use Rattle.bn_entries.specs.Forms.{is_name_byte, is_state_name, is_symbol}
 use Rattle.bn_entries.proofs.FormsLemmas.{all-at}
 use Rattle.bn_machine.specs.Machine.{IsMachine, Program, nth}
-use Rattle.bn_qtable.specs.Named.{AreNamed, HasNames}
-use Rattle.bn_quad.specs.Names.{Naming, with_state}
-use Rattle.bn_stages.specs.Names.{NumbersStates}
+use Rattle.bn_qtable.specs.Named.{AreNamed}
+use Rattle.bn_quad.specs.Names.{Naming}
 use Rattle.bn_stages.specs.declared.name.Name.{Name}
 use Rattle.bn_table.specs.Rows.{FitsTable}
-use Rattle.bn_bennett.specs.Printed.{mark, number_names, one_byte, print_of, state_text, with_states}
+use Rattle.bn_bennett.specs.Printed.{mark, one_byte, print_of, state_text, with_states}
 use Rattle.bn_bennett.proofs.Counting.{each_mentioned}
 use Rattle.bn_bennett.proofs.Forms.{letters_form, numbers_form, states_form}
 use Rattle.bn_bennett.proofs.Printable.{number_bound}
 use Rattle.bn_bennett.proofs.Texts.{length-number_names, not_among_front, state_text-once}
-use Rattle.bn_erasing.specs.Erasing.{IsErasingName, erasing}
+use Rattle.bn_erasing.specs.Erasing.{IsErasingName}
 use Rattle.bn_erasing.specs.Laws.{ErasingCountsNames, ErasingHasNames}
 use Rattle.bn_erasing.specs.declared.name.ErasingName.{ErasingName}
 use Rattle.bn_erasing.specs.declared.name.ErasingName.TheVariants.{First, Second}
-use Rattle.bn_erase.specs.Joint.{IsAlphabet, IsJoint, Joint}
+use Rattle.bn_erase.specs.Joint.{IsAlphabet}
 use Rattle.bn_erase.specs.Laws.{ErasingsHaveNames}
 use Rattle.bn_erase.specs.Made.{Erasure, IsErasing}
 use Rattle.bn_erase.specs.Printable.{ArePrintable, own_name}
-use Rattle.bn_erase.specs.Printed.{erasing_text, history_names, letter_names, names_of}
+use Rattle.bn_erase.specs.Printed.{erasing_text, names_of}
 
 -- ---- a text tells its name
 

@@ -157,7 +157,7 @@ fn meeting_of(translated: &Translated, other: &Translated) -> Meeting
     }
 }
 
-// The number that a state of the second one gets.
+// The number that a state of the second machine gets.
 fn new_state(meeting: Meeting, state: u32) -> u32
     requires { state < 2 ^ 32 - meeting.states }
     ensures { result ≡ new_state meeting state }
@@ -272,7 +272,8 @@ fn backward_quad(quad: &Quad, meeting: Meeting) -> Quad
 
 // ---- the machine
 
-// How many symbols each tape has, tape 1 first: the history has one for each quintuple of the longer machine.
+// How many symbols each tape has, tape 1 first: the history has the blank, and one for each quintuple of the longer
+// machine.
 fn symbols_of(first: &Standard, second: &Standard) -> [u32; 3]
     requires first { length first.now.quints ≤ 4000 }
     requires second { length second.now.quints ≤ 4000 }

@@ -1,6 +1,5 @@
 -- The list has as many quadruples as both machines' own.
-use Rattle.std.proofs.Common.{◌≡◌, ◌+◌, ◌*◌, arith, length}
-use Rattle.bn_erasing.specs.Erasing.{erasing}
+use Rattle.std.proofs.Common.{arith}
 use Rattle.bn_erase.proofs.MachineLemmas.{few_quadruples}
 use Rattle.bn_erase.proofs.erasing.erase.Goals as goal
 

@@ -1,5 +1,5 @@
 -- Names and quadruples are those of the erasing machine.
-use Rattle.std.proofs.Common.{◌≡◌, ◌≤◌, ◌<◌, ◌+◌, ◌^◌, ◌∙◌, ℕ, ap, arith, length, subst}
+use Rattle.std.proofs.Common.{◌≡◌, ◌<◌, ◌+◌, ◌^◌, ◌∙◌, ap, arith, length, subst}
 use Rattle.bn_machine.specs.Machine.{IsMachine}
 use Rattle.bn_quad.specs.Quadruples.{final_of}
 use Rattle.bn_stages.specs.Stages.{IsStandardMachine}
