@@ -6,7 +6,7 @@ use Rattle.bn_stages.specs.Stages.{IsStandardMachine}
 use Rattle.bn_table.specs.Rows.{IsTable, Named}
 use Rattle.bn_erase.specs.Joint.{IsJoint, Joint, joined}
 use Rattle.bn_erase.specs.Laws.{JoinedAreJudgedAlike}
-use Rattle.bn_erase.proofs.JudgedLemmas.{joined_are_judged_alike}
+use Rattle.bn_erase.proofs.JoinedLemmas.{joined_are_judged_alike}
 use Rattle.bn_reply.proofs.TableLemmas.{reads_table}
 use Rattle.bn_erasereply.proofs.PairLemmas.{ReadBoth}
 

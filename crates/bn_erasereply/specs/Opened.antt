@@ -42,13 +42,13 @@ IsOpenedPair bytes (opened.Refused reply) = PairReplies nothing bytes reply.stat
 
 -- the answer tells the first demand that the first machine doesn't meet, or else the second
 pub data IsUnfitPair (j : Joint) (reply : Reply) : Type 0 where
-  first : (why : Why) → IsRefusal j.first.quints why → why ≢ whys.NoMemory → reply.text.items ≡ why_line why
+  first_unfit : (why : Why) → IsRefusal j.first.quints why → why ≢ whys.NoMemory → reply.text.items ≡ why_line why
       → reply.status ≡ statuses.Machine → IsUnfitPair j reply
-  second : IsStandard j.first.quints → (why : Why) → IsRefusal j.second.quints why → why ≢ whys.NoMemory
+  second_unfit : IsStandard j.first.quints → (why : Why) → IsRefusal j.second.quints why → why ≢ whys.NoMemory
       → reply.text.items ≡ with_second (why_line why) → reply.status ≡ statuses.Machine → IsUnfitPair j reply
 
 -- the two machines, both in standard form, or what is answered where they aren't
 abbrev pub IsJudgedPair : Joint → JudgedPair → Type 0
-IsJudgedPair j (judged.Standard first second) =
-    (first ≡ j.first) × (second ≡ j.second) × IsStandard j.first.quints × IsStandard j.second.quints
+IsJudgedPair j (judged.Standard p q) =
+    (p ≡ j.first) × (q ≡ j.second) × IsStandard j.first.quints × IsStandard j.second.quints
 IsJudgedPair j (judged.Refused reply) = IsUnfitPair j reply

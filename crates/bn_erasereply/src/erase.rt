@@ -1,6 +1,6 @@
 //! The commands `erase` and `erase =W n`.
 
-ghost use Rattle.std.specs.Prelude.{◌≡◌, ◌≤◌, [], All, IfOk};
+ghost use Rattle.std.specs.Prelude.{◌≡◌, ◌<◌, ◌≤◌, [], All, IfOk, length};
 ghost use Rattle.bn_erase.specs.Joint.{IsJoint};
 ghost use Rattle.bn_reply.specs.TableReply.{WordReplies};
 ghost use Rattle.bn_reply.specs.Words.{IsLetterSymbol};
