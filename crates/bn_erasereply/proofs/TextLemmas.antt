@@ -2,6 +2,7 @@
 use Rattle.std.specs.Prelude.{◌≡◌, ℕ, ◌<◌, List, [], ◌∷◌, ◌++◌, length, map, slice_index_or, slice_get, All, Some, refl, codes, ◌==◌, if◌then◌else◌}
 use Rattle.std.proofs.Common.{ap, sym, subst, ◌∙◌}
 use Rattle.std.proofs.lemmas.List.{get_or-map}
+use Rattle.std.proofs.lemmas.Option.{get_or_from_slice_get}
 use Rattle.std.proofs.lemmas.List.Elements.{All-head, All-tail}
 use Rattle.bn_entries.specs.Lines.{lines_of}
 use Rattle.bn_quad.specs.Names.{Naming}
@@ -47,3 +48,11 @@ rows_at j e states symbols count (r ∷ rs) h =
 pub erased_text : (j : Joint) (e : Erasure) → IsErasing j.first j.second e → lines_of (rows_by (names_of j e) e.machine.rules) ≡ erase_text j
 erased_text j e h =
     ap lines_of (rows_at j e e.machine.states e.machine.symbols h.states e.machine.rules h.machine.in_range ∙ ap (map (erasing_entry j)) h.rules)
+
+-- the text that stands at a state's number among the names is the state's
+pub printed_state : (j : Joint) (e : Erasure) (names : Naming) (n : ℕ) (text : List ℕ) → names ≡ names_of j e → e.machine.states ≡ length e.names → n < e.machine.states →
+    slice_get names.states n ≡ Some text → text ≡ erasing_text (name_of e n)
+printed_state j e names n text named count inside at =
+    let texts : names.states ≡ map erasing_text e.names = ap (λ (x : Naming). x.states) named in
+    let here : slice_get (map erasing_text e.names) n ≡ Some text = subst (λ ts. slice_get ts n ≡ Some text) texts at in
+    sym (get_or_from_slice_get (map erasing_text e.names) n text [] here) ∙ state_at e n (subst (λ m. n < m) count inside)
