@@ -3,3 +3,4 @@ pub mod JudgedLemmas
 pub mod SettledLemmas
 pub mod TextLemmas
 pub mod RunLemmas
+pub mod WordLemmas
