@@ -4,3 +4,4 @@ pub mod SettledLemmas
 pub mod TextLemmas
 pub mod RunLemmas
 pub mod WordLemmas
+pub mod StepLemmas
