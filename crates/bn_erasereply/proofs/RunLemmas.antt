@@ -182,3 +182,39 @@ module _ (p q : Program) (e : Erasure) (made_of : IsErasing p q e) (first : IsSt
           let run = all.0 1 (configuration after u) (configuration after u, (quad, goes), refl) in
           wide (in_state (name_of e) (configuration at v)) (in_state (name_of e) (configuration after u)) (subst (λ c. Steps (rooms_of w) (erasing p q) (erasing_final q) (in_state (name_of e) (configuration at v)) c) run.2 run.1)
   comes_out m at v turn after u ending low early r turn_is out = absurd out
+
+-- ---- the program's run
+
+starts_at : (p : Quadruples) (word : List ℕ) (n state : ℕ) (w : Tapes) → Starts p word n state w → Starts p word n (initial_of p.rules) w
+starts_at p word n state w s = record { state_is = refl; one = s.one; two = s.two; three = s.three }
+
+reached_at : (p : Quadruples) (word : List ℕ) (n state : ℕ) (w : Tapes) (made at : ℕ) (v : Tapes) → Starts p word n state w → Reached p made state w at v →
+    Reached p made (initial_of p.rules) w at v
+reached_at p word n state w made at v s r = subst (λ (k : ℕ). Reached p made k w at v) s.state_is r
+
+pub ran_inside : (e : Erasure) (m : Quadruples) (word : List ℕ) (n state : ℕ) (w : Tapes) (made : ℕ) (turn : QuadTurn) (after : ℕ) (u : Tapes) → m ≡ e.machine →
+    IsErasingOfSome e → ErasingsAreUniform → ErasingNumbersRunAlike → NoHeadLeaves → Starts m word n state w → IsRun m n state w made turn after u → StaysInside turn
+ran_inside e m word n state w made turn after u same some uniform alike near starts run =
+    let s : Starts e.machine word n state w = subst (λ (x : Quadruples). Starts x word n state w) same starts in
+    let r : IsRun e.machine n state w made turn after u = subst (λ (x : Quadruples). IsRun x n state w made turn after u) same run in
+    turn_inside some.first some.second e some.erasing some.first_standard some.second_standard uniform alike word n w (starts_at e.machine word n state w s) near made
+    r.at r.tapes turn after u r.in_time (reached_at e.machine word n state w made r.at r.tapes s r.reached) r.last
+
+pub ran_whole : (e : Erasure) (m : Quadruples) (word : List ℕ) (n state : ℕ) (w : Tapes) (made : ℕ) (turn : QuadTurn) (after : ℕ) (u : Tapes) (ending : Ending) →
+    m ≡ e.machine → ErasingsAreUniform → ErasingNumbersRunAlike → Starts m word n state w → IsRun m n state w made turn after u → ComesOutOf turn after u ending →
+    HasEnded e word n made ending
+ran_whole e m word n state w made turn after u ending same uniform alike starts run out = record {
+  state = λ p q made_of first second. (both p q made_of first second).1;
+  comes_out = λ p q made_of first second. (both p q made_of first second).0;
+}
+  where
+    s : Starts e.machine word n state w
+    s = subst (λ (x : Quadruples). Starts x word n state w) same starts
+
+    r : IsRun e.machine n state w made turn after u
+    r = subst (λ (x : Quadruples). IsRun x n state w made turn after u) same run
+
+    both : (p q : Program) → IsErasing p q e → IsStandardMachine p → IsStandardMachine q → HasOutcome p q word n made (outcome_of e ending) × IsEndingOf e ending
+    both p q made_of first second =
+        comes_out p q e made_of first second uniform alike word n w (starts_at e.machine word n state w s) made r.at r.tapes turn after u ending r.in_time r.early
+        (reached_at e.machine word n state w made r.at r.tapes s r.reached) r.last out
