@@ -1,30 +1,27 @@
 -- The run of the machine of numbers on tapes in windows is the erasing machine's run on tapes without ends.
-use Rattle.std.specs.Prelude.{◌≡◌, ◌≢◌, ℕ, zero, suc, ◌+◌, ◌<◌, ◌≤◌, ◌⊎◌, ◌∷◌, List, [], length, max, Some, refl}
+use Rattle.std.specs.Prelude.{◌≡◌, ℕ, zero, suc, ◌+◌, ◌<◌, ◌≤◌, ◌⊎◌, ◌∷◌, List, [], length, max, Some, refl}
 use Rattle.std.proofs.Common.{sym, subst, ap, ◌∙◌, arith, inl, inr}
 use Rattle.std.proofs.lemmas.Bool.{cases_lt}
 use Rattle.std.proofs.lemmas.Option.{get_or_from_slice_get, slice_get_within}
 use Rattle.bn_theory.specs.Runs.{Reaches}
-use Rattle.bn_theory.proofs.RunsLemmas.{runs_more}
 use Rattle.bn_machine.specs.Machine.{Program, nth}
 use Rattle.bn_machine.specs.Run.{IsOutput}
-use Rattle.bn_machine.specs.Tape.{blank_tape, word_tape}
 use Rattle.bn_machine.specs.Window.{Windowed, new_window, within}
-use Rattle.bn_machine.specs.declared.quint.Side.{Side}
-use Rattle.bn_quad.specs.Quadruples.{Configuration, Goes, GoesBy, IsQuadMachine, IsRuleInRange, IsStuck, Quadruples, Rooms, Rule, everywhere, final_of, initial_of}
-use Rattle.bn_quad.specs.Calls.{AreSameWindows, IsQuadTurn, configuration, rooms_of}
+use Rattle.bn_quad.specs.Quadruples.{Configuration, Goes, GoesBy, IsQuadMachine, IsRuleInRange, Quadruples, Rooms, Rule, final_of, initial_of}
+use Rattle.bn_quad.specs.Calls.{IsQuadTurn, configuration, rooms_of}
 use Rattle.bn_quad.specs.declared.tapes.Tapes.{Tapes}
 use Rattle.bn_quad.specs.declared.tapes.QuadTurn.{QuadTurn}
 use Rattle.bn_quad.specs.declared.tapes.QuadTurn.TheVariants as turns
 use Rattle.bn_stages.specs.In.{IsIn}
 use Rattle.bn_stages.specs.Names.{states_in}
-use Rattle.bn_stages.specs.Renamed.{KeepsApart, in_state, rename}
+use Rattle.bn_stages.specs.Renamed.{in_state}
 use Rattle.bn_stages.specs.Stages.{IsStandardMachine}
-use Rattle.bn_stages.specs.Steps.{EndsAt, Exit, Finished, Leaving, Steps, Stopped, finishes, leaves, stops}
+use Rattle.bn_stages.specs.Steps.{EndsAt, Exit, Leaving, Steps, Stopped, finishes, leaves, stops}
 use Rattle.bn_stages.proofs.MembershipLemmas.{each_of_two, from_flat_map, in_head}
-use Rattle.bn_stages.proofs.NumberLemmas.{goes_steps, leaving_ends, stuck_ends}
+use Rattle.bn_stages.proofs.NumberLemmas.{leaving_ends, stuck_ends}
 use Rattle.bn_bennett.proofs.Alike.{run_inside}
-use Rattle.bn_bennett.proofs.CallByCall.{rooms_same, windows_on}
-use Rattle.bn_erasing.specs.Erasing.{ErasingSteps, erasing, erasing_final, erasing_initial, erasing_start}
+use Rattle.bn_bennett.proofs.CallByCall.{rooms_same}
+use Rattle.bn_erasing.specs.Erasing.{ErasingSteps, erasing, erasing_final, erasing_start}
 use Rattle.bn_erasing.specs.Laws.{ErasingNumbersRunAlike, NoHeadLeaves, ReachesFar}
 use Rattle.bn_erasing.specs.Outcome as free
 use Rattle.bn_erasing.specs.Outcome.{ComesOut, HasOutcome, rewound}

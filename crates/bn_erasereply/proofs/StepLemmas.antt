@@ -1,10 +1,9 @@
 -- Steps in windows, one after another.
 use Rattle.std.specs.Prelude.{◌≡◌, ℕ, ◌+◌, ◌<◌, refl}
 use Rattle.std.proofs.Common.{subst, arith}
-use Rattle.bn_theory.specs.Runs.{Reaches}
 use Rattle.bn_theory.proofs.RunsLemmas.{runs_more}
 use Rattle.bn_quad.specs.Quadruples.{Goes, GoesBy, Quadruples, Rooms}
-use Rattle.bn_quad.specs.Calls.{AreSameWindows, IsQuadTurn, configuration, rooms_of}
+use Rattle.bn_quad.specs.Calls.{IsQuadTurn, configuration, rooms_of}
 use Rattle.bn_quad.specs.declared.tapes.Tapes.{Tapes}
 use Rattle.bn_quad.specs.declared.tapes.QuadTurn.{QuadTurn}
 use Rattle.bn_quad.specs.declared.tapes.QuadTurn.TheVariants as turns
