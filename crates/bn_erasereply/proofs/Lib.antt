@@ -3,3 +3,5 @@ pub mod JudgedLemmas
 pub mod SettledLemmas
 pub mod TextLemmas
 pub mod RunLemmas
+pub mod WordLemmas
+pub mod StepLemmas

@@ -1,30 +1,27 @@
 -- The run of the machine of numbers on tapes in windows is the erasing machine's run on tapes without ends.
-use Rattle.std.specs.Prelude.{◌≡◌, ◌≢◌, ℕ, zero, suc, ◌+◌, ◌<◌, ◌≤◌, ◌⊎◌, ◌∷◌, List, [], length, max, Some, refl}
+use Rattle.std.specs.Prelude.{◌≡◌, ℕ, zero, suc, ◌+◌, ◌<◌, ◌≤◌, ◌⊎◌, ◌∷◌, List, [], length, max, Some, refl}
 use Rattle.std.proofs.Common.{sym, subst, ap, ◌∙◌, arith, inl, inr}
 use Rattle.std.proofs.lemmas.Bool.{cases_lt}
 use Rattle.std.proofs.lemmas.Option.{get_or_from_slice_get, slice_get_within}
 use Rattle.bn_theory.specs.Runs.{Reaches}
-use Rattle.bn_theory.proofs.RunsLemmas.{runs_more}
 use Rattle.bn_machine.specs.Machine.{Program, nth}
 use Rattle.bn_machine.specs.Run.{IsOutput}
-use Rattle.bn_machine.specs.Tape.{blank_tape, word_tape}
 use Rattle.bn_machine.specs.Window.{Windowed, new_window, within}
-use Rattle.bn_machine.specs.declared.quint.Side.{Side}
-use Rattle.bn_quad.specs.Quadruples.{Configuration, Goes, GoesBy, IsQuadMachine, IsRuleInRange, IsStuck, Quadruples, Rooms, Rule, everywhere, final_of, initial_of}
-use Rattle.bn_quad.specs.Calls.{AreSameWindows, IsQuadTurn, configuration, rooms_of}
+use Rattle.bn_quad.specs.Quadruples.{Configuration, Goes, GoesBy, IsQuadMachine, IsRuleInRange, Quadruples, Rooms, Rule, final_of, initial_of}
+use Rattle.bn_quad.specs.Calls.{IsQuadTurn, configuration, rooms_of}
 use Rattle.bn_quad.specs.declared.tapes.Tapes.{Tapes}
 use Rattle.bn_quad.specs.declared.tapes.QuadTurn.{QuadTurn}
 use Rattle.bn_quad.specs.declared.tapes.QuadTurn.TheVariants as turns
 use Rattle.bn_stages.specs.In.{IsIn}
 use Rattle.bn_stages.specs.Names.{states_in}
-use Rattle.bn_stages.specs.Renamed.{KeepsApart, in_state, rename}
+use Rattle.bn_stages.specs.Renamed.{in_state}
 use Rattle.bn_stages.specs.Stages.{IsStandardMachine}
-use Rattle.bn_stages.specs.Steps.{EndsAt, Exit, Finished, Leaving, Steps, Stopped, finishes, leaves, stops}
+use Rattle.bn_stages.specs.Steps.{EndsAt, Exit, Leaving, Steps, Stopped, finishes, leaves, stops}
 use Rattle.bn_stages.proofs.MembershipLemmas.{each_of_two, from_flat_map, in_head}
-use Rattle.bn_stages.proofs.NumberLemmas.{goes_steps, leaving_ends, stuck_ends}
+use Rattle.bn_stages.proofs.NumberLemmas.{leaving_ends, stuck_ends}
 use Rattle.bn_bennett.proofs.Alike.{run_inside}
-use Rattle.bn_bennett.proofs.CallByCall.{rooms_same, windows_on}
-use Rattle.bn_erasing.specs.Erasing.{ErasingSteps, erasing, erasing_final, erasing_initial, erasing_start}
+use Rattle.bn_bennett.proofs.CallByCall.{rooms_same}
+use Rattle.bn_erasing.specs.Erasing.{ErasingSteps, erasing, erasing_final, erasing_start}
 use Rattle.bn_erasing.specs.Laws.{ErasingNumbersRunAlike, NoHeadLeaves, ReachesFar}
 use Rattle.bn_erasing.specs.Outcome as free
 use Rattle.bn_erasing.specs.Outcome.{ComesOut, HasOutcome, rewound}
@@ -32,41 +29,9 @@ use Rattle.bn_erasing.specs.declared.name.ErasingName.{ErasingName}
 use Rattle.bn_erase.specs.Laws.{ErasingsAreUniform}
 use Rattle.bn_erase.specs.Made.{Erasure, IsErasing, name_of}
 use Rattle.bn_erasereply.specs.EraseRun.{ComesOutOf, HasEnded, IsEndingOf, IsErasingOfSome, IsRun, IsStep, Reached, StaysInside, outcome_of}
+use Rattle.bn_erasereply.proofs.StepLemmas.{one_step_more}
 use Rattle.bn_erasereply.specs.declared.run.Ending.{Ending}
 use Rattle.bn_erasereply.specs.declared.run.Ending.TheVariants.{Halted, Stuck, Running}
-
--- ---- steps in windows, one after another
-
-pub none_made : (p : Quadruples) (state : ℕ) (w : Tapes) → Reached p 0 state w state w
-none_made p state w = record { same = record { one = refl; two = refl; three = refl }; run = refl }
-
-pub one_step_more : (p : Quadruples) (made state : ℕ) (w : Tapes) (at : ℕ) (v : Tapes) (quad after : ℕ) (u : Tapes) → Reached p made state w at v →
-    IsQuadTurn p (turns.Moved quad) at v after u → Reached p (made + 1) state w after u
-one_step_more p made state w at v quad after u r turn = record {
-  same = windows_on w v u r.same turn.1;
-  run =
-      let step : GoesBy (rooms_of w) p quad (configuration at v) (configuration after u) = subst (λ (rooms : Rooms). GoesBy rooms p quad (configuration at v) (configuration after u))
-      (rooms_same w v r.same) turn.0 in
-      runs_more (Goes (rooms_of w) p) made (configuration state w) (configuration at v) (configuration after u) r.run (quad, step);
-}
-
--- a turn that is no step comes early
-pub early_turn : (p : Quadruples) (n made state : ℕ) (w : Tapes) (at : ℕ) (v : Tapes) (turn : QuadTurn) (after : ℕ) (u : Tapes) → made < n →
-    Reached p made state w at v → IsQuadTurn p turn at v after u → (IsStep turn → ⊥) → IsRun p n state w made turn after u
-early_turn p n made state w at v turn after u low r turn_is other =
-    record { at = at; tapes = v; reached = r; in_time = omega arith; last = turn_is; early = λ h. other }
-
--- the turn behind the last of the steps that were asked for
-pub last_turn : (p : Quadruples) (n made state : ℕ) (w : Tapes) (at : ℕ) (v : Tapes) (turn : QuadTurn) (after : ℕ) (u : Tapes) → made ≡ n →
-    Reached p made state w at v → IsQuadTurn p turn at v after u → IsRun p n state w n turn after u
-last_turn p n made state w at v turn after u e r turn_is = record {
-  at = at;
-  tapes = v;
-  reached = subst (λ (i : ℕ). Reached p i state w at v) e r;
-  in_time = omega arith;
-  last = turn_is;
-  early = λ h. absurd (omega arith);
-}
 
 -- ---- what the program starts from
 
@@ -214,3 +179,39 @@ module _ (p q : Program) (e : Erasure) (made_of : IsErasing p q e) (first : IsSt
           let run = all.0 1 (configuration after u) (configuration after u, (quad, goes), refl) in
           wide (in_state (name_of e) (configuration at v)) (in_state (name_of e) (configuration after u)) (subst (λ c. Steps (rooms_of w) (erasing p q) (erasing_final q) (in_state (name_of e) (configuration at v)) c) run.2 run.1)
   comes_out m at v turn after u ending low early r turn_is out = absurd out
+
+-- ---- the program's run
+
+starts_at : (p : Quadruples) (word : List ℕ) (n state : ℕ) (w : Tapes) → Starts p word n state w → Starts p word n (initial_of p.rules) w
+starts_at p word n state w s = record { state_is = refl; one = s.one; two = s.two; three = s.three }
+
+reached_at : (p : Quadruples) (word : List ℕ) (n state : ℕ) (w : Tapes) (made at : ℕ) (v : Tapes) → Starts p word n state w → Reached p made state w at v →
+    Reached p made (initial_of p.rules) w at v
+reached_at p word n state w made at v s r = subst (λ (k : ℕ). Reached p made k w at v) s.state_is r
+
+pub ran_inside : (e : Erasure) (m : Quadruples) (word : List ℕ) (n state : ℕ) (w : Tapes) (made : ℕ) (turn : QuadTurn) (after : ℕ) (u : Tapes) → m ≡ e.machine →
+    IsErasingOfSome e → ErasingsAreUniform → ErasingNumbersRunAlike → NoHeadLeaves → Starts m word n state w → IsRun m n state w made turn after u → StaysInside turn
+ran_inside e m word n state w made turn after u same some uniform alike near starts run =
+    let s : Starts e.machine word n state w = subst (λ (x : Quadruples). Starts x word n state w) same starts in
+    let r : IsRun e.machine n state w made turn after u = subst (λ (x : Quadruples). IsRun x n state w made turn after u) same run in
+    turn_inside some.first some.second e some.erasing some.first_standard some.second_standard uniform alike word n w (starts_at e.machine word n state w s) near made
+    r.at r.tapes turn after u r.in_time (reached_at e.machine word n state w made r.at r.tapes s r.reached) r.last
+
+pub ran_whole : (e : Erasure) (m : Quadruples) (word : List ℕ) (n state : ℕ) (w : Tapes) (made : ℕ) (turn : QuadTurn) (after : ℕ) (u : Tapes) (ending : Ending) →
+    m ≡ e.machine → ErasingsAreUniform → ErasingNumbersRunAlike → Starts m word n state w → IsRun m n state w made turn after u → ComesOutOf turn after u ending →
+    HasEnded e word n made ending
+ran_whole e m word n state w made turn after u ending same uniform alike starts run out = record {
+  state = λ p q made_of first second. (both p q made_of first second).1;
+  comes_out = λ p q made_of first second. (both p q made_of first second).0;
+}
+  where
+    s : Starts e.machine word n state w
+    s = subst (λ (x : Quadruples). Starts x word n state w) same starts
+
+    r : IsRun e.machine n state w made turn after u
+    r = subst (λ (x : Quadruples). IsRun x n state w made turn after u) same run
+
+    both : (p q : Program) → IsErasing p q e → IsStandardMachine p → IsStandardMachine q → HasOutcome p q word n made (outcome_of e ending) × IsEndingOf e ending
+    both p q made_of first second =
+        comes_out p q e made_of first second uniform alike word n w (starts_at e.machine word n state w s) made r.at r.tapes turn after u ending r.in_time r.early
+        (reached_at e.machine word n state w made r.at r.tapes s r.reached) r.last out
