@@ -5,3 +5,4 @@ pub mod TextLemmas
 pub mod RunLemmas
 pub mod WordLemmas
 pub mod StepLemmas
+pub mod AnswerLemmas
