@@ -3,3 +3,6 @@ pub mod JudgedLemmas
 pub mod SettledLemmas
 pub mod TextLemmas
 pub mod RunLemmas
+mod OpenedLemmas
+mod SecondLemmas
+mod JointWordLemmas
