@@ -5,4 +5,3 @@ pub mod TextLemmas
 pub mod RunLemmas
 mod OpenedLemmas
 mod SecondLemmas
-mod JointWordLemmas
