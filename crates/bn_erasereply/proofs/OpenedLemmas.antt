@@ -1,6 +1,5 @@
 -- What comes of the second table is what comes of both, and of an input that is cut so.
-use Rattle.std.specs.Prelude.{◌≡◌, ◌≢◌, ℕ, List, [], Result, Ok, Err, IfOk, refl}
-use Rattle.std.proofs.Common.{sym, subst, ap, ◌∙◌}
+use Rattle.std.specs.Prelude.{ℕ, List, Result, Ok, Err, IfOk, refl}
 use Rattle.bn_table.specs.Reading.{Reads}
 use Rattle.bn_table.specs.Rows.{Named}
 use Rattle.bn_reply.specs.Cuts.{IsCut}
