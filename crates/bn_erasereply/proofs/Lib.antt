@@ -6,3 +6,5 @@ pub mod RunLemmas
 pub mod WordLemmas
 pub mod StepLemmas
 pub mod AnswerLemmas
+mod OpenedLemmas
+mod SecondLemmas

@@ -7,7 +7,7 @@ use Rattle.bn_table.specs.Rows.{Named}
 use Rattle.bn_standard.specs.Standard.{IsStandard}
 use Rattle.bn_reply.specs.Answering.{HasAnswer, IsOneAnswer, IsSettled}
 use Rattle.bn_reply.specs.Codes.{IsReplyStatus}
-use Rattle.bn_reply.specs.Cuts.{IsCut, IsUncut}
+use Rattle.bn_reply.specs.Cuts.{IsCut}
 use Rattle.bn_reply.specs.TableReply.{JudgedReplies, TableReplies, TellsFault, TellsWhy}
 use Rattle.bn_reply.specs.TableReply as table_reply
 use Rattle.bn_reply.specs.declared.status.Status.{Status}

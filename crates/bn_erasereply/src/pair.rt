@@ -1,6 +1,6 @@
 //! The input of the commands on two tables: both are read and taken over one alphabet, and both machines are judged.
 
-ghost use Rattle.std.specs.Prelude.{◌≡◌, IfOk};
+ghost use Rattle.std.specs.Prelude.{◌≡◌, ◌<◌, ◌==◌, Contains, IfOk, IfNone, IfSome, length, position};
 ghost use Rattle.bn_erasereply.specs.Opened.{AreOpened, IsJudgedPair, IsOpenedPair, IsOpenedSecond};
 ghost use Rattle.bn_erasereply.specs.Pairs.{with_second};
 
@@ -95,7 +95,7 @@ fn tell_second(alloc: Global, reply: &Reply) -> Result<Reply, NoMemory>
     ensures text { IfOk result (λ r. r.text.items ≡ with_second reply.now.text.items) }
 {
     let told = reply.text.as_slice();
-    let behind = match told.iter().position(|byte| *byte == b' ') {
+    let behind = match first_space(told) {
         Some(space) => space + 1,
         None => return Ok(Reply {
             text: Vec::from_slice(alloc, told)?,
@@ -109,4 +109,13 @@ fn tell_second(alloc: Global, reply: &Reply) -> Result<Reply, NoMemory>
         text,
         status: reply.status,
     })
+}
+
+// The place of the first space, counted from 0.
+fn first_space(told: &[u8]) -> Option<usize>
+    ensures place { result ≡ position (λ byte. byte == 32) told.now }
+    ensures within { IfSome result (λ place. place < length told.now) }
+    ensures none { IfNone result (¬ Contains told.now 32) }
+{
+    told.iter().position(|byte| *byte == b' ')
 }
