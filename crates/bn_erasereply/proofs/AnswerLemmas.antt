@@ -1,6 +1,6 @@
 -- From the openings of two tables and of a word to the answer.
 use Rattle.std.specs.Prelude.{◌≡◌, ◌≢◌, ℕ, ◌<◌, ◌≤◌, List, [], length, Result, Ok, Err, IfOk, All, refl}
-use Rattle.std.proofs.Common.{sym, subst, ap, ◌∙◌, arith}
+use Rattle.std.proofs.Common.{sym, subst, ap, ◌∙◌, arith, get_or}
 use Rattle.bn_theory.specs.declared.place.Place.{Place}
 use Rattle.bn_machine.specs.Machine.{Program}
 use Rattle.bn_stages.specs.Stages.{IsSpelledBy, IsStandardMachine}
@@ -50,8 +50,9 @@ pub record IsPairOf (bytes : List ℕ) (j : Joint) : Type 0 where
   pub same : j ≡ joined t u
 
 pub pair_of : (bytes : List ℕ) (j : Joint) → (first second : List ℕ) × IsCut bytes first second × ((t u : Named) × Reads first t × Reads second u × (j ≡ joined t u)) → IsPairOf bytes j
-pair_of bytes j (first, second, is_cut, t, u, reads, also, same) =
-    record { first = first; second = second; cut = is_cut; t = t; u = u; reads = reads; also = also; same = same }
+pair_of bytes j h =
+    let read = h.3 in
+    record { first = h.0; second = h.1; cut = h.2; t = read.0; u = read.1; reads = read.2; also = read.3; same = read.4 }
 
 module _ (tells : Named → Named → Status → List ℕ → List Place → Type 0) (bytes : List ℕ) where
   -- a refusal is the answer
@@ -101,10 +102,10 @@ module _ (tells : Named → Named → Status → List ℕ → List Place → Typ
 -- ---- the run
 
 -- symbols of a word of joint letters are the machine's, and none is the blank
-word_letters : (j : Joint) → IsJoint j → (symbols : List ℕ) → All (IsLetterSymbol (lettered j)) symbols → IsSpelledBy j.first symbols
-word_letters j joint symbols letters k d inside = let known = (letters k d inside).known in subst (λ n. _ < n) (sym joint.first_symbols) known
+pub word_letters : (j : Joint) → IsJoint j → (symbols : List ℕ) → All (IsLetterSymbol (lettered j)) symbols → IsSpelledBy j.first symbols
+word_letters j joint symbols letters k d inside = subst (λ n. get_or symbols k d < n) (sym joint.first_symbols) (letters k d inside).known
 
-word_nonblank : (j : Joint) (symbols : List ℕ) → All (IsLetterSymbol (lettered j)) symbols → IsWord symbols
+pub word_nonblank : (j : Joint) (symbols : List ℕ) → All (IsLetterSymbol (lettered j)) symbols → IsWord symbols
 word_nonblank j symbols letters k d inside = (letters k d inside).letter
 
 module _ (j : Joint) (first second : Program) (h : AreOf j first second) (e : Erasure) (made : IsErasing first second e) (symbols : List ℕ) (letters : All (IsLetterSymbol (lettered j)) symbols)
@@ -121,7 +122,7 @@ module _ (j : Joint) (first second : Program) (h : AreOf j first second) (e : Er
       let found = (halts_exactly j.first j.second symbols h.first_standard h.second_standard same spelled (word_nonblank j symbols letters) n i work.items output.items).0 outcome in
       let shown : IsSpelledBy j.second output.items = output_letters j.first j.second h.first_standard h.second_standard symbols output.items found.0 same spelled found.4 in (
         subst (All (λ s. s < length j.letters)) (sym found.3) (λ k d inside. absurd (omega (arith, inside))),
-        λ k d inside. subst (λ m. _ < m) h.joint.second_symbols (shown k d inside),
+        λ k d inside. subst (λ m. get_or output.items k d < m) h.joint.second_symbols (shown k d inside),
       )
   ending_fits (Stuck state) ended = ended.state j.first j.second own h.first_standard h.second_standard
   ending_fits Running ended = tt

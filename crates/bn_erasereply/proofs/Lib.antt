@@ -8,3 +8,4 @@ pub mod StepLemmas
 pub mod AnswerLemmas
 mod OpenedLemmas
 mod SecondLemmas
+pub mod BothLemmas
