@@ -1,22 +1,21 @@
 -- From the openings of two tables and of a word to the answer.
-use Rattle.std.specs.Prelude.{◌≡◌, ◌≢◌, ℕ, ◌<◌, ◌≤◌, List, [], length, Result, Ok, Err, IfOk, All, refl}
-use Rattle.std.proofs.Common.{sym, subst, ap, ◌∙◌, arith, get_or}
+use Rattle.std.specs.Prelude.{◌≡◌, ℕ, ◌<◌, List, [], length, Result, Ok, Err, IfOk, All, refl}
+use Rattle.std.proofs.Common.{sym, subst, ◌∙◌, arith, get_or}
 use Rattle.bn_theory.specs.declared.place.Place.{Place}
 use Rattle.bn_machine.specs.Machine.{Program}
-use Rattle.bn_stages.specs.Stages.{IsSpelledBy, IsStandardMachine}
+use Rattle.bn_stages.specs.Stages.{IsSpelledBy}
 use Rattle.bn_standard.specs.Standard.{IsStandard}
 use Rattle.bn_standard.specs.Verdict.{IsRefusal}
 use Rattle.bn_standard.specs.declared.why.Why.{Why}
-use Rattle.bn_standard.specs.declared.why.Why.TheVariants as whys
 use Rattle.bn_table.specs.Reading.{Reads}
-use Rattle.bn_table.specs.Rows.{IsTable, Named}
+use Rattle.bn_table.specs.Rows.{Named}
 use Rattle.bn_erasing.specs.Erasing.{IsWord}
 use Rattle.bn_erasing.specs.Outcome.{HasOutcome}
 use Rattle.bn_erasing.specs.Outcome as free
 use Rattle.bn_erasing.proofs.OutcomeLemmas.{halts_exactly}
 use Rattle.bn_erasing.proofs.TheoremLemmas.{output_letters}
 use Rattle.bn_erase.specs.Joint.{IsJoint, Joint, joined}
-use Rattle.bn_erase.specs.Made.{Erasure, IsErasing, name_of}
+use Rattle.bn_erase.specs.Made.{Erasure, IsErasing}
 use Rattle.bn_erase.proofs.JoinedLemmas.{joined_are_judged_alike}
 use Rattle.bn_reply.specs.Cuts.{IsCut}
 use Rattle.bn_reply.specs.Lines.{why_line}
@@ -25,7 +24,6 @@ use Rattle.bn_reply.specs.Words.{IsLetterSymbol}
 use Rattle.bn_reply.specs.declared.reply.Reply.{Reply}
 use Rattle.bn_reply.specs.declared.reply.NoMemory.{NoMemory as WantOfMemory}
 use Rattle.bn_reply.specs.declared.status.Status.{Status}
-use Rattle.bn_reply.specs.declared.status.Status.TheVariants as statuses
 use Rattle.bn_reply.proofs.TableLemmas.{reads_table, why_told}
 use Rattle.bn_erasereply.specs.EraseReply.{TellsErasing, lettered, outcome_text, status_of}
 use Rattle.bn_erasereply.specs.EraseRun.{AreOf, FitsLetters, HasEnded, outcome_of}

@@ -1,8 +1,7 @@
 -- What is answered to a word tells a halt exactly where both machines halt.
-use Rattle.std.specs.Prelude.{◌≡◌, ◌≢◌, ℕ, ◌<◌, ◌≤◌, ◌+◌, ◌*◌, List, [], length, refl}
-use Rattle.std.proofs.Common.{sym, subst, ap, ◌∙◌, arith}
+use Rattle.std.specs.Prelude.{◌≡◌, ℕ, List, [], refl}
+use Rattle.std.proofs.Common.{sym, ap, ◌∙◌, arith}
 use Rattle.bn_theory.specs.declared.place.Place.{Place}
-use Rattle.bn_stages.specs.Laws.{HaltsAfter}
 use Rattle.bn_stages.specs.Stages.{IsSpelledBy as IsOfMachine}
 use Rattle.bn_table.specs.Rows.{Named}
 use Rattle.bn_erasing.specs.Erasing.{IsWord}

@@ -1,11 +1,8 @@
 -- Two tables with machines in standard form have machines in standard form over one alphabet.
-use Rattle.std.specs.Prelude.{◌≡◌, ◌≢◌, ℕ, List, [], refl}
-use Rattle.std.proofs.Common.{sym, subst, ap, ◌∙◌}
-use Rattle.bn_machine.specs.Machine.{IsMachine}
+use Rattle.std.specs.Prelude.{ℕ, List}
 use Rattle.bn_stages.specs.Stages.{IsStandardMachine}
 use Rattle.bn_table.specs.Rows.{IsTable, Named}
-use Rattle.bn_erase.specs.Joint.{IsJoint, Joint, joined}
-use Rattle.bn_erase.specs.Laws.{JoinedAreJudgedAlike}
+use Rattle.bn_erase.specs.Joint.{IsJoint, joined}
 use Rattle.bn_erase.proofs.JoinedLemmas.{joined_are_judged_alike}
 use Rattle.bn_reply.proofs.TableLemmas.{reads_table}
 use Rattle.bn_erasereply.proofs.PairLemmas.{ReadBoth}

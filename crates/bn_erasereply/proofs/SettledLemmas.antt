@@ -1,11 +1,9 @@
 -- `erase` and `erase =W n` have one answer to all words, numbers of steps and bytes.
-use Rattle.std.specs.Prelude.{◌≡◌, ℕ, ◌<◌, ◌≤◌, List, [], length, ◌⊎◌, refl}
+use Rattle.std.specs.Prelude.{ℕ, ◌<◌, ◌≤◌, List, [], length, ◌⊎◌, refl}
 use Rattle.std.proofs.Common.{inl, inr, sym, subst, ap, ◌∙◌, arith}
 use Rattle.std.proofs.lemmas.Bool.{cases_lt}
 use Rattle.bn_theory.specs.declared.place.Place.{Place}
-use Rattle.bn_machine.specs.Machine.{IsMachine}
 use Rattle.bn_stages.specs.Stages.{IsStandardMachine}
-use Rattle.bn_table.specs.Rows.{IsTable, Named}
 use Rattle.bn_erasing.specs.Outcome.{Halted, Outcome, Running, Stuck}
 use Rattle.bn_erasing.proofs.OutcomeLemmas.{outcome_exists, outcome_is_one}
 use Rattle.bn_erase.specs.Joint.{IsJoint, Joint, joined}
@@ -21,7 +19,7 @@ use Rattle.bn_reply.proofs.TableLemmas.{reads_table}
 use Rattle.bn_erasereply.specs.EraseReply.{CountedReplies, EraseIsSettled, EraseRunIsSettled, LongReplies, TellsErasing, erase_text, erasing_of}
 use Rattle.bn_erasereply.specs.EraseReply.{few, lettered, long, long_line, many, many_line, most_letters, outcome_text, short, status_of}
 use Rattle.bn_erasereply.proofs.JudgedLemmas.{both_standard, joint_of_tables}
-use Rattle.bn_erasereply.proofs.PairLemmas.{ReadBoth, pair_settled}
+use Rattle.bn_erasereply.proofs.PairLemmas.{pair_settled}
 
 -- ---- the number of quadruples
 

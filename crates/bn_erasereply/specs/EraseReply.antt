@@ -1,6 +1,6 @@
 -- What the commands `erase` and `erase =W n` answer: the machine of two tables that leaves only its output (Bennett
 -- 1973), and its run from a word (the reading of the words and the texts are this project's own profile).
-use Rattle.std.specs.Prelude.{◌≡◌, ℕ, ◌<◌, ◌≤◌, List, [], ◌∷◌, ◌++◌, length, map, codes, decimal, slice_index}
+use Rattle.std.specs.Prelude.{◌≡◌, ℕ, ◌<◌, ◌≤◌, List, [], ◌∷◌, ◌++◌, length, map, codes, decimal}
 use Rattle.bn_theory.specs.declared.place.Place.{Place}
 use Rattle.bn_entries.specs.Lines.{lines_of}
 use Rattle.bn_quad.specs.Quadruples.{Rule}

@@ -8,9 +8,8 @@ use Rattle.bn_quad.specs.Calls.{AreSameWindows, IsQuadTurn, configuration, rooms
 use Rattle.bn_quad.specs.declared.tapes.Tapes.{Tapes}
 use Rattle.bn_quad.specs.declared.tapes.QuadTurn.{QuadTurn}
 use Rattle.bn_quad.specs.declared.tapes.QuadTurn.TheVariants as turns
-use Rattle.bn_stages.specs.Stages.{IsStandardMachine, IsSpelledBy}
+use Rattle.bn_stages.specs.Stages.{IsStandardMachine}
 use Rattle.bn_table.specs.Rows.{Named}
-use Rattle.bn_erasing.specs.Erasing.{IsWord}
 use Rattle.bn_erasing.specs.Outcome as free
 use Rattle.bn_erasing.specs.Outcome.{HasOutcome, rewound}
 use Rattle.bn_erase.specs.Joint.{IsJoint, Joint}

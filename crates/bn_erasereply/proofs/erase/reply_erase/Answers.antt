@@ -1,5 +1,5 @@
 -- What is answered to two tables, from their openings.
-use Rattle.std.proofs.Common.{◌≡◌, subst, List, []}
+use Rattle.std.proofs.Common.{subst, List, []}
 use Rattle.std.specs.Prelude.{ℕ, IfOk}
 use Rattle.bn_theory.specs.declared.place.Place.{Place}
 use Rattle.bn_table.specs.Rows.{Named}
@@ -8,7 +8,7 @@ use Rattle.bn_reply.specs.Answering.{IsDone}
 use Rattle.bn_erasereply.specs.EraseReply.{CountedReplies, erase_text}
 use Rattle.bn_reply.specs.declared.status.Status.{Status}
 use Rattle.bn_erasereply.specs.Opened.{IsJudgedPair, IsOpenedPair}
-use Rattle.bn_erasereply.proofs.AnswerLemmas.{IsPairOf, fit_replies, pair_of, refused_replies, unfit_replies}
+use Rattle.bn_erasereply.proofs.AnswerLemmas.{fit_replies, pair_of, refused_replies, unfit_replies}
 use Rattle.bn_erasereply.proofs.erase.reply_erase.Goals as goal
 
 pub returns-in-Refused : goal.returns-in-Refused
