@@ -133,9 +133,9 @@ named_all form names count e all =
 -- ---- the law
 
 pub erasings_have_names : ErasingHasNames → ErasingsHaveNames
-erasings_have_names has_names j e joint left right h =
+erasings_have_names has_names j e joint h =
     let n = names_of j e in
-    let states : list_all is_state_name n.states ≡ true = erasing_forms e.names (name_bound j.first j.second e left right joint.first_fits joint.second_fits h has_names) in
+    let states : list_all is_state_name n.states ≡ true = erasing_forms e.names (name_bound j.first j.second e joint.first_machine joint.second_machine joint.first_fits joint.second_fits h has_names) in
     let letters : list_all is_symbol n.one ≡ true = letters_form j.letters joint.letters_form in
     let numbers : list_all is_symbol n.two ≡ true = numbers_form (max (length j.first.quints) (length j.second.quints)) (omega (arith, joint.first_fits.quints, joint.second_fits.quints)) in
     let letter_count : j.first.symbols ≡ length n.one = joint.first_symbols ∙ sym (length-map j.letters one_byte) in

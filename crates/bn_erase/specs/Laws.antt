@@ -1,7 +1,7 @@
 -- What the laws of this crate say, each the contract of a function with an empty body.
 use Rattle.std.specs.Prelude.{◌≡◌, ◌↔◌, ℕ, ◌+◌, ◌*◌, List, length}
 use Rattle.bn_theory.specs.Runs.{Reaches}
-use Rattle.bn_machine.specs.Machine.{IsMachine, Program}
+use Rattle.bn_machine.specs.Machine.{Program}
 use Rattle.bn_machine.specs.Tape.{word_tape, blank_tape}
 use Rattle.bn_quad.specs.Quadruples.{Configuration, Goes, everywhere, final_of, initial_of}
 use Rattle.bn_quad.specs.Calls.{IsUniformMachine}
@@ -98,5 +98,5 @@ ErasingsErase =
 -- every state and every symbol has a printed name in the form of its kind
 abbrev pub ErasingsHaveNames : Type 0
 ErasingsHaveNames =
-    (j : Joint) (e : Erasure) → IsJoint j → IsMachine j.first → IsMachine j.second → IsErasing j.first j.second e
+    (j : Joint) (e : Erasure) → IsJoint j → IsErasing j.first j.second e
     → HasNames e.machine (names_of j e)

@@ -29,8 +29,8 @@ pub fn erasing_names(
     ensures forms { IfOk result (HasNames erasing.now.machine) }
 {
     erasings_have_names();
-    let _first = joined.first().quints();
-    let _second = joined.second().quints();
+    // What two machines over one alphabet keep.
+    let _machine = joined.first();
     all_names(alloc, joined, erasing)
 }
 

@@ -37,7 +37,7 @@ pub record BothHalt (t u : Named) (symbols : List ℕ) (n i : ℕ) (y : List ℕ
   pub steps : i ≡ 4 * (v + w) + 4 * (length symbols + length y) + 10
   pub in_time : i ≤ n
 
--- the answer is that the run halts after i steps with an empty work tape and the output y
+-- the answer is that the run halts after i steps with no word on the work tape and the output y
 pub record TellsHalt (t u : Named) (i : ℕ) (y : List ℕ) (status : Status) (text : List ℕ) : Type 0 where
   pub status_is : status ≡ Done
   pub text_is : text ≡ halted_lines (joined t u) i [] y

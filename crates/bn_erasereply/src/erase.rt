@@ -43,8 +43,8 @@ pub fn reply_erase(alloc: Global, bytes: &[u8]) -> Result<Reply, NoMemory>
 
 /// What `erase` answers to a word, a greatest number of steps and some bytes, which are a table, a line `%` and a
 /// second table: all that it answers without a word, and behind the tests of standard form whether the word is one of
-/// the two tables' letters and has at most 1,048,576 of them; and then how the erasing machine's run from the word
-/// comes out.
+/// the two tables' letters without the blank's and has at most 1,048,576 of them; and then how the erasing machine's
+/// run from the word comes out.
 pub fn reply_erase_run(
     alloc: Global,
     word: &[u8],

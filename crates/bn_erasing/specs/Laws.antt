@@ -104,8 +104,8 @@ OutcomeIsOne =
 abbrev pub OutcomeExists : Type 0
 OutcomeExists = (p q : Program) (x : List ℕ) (n : ℕ) → (i : ℕ) × (o : Outcome) × HasOutcome p q x n i o
 
--- it halts after i steps exactly where i is at most n, the work tape is blank, and both machines halt, each with the
--- other's word, after v and w steps to which i belongs
+-- it halts after i steps exactly where i is at most n, no word stands on the work tape, and both machines halt, each
+-- with the other's word, after v and w steps to which i belongs
 abbrev pub HaltsExactly : Type 0
 HaltsExactly =
     (p q : Program) (x : List ℕ) → IsStandardMachine p → IsStandardMachine q → p.symbols ≡ q.symbols → IsSpelledBy p x

@@ -10,7 +10,8 @@ ghost use Rattle.bn_quadlists.specs.Laws.{
 };
 
 /// A list turned round (Bennett 1973) is deterministic where the list is reversible, and the other way round; it is
-/// uniform from b to a where the list is uniform from a to b; and its runs are those of the list, backward.
+/// uniform from b to a where the list is uniform from a to b; and then its runs between configurations that the rooms
+/// allow are those of the list, backward.
 pub fn turned_lists()
     ensures tests { TurnedListsPassTests }
     ensures runs { TurnedListsRunBack }
@@ -22,8 +23,8 @@ pub fn exchanged_lists()
     ensures runs { ExchangedListsRun }
 {}
 
-/// Two lists that meet in one state make one: the tests stay, and its runs from the first one's initial to the second
-/// one's final state are those of the two in a row.
+/// Two lists that join at a state make one: it passes the tests where both do, and its runs from the first one's
+/// initial to the second one's final state are those of the two in a row.
 pub fn joined_lists()
     ensures tests { JoinedListsPassTests }
     ensures runs { JoinedListsRun }
