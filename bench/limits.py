@@ -30,6 +30,9 @@ MOST_MACHINE_STEPS = 1_048_576
 WIDEST = ["=1011", "0", "5", "1527", "5"]
 WIDEST_ELEMENTS = 1_048_048
 
+# The least machine in standard form.
+LEAST = b"S,_,_,+,T\nT,_,_,0,F\n"
+
 # The 91 bytes that are letters, the blank's first.
 LETTERS = "_" + "".join(chr(byte) for byte in range(33, 127) if chr(byte) not in '_,"/')
 
@@ -64,7 +67,10 @@ class Limits:
         """Compares an answer with these lines, or asks a question of its lines."""
         out, is_so = self.run(words, text, status)
         lines = lines_of(out)
-        holds = wanted(lines) if callable(wanted) else lines == wanted
+        try:
+            holds = wanted(lines) if callable(wanted) else lines == wanted
+        except IndexError:
+            holds = False
         if not (is_so and holds):
             print(f"  {' '.join(words)[:60]}: {out[:80]!r}")
         self.check(name, is_so and holds)
@@ -141,7 +147,7 @@ def on_circuits(limits):
     bank = limits.expect("realise", ["realise", "1", "1"], table.encode(), lambda lines: lines[1] == f"elements {RING}")
     limits.expect("a run of at most 2^62 steps", ["step", str(MOST_STEPS)], bank,
                   lambda lines: lines[5].startswith("left "))
-    without = table.replace("1,1,1024,64\n", "", 1) + "1024,1022,1,64\n"
+    without = table.replace("1,1,1024,64\n", "", 1) + "1024,1022,1024,64\n"
     limits.expect("a state and a line without a move", ["realise", "1", "1"], without.encode(),
                   lambda lines: lines[1] == f"elements {RING}")
     limits.expect("one move too many", ["realise", "1", "1"], (table + "1,1023,1,1023\n").encode(),
@@ -159,9 +165,9 @@ def on_boards(limits):
     limits.expect("view", ["view", *WIDEST, str(MOST_STEPS)], table, lambda lines: "exit end" in lines)
     limits.expect("one element too many", ["run", "=1011", "0", "5", "1528", "5"], table,
                   ["size: elements 1048730"], SIZE)
-    script = "".join(f"break L{number} element {number}\n" for number in range(100)) + "view\nstep 1000\nback 1000\n" * 30_000
-    limits.expect("a long script", ["session", *WIDEST], table + b"%\n" + script[:3_000_000].rsplit("\n", 1)[0].encode() + b"\n",
-                  lambda lines: len(lines) > 100_000)
+    script = "".join(f"break L{number} element {number}\n" for number in range(100)) + "view\n" + "step 1\nback 1\n" * 50_000
+    limits.expect("a script of 100,101 lines", ["session", "=", "0", "2", "2", "1"],
+                  LEAST + b"%\n" + script.encode(), lambda lines: len(lines) == 100_000 + 100 + 7)
     for rounds in EXPECTED:
         limits.expect(f"generate {rounds}", ["generate", str(rounds)], b"",
                       lambda lines: [it for it in lines if not it.startswith("tape ")] == expected_lines(rounds))
