@@ -15,7 +15,9 @@ IsNextLine bytes End rest = (bytes ≡ []) × (rest ≡ [])
 
 -- A text is cut at its byte 10 in one way: two lines that end there are one, with the same rest.
 abbrev pub LinesAgree : Type 0
-LinesAgree = (first second rest other : List ℕ) → IsInLine first → IsInLine second → first ++ 10 ∷ rest ≡ second ++ 10 ∷ other → (first ≡ second) × (rest ≡ other)
+LinesAgree =
+    (first second rest other : List ℕ) → IsInLine first → IsInLine second → first ++ 10 ∷ rest ≡ second ++ 10 ∷ other
+    → (first ≡ second) × (rest ≡ other)
 
 -- What has no byte 10 is no line that ends with it.
 abbrev pub CutLinesDiffer : Type 0

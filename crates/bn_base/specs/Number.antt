@@ -1,6 +1,7 @@
 -- How a number is written: its decimal digits, with no sign and no zero in front, so that each number has just
 -- one spelling. This is this project's own profile, and numbers above 2^62 are not read.
-use Rattle.std.specs.Prelude.{◌≡◌, ◌≢◌, ℕ, ◌+◌, ◌^◌, ◌<◌, ◌≤◌, List, [], ◌++◌, length, drop, take_while, slice_index, ◌==◌, nat_lt, ◌&&◌, if◌then◌else◌, Result, Ok, Err, false, decimal}
+use Rattle.std.specs.Prelude.{◌≡◌, ◌≢◌, ℕ, ◌+◌, ◌^◌, ◌<◌, ◌≤◌, List, [], ◌++◌, length, drop, take_while, slice_index}
+use Rattle.std.specs.Prelude.{◌==◌, nat_lt, ◌&&◌, if◌then◌else◌, Result, Ok, Err, false, decimal}
 use Rattle.std.specs.Char.{is_ascii_digit, IsAsciiDigit}
 use Rattle.std.specs.Str.Parse.{digits_value}
 use Rattle.bn_base.specs.declared.numbers.Digits.{Digits}
@@ -49,12 +50,16 @@ read_number bytes place = with_place (place + length (digits_at bytes place)) (n
 
 -- What is read at a place is a number of at most `greatest`, and it stands there in its decimal text.
 abbrev pub WhatIsReadIsSpelled : Type 0
-WhatIsReadIsSpelled = (bytes : List ℕ) (place n behind : ℕ) → read_number bytes place ≡ Ok (n, behind) → (n ≤ greatest) × (behind ≡ place + length (decimal n)) × (drop place bytes ≡ decimal n ++ drop behind bytes)
+WhatIsReadIsSpelled =
+    (bytes : List ℕ) (place n behind : ℕ) → read_number bytes place ≡ Ok (n, behind)
+    → (n ≤ greatest) × (behind ≡ place + length (decimal n)) × (drop place bytes ≡ decimal n ++ drop behind bytes)
 
 -- The decimal text of a number of at most `greatest` is read as this number, whatever stands before it, and
 -- whatever stands behind it but a digit.
 abbrev pub WhatIsSpelledIsRead : Type 0
-WhatIsSpelledIsRead = (front rest : List ℕ) (n : ℕ) → n ≤ greatest → BeginsWithNoDigit rest → read_number (front ++ (decimal n ++ rest)) (length front) ≡ Ok (n, length front + length (decimal n))
+WhatIsSpelledIsRead =
+    (front rest : List ℕ) (n : ℕ) → n ≤ greatest → BeginsWithNoDigit rest
+    → read_number (front ++ (decimal n ++ rest)) (length front) ≡ Ok (n, length front + length (decimal n))
 
 -- Two numbers with one decimal text are one number.
 abbrev pub SpellingsDiffer : Type 0

@@ -1,9 +1,11 @@
 //! Numbers in decimal digits.
-ghost use Rattle.std.specs.Prelude.{◌≡◌, ◌↔◌, ℕ, ◌+◌, ◌^◌, ◌-◌, ◌≤◌, List, [], ◌++◌, length, take_while, drop, min, decimal, IfOk, OnOk, OnErr, IsErrOf};
+ghost use Rattle.std.specs.Prelude.{◌≡◌, ◌↔◌, ℕ, ◌+◌, ◌^◌, ◌-◌, ◌≤◌, List, [], ◌++◌, length, take_while, drop, min};
+ghost use Rattle.std.specs.Prelude.{decimal, IfOk, OnOk, OnErr, IsErrOf};
 ghost use Rattle.std.specs.List.{prefix_len};
 ghost use Rattle.std.specs.Char.{is_ascii_digit};
 ghost use Rattle.std.specs.Str.Parse.{digits_value};
-ghost use Rattle.bn_base.specs.Number.{AreDigits, digits_at, HasLeadingZero, IsTooLarge, number_of, read_number, greatest, WhatIsReadIsSpelled, WhatIsSpelledIsRead, SpellingsDiffer};
+ghost use Rattle.bn_base.specs.Number.{AreDigits, digits_at, HasLeadingZero, IsTooLarge, number_of, read_number};
+ghost use Rattle.bn_base.specs.Number.{greatest, WhatIsReadIsSpelled, WhatIsSpelledIsRead, SpellingsDiffer};
 
 use itoa::Buffer;
 use std::alloc::AllocError;

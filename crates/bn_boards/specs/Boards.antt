@@ -1,5 +1,7 @@
--- The flat board of any circuit of modules (this project's own profile): each module as its bank of columns of rotary elements, one bank after another. It knows nothing of tapes, cells or controls.
-use Rattle.std.specs.Prelude.{◌≡◌, ◌↔◌, ℕ, zero, suc, ◌+◌, ◌*◌, ◌<◌, List, [], ◌∷◌, ◌++◌, length, replicate, Option, Some, None, slice_get, slice_set, ◌⊎◌}
+-- The flat board of any circuit of modules (this project's own profile): each module as its bank of columns of rotary
+-- elements, one bank after another. It knows nothing of tapes, cells or controls.
+use Rattle.std.specs.Prelude.{◌≡◌, ◌↔◌, ℕ, zero, suc, ◌+◌, ◌*◌, ◌<◌, List, [], ◌∷◌, ◌++◌, length, replicate, Option}
+use Rattle.std.specs.Prelude.{Some, None, slice_get, slice_set, ◌⊎◌}
 use Rattle.bn_theory.specs.Tables.{Table}
 use Rattle.bn_theory.specs.Circuits.{Circuit, target, IsCircuit, IsPlace}
 use Rattle.bn_theory.specs.declared.line.Line.{Line}
@@ -10,7 +12,8 @@ use Rattle.bn_element.specs.Rotary.{rotary, horizontal, vertical, east, west}
 use Rattle.bn_realise.specs.Banks.{IsBankWire, IsResting, AreMarked, bottom_at, input_line, output_line, turning_line}
 use Rattle.bn_theory.specs.Situations.{Situation}
 
--- how many elements a bank has; how many the first modules have together, which is the first element of the next; and how many all have
+-- how many elements a bank has; how many the first modules have together, which is the first element of the next; and
+-- how many all have
 abbrev pub size_of : Table → ℕ
 size_of t = t.states * (t.inputs + 1)
 
@@ -29,7 +32,8 @@ pub record AreModules (n : Circuit) : Type 0 where
   pub some_lines : (m : ℕ) (t : Table) → slice_get n.tables m ≡ Some t → 0 < t.inputs
   pub square : (m : ℕ) (t : Table) → slice_get n.tables m ≡ Some t → t.outputs ≡ t.inputs
 
--- a board's wires: those of each module's bank; and for each wire between modules, one from the output line of the one bank to the input line of the other
+-- a board's wires: those of each module's bank; and for each wire between modules, one from the output line of the one
+-- bank to the input line of the other
 pub data IsBoardWire (n : Circuit) (from to : Line) : Type 0 where
   own : (m : ℕ) (t : Table) → slice_get n.tables m ≡ Some t → IsBankWire (base n.tables m) t from to
       → IsBoardWire n from to
@@ -47,7 +51,8 @@ pub record IsBoard (n k : Circuit) : Type 0 where
 abbrev pub bars_of : List Table → List ℕ → List ℕ
 bars_of [] qs = []
 bars_of (t ∷ ts) [] = []
-bars_of (t ∷ ts) (q ∷ qs) = slice_set (replicate (size_of t) vertical) (bottom_at 0 t.inputs q) horizontal ++ bars_of ts qs
+bars_of (t ∷ ts) (q ∷ qs) =
+    slice_set (replicate (size_of t) vertical) (bottom_at 0 t.inputs q) horizontal ++ bars_of ts qs
 
 -- where the signal is on the board that is between two modules
 abbrev pub output_at : List Table → ℕ → Option Table → ℕ → Place
@@ -71,7 +76,8 @@ pub record StandsFor (n : Circuit) (s : Situation) (c : Config) : Type 0 where
   pub admissible : IsPlace n s.place
   pub place : c.place ≡ on_board n.tables s.place
 
--- Strictly within a move from s to t: the signal enters a line to which one of some bank's own wires leads; and the marks of each bank are those in s, or in t, or none.
+-- Strictly within a move from s to t: the signal enters a line to which one of some bank's own wires leads; and the
+-- marks of each bank are those in s, or in t, or none.
 pub record IsAmid (n : Circuit) (s t : Situation) (d : Config) : Type 0 where
   pub at_module : ℕ
   pub table : Table
@@ -84,7 +90,8 @@ pub record IsAmid (n : Circuit) (s t : Situation) (d : Config) : Type 0 where
       × AreMarked d.states (base n.tables m) u.states u.inputs q
       × (((q ≡ slice_get s.states m) ⊎ (q ≡ slice_get t.states m)) ⊎ (q ≡ None))
 
--- where the module that is entered has no move, the signal leaves by a loose line; the marks of each bank are those in s, or none
+-- where the module that is entered has no move, the signal leaves by a loose line; the marks of each bank are those in
+-- s, or none
 pub record IsLoose (n : Circuit) (s : Situation) (d : Config) : Type 0 where
   pub at_module : ℕ
   pub line : ℕ

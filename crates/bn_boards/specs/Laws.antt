@@ -36,7 +36,8 @@ LooseMove =
     → ((d : Config) → IsAmid n s s d → test d ≡ true)
     → (d : Config) × Passes (Goes k) test (step_cost n s) c d × IsLoose n s d
 
--- A path of the network is a path of the board, in its cost: a test holds strictly between where it holds strictly within each move on the way, and wherever the board stands for a situation of which the network's test holds.
+-- A path of the network is a path of the board, in its cost: a test holds strictly between where it holds strictly
+-- within each move on the way, and wherever the board stands for a situation of which the network's test holds.
 abbrev pub BoardsFollow : Type 0
 BoardsFollow =
     (n k : Circuit) (m : ℕ) (s t : Situation) (c : Config) (between : Situation → Bool) (test : Config → Bool)
@@ -56,7 +57,8 @@ pub record IsAtMove (n : Circuit) (s : Situation) (t : ℕ) (d : Config) : Type 
   pub sum : t ≡ run_cost n moves s
   pub stands : StandsFor n at d
 
--- at each step of such a run the board stands for a situation, or every test holds that holds strictly within the moves on the way
+-- at each step of such a run the board stands for a situation, or every test holds that holds strictly within the moves
+-- on the way
 abbrev pub BoardsVisit : Type 0
 BoardsVisit =
     (n k : Circuit) (m : ℕ) (s t : Situation) (c : Config) (test : Config → Bool) → AreModules n → IsBoard n k

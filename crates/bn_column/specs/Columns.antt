@@ -1,5 +1,9 @@
--- Columns of rotary elements (this project's own profile): which elements and wires of a circuit make a column, when it is at rest, and what a crossing of it costs. The elements of a column stand one after another: its k rows from the top, and then its bottom. Rows are counted from 0 here, so that row r is element b + r, and the bottom is element b + k. A column at rest with all its bars vertical is unmarked; it is marked where the bottom's bar alone is horizontal.
-use Rattle.std.specs.Prelude.{◌≡◌, ℕ, ◌+◌, ◌-◌, ◌*◌, ◌<◌, ◌≤◌, Bool, true, false, if◌then◌else◌, List, Some, slice_get, slice_set, ◌⊎◌}
+-- Columns of rotary elements (this project's own profile): which elements and wires of a circuit make a column, when it
+-- is at rest, and what a crossing of it costs. The elements of a column stand one after another: its k rows from the
+-- top, and then its bottom. Rows are counted from 0 here, so that row r is element b + r, and the bottom is element b +
+-- k. A column at rest with all its bars vertical is unmarked; it is marked where the bottom's bar alone is horizontal.
+use Rattle.std.specs.Prelude.{◌≡◌, ℕ, ◌+◌, ◌-◌, ◌*◌, ◌<◌, ◌≤◌, Bool, true, false, if◌then◌else◌, List, Some, slice_get}
+use Rattle.std.specs.Prelude.{slice_set, ◌⊎◌}
 use Rattle.bn_theory.specs.Runs.{Reaches}
 use Rattle.bn_theory.specs.Circuits.{Circuit, clock, target, place_after, Goes}
 use Rattle.bn_theory.specs.declared.line.Line.{Line}
@@ -10,7 +14,9 @@ use Rattle.bn_element.specs.Rotary.{rotary, horizontal, vertical, north, east, s
 abbrev pub line_at : ℕ → ℕ → Line
 line_at e l = record { element = e; line = l }
 
--- A column's own wires: from this output line to this input line. Each row leads down to the next one, and the last row to the bottom; each of these leads up again; and three wires lead from the bottom to itself, over to the top row, and from the top row to the bottom.
+-- A column's own wires: from this output line to this input line. Each row leads down to the next one, and the last row
+-- to the bottom; each of these leads up again; and three wires lead from the bottom to itself, over to the top row, and
+-- from the top row to the bottom.
 pub data IsInner (b k : ℕ) (from to : Line) : Type 0 where
   down : (r : ℕ) → r < k → from ≡ line_at (b + r) south → to ≡ line_at (b + (r + 1)) north → IsInner b k from to
   up : (r : ℕ) → r < k → from ≡ line_at (b + (r + 1)) north → to ≡ line_at (b + r) south → IsInner b k from to
@@ -52,7 +58,8 @@ pub record IsEntering (b k i : ℕ) (marked from_east : Bool) (c : Config) : Typ
   pub at_rest : IsAtRest c.states b k marked
   pub enters : c.place ≡ Enter (b + i) (entry_side from_east)
 
--- What a crossing comes to: the column is at rest again, now marked exactly where the signal came from the east; the signal is where the row's output line leads; nothing else has changed but the count.
+-- What a crossing comes to: the column is at rest again, now marked exactly where the signal came from the east; the
+-- signal is where the row's output line leads; nothing else has changed but the count.
 abbrev pub crossed : Circuit → ℕ → ℕ → ℕ → Bool → Bool → Config → Config
 crossed k b rows i marked from_east c =
     record {
@@ -65,7 +72,9 @@ crossed k b rows i marked from_east c =
 abbrev pub IsBeside : ℕ → ℕ → ℕ → Type 0
 IsBeside b k e = (e < b) ⊎ (b + k < e)
 
--- Strictly within a crossing that began with these states: the signal enters a line to which one of the column's own wires leads; the bars beside the column are as they were; and the bottom's bar is as at the beginning or as at the end.
+-- Strictly within a crossing that began with these states: the signal enters a line to which one of the column's own
+-- wires leads; the bars beside the column are as they were; and the bottom's bar is as at the beginning or as at the
+-- end.
 pub record IsWithin (b k : ℕ) (marked from_east : Bool) (states : List ℕ) (d : Config) : Type 0 where
   pub from : Line
   pub to : Line

@@ -19,7 +19,8 @@ pub record IsNetOf (net : Parts Rotary) (count : ℕ) (wires : List Wire) : Type
   pub elements : length net.elements ≡ count
   pub targets : (from : Line) → target net.wires from ≡ target wires from
 
--- The net is a column of so many rows: its elements are those of the column, and its wires are the column's own and no others.
+-- The net is a column of so many rows: its elements are those of the column, and its wires are the column's own and no
+-- others.
 pub record IsColumnNet (net : Parts Rotary) (rows : ℕ) : Type 0 where
   pub elements : length net.elements ≡ rows + 1
   pub column : IsColumn (rotary_circuit net) 0 rows
@@ -39,7 +40,8 @@ pub record IsStanding (c : Standing) (n : ℕ) (m : Bool) : Type 0 where
 
 -- the column at rest, with the signal at a row, counted from 1, on this side
 abbrev pub start_at : ℕ → Bool → ℕ → ℕ → Config
-start_at rows marked row side = record { states = replicate rows vertical ++ bar marked ∷ []; place = Enter (row - 1) side; steps = 0 }
+start_at rows marked row side =
+    record { states = replicate rows vertical ++ bar marked ∷ []; place = Enter (row - 1) side; steps = 0 }
 
 -- a column has from 1 to 65,535 rows
 abbrev pub IsNoCount : ℕ → Type 0

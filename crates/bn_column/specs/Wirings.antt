@@ -18,4 +18,5 @@ pub record AreWiresOf (Leads : Line → Line → Type 0) (ws : List Wire) : Type
 
 -- each wire leads from a line of so many rotary elements to one
 pub record AreFitting (count : ℕ) (ws : List Wire) : Type 0 where
-  pub fits : (n : ℕ) (w : Wire) → slice_get ws n ≡ Some w → (w.from.element < count) × (w.from.line < 4) × (w.to.element < count) × (w.to.line < 4)
+  pub fits : (n : ℕ) (w : Wire) → slice_get ws n ≡ Some w
+      → (w.from.element < count) × (w.from.line < 4) × (w.to.element < count) × (w.to.line < 4)

@@ -27,7 +27,8 @@ pub fn cross_in(net: &Net<Rotary>, config: &mut Config, first: u32, rows: u32) -
     requires good { IsConfig (rotary_circuit net.now) config.old }
     requires column { IsColumn (rotary_circuit net.now) first rows }
     requires entering { CanCross first rows config.old }
-    ensures crossed { (i : ℕ) (marked from_east : Bool) → IsEntering first rows i marked from_east config.old → IsCrossing (rotary_circuit net.now) first rows i marked from_east result config.old config.new }
+    ensures crossed { (i : ℕ) (marked from_east : Bool) → IsEntering first rows i marked from_east config.old
+        → IsCrossing (rotary_circuit net.now) first rows i marked from_east result config.old config.new }
     ensures good { IsConfig (rotary_circuit net.now) config.new }
 {
     let Place::Enter { element, line } = config.place else {

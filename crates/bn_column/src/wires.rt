@@ -48,7 +48,8 @@ pub fn rotary_net(alloc: Global, count: u32, wires: &[Wire]) -> Result<Net<Rotar
 // The wires between this row and the next element, down and up.
 fn push_rung(wires: &mut Vec<Wire>, row: u32) -> Result<(), NoMemory>
     requires { row + 1 < 2 ^ 32 }
-    ensures { OnOk result (wires.new.items ≡ (wires.old.items ++ wire_of row 2 (row + 1) 0 ∷ []) ++ wire_of (row + 1) 0 row 2 ∷ []) }
+    ensures { OnOk result (wires.new.items ≡ (wires.old.items ++ wire_of row 2 (row + 1) 0 ∷ [])
+        ++ wire_of (row + 1) 0 row 2 ∷ []) }
 {
     push(wires, wire(row, SOUTH, row + 1, NORTH))?;
     push(wires, wire(row + 1, NORTH, row, SOUTH))?;

@@ -1,4 +1,6 @@
--- The rotary element. Its bar lies along west and east (state H) or along north and south (state V). A signal that comes in along the bar goes straight on and changes nothing; one that comes in across the bar turns right and turns the bar. The idea and the name are Morita's (2017); the names of lines and states are this project's own profile.
+-- The rotary element. Its bar lies along west and east (state H) or along north and south (state V). A signal that
+-- comes in along the bar goes straight on and changes nothing; one that comes in across the bar turns right and turns
+-- the bar. The idea and the name are Morita's (2017); the names of lines and states are this project's own profile.
 use Rattle.std.specs.Prelude.{ℕ, List, [], ◌∷◌, refl}
 use Rattle.std.proofs.Common.{arith}
 use Rattle.bn_theory.specs.Tables.{Table, IsReversible, Move, table_by, table_by-IsReversible}
@@ -49,4 +51,11 @@ pub rotary-IsReversible : IsReversible rotary
 rotary-IsReversible =
     table_by-IsReversible 2 4 4 rotary_moves
     (refl, refl, (refl, refl, (refl, refl, (refl, refl, (refl, refl, (refl, refl, (refl, refl, (refl, refl, tt))))))))
-    (omega arith, omega arith, omega arith, omega arith, (omega arith, omega arith, omega arith, omega arith, (omega arith, omega arith, omega arith, omega arith, (omega arith, omega arith, omega arith, omega arith, (omega arith, omega arith, omega arith, omega arith, (omega arith, omega arith, omega arith, omega arith, (omega arith, omega arith, omega arith, omega arith, (omega arith, omega arith, omega arith, omega arith, tt))))))))
+    (omega arith, omega arith, omega arith, omega arith,
+    (omega arith, omega arith, omega arith, omega arith,
+    (omega arith, omega arith, omega arith, omega arith,
+    (omega arith, omega arith, omega arith, omega arith,
+    (omega arith, omega arith, omega arith, omega arith,
+    (omega arith, omega arith, omega arith, omega arith,
+    (omega arith, omega arith, omega arith, omega arith,
+    (omega arith, omega arith, omega arith, omega arith, tt))))))))

@@ -1,5 +1,6 @@
 //! A sink into memory.
-ghost use Rattle.std.specs.Prelude.{◌≡◌, ◌↔◌, ℕ, ◌<◌, ◌≤◌, List, [], ◌++◌, length, take, vec_capacity, Option, Some, IsErr, OnErr, IfOk, IfSome};
+ghost use Rattle.std.specs.Prelude.{◌≡◌, ◌↔◌, ℕ, ◌<◌, ◌≤◌, List, [], ◌++◌, length, take, vec_capacity, Option, Some};
+ghost use Rattle.std.specs.Prelude.{IsErr, OnErr, IfOk, IfSome};
 ghost use Rattle.bn_io.specs.Faults.{HasCause};
 ghost use Rattle.bn_io.specs.Told.{Grows};
 ghost use Rattle.bn_io.specs.Memory.{MemoryOutput, OutputFails, accepted, output_failed, output_more};

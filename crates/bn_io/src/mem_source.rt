@@ -1,5 +1,6 @@
 //! A source over bytes in memory.
-ghost use Rattle.std.specs.Prelude.{◌≡◌, ◌↔◌, ℕ, ◌<◌, ◌≤◌, List, [], ◌++◌, length, take, drop, Option, Some, IsErr, OnErr, IfOk, IfSome};
+ghost use Rattle.std.specs.Prelude.{◌≡◌, ◌↔◌, ℕ, ◌<◌, ◌≤◌, List, [], ◌++◌, length, take, drop, Option, Some, IsErr};
+ghost use Rattle.std.specs.Prelude.{OnErr, IfOk, IfSome};
 ghost use Rattle.bn_io.specs.Faults.{HasCause};
 ghost use Rattle.bn_io.specs.Told.{Loses};
 ghost use Rattle.bn_io.specs.Memory.{MemoryInput, InputFails, given, input_failed, input_less};

@@ -1,5 +1,6 @@
 //! Reading a whole input within a limit.
-ghost use Rattle.std.specs.Prelude.{◌≡◌, ◌↔◌, ℕ, ◌+◌, ◌-◌, ◌<◌, ◌≤◌, List, [], ◌++◌, length, min, vec_len, false, IfOk, IfErr, OnOk, IfSome, IsErrOf, IsTrue};
+ghost use Rattle.std.specs.Prelude.{◌≡◌, ◌↔◌, ℕ, ◌+◌, ◌-◌, ◌<◌, ◌≤◌, List, [], ◌++◌, length, min, vec_len, false, IfOk};
+ghost use Rattle.std.specs.Prelude.{IfErr, OnOk, IfSome, IsErrOf, IsTrue};
 ghost use Rattle.bn_io.specs.Faults.{Rose};
 ghost use Rattle.bn_io.specs.Told.{ReadsWithin};
 

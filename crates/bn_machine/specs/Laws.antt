@@ -16,7 +16,8 @@ TapesAreTheirSymbols = (t u : Tape) → ((p : ℤ) → cell t p ≡ cell u p) �
 
 -- a tape has one output and only one
 abbrev pub HasOneOutput : Type 0
-HasOneOutput = ((t : Tape) → (y : List ℕ) × IsOutput t y) × ((t : Tape) (y z : List ℕ) → IsOutput t y → IsOutput t z → y ≡ z)
+HasOneOutput =
+    ((t : Tape) → (y : List ℕ) × IsOutput t y) × ((t : Tape) (y z : List ℕ) → IsOutput t y → IsOutput t z → y ≡ z)
 
 -- one moment follows another at most
 abbrev pub StepsAreFunctions : Type 0
@@ -24,47 +25,63 @@ StepsAreFunctions = (room : Room) (p : Program) → IsFunction (Goes room p)
 
 -- a step in a window answers one turn and leaves one state and one tape
 abbrev pub TurnsAreOne : Type 0
-TurnsAreOne = (p : Program) (a b : Turn) (s : ℕ) (w : Windowed) (t u : ℕ) (v x : Windowed) → IsTurn p a s w t v → IsTurn p b s w u x → (a ≡ b) × (t ≡ u) × (v ≡ x)
+TurnsAreOne =
+    (p : Program) (a b : Turn) (s : ℕ) (w : Windowed) (t u : ℕ) (v x : Windowed) → IsTurn p a s w t v
+    → IsTurn p b s w u x → (a ≡ b) × (t ≡ u) × (v ≡ x)
 
--- a run in a room is a run without ends; and one without ends that starts at 0 and makes no more steps than the room has cells on each side is a run in the room
+-- a run in a room is a run without ends; and one without ends that starts at 0 and makes no more steps than the room
+-- has cells on each side is a run in the room
 abbrev pub RoomsChangeNothing : Type 0
 RoomsChangeNothing =
     ((room : Room) (p : Program) (i : ℕ) (c d : Moment) → Reaches (Goes room p) i c d → Reaches (Goes anywhere p) i c d)
-    × ((left right : ℕ) (p : Program) (word : List ℕ) (i : ℕ) (c : Moment) → i ≤ left → i ≤ right → After p word i c → AfterWithin (within left right) p word i c)
+    × ((left right : ℕ) (p : Program) (word : List ℕ) (i : ℕ) (c : Moment) → i ≤ left → i ≤ right → After p word i c
+        → AfterWithin (within left right) p word i c)
 
 -- after i steps the head is from -i to i
 abbrev pub HeadsStayNear : Type 0
-HeadsStayNear = (room : Room) (p : Program) (word : List ℕ) (i : ℕ) (c : Moment) → AfterWithin room p word i c → IsBetween i i c.tape.head
+HeadsStayNear =
+    (room : Room) (p : Program) (word : List ℕ) (i : ℕ) (c : Moment) → AfterWithin room p word i c
+    → IsBetween i i c.tape.head
 
 -- after i steps the word still stands at i and beyond
 abbrev pub WordsStandFar : Type 0
-WordsStandFar = (room : Room) (p : Program) (word : List ℕ) (i : ℕ) (c : Moment) (q : ℤ) → pos i ≤ℤ q → AfterWithin room p word i c → cell c.tape q ≡ letter_at word q
+WordsStandFar =
+    (room : Room) (p : Program) (word : List ℕ) (i : ℕ) (c : Moment) (q : ℤ) → pos i ≤ℤ q → AfterWithin room p word i c
+    → cell c.tape q ≡ letter_at word q
 
 -- at most k steps on the first k letters of a word are the steps on the whole word
 abbrev pub CutWordsRunAlike : Type 0
-CutWordsRunAlike = (p : Program) (word : List ℕ) (k i : ℕ) (c : Moment) → i ≤ k → After p (take k word) i c → (d : Moment) × After p word i d × AgreesUpTo (pos k) d c
+CutWordsRunAlike =
+    (p : Program) (word : List ℕ) (k i : ℕ) (c : Moment) → i ≤ k → After p (take k word) i c
+    → (d : Moment) × After p word i d × AgreesUpTo (pos k) d c
 
 -- what agrees up to the head is final, or stuck, together
 abbrev pub AlikeMomentsEndAlike : Type 0
-AlikeMomentsEndAlike = (b : ℤ) (p : Program) (c d : Moment) → AgreesUpTo b c d → c.tape.head ≤ℤ b → (IsFinal p c → IsFinal p d) × (IsStuck p c → IsStuck p d)
+AlikeMomentsEndAlike =
+    (b : ℤ) (p : Program) (c d : Moment) → AgreesUpTo b c d → c.tape.head ≤ℤ b
+    → (IsFinal p c → IsFinal p d) × (IsStuck p c → IsStuck p d)
 
 -- a run of i steps has a history of i numbers, and a history of i numbers is one of a run of i steps
 abbrev pub RunsHaveHistories : Type 0
 RunsHaveHistories =
-    ((room : Room) (p : Program) (i : ℕ) (c d : Moment) → Reaches (Goes room p) i c d → (ns : List ℕ) × (length ns ≡ i) × Follows room p ns c d)
-    × ((room : Room) (p : Program) (ns : List ℕ) (c d : Moment) → Follows room p ns c d → Reaches (Goes room p) (length ns) c d)
+    ((room : Room) (p : Program) (i : ℕ) (c d : Moment) → Reaches (Goes room p) i c d
+        → (ns : List ℕ) × (length ns ≡ i) × Follows room p ns c d)
+    × ((room : Room) (p : Program) (ns : List ℕ) (c d : Moment) → Follows room p ns c d
+        → Reaches (Goes room p) (length ns) c d)
 
 -- a run of at most n steps on a tape without ends comes out in one way, and only in one
 abbrev pub HasOneEnding : Type 0
 HasOneEnding =
     ((p : Program) (word : List ℕ) (n : ℕ) → (i : ℕ) × (e : Ending) × HasEnding p word n i e)
-    × ((p : Program) (word : List ℕ) (n i j : ℕ) (e f : Ending) → HasEnding p word n i e → HasEnding p word n j f → (i ≡ j) × (e ≡ f))
+    × ((p : Program) (word : List ℕ) (n i j : ℕ) (e f : Ending) → HasEnding p word n i e → HasEnding p word n j f
+        → (i ≡ j) × (e ≡ f))
 
 -- a bounded run comes out in one way, and only in one
 abbrev pub HasOneOutcome : Type 0
 HasOneOutcome =
     ((p : Program) (word : List ℕ) (l : Limits) → (i : ℕ) × (o : Outcome) × HasOutcome p word l i o)
-    × ((p : Program) (word : List ℕ) (l : Limits) (i j : ℕ) (o q : Outcome) → HasOutcome p word l i o → HasOutcome p word l j q → (i ≡ j) × (o ≡ q))
+    × ((p : Program) (word : List ℕ) (l : Limits) (i j : ℕ) (o q : Outcome) → HasOutcome p word l i o
+        → HasOutcome p word l j q → (i ≡ j) × (o ≡ q))
 
 -- a window of cells shows a tape in one way: one list of cells, and one cell for the head
 abbrev pub WindowsHaveOneList : Type 0

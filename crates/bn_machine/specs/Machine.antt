@@ -1,5 +1,6 @@
 -- Machines given by quintuples, and the step of such a machine (Bennett 1973).
-use Rattle.std.specs.Prelude.{◌≡◌, ◌≢◌, ℕ, zero, suc, ◌<◌, ◌^◌, List, [], ◌∷◌, length, Option, Some, None, slice_get, All}
+use Rattle.std.specs.Prelude.{◌≡◌, ◌≢◌, ℕ, zero, suc, ◌<◌, ◌^◌, List, [], ◌∷◌, length, Option, Some, None, slice_get}
+use Rattle.std.specs.Prelude.{All}
 use Rattle.bn_machine.specs.Tape.{Tape, scanned, write, shift, word_tape}
 use Rattle.bn_machine.specs.Window.{Room, Allows, Windowed, Leaves}
 use Rattle.bn_machine.specs.declared.quint.Quint.{Quint}
@@ -71,7 +72,8 @@ pub record IsFirstMatch (qs : List Quint) (state symbol n : ℕ) (q : Quint) : T
 pub record HasNoMatch (qs : List Quint) (state symbol : ℕ) : Type 0 where
   pub none : (n : ℕ) (q : Quint) → nth qs n ≡ Some q → Matches q state symbol → ⊥
 
--- A step by this quintuple leads from c to d: it has c's state and scanned symbol, writes, shifts and changes the state.
+-- A step by this quintuple leads from c to d: it has c's state and scanned symbol, writes, shifts and changes the
+-- state.
 pub record Applies (q : Quint) (c d : Moment) : Type 0 where
   pub from : c.state ≡ q.state
   pub reads : scanned c.tape ≡ q.read
@@ -82,7 +84,8 @@ pub record Applies (q : Quint) (c d : Moment) : Type 0 where
 abbrev pub IsFinal : Program → Moment → Type 0
 IsFinal p c = c.state ≡ final_of p.quints
 
--- One step of the machine, by quintuple n: the state isn't the final one, the first quintuple that matches is applied, and the head comes to a position that the room allows.
+-- One step of the machine, by quintuple n: the state isn't the final one, the first quintuple that matches is applied,
+-- and the head comes to a position that the room allows.
 pub record GoesBy (room : Room) (p : Program) (n : ℕ) (c d : Moment) : Type 0 where
   pub going : c.state ≢ final_of p.quints
   pub quint : Quint

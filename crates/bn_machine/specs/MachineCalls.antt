@@ -14,9 +14,12 @@ abbrev pub IsMachineRefusal : List Quint → ℕ → ℕ → MachineRefusal → 
 IsMachineRefusal qs states symbols Empty = qs ≡ []
 IsMachineRefusal qs states symbols (Range i) = IsFirstFault states symbols qs i
 
--- What a step in a window answers, and what it leaves of the state and the tape. Where it answers anything but `Moved` nothing has changed.
+-- What a step in a window answers, and what it leaves of the state and the tape. Where it answers anything but `Moved`
+-- nothing has changed.
 abbrev pub IsTurn : Program → Turn → ℕ → Windowed → ℕ → Windowed → Type 0
 IsTurn p turn.Final state w after v = (state ≡ final_of p.quints) × (after ≡ state) × (v ≡ w)
-IsTurn p (turn.Stuck at symbol) state w after v = IsStuck p (moment state w) × (at ≡ state) × (symbol ≡ scanned w.tape) × (after ≡ state) × (v ≡ w)
+IsTurn p (turn.Stuck at symbol) state w after v =
+    IsStuck p (moment state w) × (at ≡ state) × (symbol ≡ scanned w.tape) × (after ≡ state) × (v ≡ w)
 IsTurn p (turn.Left side) state w after v = IsLeaving p state w side × (after ≡ state) × (v ≡ w)
-IsTurn p turn.Moved state w after v = Goes (within w.left w.right) p (moment state w) (moment after v) × (v ≡ with_tape w v.tape)
+IsTurn p turn.Moved state w after v =
+    Goes (within w.left w.right) p (moment state w) (moment after v) × (v ≡ with_tape w v.tape)

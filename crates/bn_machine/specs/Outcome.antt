@@ -1,4 +1,5 @@
--- The bounded run of a machine in a window, and how it comes out: found by the machine alone (this project's own profile of Bennett 1973).
+-- The bounded run of a machine in a window, and how it comes out: found by the machine alone (this project's own
+-- profile of Bennett 1973).
 use Rattle.std.specs.Prelude.{◌≡◌, ℕ, ◌+◌, ◌<◌, ◌≤◌, ℤ, pos, ◌+ℤ◌, ◌≤ℤ◌, ◌<ℤ◌, List, length}
 use Rattle.bn_machine.specs.Tape.{scanned}
 use Rattle.bn_machine.specs.Window.{anywhere, within, IsBeyond}
@@ -7,14 +8,16 @@ use Rattle.bn_machine.specs.Run.{AfterWithin, IsOutput}
 use Rattle.bn_machine.specs.declared.quint.Side.{Side}
 use Rattle.bn_machine.specs.declared.quint.Side.TheVariants.{Right}
 
--- The limits of a run: the work tape reaches from -left to right, the history tape holds `steps` steps, the output tape reaches from 0 to `output`.
+-- The limits of a run: the work tape reaches from -left to right, the history tape holds `steps` steps, the output tape
+-- reaches from 0 to `output`.
 pub record Limits : Type 0 where
   pub left : ℕ
   pub right : ℕ
   pub steps : ℕ
   pub output : ℕ
 
--- How a bounded run comes out: halted with an output, stuck in a state at a symbol, or at this end of tape 1, the work tape, tape 2, the history, or tape 3, the output.
+-- How a bounded run comes out: halted with an output, stuck in a state at a symbol, or at this end of tape 1, the work
+-- tape, tape 2, the history, or tape 3, the output.
 pub data Outcome : Type 0 where
   Halted : List ℕ → Outcome
   Stuck : ℕ → ℕ → Outcome
@@ -25,24 +28,30 @@ pub record HasRoom (l : Limits) (head : ℤ) (j : ℕ) : Type 0 where
   pub work : (head +ℤ pos j) ≤ℤ pos l.right
   pub output : j ≤ l.output
 
--- Going right from the halted head over an output of this length to the blank behind it, j is the first cell without room.
+-- Going right from the halted head over an output of this length to the blank behind it, j is the first cell without
+-- room.
 pub record IsFirstShort (l : Limits) (head : ℤ) (length_of_output j : ℕ) : Type 0 where
   pub starts : 0 < j
   pub reached : j ≤ length_of_output + 1
   pub before : (k : ℕ) → 0 < k → k < j → HasRoom l head k
 
--- How the copying of an output y from the halted head comes out: there is room up to the blank behind it, or the first cell without room is missing on the work tape, or else on the output tape.
+-- How the copying of an output y from the halted head comes out: there is room up to the blank behind it, or the first
+-- cell without room is missing on the work tape, or else on the output tape.
 pub data Copies (l : Limits) (head : ℤ) (y : List ℕ) (o : Outcome) : Type 0 where
   copied : ((j : ℕ) → 0 < j → j ≤ length y + 1 → HasRoom l head j) → o ≡ Halted y → Copies l head y o
-  work_short : (j : ℕ) → IsFirstShort l head (length y) j → pos l.right <ℤ (head +ℤ pos j) → o ≡ Outside 1 Right → Copies l head y o
-  output_short : (j : ℕ) → IsFirstShort l head (length y) j → (head +ℤ pos j) ≤ℤ pos l.right → l.output < j → o ≡ Outside 3 Right → Copies l head y o
+  work_short : (j : ℕ) → IsFirstShort l head (length y) j → pos l.right <ℤ (head +ℤ pos j) → o ≡ Outside 1 Right
+      → Copies l head y o
+  output_short : (j : ℕ) → IsFirstShort l head (length y) j → (head +ℤ pos j) ≤ℤ pos l.right → l.output < j
+      → o ≡ Outside 3 Right → Copies l head y o
 
--- After i steps the bounded run ends at c: in the final state, where copying decides; where no quintuple matches; where all steps are made; or where the next step's shift would leave the work tape.
+-- After i steps the bounded run ends at c: in the final state, where copying decides; where no quintuple matches; where
+-- all steps are made; or where the next step's shift would leave the work tape.
 pub data ComesOut (p : Program) (l : Limits) (i : ℕ) (c : Moment) (o : Outcome) : Type 0 where
   halts : (y : List ℕ) → IsFinal p c → IsOutput c.tape y → Copies l c.tape.head y o → ComesOut p l i c o
   sticks : IsStuck p c → o ≡ Stuck c.state (scanned c.tape) → ComesOut p l i c o
   runs_out : (d : Moment) → Goes anywhere p c d → i ≡ l.steps → o ≡ Outside 2 Right → ComesOut p l i c o
-  leaves : (d : Moment) (side : Side) → Goes anywhere p c d → i < l.steps → IsBeyond l.left l.right side d.tape.head → o ≡ Outside 1 side → ComesOut p l i c o
+  leaves : (d : Moment) (side : Side) → Goes anywhere p c d → i < l.steps → IsBeyond l.left l.right side d.tape.head
+      → o ≡ Outside 1 side → ComesOut p l i c o
 
 -- The bounded run from the word makes i steps, all inside the work tape, and then comes out so.
 pub record HasOutcome (p : Program) (word : List ℕ) (l : Limits) (i : ℕ) (o : Outcome) : Type 0 where

@@ -30,7 +30,8 @@ pub data Ending : Type 0 where
   Stuck : ℕ → ℕ → Ending
   Running : Ending
 
--- after i steps the run ends at c: in the final state with its output, where no quintuple matches, or because all n steps are made
+-- after i steps the run ends at c: in the final state with its output, where no quintuple matches, or because all n
+-- steps are made
 pub data EndsAt (p : Program) (n i : ℕ) (c : Moment) (e : Ending) : Type 0 where
   halts : (y : List ℕ) → IsFinal p c → IsOutput c.tape y → e ≡ Halted y → EndsAt p n i c e
   sticks : IsStuck p c → e ≡ Stuck c.state (scanned c.tape) → EndsAt p n i c e

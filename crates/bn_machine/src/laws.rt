@@ -1,5 +1,8 @@
 //! Laws on tapes, steps and runs. Each function does nothing; its contract is the law.
-ghost use Rattle.bn_machine.specs.Laws.{AlikeMomentsEndAlike, CutWordsRunAlike, HasOneEnding, HasOneOutcome, HasOneOutput, HeadsStayNear, RoomsChangeNothing, RunsHaveHistories, StepsAreFunctions, TapesAreTheirSymbols, TurnsAreOne, WindowsHaveOneList, WordsStandFar};
+ghost use Rattle.bn_machine.specs.Laws.{AlikeMomentsEndAlike, CutWordsRunAlike, HasOneEnding, HasOneOutcome};
+ghost use Rattle.bn_machine.specs.Laws.{HasOneOutput, HeadsStayNear, RoomsChangeNothing, RunsHaveHistories};
+ghost use Rattle.bn_machine.specs.Laws.{StepsAreFunctions, TapesAreTheirSymbols, TurnsAreOne, WindowsHaveOneList};
+ghost use Rattle.bn_machine.specs.Laws.{WordsStandFar};
 
 /// Tapes with the same symbols and the same head are the same.
 pub fn tapes_are_their_symbols()

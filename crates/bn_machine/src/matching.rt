@@ -13,7 +13,8 @@ fn is_match(quint: &Quint, state: u32, symbol: u32) -> bool
 
 // The first quintuple that has this state and reads this symbol.
 pub(crate) fn first_match(quints: &[Quint], state: u32, symbol: u32) -> Option<Quint>
-    ensures { MatchOption result (HasNoMatch quints.now state symbol) (λ q. (n : ℕ) × IsFirstMatch quints.now state symbol n q) }
+    ensures { MatchOption result (HasNoMatch quints.now state symbol) (λ q. (n : ℕ)
+        × IsFirstMatch quints.now state symbol n q) }
 {
     for quint in quints {
         if is_match(quint, state, symbol) {

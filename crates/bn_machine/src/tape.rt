@@ -1,5 +1,6 @@
 //! Tapes in a window of cells.
-ghost use Rattle.std.specs.Prelude.{◌≡◌, ◌↔◌, ◌≤◌, ◌<◌, ◌+◌, ◌-◌, ◌^◌, ◌++◌, length, replicate, IsSome, IfSome, IfOk, OnOk, IfErr};
+ghost use Rattle.std.specs.Prelude.{◌≡◌, ◌↔◌, ◌≤◌, ◌<◌, ◌+◌, ◌-◌, ◌^◌, ◌++◌, length, replicate, IsSome, IfSome, IfOk};
+ghost use Rattle.std.specs.Prelude.{OnOk, IfErr};
 
 use crate::quint::{Shift, Side};
 use std::alloc::{AllocError, Global};

@@ -16,7 +16,8 @@ use Rattle.bn_modules.specs.declared.cell_line.CellLine.{CellLine}
 use Rattle.bn_modules.specs.declared.cell_line.CellLine.TheVariants.{Read, Write, ShiftRight, ShiftLeft, Answer}
 use Rattle.bn_modules.specs.declared.cell_line.CellLine.TheVariants.{DoneWrite, DoneRight, DoneLeft}
 
--- ---- what a quadruple commands: first its reads by rising tape, then its shifts other than 0 by rising tape, then its writes by falling tape. Tapes are counted from 1.
+-- ---- what a quadruple commands: first its reads by rising tape, then its shifts other than 0 by rising tape, then its
+-- writes by falling tape. Tapes are counted from 1.
 
 -- the read tapes with their symbols, by rising tape, where the deeds begin at tape t
 abbrev pub reads : ℕ → List Deed → List (ℕ × ℕ)

@@ -1,5 +1,6 @@
 -- What can be wrong with a list of wires, and which wire is the first at fault.
-use Rattle.std.specs.Prelude.{◌≡◌, ℕ, ◌-◌, ◌<◌, nat_lt, ◌&&◌, List, length, take, Option, Some, None, is_some, slice_get, if◌then◌else◌, Bool, Result, Ok, Err}
+use Rattle.std.specs.Prelude.{◌≡◌, ℕ, ◌-◌, ◌<◌, nat_lt, ◌&&◌, List, length, take, Option, Some, None, is_some}
+use Rattle.std.specs.Prelude.{slice_get, if◌then◌else◌, Bool, Result, Ok, Err}
 use Rattle.bn_theory.specs.Tables.{Table}
 use Rattle.bn_theory.specs.Circuits.{target, source, states_of, inputs_of, outputs_of}
 use Rattle.bn_theory.specs.declared.line.Wire.{Wire}
@@ -14,13 +15,15 @@ pub data WireFault : Type 0 where
 
 -- both lines of the wire are there
 abbrev pub is_within : List Table → Wire → Bool
-is_within tables w = nat_lt w.from.line (outputs_of tables w.from.element) && nat_lt w.to.line (inputs_of tables w.to.element)
+is_within tables w =
+    nat_lt w.from.line (outputs_of tables w.from.element) && nat_lt w.to.line (inputs_of tables w.to.element)
 
 -- the first fault of a wire that comes after the earlier ones
 abbrev pub fault_of : List Table → List Wire → Wire → Option WireFault
 fault_of tables earlier w =
     if is_within tables w
-    then (if is_some (target earlier w.from) then Some second_target else (if is_some (source earlier w.to) then Some second_source else None))
+    then (if is_some (target earlier w.from) then Some second_target
+        else (if is_some (source earlier w.to) then Some second_source else None))
     else Some out_of_range
 
 -- the wire at place j, counted from 0, has no fault

@@ -13,4 +13,7 @@ told_by h = if h.lost then None else Some h.places
 
 -- what it has heard after one place more
 abbrev pub hears_next : Heard → Place → Heard
-hears_next h place = if nat_lt (length h.places) h.room then record { places = h.places ++ place ∷ []; room = h.room; lost = h.lost } else record { places = h.places; room = h.room; lost = true }
+hears_next h place =
+    if nat_lt (length h.places) h.room
+    then record { places = h.places ++ place ∷ []; room = h.room; lost = h.lost }
+    else record { places = h.places; room = h.room; lost = true }

@@ -1,5 +1,7 @@
--- Rows of cells, one row an element and one cell a line: how wires are kept for look-up. A cell holds the line at the other end of the wire, or nothing.
-use Rattle.std.specs.Prelude.{◌≡◌, ℕ, ◌+◌, ◌^◌, ◌<◌, ◌≤◌, ◌↔◌, List, [], ◌∷◌, ◌++◌, length, Option, Some, None, slice_get, slice_set, slice_range, option_and_then}
+-- Rows of cells, one row an element and one cell a line: how wires are kept for look-up. A cell holds the line at the
+-- other end of the wire, or nothing.
+use Rattle.std.specs.Prelude.{◌≡◌, ℕ, ◌+◌, ◌^◌, ◌<◌, ◌≤◌, ◌↔◌, List, [], ◌∷◌, ◌++◌, length, Option, Some, None}
+use Rattle.std.specs.Prelude.{slice_get, slice_set, slice_range, option_and_then}
 use Rattle.std.specs.Option.{option_map_or}
 use Rattle.std.proofs.Common.{suc}
 use Rattle.bn_theory.specs.Tables.{Table}
@@ -12,7 +14,9 @@ Rows = List (List (Option Line))
 
 -- what the cell of a line holds
 abbrev pub entry : Rows → Line → Option Line
-entry rows at_line = option_and_then (λ row. option_and_then (λ cell. cell) (slice_get row at_line.line)) (slice_get rows at_line.element)
+entry rows at_line =
+    option_and_then (λ row. option_and_then (λ cell. cell) (slice_get row at_line.line))
+    (slice_get rows at_line.element)
 
 -- the number of cells of an element's row
 abbrev pub width : Rows → ℕ → ℕ
@@ -20,7 +24,9 @@ width rows e = option_map_or length (slice_get rows e) 0
 
 -- the rows after a write
 abbrev pub put : Rows → Line → Line → Rows
-put rows from to = slice_set rows from.element (slice_set (option_map_or (λ row. row) (slice_get rows from.element) []) from.line (Some to))
+put rows from to =
+    slice_set rows from.element
+    (slice_set (option_map_or (λ row. row) (slice_get rows from.element) []) from.line (Some to))
 
 -- the rows of cells that lie one after another, each from one start to the next
 abbrev pub rows_at : List ℕ → List (Option Line) → Rows
@@ -38,14 +44,16 @@ AreStarts (a ∷ b ∷ starts) n = (a ≤ b) × AreStarts (b ∷ starts) n
 abbrev pub wires_of_row : ℕ → ℕ → List (Option Line) → List Wire
 wires_of_row e l [] = []
 wires_of_row e l (None ∷ row) = wires_of_row e (suc l) row
-wires_of_row e l (Some to ∷ row) = record { from = record { element = e; line = l }; to = to } ∷ wires_of_row e (suc l) row
+wires_of_row e l (Some to ∷ row) =
+    record { from = record { element = e; line = l }; to = to } ∷ wires_of_row e (suc l) row
 
 -- the wires of rows of elements that are numbered from e, in order
 abbrev pub wires_of : ℕ → Rows → List Wire
 wires_of e [] = []
 wires_of e (row ∷ rows) = wires_of_row e 0 row ++ wires_of (suc e) rows
 
--- The rows are the wires of these elements, kept both ways: a cell for each output line and one for each input line, and an output's cell holds an input exactly where that input's cell holds the output.
+-- The rows are the wires of these elements, kept both ways: a cell for each output line and one for each input line,
+-- and an output's cell holds an input exactly where that input's cell holds the output.
 pub record IsWired (tables : List Table) (targets sources : Rows) : Type 0 where
   pub outputs : (e : ℕ) → width targets e ≡ outputs_of tables e
   pub inputs : (e : ℕ) → width sources e ≡ inputs_of tables e

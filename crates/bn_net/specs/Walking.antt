@@ -13,7 +13,8 @@ pub record HasWalked (k : Circuit) (c d : Config) (made : ℕ) (old new : Option
   pub good : IsConfig k d
   pub heard : Hears old (places k made c) new
 
--- Exactly so many steps were taken back from c to d, which is a configuration, and a watch has heard the place after each.
+-- Exactly so many steps were taken back from c to d, which is a configuration, and a watch has heard the place after
+-- each.
 pub record HasWalkedBack (k : Circuit) (c d : Config) (made : ℕ) (old new : Option (List Place)) : Type 0 where
   pub reaches : Reaches (Goes k) made d c
   pub good : IsConfig k d

@@ -1,10 +1,13 @@
 //! Nets: elements joined by wires, and the steps of their one signal.
 
-ghost use Rattle.std.specs.Prelude.{◌≡◌, ◌↔◌, ◌+◌, ◌^◌, ◌<◌, ◌≤◌, List, [], length, map, Option, Some, None, IsTrue, IfOk, IfSome, OnOk, IfErr, slice_get, if◌then◌else◌};
+ghost use Rattle.std.specs.Prelude.{◌≡◌, ◌↔◌, ◌+◌, ◌^◌, ◌<◌, ◌≤◌, List, [], length, map, Option, Some, None, IsTrue};
+ghost use Rattle.std.specs.Prelude.{IfOk, IfSome, OnOk, IfErr, slice_get, if◌then◌else◌};
 ghost use Rattle.std.specs.Bool.{OnTrue, OnFalse};
 ghost use Rattle.bn_theory.specs.Runs.{Reaches};
 ghost use Rattle.bn_theory.specs.Tables.{Table};
-ghost use Rattle.bn_theory.specs.Circuits.{IsCircuit, IsConfig, IsPlace, IsInput, IsOutput, Goes, IsStuck, IsFirst, target, source, states_of, inputs_of, outputs_of, go_of, back_of, same_line, place_after};
+ghost use Rattle.bn_theory.specs.Circuits.{IsCircuit, IsConfig, IsPlace, IsInput, IsOutput, Goes, IsStuck, IsFirst};
+ghost use Rattle.bn_theory.specs.Circuits.{target, source, states_of, inputs_of, outputs_of, go_of, back_of, same_line};
+ghost use Rattle.bn_theory.specs.Circuits.{place_after};
 ghost use Rattle.bn_theory.specs.Stepping.{run, back, line_before};
 ghost use Rattle.bn_net.specs.Parts.{circuit};
 ghost use Rattle.bn_net.specs.Order.{AreInOrder};
@@ -245,8 +248,12 @@ impl<E: Element> Net<E> {
     fn connect(&mut self, wire: Wire)
         requires { fault_of (map E.table self.old.elements) self.old.wires wire ≡ None }
         ensures elements { self.new.elements ≡ self.old.elements }
-        ensures targets { (from : Line) → target self.new.wires from ≡ (if same_line wire.from from then Some wire.to else target self.old.wires from) }
-        ensures sources { (to : Line) → source self.new.wires to ≡ (if same_line wire.to to then Some wire.from else source self.old.wires to) }
+        ensures targets { (from : Line)
+            → target self.new.wires from
+            ≡ (if same_line wire.from from then Some wire.to else target self.old.wires from) }
+        ensures sources { (to : Line)
+            → source self.new.wires to
+            ≡ (if same_line wire.to to then Some wire.from else source self.old.wires to) }
     {
         self.targets.set(wire.from, wire.to);
         self.sources.set(wire.to, wire.from);

@@ -1,6 +1,7 @@
 //! A flat map from lines to lines: a row of cells an element, all rows in one array.
 
-ghost use Rattle.std.specs.Prelude.{◌≡◌, ℕ, ◌+◌, ◌^◌, ◌<◌, ◌≤◌, List, [], length, map, replicate, None, IfOk, slice_get};
+ghost use Rattle.std.specs.Prelude.{◌≡◌, ℕ, ◌+◌, ◌^◌, ◌<◌, ◌≤◌, List, [], length, map, replicate, None, IfOk};
+ghost use Rattle.std.specs.Prelude.{slice_get};
 ghost use Rattle.bn_net.specs.Rows.{entry, width, put, rows_at, AreStarts, starts_from};
 
 use crate::refusal::NoMemory;

@@ -1,6 +1,7 @@
 //! Who is told of each place that a signal comes to.
 
-ghost use Rattle.std.specs.Prelude.{◌≡◌, ℕ, false, ◌<◌, ◌≤◌, ◌++◌, ◌∷◌, [], List, length, Option, Some, None, IfOk, nat_lt, if◌then◌else◌, vec_len};
+ghost use Rattle.std.specs.Prelude.{◌≡◌, ℕ, false, ◌<◌, ◌≤◌, ◌++◌, ◌∷◌, [], List, length, Option, Some, None, IfOk};
+ghost use Rattle.std.specs.Prelude.{nat_lt, if◌then◌else◌, vec_len};
 ghost use Rattle.std.specs.Vec.{vec_capacity};
 
 use crate::refusal::NoMemory;
@@ -62,7 +63,8 @@ impl MemWatch {
 
     /// A watch that was told nothing yet, with room for this many places; it takes its memory here.
     pub fn try_new(alloc: Global, room: usize) -> Result<MemWatch, NoMemory>
-        ensures { IfOk result (λ w. w ≡ (let fresh : Heard = record { places = []; room = room; lost = false } in fresh)) }
+        ensures { IfOk result (λ w.
+            w ≡ (let fresh : Heard = record { places = []; room = room; lost = false } in fresh)) }
     {
         let Ok(places) = Vec::with_capacity(alloc, room) else {
             return Err(NoMemory);

@@ -1,15 +1,20 @@
--- What can be wrong with a line of a configuration text, and which line of a text is the first with a fault. A line is judged by what the lines before it say.
-use Rattle.std.specs.Prelude.{◌≡◌, ◌≢◌, ℕ, ◌+◌, ◌-◌, ◌<◌, min, nat_lt, nat_le, ◌==◌, Bool, false, List, [], ◌∷◌, ◌++◌, length, Option, Some, None, is_some, if◌then◌else◌}
+-- What can be wrong with a line of a configuration text, and which line of a text is the first with a fault. A line is
+-- judged by what the lines before it say.
+use Rattle.std.specs.Prelude.{◌≡◌, ◌≢◌, ℕ, ◌+◌, ◌-◌, ◌<◌, min, nat_lt, nat_le, ◌==◌, Bool, false, List, [], ◌∷◌, ◌++◌}
+use Rattle.std.specs.Prelude.{length, Option, Some, None, is_some, if◌then◌else◌}
 use Rattle.std.proofs.Common.{suc}
 use Rattle.bn_theory.specs.Circuits.{source, same_line}
 use Rattle.bn_theory.specs.declared.line.Line.{Line}
 use Rattle.bn_theory.specs.declared.line.Wire.{Wire}
 use Rattle.bn_theory.specs.declared.place.Place.{Place}
 use Rattle.bn_theory.specs.declared.place.Place.TheVariants.{Enter, Left}
-use Rattle.bn_netlist.specs.Sentences.{Sentence, Title, Count, Start, End, Steps, At, Element, sentence_text, lines_text, IsSayable}
+use Rattle.bn_netlist.specs.Sentences.{Sentence, Title, Count, Start, End, Steps, At, Element, sentence_text}
+use Rattle.bn_netlist.specs.Sentences.{lines_text, IsSayable}
 use Rattle.bn_netlist.specs.Spelling.{Spelling, Spelled, most_elements}
 
--- The faults of a line: it hasn't its form; it says a count above the greatest; an element is named that isn't there; an element line hasn't the next number; a wire leaves the end; a wire leaves the line by which the signal has left; a wire leads into the start; a wire leads where an earlier one does.
+-- The faults of a line: it hasn't its form; it says a count above the greatest; an element is named that isn't there;
+-- an element line hasn't the next number; a wire leaves the end; a wire leaves the line by which the signal has left; a
+-- wire leads into the start; a wire leads where an earlier one does.
 pub data Fault : Type 0 where
   malformed : Fault
   too_many : Fault
@@ -103,7 +108,8 @@ fault_of before (Start l) = named_fault before l.element
 fault_of before (End l) = named_fault before l.element
 fault_of before (Steps t) = None
 fault_of before (At p) = named_fault before (element_at p)
-fault_of before (Element n q xs) = if n == (length before - header_lines) then outputs_fault before (wires_in before) n 0 xs else Some out_of_order
+fault_of before (Element n q xs) =
+    if n == (length before - header_lines) then outputs_fault before (wires_in before) n 0 xs else Some out_of_order
 
 -- which of the seven kinds of line says this, counted from 0
 abbrev pub kind_of : Sentence → ℕ
@@ -115,7 +121,8 @@ kind_of (Steps t) = 4
 kind_of (At p) = 5
 kind_of (Element n q xs) = 6
 
--- After these lines a line of this kind comes next: the six of the header in order, then one line an element, as many as were counted.
+-- After these lines a line of this kind comes next: the six of the header in order, then one line an element, as many
+-- as were counted.
 pub record IsNext (before : List Sentence) (x : Sentence) : Type 0 where
   pub sayable : IsSayable x
   pub kind : kind_of x ≡ min (length before) header_lines
@@ -124,12 +131,14 @@ pub record IsNext (before : List Sentence) (x : Sentence) : Type 0 where
 -- Each of these lines has its form and no fault, after the earlier ones.
 abbrev pub AreFaultlessAfter : List Sentence → List Sentence → Type 0
 AreFaultlessAfter earlier [] = Unit {0}
-AreFaultlessAfter earlier (x ∷ xs) = IsNext earlier x × (fault_of earlier x ≡ None) × AreFaultlessAfter (earlier ++ x ∷ []) xs
+AreFaultlessAfter earlier (x ∷ xs) =
+    IsNext earlier x × (fault_of earlier x ≡ None) × AreFaultlessAfter (earlier ++ x ∷ []) xs
 
 abbrev pub AreFaultless : List Sentence → Type 0
 AreFaultless xs = AreFaultlessAfter [] xs
 
--- After these lines what is left of the text has no line of its form next: no whole line that says what comes next; and where nothing comes next, something is left all the same.
+-- After these lines what is left of the text has no line of its form next: no whole line that says what comes next; and
+-- where nothing comes next, something is left all the same.
 pub record IsMalformed (before : List Sentence) (left : List ℕ) : Type 0 where
   pub unsaid : (x : Sentence) (behind : List ℕ) → IsNext before x → left ≢ sentence_text x ++ 10 ∷ behind
   pub unfinished : length before ≡ header_lines + count_in before → left ≢ []
@@ -147,7 +156,8 @@ abbrev pub BeginsWithFault : List Sentence → List ℕ → Fault → Type 0
 BeginsWithFault before left malformed = IsMalformed before left
 BeginsWithFault before left fault = IsFaulty before left fault
 
--- The line of this number, counted from 1, is the first of the text with a fault, and this is its first. A missing line, a line without its byte 10, and bytes after the last line have no form.
+-- The line of this number, counted from 1, is the first of the text with a fault, and this is its first. A missing
+-- line, a line without its byte 10, and bytes after the last line have no form.
 pub record IsFirstFault (text : List ℕ) (line : ℕ) (fault : Fault) : Type 0 where
   pub before : List Sentence
   pub left : List ℕ
@@ -158,4 +168,5 @@ pub record IsFirstFault (text : List ℕ) (line : ℕ) (fault : Fault) : Type 0 
 
 -- A text with a first fault is the text of no configuration.
 abbrev pub FaultyTextsSpellNothing : Type 0
-FaultyTextsSpellNothing = (s : Spelling) (text : List ℕ) (line : ℕ) (fault : Fault) → IsFirstFault text line fault → Spelled s text → ⊥
+FaultyTextsSpellNothing =
+    (s : Spelling) (text : List ℕ) (line : ℕ) (fault : Fault) → IsFirstFault text line fault → Spelled s text → ⊥

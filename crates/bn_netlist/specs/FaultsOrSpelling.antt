@@ -5,4 +5,5 @@ use Rattle.bn_netlist.specs.Faults.{Fault, IsFirstFault}
 
 -- Each text either spells a configuration or has a first fault.
 abbrev pub TextsSpellOrFault : Type 0
-TextsSpellOrFault = (text : List ℕ) → ((s : Spelling) × Spelled s text) ⊎ ((line : ℕ) × (fault : Fault) × IsFirstFault text line fault)
+TextsSpellOrFault =
+    (text : List ℕ) → ((s : Spelling) × Spelled s text) ⊎ ((line : ℕ) × (fault : Fault) × IsFirstFault text line fault)

@@ -10,4 +10,5 @@ header_then h rows = Title ∷ Count h.count ∷ Start h.start ∷ End h.end ∷
 
 -- the header of a text
 abbrev pub header_of : Spelling → Header
-header_of s = record { count = s.elements; start = s.start; end = s.end; steps = s.config.steps; place = s.config.place }
+header_of s =
+    record { count = s.elements; start = s.start; end = s.end; steps = s.config.steps; place = s.config.place }

@@ -10,7 +10,8 @@ use Rattle.bn_base.specs.contracts.lines.Lines.{the_row}
 abbrev pub IsGiven : List ℕ → Option (Bor (List ℕ)) → List ℕ → Type 0
 IsGiven bytes line rest = MatchOption line (IsInLine bytes) (λ l. IsInLine l.now × (bytes ≡ l.now ++ 10 ∷ rest))
 
--- It has given this line, and is left with the bytes behind it; or no whole line was left. `named 1` is the place of the text's lifetime in the signature.
+-- It has given this line, and is left with the bytes behind it; or no whole line was left. `named 1` is the place of
+-- the text's lifetime in the signature.
 abbrev pub GivesWholeLine : MutBor (List ℕ) → Option (Bor (List ℕ)) → Fml
 GivesWholeLine m line =
     let row = the_row (record { mir = named 1; lft = [] }) in

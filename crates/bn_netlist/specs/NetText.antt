@@ -3,16 +3,20 @@ use Rattle.std.specs.Prelude.{◌≡◌, ℕ, List, length}
 use Rattle.bn_net.specs.Parts.{circuit}
 use Rattle.bn_element.specs.Rotary.{rotary}
 use Rattle.bn_netlist.specs.Spelling.{Spelling, circuit_of}
-use Rattle.bn_netlist.specs.Faults.{IsFirstFault, malformed, too_many, no_element, out_of_order, end_wired, left_wired, start_fed, second_source}
+use Rattle.bn_netlist.specs.Faults.{IsFirstFault, malformed, too_many, no_element, out_of_order, end_wired, left_wired}
+use Rattle.bn_netlist.specs.Faults.{start_fed, second_source}
 use Rattle.bn_netlist.specs.declared.net_config.NetConfig.{NetConfig}
 use Rattle.bn_netlist.specs.declared.refusal.NetlistRefusal.{NetlistRefusal}
-use Rattle.bn_netlist.specs.declared.refusal.NetlistRefusal.TheVariants.{Syntax, Order, Target, TwoSources, StartFed, EndWired, LeftWired, TooMany, NoMemory}
+use Rattle.bn_netlist.specs.declared.refusal.NetlistRefusal.TheVariants.{Syntax, Order, Target, TwoSources, StartFed}
+use Rattle.bn_netlist.specs.declared.refusal.NetlistRefusal.TheVariants.{EndWired, LeftWired, TooMany, NoMemory}
 
 -- what the text of a net with its configuration spells
 abbrev pub spelling_of : NetConfig → Spelling
-spelling_of c = record { elements = length c.net.elements; wires = c.net.wires; config = c.config; start = c.start; end = c.end }
+spelling_of c =
+    record { elements = length c.net.elements; wires = c.net.wires; config = c.config; start = c.start; end = c.end }
 
--- what a refusal says of the text: which line is the first with a fault, and its first fault; want of memory says nothing
+-- what a refusal says of the text: which line is the first with a fault, and its first fault; want of memory says
+-- nothing
 abbrev pub IsTextRefusal : List ℕ → NetlistRefusal → Type 0
 IsTextRefusal text (Syntax line) = IsFirstFault text line malformed
 IsTextRefusal text (Order line) = IsFirstFault text line out_of_order

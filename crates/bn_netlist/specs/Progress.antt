@@ -1,15 +1,19 @@
 -- Reading a text line by line: what has been read, and what a refusal says of what is left.
-use Rattle.std.specs.Prelude.{◌≡◌, ℕ, ◌+◌, ◌*◌, ◌<◌, Bool, List, [], ◌∷◌, ◌++◌, length, Option, Some, None, is_some, Result, Ok, Err, slice_get}
+use Rattle.std.specs.Prelude.{◌≡◌, ℕ, ◌+◌, ◌*◌, ◌<◌, Bool, List, [], ◌∷◌, ◌++◌, length, Option, Some, None, is_some}
+use Rattle.std.specs.Prelude.{Result, Ok, Err, slice_get}
 use Rattle.bn_theory.specs.Circuits.{source}
 use Rattle.bn_theory.specs.declared.line.Line.{Line}
 use Rattle.bn_theory.specs.declared.line.Wire.{Wire}
 use Rattle.bn_netlist.specs.Sentences.{Sentence, sentence_text, lines_text}
-use Rattle.bn_netlist.specs.Faults.{Fault, malformed, too_many, no_element, out_of_order, end_wired, left_wired, start_fed, second_source, wires_from, wires_in, wire_fault, outputs_fault, fault_of, IsNext, AreFaultlessAfter, AreFaultless, BeginsWithFault}
+use Rattle.bn_netlist.specs.Faults.{Fault, malformed, too_many, no_element, out_of_order, end_wired, left_wired}
+use Rattle.bn_netlist.specs.Faults.{start_fed, second_source, wires_from, wires_in, wire_fault, outputs_fault, fault_of}
+use Rattle.bn_netlist.specs.Faults.{IsNext, AreFaultlessAfter, AreFaultless, BeginsWithFault}
 use Rattle.bn_netlist.specs.Header.{header_then}
 use Rattle.bn_netlist.specs.TextLaws.{states_in}
 use Rattle.bn_netlist.specs.declared.header.Header.{Header}
 use Rattle.bn_netlist.specs.declared.refusal.NetlistRefusal.{NetlistRefusal}
-use Rattle.bn_netlist.specs.declared.refusal.NetlistRefusal.TheVariants.{Syntax, Order, Target, TwoSources, StartFed, EndWired, LeftWired, TooMany, NoMemory}
+use Rattle.bn_netlist.specs.declared.refusal.NetlistRefusal.TheVariants.{Syntax, Order, Target, TwoSources, StartFed}
+use Rattle.bn_netlist.specs.declared.refusal.NetlistRefusal.TheVariants.{EndWired, LeftWired, TooMany, NoMemory}
 
 -- the refusal that names a fault and a line
 abbrev pub refusal_of : Fault → ℕ → NetlistRefusal
@@ -31,7 +35,8 @@ pub record Reads (before : List Sentence) (left : List ℕ) (x : Sentence) (behi
 -- after these lines what is left begins with a fault, and the refusal names it; or memory was wanting
 pub data Refuses (before : List Sentence) (left : List ℕ) (r : NetlistRefusal) : Type 0 where
   wants_memory : r ≡ NoMemory → Refuses before left r
-  finds : (fault : Fault) → BeginsWithFault before left fault → r ≡ refusal_of fault (length before + 1) → Refuses before left r
+  finds : (fault : Fault) → BeginsWithFault before left fault → r ≡ refusal_of fault (length before + 1)
+      → Refuses before left r
 
 -- the header has been read
 pub record ReadsHeader (h : Header) (text left : List ℕ) : Type 0 where
@@ -51,7 +56,8 @@ pub data RefusesBy (found : Option Fault) (line : ℕ) (r : NetlistRefusal) : Ty
 -- for each input line of so many elements a mark, whether one of the wires ends there
 pub record IsFed (count : ℕ) (wires : List Wire) (fed : List Bool) : Type 0 where
   pub size : length fed ≡ 4 * count
-  pub marks : (l : Line) → l.element < count → l.line < 4 → slice_get fed (4 * l.element + l.line) ≡ Some (is_some (source wires l))
+  pub marks : (l : Line) → l.element < count → l.line < 4
+      → slice_get fed (4 * l.element + l.line) ≡ Some (is_some (source wires l))
 
 -- a wire without a fault has been added, with its mark
 pub record Connects (h : Header) (from to : Line) (old new : List Wire) (fed : List Bool) : Type 0 where
@@ -60,7 +66,8 @@ pub record Connects (h : Header) (from to : Line) (old new : List Wire) (fed : L
   pub marked : IsFed h.count new fed
 
 -- the wires of an element have been added, with their marks
-pub record ConnectsAll (h : Header) (e : ℕ) (targets : List (Option Line)) (old new : List Wire) (fed : List Bool) : Type 0 where
+pub record ConnectsAll (h : Header) (e : ℕ) (targets : List (Option Line)) (old new : List Wire) (fed : List Bool)
+    : Type 0 where
   pub faultless : outputs_fault (header_then h []) old e 0 targets ≡ None
   pub wires : new ≡ old ++ wires_from e 0 targets
   pub marked : IsFed h.count new fed
@@ -71,7 +78,8 @@ pub record Holds (rows : List Sentence) (states : List ℕ) (wires : List Wire) 
   pub wires_are : wires ≡ wires_in rows
 
 -- the line of one element more has been read
-pub record ReadsRow (h : Header) (rows : List Sentence) (left behind states : List ℕ) (wires : List Wire) (fed : List Bool) : Type 0 where
+pub record ReadsRow (h : Header) (rows : List Sentence) (left behind states : List ℕ) (wires : List Wire)
+    (fed : List Bool) : Type 0 where
   pub says : Sentence
   pub reads : Reads (header_then h rows) left says behind
   pub holds : Holds (rows ++ says ∷ []) states wires

@@ -1,5 +1,7 @@
--- Reading a line of a configuration text: what stands at the front of some bytes, with the bytes behind it; nothing where the bytes have another form.
-use Rattle.std.specs.Prelude.{◌≡◌, ℕ, ◌==◌, List, [], ◌∷◌, length, drop, Option, Some, None, option_and_then, option_map, if◌then◌else◌, Result, Ok, Err, codes}
+-- Reading a line of a configuration text: what stands at the front of some bytes, with the bytes behind it; nothing
+-- where the bytes have another form.
+use Rattle.std.specs.Prelude.{◌≡◌, ℕ, ◌==◌, List, [], ◌∷◌, length, drop, Option, Some, None, option_and_then}
+use Rattle.std.specs.Prelude.{option_map, if◌then◌else◌, Result, Ok, Err, codes}
 use Rattle.bn_base.specs.Number.{read_number}
 use Rattle.bn_base.specs.declared.numbers.Digits.{Digits}
 use Rattle.bn_element.specs.Rotary.{horizontal, vertical, north, east, south, west}
@@ -37,7 +39,11 @@ letter_taken number [] = None
 letter_taken number (b ∷ bytes) = option_map (λ n. (n, bytes)) (number b)
 
 abbrev pub side_of : ℕ → Option ℕ
-side_of b = if b == 110 then Some north else (if b == 101 then Some east else (if b == 115 then Some south else (if b == 119 then Some west else None)))
+side_of b =
+    if b == 110 then Some north
+    else (if b == 101 then Some east
+    else (if b == 115 then Some south
+    else (if b == 119 then Some west else None)))
 
 abbrev pub bar_of : ℕ → Option ℕ
 bar_of b = if b == 72 then Some horizontal else (if b == 86 then Some vertical else None)

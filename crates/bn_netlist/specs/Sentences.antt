@@ -1,11 +1,15 @@
--- What a line of a configuration text says, and how it is written. Each line says one thing, in one spelling: words and numbers with single spaces between them, and byte 10 at its end. The form is this project's own profile.
-use Rattle.std.specs.Prelude.{◌≡◌, ℕ, ◌<◌, ◌≤◌, List, [], ◌∷◌, ◌++◌, length, slice_index, Option, Some, None, codes, decimal}
+-- What a line of a configuration text says, and how it is written. Each line says one thing, in one spelling: words and
+-- numbers with single spaces between them, and byte 10 at its end. The form is this project's own profile.
+use Rattle.std.specs.Prelude.{◌≡◌, ℕ, ◌<◌, ◌≤◌, List, [], ◌∷◌, ◌++◌, length, slice_index, Option, Some, None, codes}
+use Rattle.std.specs.Prelude.{decimal}
 use Rattle.bn_base.specs.Number.{greatest}
 use Rattle.bn_theory.specs.declared.line.Line.{Line}
 use Rattle.bn_theory.specs.declared.place.Place.{Place}
 use Rattle.bn_theory.specs.declared.place.Place.TheVariants.{Enter, Left}
 
--- What a line says: that this is a configuration text; how many elements there are; the start, an input line; the end, an output line; the steps made; where the signal is; and of an element its number, the state of its bar, and for each of its outputs the input line to which its wire leads, or nothing.
+-- What a line says: that this is a configuration text; how many elements there are; the start, an input line; the end,
+-- an output line; the steps made; where the signal is; and of an element its number, the state of its bar, and for each
+-- of its outputs the input line to which its wire leads, or nothing.
 pub data Sentence : Type 0 where
   Title : Sentence
   Count : ℕ → Sentence
@@ -49,7 +53,8 @@ sentence_text (Start l) = codes "start " ++ line_text l
 sentence_text (End l) = codes "end " ++ line_text l
 sentence_text (Steps t) = codes "steps " ++ decimal t
 sentence_text (At p) = place_text p
-sentence_text (Element n q xs) = codes "e " ++ (decimal n ++ (codes " " ++ (slice_index bar_letters q ∷ targets_text xs)))
+sentence_text (Element n q xs) =
+    codes "e " ++ (decimal n ++ (codes " " ++ (slice_index bar_letters q ∷ targets_text xs)))
 
 -- lines one after another, each with its byte 10
 abbrev pub lines_text : List Sentence → List ℕ
@@ -69,7 +74,8 @@ abbrev pub line_at : Place → Line
 line_at (Enter e l) = record { element = e; line = l }
 line_at (Left e l) = record { element = e; line = l }
 
--- The sentence can be written: its numbers are at most the greatest that is read, its lines and states have letters, it counts some element, and it gives an element four outputs.
+-- The sentence can be written: its numbers are at most the greatest that is read, its lines and states have letters, it
+-- counts some element, and it gives an element four outputs.
 abbrev pub IsSayable : Sentence → Type 0
 IsSayable Title = Unit {0}
 IsSayable (Count c) = (0 < c) × (c ≤ greatest)

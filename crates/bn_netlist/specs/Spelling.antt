@@ -1,4 +1,5 @@
--- Configuration texts of circuits of rotary elements. The form of the text is this project's own profile; the idea and the name of the rotary element are Morita's (2017).
+-- Configuration texts of circuits of rotary elements. The form of the text is this project's own profile; the idea and
+-- the name of the rotary element are Morita's (2017).
 use Rattle.std.specs.Prelude.{◌≡◌, ℕ, ◌<◌, ◌≤◌, List, [], ◌∷◌, ◌++◌, map, replicate, Option, None}
 use Rattle.std.proofs.Common.{suc}
 use Rattle.bn_theory.specs.Circuits.{Circuit, target, source, IsCircuit, IsConfig, IsInput, IsOutput}
@@ -8,7 +9,8 @@ use Rattle.bn_theory.specs.declared.config.Config.{Config}
 use Rattle.bn_element.specs.Rotary.{rotary, north, east, south, west}
 use Rattle.bn_netlist.specs.Sentences.{Sentence, Title, Count, Start, End, Steps, At, Element, lines_text}
 
--- what a text spells: a circuit of so many rotary elements with its wires, a configuration of it, and two lines that it names: the start, an input line, and the end, an output line
+-- what a text spells: a circuit of so many rotary elements with its wires, a configuration of it, and two lines that it
+-- names: the start, an input line, and the end, an output line
 pub record Spelling : Type 0 where
   pub elements : ℕ
   pub wires : List Wire
@@ -24,7 +26,10 @@ circuit_of s = record { tables = replicate s.elements rotary; wires = s.wires }
 abbrev pub most_elements : ℕ
 most_elements = 1048576
 
--- What may be spelled: 1 to 1,048,576 elements, wires that lead one to one from output lines to input lines, a configuration of this circuit, a start into which no wire leads and an end from which none leads. That the configuration is one of this circuit says too that its place is admissible and that its steps are at most 2 to the power 62.
+-- What may be spelled: 1 to 1,048,576 elements, wires that lead one to one from output lines to input lines, a
+-- configuration of this circuit, a start into which no wire leads and an end from which none leads. That the
+-- configuration is one of this circuit says too that its place is admissible and that its steps are at most 2 to the
+-- power 62.
 pub record Admits (s : Spelling) : Type 0 where
   pub some : 0 < s.elements
   pub few : s.elements ≤ most_elements
@@ -64,7 +69,8 @@ pub record Spelled (s : Spelling) (text : List ℕ) : Type 0 where
   pub admitted : Admits s
   pub written : text ≡ text_of s
 
--- The two are the same configuration of the same circuit, with the same start and end; the wires may be listed in another order.
+-- The two are the same configuration of the same circuit, with the same start and end; the wires may be listed in
+-- another order.
 pub record AreSame (s t : Spelling) : Type 0 where
   pub elements : s.elements ≡ t.elements
   pub targets : (from : Line) → target s.wires from ≡ target t.wires from

@@ -1,4 +1,5 @@
--- Laws of configuration texts: one text a configuration, one configuration a text, no text a proper prefix of another, and no configuration of a text with a fault.
+-- Laws of configuration texts: one text a configuration, one configuration a text, no text a proper prefix of another,
+-- and no configuration of a text with a fault.
 use Rattle.std.specs.Prelude.{ℕ, List, [], ◌∷◌}
 use Rattle.bn_netlist.specs.Sentences.{Sentence, Element}
 

@@ -1,7 +1,8 @@
 //! What stands in a line of a text, from left to right.
 
 ghost use Rattle.std.specs.Prelude.{◌≡◌, ◌==◌, None, Some, length, MatchOption, IfNone};
-ghost use Rattle.bn_netlist.specs.Reading.{Takes, word_taken, number_taken, side_taken, bar_taken, line_taken, target_taken, targets_taken};
+ghost use Rattle.bn_netlist.specs.Reading.{Takes, word_taken, number_taken, side_taken, bar_taken, line_taken};
+ghost use Rattle.bn_netlist.specs.Reading.{target_taken, targets_taken};
 
 use bn_base::read_u64;
 use bn_element::{EAST, HORIZONTAL, NORTH, SOUTH, VERTICAL, WEST};
@@ -37,7 +38,10 @@ impl<'a> Cursor<'a> {
     }
 
     /// Passes over this word. Where it doesn't stand here, nothing is passed over.
-    #[tactic(auto, using(crate::proofs::LineReadingLemmas::word_passed, crate::proofs::LineReadingLemmas::word_missing))]
+    #[tactic(auto, using(
+        crate::proofs::LineReadingLemmas::word_passed,
+        crate::proofs::LineReadingLemmas::word_missing
+    ))]
     pub(crate) fn word(&mut self, word: &[u8]) -> Option<()>
         ensures taken { MatchOption result
             (word_taken word.now self.old ≡ None)

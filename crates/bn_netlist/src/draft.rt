@@ -1,12 +1,14 @@
 //! The elements of a configuration text, as far as they have been read.
 
-ghost use Rattle.std.specs.Prelude.{◌≡◌, ◌+◌, ◌*◌, ◌<◌, ◌≤◌, ◌==◌, [], List, length, IfOk, OnOk, IfErr, Some, is_some, slice_get};
+ghost use Rattle.std.specs.Prelude.{◌≡◌, ◌+◌, ◌*◌, ◌<◌, ◌≤◌, ◌==◌, [], List, length, IfOk, OnOk, IfErr, Some, is_some};
+ghost use Rattle.std.specs.Prelude.{slice_get};
 ghost use Rattle.bn_theory.specs.Circuits.{source, same_line};
 ghost use Rattle.bn_netlist.specs.Sentences.{Sentence, AreNameable, IsNameable, lines_text};
 ghost use Rattle.bn_netlist.specs.Reading.{named, named_targets};
 ghost use Rattle.bn_netlist.specs.Faults.{is_left_by, wire_fault, outputs_fault};
 ghost use Rattle.bn_netlist.specs.Header.{header_then};
-ghost use Rattle.bn_netlist.specs.Progress.{tested, RefusesBy, IsFed, Connects, ConnectsAll, Holds, ReadsRow, ReadsRows, Refuses, RefusesRow, IsWhole, IsWholeDraft};
+ghost use Rattle.bn_netlist.specs.Progress.{tested, RefusesBy, IsFed, Connects, ConnectsAll, Holds, ReadsRow};
+ghost use Rattle.bn_netlist.specs.Progress.{ReadsRows, Refuses, RefusesRow, IsWhole, IsWholeDraft};
 ghost use Rattle.bn_netlist.specs.Spelling.{Admits, text_of};
 ghost use Rattle.bn_netlist.specs.NetText.{spelling_of};
 

@@ -1,5 +1,6 @@
 -- Bars of rotary elements, kept as bits and crossed by the signal.
-use Rattle.std.specs.Prelude.{ℕ, ◌-◌, ◌/◌, ◌%◌, ◌<◌, ◌≡◌, List, map, slice_get, slice_set, slice_index, Option, Some, option_and_then}
+use Rattle.std.specs.Prelude.{ℕ, ◌-◌, ◌/◌, ◌%◌, ◌<◌, ◌≡◌, List, map, slice_get, slice_set, slice_index, Option, Some}
+use Rattle.std.specs.Prelude.{option_and_then}
 use Rattle.std.specs.List.{range_with_len}
 use Rattle.std.specs.Int.{bit_at}
 use Rattle.bn_element.specs.Rotary.{rotary}

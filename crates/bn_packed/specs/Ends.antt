@@ -1,5 +1,7 @@
--- How a packed netlist keeps its wires: for each line the line at the other end, in the order of the lines' numbers. Line l of element e has number 4 * e + l.
-use Rattle.std.specs.Prelude.{◌≡◌, ℕ, ◌*◌, ◌/◌, ◌%◌, ◌^◌, ◌<◌, ◌==◌, nat_lt, ◌↔◌, if◌then◌else◌, List, [], ◌∷◌, length, replicate, Option, Some, None, slice_get}
+-- How a packed netlist keeps its wires: for each line the line at the other end, in the order of the lines' numbers.
+-- Line l of element e has number 4 * e + l.
+use Rattle.std.specs.Prelude.{◌≡◌, ℕ, ◌*◌, ◌/◌, ◌%◌, ◌^◌, ◌<◌, ◌==◌, nat_lt, ◌↔◌, if◌then◌else◌, List, [], ◌∷◌, length}
+use Rattle.std.specs.Prelude.{replicate, Option, Some, None, slice_get}
 use Rattle.bn_theory.specs.declared.line.Line.{Line}
 use Rattle.bn_element.specs.declared.rotary.Rotary.{Rotary}
 use Rattle.bn_net.specs.Rows.{Rows, entry, wires_of}
@@ -50,7 +52,8 @@ rotaries n = replicate n (record {})
 abbrev pub net_of : EndList → Parts Rotary
 net_of targets = record { elements = rotaries targets.elements; wires = wires_of 0 (rows_of targets.ends) }
 
--- The ends are those of the same wires, kept both ways: four for each of the elements, and an output line leads to an input line exactly where that one comes from it.
+-- The ends are those of the same wires, kept both ways: four for each of the elements, and an output line leads to an
+-- input line exactly where that one comes from it.
 pub record IsWiring (targets sources : EndList) : Type 0 where
   pub same : sources.elements ≡ targets.elements
   pub few : targets.elements < 2 ^ 32

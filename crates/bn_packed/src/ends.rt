@@ -1,6 +1,7 @@
 //! The other ends of the wires of all lines, in one array.
 
-ghost use Rattle.std.specs.Prelude.{◌≡◌, ◌+◌, ◌*◌, ◌<◌, ◌≤◌, [], ◌∷◌, ◌++◌, length, map, Some, IfOk, IfSome, OnOk, slice_get};
+ghost use Rattle.std.specs.Prelude.{◌≡◌, ◌+◌, ◌*◌, ◌<◌, ◌≤◌, [], ◌∷◌, ◌++◌, length, map, Some, IfOk, IfSome, OnOk};
+ghost use Rattle.std.specs.Prelude.{slice_get};
 
 use crate::cells::{Cell, LINES, line_number};
 use bn_net::{Line, NoMemory};

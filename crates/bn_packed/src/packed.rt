@@ -38,7 +38,8 @@ impl Model for Packed {
 
     ghost view = { λ p. record { net = net_in p.wires; config = config_at p.bars p.signal.place p.signal.steps } };
 
-    ghost invariant = { λ p. IsConfig (rotary_circuit (net_in p.wires)) (config_at p.bars p.signal.place p.signal.steps) };
+    ghost invariant = { λ p.
+        IsConfig (rotary_circuit (net_in p.wires)) (config_at p.bars p.signal.place p.signal.steps) };
 }
 
 impl Packed {
@@ -188,7 +189,8 @@ impl Packed {
         ensures run { self.new.config ≡ run (rotary_circuit self.old.net) self.old.config e }
         ensures undone { back (rotary_circuit self.old.net) self.new.config result ≡ self.old.config }
         ensures good { IsConfig (rotary_circuit self.old.net) self.new.config }
-        ensures told { Hears (W.told watch.old) (places (rotary_circuit self.old.net) e self.old.config) (W.told watch.new) }
+        ensures told { Hears (W.told watch.old)
+            (places (rotary_circuit self.old.net) e self.old.config) (W.told watch.new) }
     {
         let _elements = self.wires.len();
         let before = self.signal.steps;
@@ -203,11 +205,15 @@ impl Packed {
         ensures net { self.new.net ≡ self.old.net }
         ensures bound { result ≤ e }
         ensures made { Reaches (Goes (rotary_circuit self.old.net)) result self.old.config self.new.config }
-        ensures between { PassesBy (rotary_circuit self.old.net) (S.stops stop.now) result self.old.config self.new.config }
-        ensures ended { result < e → IsStuck (rotary_circuit self.old.net) self.new.config ⊎ (stops_at (S.stops stop.now) self.new.config.place ≡ true) }
+        ensures between {
+            PassesBy (rotary_circuit self.old.net) (S.stops stop.now) result self.old.config self.new.config }
+        ensures ended { result < e
+            → IsStuck (rotary_circuit self.old.net) self.new.config
+            ⊎ (stops_at (S.stops stop.now) self.new.config.place ≡ true) }
         ensures moves { 0 < e → (0 < result) ⊎ IsStuck (rotary_circuit self.old.net) self.old.config }
         ensures good { IsConfig (rotary_circuit self.old.net) self.new.config }
-        ensures told { Hears (W.told watch.old) (places (rotary_circuit self.old.net) result self.old.config) (W.told watch.new) }
+        ensures told { Hears (W.told watch.old)
+            (places (rotary_circuit self.old.net) result self.old.config) (W.told watch.new) }
     {
         let _elements = self.wires.len();
         let before = self.signal.steps;
@@ -229,7 +235,8 @@ impl Packed {
         ensures back { self.new.config ≡ back (rotary_circuit self.old.net) self.old.config e }
         ensures undone { run (rotary_circuit self.old.net) self.new.config result ≡ self.old.config }
         ensures good { IsConfig (rotary_circuit self.old.net) self.new.config }
-        ensures told { Hears (W.told watch.old) (places_back (rotary_circuit self.old.net) e self.old.config) (W.told watch.new) }
+        ensures told { Hears (W.told watch.old)
+            (places_back (rotary_circuit self.old.net) e self.old.config) (W.told watch.new) }
     {
         let _elements = self.wires.len();
         let before = self.signal.steps;

@@ -28,8 +28,11 @@ pub(crate) fn walk<C: Cell, W: Watch>(
     requires room { signal.steps + count ≤ clock }
     ensures forward { signal.steps ≤ result.steps }
     ensures limit { result.steps ≤ signal.steps + count }
-    ensures walked { HasWalked (rotary_circuit wiring.now) (config_at bars.old signal.place signal.steps) (config_at bars.new result.place result.steps) (result.steps - signal.steps) (W.told watch.old) (W.told watch.new) }
-    ensures ended { result.steps < signal.steps + count → IsStuck (rotary_circuit wiring.now) (config_at bars.new result.place result.steps) }
+    ensures walked { HasWalked (rotary_circuit wiring.now)
+        (config_at bars.old signal.place signal.steps) (config_at bars.new result.place result.steps)
+        (result.steps - signal.steps) (W.told watch.old) (W.told watch.new) }
+    ensures ended { result.steps < signal.steps + count
+        → IsStuck (rotary_circuit wiring.now) (config_at bars.new result.place result.steps) }
 {
     walk_until(wiring, bars, signal, count, &Nowhere, watch)
 }
@@ -48,10 +51,17 @@ pub(crate) fn walk_until<C: Cell, S: Stop, W: Watch>(
     requires room { signal.steps + count ≤ clock }
     ensures forward { signal.steps ≤ result.steps }
     ensures limit { result.steps ≤ signal.steps + count }
-    ensures walked { HasWalked (rotary_circuit wiring.now) (config_at bars.old signal.place signal.steps) (config_at bars.new result.place result.steps) (result.steps - signal.steps) (W.told watch.old) (W.told watch.new) }
-    ensures ended { result.steps < signal.steps + count → IsStuck (rotary_circuit wiring.now) (config_at bars.new result.place result.steps) ⊎ (stops_at (S.stops stop.now) result.place ≡ true) }
-    ensures between { PassesBy (rotary_circuit wiring.now) (S.stops stop.now) (result.steps - signal.steps) (config_at bars.old signal.place signal.steps) (config_at bars.new result.place result.steps) }
-    ensures moves { 0 < count → signal.steps < result.steps ⊎ IsStuck (rotary_circuit wiring.now) (config_at bars.old signal.place signal.steps) }
+    ensures walked { HasWalked (rotary_circuit wiring.now)
+        (config_at bars.old signal.place signal.steps) (config_at bars.new result.place result.steps)
+        (result.steps - signal.steps) (W.told watch.old) (W.told watch.new) }
+    ensures ended { result.steps < signal.steps + count
+        → IsStuck (rotary_circuit wiring.now) (config_at bars.new result.place result.steps)
+        ⊎ (stops_at (S.stops stop.now) result.place ≡ true) }
+    ensures between { PassesBy (rotary_circuit wiring.now) (S.stops stop.now) (result.steps - signal.steps)
+        (config_at bars.old signal.place signal.steps) (config_at bars.new result.place result.steps) }
+    ensures moves { 0 < count
+        → signal.steps < result.steps
+        ⊎ IsStuck (rotary_circuit wiring.now) (config_at bars.old signal.place signal.steps) }
 {
     let _elements = wiring.len();
     let Place::Enter { element, line } = signal.place else {
@@ -100,8 +110,11 @@ pub(crate) fn walk_back<C: Cell, W: Watch>(
     requires counted { count ≤ signal.steps }
     ensures backward { result.steps ≤ signal.steps }
     ensures limit { signal.steps ≤ result.steps + count }
-    ensures walked { HasWalkedBack (rotary_circuit wiring.now) (config_at bars.old signal.place signal.steps) (config_at bars.new result.place result.steps) (signal.steps - result.steps) (W.told watch.old) (W.told watch.new) }
-    ensures ended { signal.steps < result.steps + count → IsFirst (rotary_circuit wiring.now) (config_at bars.new result.place result.steps) }
+    ensures walked { HasWalkedBack (rotary_circuit wiring.now)
+        (config_at bars.old signal.place signal.steps) (config_at bars.new result.place result.steps)
+        (signal.steps - result.steps) (W.told watch.old) (W.told watch.new) }
+    ensures ended { signal.steps < result.steps + count
+        → IsFirst (rotary_circuit wiring.now) (config_at bars.new result.place result.steps) }
 {
     let _elements = wiring.len();
     match signal.place {
@@ -136,8 +149,11 @@ fn walk_back_from<C: Cell, W: Watch>(
     requires counted { count ≤ steps }
     ensures backward { result.steps ≤ steps }
     ensures limit { steps ≤ result.steps + count }
-    ensures walked { HasWalkedBack (rotary_circuit wiring.now) (config_at bars.old (Enter to.element to.line) steps) (config_at bars.new result.place result.steps) (steps - result.steps) (W.told watch.old) (W.told watch.new) }
-    ensures ended { steps < result.steps + count → IsFirst (rotary_circuit wiring.now) (config_at bars.new result.place result.steps) }
+    ensures walked { HasWalkedBack (rotary_circuit wiring.now)
+        (config_at bars.old (Enter to.element to.line) steps) (config_at bars.new result.place result.steps)
+        (steps - result.steps) (W.told watch.old) (W.told watch.new) }
+    ensures ended { steps < result.steps + count
+        → IsFirst (rotary_circuit wiring.now) (config_at bars.new result.place result.steps) }
 {
     let _elements = wiring.len();
     let sources = wiring.sources();

@@ -81,8 +81,11 @@ impl Wires {
         requires room { signal.steps + count ≤ clock }
         ensures forward { signal.steps ≤ result.steps }
         ensures limit { result.steps ≤ signal.steps + count }
-        ensures walked { HasWalked (rotary_circuit (net_in self.now)) (config_at bars.old signal.place signal.steps) (config_at bars.new result.place result.steps) (result.steps - signal.steps) (W.told watch.old) (W.told watch.new) }
-        ensures ended { result.steps < signal.steps + count → IsStuck (rotary_circuit (net_in self.now)) (config_at bars.new result.place result.steps) }
+        ensures walked { HasWalked (rotary_circuit (net_in self.now))
+            (config_at bars.old signal.place signal.steps) (config_at bars.new result.place result.steps)
+            (result.steps - signal.steps) (W.told watch.old) (W.told watch.new) }
+        ensures ended { result.steps < signal.steps + count
+            → IsStuck (rotary_circuit (net_in self.now)) (config_at bars.new result.place result.steps) }
     {
         match self {
             Wires::Narrow(wiring) => walk(wiring, bars, signal, count, watch),
@@ -104,10 +107,17 @@ impl Wires {
         requires room { signal.steps + count ≤ clock }
         ensures forward { signal.steps ≤ result.steps }
         ensures limit { result.steps ≤ signal.steps + count }
-        ensures walked { HasWalked (rotary_circuit (net_in self.now)) (config_at bars.old signal.place signal.steps) (config_at bars.new result.place result.steps) (result.steps - signal.steps) (W.told watch.old) (W.told watch.new) }
-        ensures ended { result.steps < signal.steps + count → IsStuck (rotary_circuit (net_in self.now)) (config_at bars.new result.place result.steps) ⊎ (stops_at (S.stops stop.now) result.place ≡ true) }
-        ensures between { PassesBy (rotary_circuit (net_in self.now)) (S.stops stop.now) (result.steps - signal.steps) (config_at bars.old signal.place signal.steps) (config_at bars.new result.place result.steps) }
-        ensures moves { 0 < count → signal.steps < result.steps ⊎ IsStuck (rotary_circuit (net_in self.now)) (config_at bars.old signal.place signal.steps) }
+        ensures walked { HasWalked (rotary_circuit (net_in self.now))
+            (config_at bars.old signal.place signal.steps) (config_at bars.new result.place result.steps)
+            (result.steps - signal.steps) (W.told watch.old) (W.told watch.new) }
+        ensures ended { result.steps < signal.steps + count
+            → IsStuck (rotary_circuit (net_in self.now)) (config_at bars.new result.place result.steps)
+            ⊎ (stops_at (S.stops stop.now) result.place ≡ true) }
+        ensures between { PassesBy (rotary_circuit (net_in self.now)) (S.stops stop.now) (result.steps - signal.steps)
+            (config_at bars.old signal.place signal.steps) (config_at bars.new result.place result.steps) }
+        ensures moves { 0 < count
+            → signal.steps < result.steps
+            ⊎ IsStuck (rotary_circuit (net_in self.now)) (config_at bars.old signal.place signal.steps) }
     {
         match self {
             Wires::Narrow(wiring) => walk_until(wiring, bars, signal, count, stop, watch),
@@ -128,8 +138,11 @@ impl Wires {
         requires counted { count ≤ signal.steps }
         ensures backward { result.steps ≤ signal.steps }
         ensures limit { signal.steps ≤ result.steps + count }
-        ensures walked { HasWalkedBack (rotary_circuit (net_in self.now)) (config_at bars.old signal.place signal.steps) (config_at bars.new result.place result.steps) (signal.steps - result.steps) (W.told watch.old) (W.told watch.new) }
-        ensures ended { signal.steps < result.steps + count → IsFirst (rotary_circuit (net_in self.now)) (config_at bars.new result.place result.steps) }
+        ensures walked { HasWalkedBack (rotary_circuit (net_in self.now))
+            (config_at bars.old signal.place signal.steps) (config_at bars.new result.place result.steps)
+            (signal.steps - result.steps) (W.told watch.old) (W.told watch.new) }
+        ensures ended { signal.steps < result.steps + count
+            → IsFirst (rotary_circuit (net_in self.now)) (config_at bars.new result.place result.steps) }
     {
         match self {
             Wires::Narrow(wiring) => walk_back(wiring, bars, signal, count, watch),

@@ -1,5 +1,6 @@
 //! Laws on floor plans. Each function does nothing; its contract is the law.
-ghost use Rattle.bn_plan.specs.Laws.{BankExample, CircuitsAreRotary, HasOneFloorPlan, NoWiresNoTracks, NoneHasFewer, PlansCompute, PlansFit, TracksAreNeeded, TracksAreTheDensity};
+ghost use Rattle.bn_plan.specs.Laws.{BankExample, CircuitsAreRotary, HasOneFloorPlan, NoWiresNoTracks, NoneHasFewer};
+ghost use Rattle.bn_plan.specs.Laws.{PlansCompute, PlansFit, TracksAreNeeded, TracksAreTheDensity};
 
 /// The wires of a circuit of rotary elements have a floor plan, and only one.
 pub fn floor_plan_is_one()

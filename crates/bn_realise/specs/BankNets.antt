@@ -16,28 +16,33 @@ use Rattle.bn_realise.specs.Banks.{column_at, bottom_at, IsBank, IsBankWire, IsB
 use Rattle.bn_realise.specs.declared.refusal.BankRefusal.{BankRefusal}
 use Rattle.bn_realise.specs.declared.refusal.BankRefusal.TheVariants.{Elements, NoMemory}
 
--- A table that makes a bank from element `first` on: it has a state and a line, as many lines out as in, and the bank's last element is below 2^32.
+-- A table that makes a bank from element `first` on: it has a state and a line, as many lines out as in, and the bank's
+-- last element is below 2^32.
 pub record HasRoom (first : ℕ) (t : Table) : Type 0 where
   pub some_states : 0 < t.states
   pub some_lines : 0 < t.inputs
   pub square : t.outputs ≡ t.inputs
   pub fits : column_at first t.inputs t.states ≤ 2 ^ 32
 
--- the bank can make a move from where the signal is: it is at rest in a state, the signal enters an input line, and the clock has room for the cost
+-- the bank can make a move from where the signal is: it is at rest in a state, the signal enters an input line, and the
+-- clock has room for the cost
 pub record CanMove (b : ℕ) (t : Table) (c : Config) : Type 0 where
   pub state : ℕ
   pub line : ℕ
   pub entering : IsBankEntering b t state line c
   pub in_time : c.steps + table_cost t state line ≤ clock
 
--- So many steps, the last of which ends the move; and each test that holds of what is within the move holds strictly between.
+-- So many steps, the last of which ends the move; and each test that holds of what is within the move holds strictly
+-- between.
 pub record IsMove (k : Circuit) (b : ℕ) (t : Table) (q i steps : ℕ) (c d : Config) : Type 0 where
   pub cost : steps ≡ table_cost t q i
   pub made : Reaches (Goes k) steps c d
   pub ends : d ≡ moved k b t q i c
-  pub between : (test : Config → Bool) → ((x : Config) → IsWithinBank b t q i c.states x → test x ≡ true) → Passes (Goes k) test steps c d
+  pub between : (test : Config → Bool) → ((x : Config) → IsWithinBank b t q i c.states x → test x ≡ true)
+      → Passes (Goes k) test steps c d
 
--- The net is the bank of this table: its elements are those of the bank, and its wires are the bank's own and no others.
+-- The net is the bank of this table: its elements are those of the bank, and its wires are the bank's own and no
+-- others.
 pub record IsBankNet (net : Parts Rotary) (t : Table) : Type 0 where
   pub elements : length net.elements ≡ t.states * (t.inputs + 1)
   pub bank : IsBank (rotary_circuit net) 0 t
@@ -74,4 +79,8 @@ IsCounted count NoMemory = Unit {0}
 
 -- the bank with n columns of k rows at rest in state q, with the signal at input line i
 abbrev pub start_at : ℕ → ℕ → ℕ → ℕ → Config
-start_at n k q i = record { states = slice_set (replicate (n * (k + 1)) vertical) (bottom_at 0 k q) horizontal; place = Enter i west; steps = 0 }
+start_at n k q i = record {
+  states = slice_set (replicate (n * (k + 1)) vertical) (bottom_at 0 k q) horizontal;
+  place = Enter i west;
+  steps = 0;
+}

@@ -17,8 +17,10 @@ pub record IsWithinLines (b : ℕ) (t : Table) (from to : Line) : Type 0 where
 
 -- the wires that a row adds: on to the next column, where there is one, and across, where there is a move
 pub data IsRowWire (b : ℕ) (t : Table) (j i : ℕ) (from to : Line) : Type 0 where
-  onward : j + 1 < t.states → from ≡ line_at (column_at b t.inputs j + i) east → to ≡ line_at (column_at b t.inputs (j + 1) + i) west → IsRowWire b t j i from to
-  turned : (r o : ℕ) → t.go j i ≡ Some (r, o) → from ≡ line_at (column_at b t.inputs j + i) west → to ≡ line_at (column_at b t.inputs r + o) east → IsRowWire b t j i from to
+  onward : j + 1 < t.states → from ≡ line_at (column_at b t.inputs j + i) east
+      → to ≡ line_at (column_at b t.inputs (j + 1) + i) west → IsRowWire b t j i from to
+  turned : (r o : ℕ) → t.go j i ≡ Some (r, o) → from ≡ line_at (column_at b t.inputs j + i) west
+      → to ≡ line_at (column_at b t.inputs r + o) east → IsRowWire b t j i from to
 
 -- the wires that leave the columns before column j
 pub data IsEarlier (b : ℕ) (t : Table) (j : ℕ) (from to : Line) : Type 0 where
@@ -34,4 +36,5 @@ pub data IsStage (b : ℕ) (t : Table) (j i : ℕ) (from to : Line) : Type 0 whe
 -- these, and the wire of row i on to the next column
 pub data IsHalf (b : ℕ) (t : Table) (j i : ℕ) (from to : Line) : Type 0 where
   before : IsStage b t j i from to → IsHalf b t j i from to
-  beside : j + 1 < t.states → from ≡ line_at (column_at b t.inputs j + i) east → to ≡ line_at (column_at b t.inputs (j + 1) + i) west → IsHalf b t j i from to
+  beside : j + 1 < t.states → from ≡ line_at (column_at b t.inputs j + i) east
+      → to ≡ line_at (column_at b t.inputs (j + 1) + i) west → IsHalf b t j i from to

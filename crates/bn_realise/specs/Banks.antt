@@ -1,5 +1,9 @@
--- Banks of columns of rotary elements (this project's own profile): which elements and wires of a circuit make the bank of an element's table, when it is at rest, and what one of its moves comes to. The bank of a table with n states and k lines has n columns of k rows, one column after another, each with its bottom. States, lines, columns and rows are counted from 0. The bank is in state q where every column is at rest and column q alone is marked.
-use Rattle.std.specs.Prelude.{◌≡◌, ℕ, ◌+◌, ◌-◌, ◌*◌, ◌<◌, ◌≤◌, ◌==◌, Bool, false, List, Option, Some, None, slice_get, slice_set, ◌⊎◌}
+-- Banks of columns of rotary elements (this project's own profile): which elements and wires of a circuit make the bank
+-- of an element's table, when it is at rest, and what one of its moves comes to. The bank of a table with n states and
+-- k lines has n columns of k rows, one column after another, each with its bottom. States, lines, columns and rows are
+-- counted from 0. The bank is in state q where every column is at rest and column q alone is marked.
+use Rattle.std.specs.Prelude.{◌≡◌, ℕ, ◌+◌, ◌-◌, ◌*◌, ◌<◌, ◌≤◌, ◌==◌, Bool, false, List, Option, Some, None, slice_get}
+use Rattle.std.specs.Prelude.{slice_set, ◌⊎◌}
 use Rattle.bn_theory.specs.Tables.{Table}
 use Rattle.bn_theory.specs.Circuits.{Circuit, target, place_after}
 use Rattle.bn_theory.specs.declared.line.Line.{Line}
@@ -16,11 +20,15 @@ column_at b k j = b + j * (k + 1)
 abbrev pub bottom_at : ℕ → ℕ → ℕ → ℕ
 bottom_at b k j = column_at b k j + k
 
--- A bank's own wires: from this output line to this input line. Each column has its inner wires; each row leads on to the same row of the next column; and for each move, the west of the row where the signal is turned back leads to the east of the row where it is to go out.
+-- A bank's own wires: from this output line to this input line. Each column has its inner wires; each row leads on to
+-- the same row of the next column; and for each move, the west of the row where the signal is turned back leads to the
+-- east of the row where it is to go out.
 pub data IsBankWire (b : ℕ) (t : Table) (from to : Line) : Type 0 where
   inner : (j : ℕ) → j < t.states → IsInner (column_at b t.inputs j) t.inputs from to → IsBankWire b t from to
-  along : (j i : ℕ) → j + 1 < t.states → i < t.inputs → from ≡ line_at (column_at b t.inputs j + i) east → to ≡ line_at (column_at b t.inputs (j + 1) + i) west → IsBankWire b t from to
-  across : (q i r o : ℕ) → t.go q i ≡ Some (r, o) → from ≡ line_at (column_at b t.inputs q + i) west → to ≡ line_at (column_at b t.inputs r + o) east → IsBankWire b t from to
+  along : (j i : ℕ) → j + 1 < t.states → i < t.inputs → from ≡ line_at (column_at b t.inputs j + i) east
+      → to ≡ line_at (column_at b t.inputs (j + 1) + i) west → IsBankWire b t from to
+  across : (q i r o : ℕ) → t.go q i ≡ Some (r, o) → from ≡ line_at (column_at b t.inputs q + i) west
+      → to ≡ line_at (column_at b t.inputs r + o) east → IsBankWire b t from to
 
 -- In this circuit the elements from b on are rotary elements with the wires of the bank of this table.
 pub record IsBank (c : Circuit) (b : ℕ) (t : Table) : Type 0 where
@@ -74,7 +82,9 @@ abbrev pub exit_after : ℕ → Table → ℕ → ℕ → Option (ℕ × ℕ) �
 exit_after b t q i None = turning_line b t q i
 exit_after b t q i (Some m) = output_line b t m.1
 
--- What a move from state q and line i comes to: the mark goes from the old state's column to the new one's, and the signal is where that output line leads. Where the pair has no move, no column is marked and the signal is where the turning line leads: it has left, if that line is loose.
+-- What a move from state q and line i comes to: the mark goes from the old state's column to the new one's, and the
+-- signal is where that output line leads. Where the pair has no move, no column is marked and the signal is where the
+-- turning line leads: it has left, if that line is loose.
 abbrev pub moved : Circuit → ℕ → Table → ℕ → ℕ → Config → Config
 moved k b t q i c =
     record {
@@ -91,7 +101,9 @@ IsBesideBank b t e = (e < b) ⊎ (column_at b t.inputs t.states ≤ e)
 pub record AreMarked (states : List ℕ) (b n k : ℕ) (mark : Option ℕ) : Type 0 where
   pub bottoms : (j : ℕ) → j < n → slice_get states (bottom_at b k j) ≡ Some (bar (is_marked mark j))
 
--- Strictly within a move from state q and line i that began with these states: the signal enters a line to which one of the bank's own wires leads; the bars beside the bank are as they were; and at most one column is marked, that of the old state or that of the new one.
+-- Strictly within a move from state q and line i that began with these states: the signal enters a line to which one of
+-- the bank's own wires leads; the bars beside the bank are as they were; and at most one column is marked, that of the
+-- old state or that of the new one.
 pub record IsWithinBank (b : ℕ) (t : Table) (q i : ℕ) (states : List ℕ) (d : Config) : Type 0 where
   pub from : Line
   pub to : Line

@@ -6,39 +6,53 @@ use Rattle.bn_theory.specs.Circuits.{Circuit, clock, Goes}
 use Rattle.bn_theory.specs.declared.line.Line.{Line}
 use Rattle.bn_theory.specs.declared.config.Config.{Config}
 use Rattle.bn_rsm.specs.Costs.{table_cost}
-use Rattle.bn_realise.specs.Banks.{IsBank, IsBankWire, IsBankEntering, IsResting, IsBesideBank, IsWithinBank, AreMarked, bottom_at, input_line, mark_after, moved}
+use Rattle.bn_realise.specs.Banks.{IsBank, IsBankWire, IsBankEntering, IsResting, IsBesideBank, IsWithinBank, AreMarked}
+use Rattle.bn_realise.specs.Banks.{bottom_at, input_line, mark_after, moved}
 use Rattle.bn_realise.specs.BankWires.{IsWithinLines}
 use Rattle.bn_realise.specs.BankNets.{IsBankNet}
 use Rattle.bn_element.specs.Rotary.{horizontal}
 use Rattle.bn_element.specs.declared.rotary.Rotary.{Rotary}
 use Rattle.bn_net.specs.Parts.{Parts}
 
--- In any circuit that has the bank of a reversible table with as many lines out as in, where the signal enters an input line of the bank at rest and the clock has room: exactly the steps of its cost lead to the move's end, and each test that holds of what is within the move holds strictly between.
+-- In any circuit that has the bank of a reversible table with as many lines out as in, where the signal enters an input
+-- line of the bank at rest and the clock has room: exactly the steps of its cost lead to the move's end, and each test
+-- that holds of what is within the move holds strictly between.
 abbrev pub BanksAreCrossed : Type 0
 BanksAreCrossed =
-    (k : Circuit) (b : ℕ) (t : Table) (q i : ℕ) (c : Config) (test : Config → Bool) → IsReversible t → t.outputs ≡ t.inputs → IsBank k b t → IsBankEntering b t q i c → c.steps + table_cost t q i ≤ clock → ((d : Config) → IsWithinBank b t q i c.states d → test d ≡ true) → Passes (Goes k) test (table_cost t q i) c (moved k b t q i c)
+    (k : Circuit) (b : ℕ) (t : Table) (q i : ℕ) (c : Config) (test : Config → Bool) → IsReversible t
+        → t.outputs ≡ t.inputs → IsBank k b t → IsBankEntering b t q i c → c.steps + table_cost t q i ≤ clock
+        → ((d : Config) → IsWithinBank b t q i c.states d → test d ≡ true)
+        → Passes (Goes k) test (table_cost t q i) c (moved k b t q i c)
 
 -- After a move the bank is at rest in the new state, or with no column marked where the pair has no move.
 abbrev pub MovedBanksRest : Type 0
 MovedBanksRest =
-    (k : Circuit) (b : ℕ) (t : Table) (q i : ℕ) (c : Config) → IsReversible t → t.outputs ≡ t.inputs → IsBank k b t → IsBankEntering b t q i c → IsResting (moved k b t q i c).states b t.states t.inputs (mark_after (t.go q i))
+    (k : Circuit) (b : ℕ) (t : Table) (q i : ℕ) (c : Config) → IsReversible t → t.outputs ≡ t.inputs → IsBank k b t
+        → IsBankEntering b t q i c → IsResting (moved k b t q i c).states b t.states t.inputs (mark_after (t.go q i))
 
 -- A move changes no bar beside the bank.
 abbrev pub MovesStayWithin : Type 0
 MovesStayWithin =
-    (k : Circuit) (b : ℕ) (t : Table) (q i : ℕ) (c : Config) (e : ℕ) → IsReversible t → t.outputs ≡ t.inputs → IsBank k b t → IsBankEntering b t q i c → IsBesideBank b t e → slice_get (moved k b t q i c).states e ≡ slice_get c.states e
+    (k : Circuit) (b : ℕ) (t : Table) (q i : ℕ) (c : Config) (e : ℕ) → IsReversible t → t.outputs ≡ t.inputs
+        → IsBank k b t → IsBankEntering b t q i c → IsBesideBank b t e
+        → slice_get (moved k b t q i c).states e ≡ slice_get c.states e
 
 -- A bank's own wires join lines of the bank, and none leads to one of its input lines.
 abbrev pub OwnWiresStayInside : Type 0
 OwnWiresStayInside =
-    (b : ℕ) (t : Table) (from to : Line) → IsReversible t → t.outputs ≡ t.inputs → IsBankWire b t from to → IsWithinLines b t from to × ((i : ℕ) → i < t.inputs → to ≢ input_line b i)
+    (b : ℕ) (t : Table) (from to : Line) → IsReversible t → t.outputs ≡ t.inputs → IsBankWire b t from to
+        → IsWithinLines b t from to × ((i : ℕ) → i < t.inputs → to ≢ input_line b i)
 
--- Where the bottoms of a bank are as a mark says, at most one of them is horizontal: at rest, and strictly within a move.
+-- Where the bottoms of a bank are as a mark says, at most one of them is horizontal: at rest, and strictly within a
+-- move.
 abbrev pub MarksAreOne : Type 0
 MarksAreOne =
-    (states : List ℕ) (b n k : ℕ) (mark : Option ℕ) → AreMarked states b n k mark → (j m : ℕ) → j < n → m < n → slice_get states (bottom_at b k j) ≡ Some horizontal → slice_get states (bottom_at b k m) ≡ Some horizontal → j ≡ m
+    (states : List ℕ) (b n k : ℕ) (mark : Option ℕ) → AreMarked states b n k mark → (j m : ℕ) → j < n → m < n
+        → slice_get states (bottom_at b k j) ≡ Some horizontal → slice_get states (bottom_at b k m) ≡ Some horizontal
+        → j ≡ m
 
 -- A net is the bank of one table at most.
 abbrev pub BanksAreOfOneTable : Type 0
 BanksAreOfOneTable =
-    (net : Parts Rotary) (t u : Table) → IsReversible t → IsReversible u → t.outputs ≡ t.inputs → u.outputs ≡ u.inputs → IsBankNet net t → IsBankNet net u → u.inputs ≡ t.inputs → (q i : ℕ) → t.go q i ≡ u.go q i
+    (net : Parts Rotary) (t u : Table) → IsReversible t → IsReversible u → t.outputs ≡ t.inputs → u.outputs ≡ u.inputs
+        → IsBankNet net t → IsBankNet net u → u.inputs ≡ t.inputs → (q i : ℕ) → t.go q i ≡ u.go q i

@@ -22,7 +22,8 @@ pub fn cross_bank_in<E: Element>(
     requires square { (E.table machine.now).outputs ≡ (E.table machine.now).inputs }
     requires bank { IsBank (rotary_circuit net.now) first (E.table machine.now) }
     requires entering { CanMove first (E.table machine.now) config.old }
-    ensures moved { (q i : ℕ) → IsBankEntering first (E.table machine.now) q i config.old → IsMove (rotary_circuit net.now) first (E.table machine.now) q i result config.old config.new }
+    ensures moved { (q i : ℕ) → IsBankEntering first (E.table machine.now) q i config.old
+        → IsMove (rotary_circuit net.now) first (E.table machine.now) q i result config.old config.new }
     ensures good { IsConfig (rotary_circuit net.now) config.new }
 {
     let Place::Enter { element, line: _ } = config.place else {

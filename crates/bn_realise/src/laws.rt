@@ -1,5 +1,6 @@
 //! Laws on banks in any circuit. Each function does nothing; its contract is the law.
-ghost use Rattle.bn_realise.specs.Laws.{BanksAreCrossed, MovedBanksRest, MovesStayWithin, OwnWiresStayInside, MarksAreOne, BanksAreOfOneTable};
+ghost use Rattle.bn_realise.specs.Laws.{BanksAreCrossed, MovedBanksRest, MovesStayWithin, OwnWiresStayInside};
+ghost use Rattle.bn_realise.specs.Laws.{MarksAreOne, BanksAreOfOneTable};
 
 /// A move of a bank, in exactly its steps, with what holds strictly between.
 pub fn banks_are_crossed()

@@ -27,7 +27,8 @@ impl Model for Bank {
 
     ghost view = { λ v. record { net = v.net; states = v.states; lines = v.lines } };
 
-    ghost invariant = { λ v. (length v.net.elements ≡ v.states * (v.lines + 1)) × (v.states * (v.lines + 1) ≤ 1048576) };
+    ghost invariant = { λ v. (length v.net.elements ≡ v.states * (v.lines + 1))
+        × (v.states * (v.lines + 1) ≤ 1048576) };
 }
 
 impl Bank {
@@ -89,7 +90,9 @@ impl Bank {
     pub fn cross(&self, config: &mut Config) -> u64
         requires good { IsConfig (rotary_circuit self.now.net) config.old }
         requires entering { CanMoveBank self.now config.old }
-        ensures moved { (t : Table) (q i : ℕ) → IsReversible t → t.outputs ≡ t.inputs → IsBankOf self.now t → IsBankEntering 0 t q i config.old → IsMove (rotary_circuit self.now.net) 0 t q i result config.old config.new }
+        ensures moved { (t : Table) (q i : ℕ) → IsReversible t → t.outputs ≡ t.inputs → IsBankOf self.now t
+            → IsBankEntering 0 t q i config.old
+            → IsMove (rotary_circuit self.now.net) 0 t q i result config.old config.new }
         ensures good { IsConfig (rotary_circuit self.now.net) config.new }
     {
         self.net.run(config, CLOCK)

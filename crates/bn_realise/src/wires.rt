@@ -16,7 +16,8 @@ use std::alloc::Global;
 pub fn bank_wires<E: Element>(alloc: Global, machine: &E, first: u32) -> Result<Vec<Wire>, NoMemory>
     requires { HasRoom first (E.table machine.now) }
     ensures wires { IfOk result (λ v. AreWiresOf (IsBankWire first (E.table machine.now)) v.items) }
-    ensures few { IfOk result (λ v. length v.items ≤ (E.table machine.now).states * (4 * (E.table machine.now).inputs + 3)) }
+    ensures few { IfOk result (λ v.
+        length v.items ≤ (E.table machine.now).states * (4 * (E.table machine.now).inputs + 3)) }
 {
     let (states, lines) = (machine.states() as usize, machine.lines_in() as usize);
     let Ok(mut wires) = Vec::with_capacity(alloc, states * (4 * lines + 3)) else {
@@ -40,7 +41,8 @@ fn push_column<E: Element>(
     requires column { column < (E.table machine.now).states }
     requires earlier { AreWiresOf (IsEarlier first (E.table machine.now) column) wires.old.items }
     ensures earlier { OnOk result (AreWiresOf (IsEarlier first (E.table machine.now) (column + 1)) wires.new.items) }
-    ensures few { OnOk result (length wires.new.items ≤ length wires.old.items + (4 * (E.table machine.now).inputs + 3)) }
+    ensures few { OnOk result (
+        length wires.new.items ≤ length wires.old.items + (4 * (E.table machine.now).inputs + 3)) }
 {
     let rows = machine.lines_in();
     let Ok(inner) = column_wires(alloc, element_at(first, rows, column, 0), rows) else {

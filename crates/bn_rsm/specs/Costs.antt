@@ -1,4 +1,6 @@
--- What a move of a machine costs when the machine is a bank of columns of rotary elements: a number of element steps, over numbers alone (this project's own profile). States and lines are counted from 0. A machine with n states and k lines is n columns of k rows.
+-- What a move of a machine costs when the machine is a bank of columns of rotary elements: a number of element steps,
+-- over numbers alone (this project's own profile). States and lines are counted from 0. A machine with n states and k
+-- lines is n columns of k rows.
 use Rattle.std.specs.Prelude.{ℕ, ◌+◌, ◌-◌, ◌*◌, Option, Some, None}
 use Rattle.bn_theory.specs.Tables.{Table}
 
@@ -10,7 +12,8 @@ pass_cost k i = 2 * (k - (i + 1)) + 4
 abbrev pub turn_cost : ℕ → ℕ
 turn_cost k = k + 2
 
--- the move from state q and input line i to state r and output line o: past the columns before q, into column q, into column r, and past the columns after r
+-- the move from state q and input line i to state r and output line o: past the columns before q, into column q, into
+-- column r, and past the columns after r
 abbrev pub move_cost : ℕ → ℕ → ℕ → ℕ → ℕ → ℕ → ℕ
 move_cost n k q i r o = q * pass_cost k i + 2 * turn_cost k + (n - (r + 1)) * pass_cost k o
 

@@ -1,5 +1,6 @@
 -- What can be wrong with the moves of a machine, and which move is the first at fault. Moves are counted from 1.
-use Rattle.std.specs.Prelude.{◌≡◌, ℕ, ◌-◌, ◌<◌, nat_lt, ◌==◌, ◌&&◌, Bool, List, take, Option, Some, None, slice_get, if◌then◌else◌}
+use Rattle.std.specs.Prelude.{◌≡◌, ℕ, ◌-◌, ◌<◌, nat_lt, ◌==◌, ◌&&◌, Bool, List, take, Option, Some, None, slice_get}
+use Rattle.std.specs.Prelude.{if◌then◌else◌}
 use Rattle.std.specs.List.{position_from}
 use Rattle.bn_rsm.specs.Machines.{AreSound}
 use Rattle.bn_rsm.specs.declared.rsm_move.RsmMove.{RsmMove}
@@ -29,7 +30,8 @@ number_to ms r o = position_from (leads r o) 1 ms
 abbrev pub is_within : ℕ → ℕ → RsmMove → Bool
 is_within states lines m = nat_lt m.state states && nat_lt m.line lines && nat_lt m.next states && nat_lt m.out lines
 
--- what is wrong with a move that comes after others: a number is out of range; that earlier move leaves the same pair; that earlier move leads to the same pair
+-- what is wrong with a move that comes after others: a number is out of range; that earlier move leaves the same pair;
+-- that earlier move leads to the same pair
 pub data MoveFault : Type 0 where
   out_of_range : MoveFault
   same_domain : ℕ → MoveFault
@@ -43,7 +45,8 @@ clash None None = None
 
 abbrev pub fault_of : ℕ → ℕ → List RsmMove → RsmMove → Option MoveFault
 fault_of states lines earlier m =
-    if is_within states lines m then clash (number_from earlier m.state m.line) (number_to earlier m.next m.out) else Some out_of_range
+    if is_within states lines m then clash (number_from earlier m.state m.line) (number_to earlier m.next m.out)
+    else Some out_of_range
 
 -- Move j is the first with a fault, and this is its first: the moves before it make a machine.
 pub record IsFirstFault (states lines : ℕ) (moves : List RsmMove) (j : ℕ) (fault : MoveFault) : Type 0 where

@@ -8,15 +8,23 @@ use Rattle.bn_rsm.specs.declared.refusal.RsmRefusal.{RsmRefusal}
 use Rattle.bn_rsm.specs.declared.refusal.RsmRefusal.TheVariants.{NoMemory}
 
 abbrev pub RefusalsAreOne : Type 0
-RefusalsAreOne = (states lines : ℕ) (moves : List RsmMove) (a b : RsmRefusal) → IsRefusal states lines moves a → IsRefusal states lines moves b → a ≢ NoMemory → b ≢ NoMemory → a ≡ b
+RefusalsAreOne =
+    (states lines : ℕ) (moves : List RsmMove) (a b : RsmRefusal) → IsRefusal states lines moves a
+    → IsRefusal states lines moves b → a ≢ NoMemory → b ≢ NoMemory → a ≡ b
 
 abbrev pub SoundMovesAreTaken : Type 0
-SoundMovesAreTaken = (states lines : ℕ) (moves : List RsmMove) (a : RsmRefusal) → AreSound states lines moves → IsRefusal states lines moves a → a ≡ NoMemory
+SoundMovesAreTaken =
+    (states lines : ℕ) (moves : List RsmMove) (a : RsmRefusal) → AreSound states lines moves
+    → IsRefusal states lines moves a → a ≡ NoMemory
 
 -- moves make a machine, or they have a first fault
 abbrev pub MovesAreSoundOrRefused : Type 0
-MovesAreSoundOrRefused = (states lines : ℕ) (moves : List RsmMove) → AreSound states lines moves ⊎ ((a : RsmRefusal) × (a ≢ NoMemory) × IsRefusal states lines moves a)
+MovesAreSoundOrRefused =
+    (states lines : ℕ) (moves : List RsmMove)
+    → AreSound states lines moves ⊎ ((a : RsmRefusal) × (a ≢ NoMemory) × IsRefusal states lines moves a)
 
 -- n columns of k rows have n * (k + 1) elements
 abbrev pub CostsAreBounded : Type 0
-CostsAreBounded = (n k q i r o : ℕ) → q < n → i < k → r < n → o < k → (move_cost n k q i r o ≤ 4 * (n * (k + 1))) × (loose_cost k q i ≤ 4 * (n * (k + 1)))
+CostsAreBounded =
+    (n k q i r o : ℕ) → q < n → i < k → r < n → o < k
+    → (move_cost n k q i r o ≤ 4 * (n * (k + 1))) × (loose_cost k q i ≤ 4 * (n * (k + 1)))

@@ -1,4 +1,6 @@
--- Reversible sequential machines by their moves (Morita 2017): partial one-to-one functions from pairs of state and line to pairs of state and line. That a pair may have no move is this project's own profile. Numbers are counted from 0.
+-- Reversible sequential machines by their moves (Morita 2017): partial one-to-one functions from pairs of state and
+-- line to pairs of state and line. That a pair may have no move is this project's own profile. Numbers are counted from
+-- 0.
 use Rattle.std.specs.Prelude.{◌≡◌, ℕ, List, [], ◌∷◌, map, Option, refl}
 use Rattle.std.specs.Coded.{Coded, Coded-set, coded_ℕ, coded_list, coded_option, coded×, code_by, Unit-prop, le_prop}
 use base.Stored.{coded_via}
@@ -28,7 +30,8 @@ abbrev pub machine_table : Machine → Table
 machine_table m = table_by m.states m.lines m.lines (map move_of m.moves)
 
 pub machine_table-IsReversible : (m : Machine) → IsReversible (machine_table m)
-machine_table-IsReversible m = table_by-IsReversible m.states m.lines m.lines (map move_of m.moves) m.sound.one_to_one m.sound.within
+machine_table-IsReversible m =
+    table_by-IsReversible m.states m.lines m.lines (map move_of m.moves) m.sound.one_to_one m.sound.within
 
 -- this machine has so many states and lines and these moves
 pub record IsMadeOf (m : Machine) (n k : ℕ) (ms : List RsmMove) : Type 0 where
@@ -55,15 +58,27 @@ AreWithin-prop s n k [] = Unit-prop
 AreWithin-prop s n k (m ∷ ms) = hlevel (le_prop, AreWithin-prop s n k ms)
 
 pub AreSound-prop : (states lines : ℕ) (moves : List RsmMove) → IsProp (AreSound states lines moves)
-AreSound-prop states lines moves = hlevel (AreOneToOne-prop (map move_of moves), AreWithin-prop states lines lines (map move_of moves))
+AreSound-prop states lines moves =
+    hlevel (AreOneToOne-prop (map move_of moves), AreWithin-prop states lines lines (map move_of moves))
 
 pub same_machine : (m n : Machine) → m.states ≡ n.states → m.lines ≡ n.lines → m.moves ≡ n.moves → m ≡ n
 same_machine m n states lines moves =
-    λ i. record { states = states i; lines = lines i; moves = moves i; sound = is_prop→PathP (λ j. AreSound (states j) (lines j) (moves j)) (λ j. AreSound-prop (states j) (lines j) (moves j)) m.sound n.sound i }
+    λ i. record {
+      states = states i;
+      lines = lines i;
+      moves = moves i;
+      sound = is_prop→PathP (λ j. AreSound (states j) (lines j) (moves j))
+          (λ j. AreSound-prop (states j) (lines j) (moves j)) m.sound n.sound i;
+    }
 
 -- a move, and a machine, as ghost values keep them: their numbers, and the list of moves
 abbrev pub move_code : Coded RsmMove
-move_code = code_by (ℕ × (ℕ × (ℕ × ℕ))) (coded× coded_ℕ (coded× coded_ℕ (coded× coded_ℕ coded_ℕ))) (λ m. (m.state, (m.line, (m.next, m.out)))) (λ c. record { state = c.0; line = c.1.0; next = c.1.1.0; out = c.1.1.1 }) (λ _. refl)
+move_code =
+    code_by (ℕ × (ℕ × (ℕ × ℕ))) (coded× coded_ℕ (coded× coded_ℕ (coded× coded_ℕ coded_ℕ)))
+    (λ m. (m.state, (m.line, (m.next, m.out))))
+    (λ c. record { state = c.0; line = c.1.0; next = c.1.1.0; out = c.1.1.1 }) (λ _. refl)
 
 abbrev pub machine_code : Coded Machine
-machine_code = coded_via (coded× coded_ℕ (coded× coded_ℕ (coded_list move_code))) (λ m. (m.states, (m.lines, m.moves))) (λ m n e. same_machine m n (ap (λ x. x.0) e) (ap (λ x. x.1.0) e) (ap (λ x. x.1.1) e))
+machine_code =
+    coded_via (coded× coded_ℕ (coded× coded_ℕ (coded_list move_code))) (λ m. (m.states, (m.lines, m.moves)))
+    (λ m n e. same_machine m n (ap (λ x. x.0) e) (ap (λ x. x.1.0) e) (ap (λ x. x.1.1) e))

@@ -1,4 +1,5 @@
--- What a run of a circuit of machines costs, where each machine is a bank of columns of rotary elements: a sum over its moves (this project's own profile).
+-- What a run of a circuit of machines costs, where each machine is a bank of columns of rotary elements: a sum over its
+-- moves (this project's own profile).
 use Rattle.std.specs.Prelude.{ℕ, ◌+◌, List, slice_get}
 use Rattle.std.specs.Option.{option_map_or}
 use Rattle.std.proofs.Common.{zero, suc}
@@ -8,7 +9,8 @@ use Rattle.bn_theory.specs.declared.place.Place.{Place}
 use Rattle.bn_theory.specs.declared.place.Place.TheVariants.{Enter, Left}
 use Rattle.bn_rsm.specs.Costs.{table_cost}
 
--- the cost of the step from here: that of the entered machine's move, or of the way to its loose line where it has none; nothing once the signal has left
+-- the cost of the step from here: that of the entered machine's move, or of the way to its loose line where it has
+-- none; nothing once the signal has left
 abbrev pub entry_cost : Circuit → List ℕ → Place → ℕ
 entry_cost k states (Left e o) = 0
 entry_cost k states (Enter e i) =

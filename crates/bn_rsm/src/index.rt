@@ -1,5 +1,6 @@
 //! Moves found by the pairs of state and line that they leave and lead to.
-ghost use Rattle.std.specs.Prelude.{ℕ, ◌≡◌, ◌<◌, ◌^◌, ◌+◌, ◌∷◌, ◌++◌, List, [], Some, None, length, if◌then◌else◌, IfOk, OnOk, IfErr};
+ghost use Rattle.std.specs.Prelude.{ℕ, ◌≡◌, ◌<◌, ◌^◌, ◌+◌, ◌∷◌, ◌++◌, List, [], Some, None, length, if◌then◌else◌};
+ghost use Rattle.std.specs.Prelude.{IfOk, OnOk, IfErr};
 ghost use Rattle.std.specs.HashMap.{get};
 ghost use Rattle.bn_rsm.specs.Machines.{AreSound};
 ghost use Rattle.bn_rsm.specs.Faults.{IsRefusal, fault_of};
@@ -47,7 +48,8 @@ impl Index {
     // Tests a move against the earlier ones, which are indexed: its first fault, under its number,
     // counted from 1.
     fn check(&self, step: &RsmMove, states: u32, lines: u32, number: u32) -> Result<(), RsmRefusal>
-        ensures { (earlier : List RsmMove) → AreNumbers self.now.from self.now.to earlier → result ≡ checked (fault_of states lines earlier step.now) number }
+        ensures { (earlier : List RsmMove) → AreNumbers self.now.from self.now.to earlier
+            → result ≡ checked (fault_of states lines earlier step.now) number }
     {
         let within = step.state < states
             && step.line < lines
@@ -67,7 +69,10 @@ impl Index {
 
     // Adds a move without fault behind the earlier ones.
     fn add(&mut self, step: &RsmMove, number: u32) -> Result<(), NoMemory>
-        ensures { OnOk result ((states lines : ℕ) (earlier : List RsmMove) → AreNumbers self.old.from self.old.to earlier → number ≡ length earlier + 1 → fault_of states lines earlier step.now ≡ None → AreNumbers self.new.from self.new.to (earlier ++ step.now ∷ [])) }
+        ensures { OnOk result ((states lines : ℕ) (earlier : List RsmMove)
+            → AreNumbers self.old.from self.old.to earlier → number ≡ length earlier + 1
+            → fault_of states lines earlier step.now ≡ None
+            → AreNumbers self.new.from self.new.to (earlier ++ step.now ∷ [])) }
     {
         put(&mut self.from, (step.state, step.line), number)?;
         put(&mut self.to, (step.next, step.out), number)?;
@@ -81,7 +86,8 @@ fn put(
     pair: (u32, u32),
     number: u32,
 ) -> Result<(), NoMemory>
-    ensures { OnOk result ((p : ℕ × ℕ) → get same_pair numbers.new p ≡ (if same_pair pair p then Some number else get same_pair numbers.old p)) }
+    ensures { OnOk result ((p : ℕ × ℕ)
+        → get same_pair numbers.new p ≡ (if same_pair pair p then Some number else get same_pair numbers.old p)) }
 {
     match numbers.insert(pair, number) {
         Ok(_) => Ok(()),

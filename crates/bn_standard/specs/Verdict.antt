@@ -1,4 +1,5 @@
--- Why quintuples aren't in standard form: the first of the five demands that fails, in their order, with the numbers that show it.
+-- Why quintuples aren't in standard form: the first of the five demands that fails, in their order, with the numbers
+-- that show it.
 use Rattle.std.specs.Prelude.{ℕ, ◌<◌, List, ⊤}
 use Rattle.bn_machine.specs.declared.quint.Quint.{Quint}
 use Rattle.bn_standard.specs.Standard.{Repeats, BeginsWell, UsesStart, EndsWell, UsesFinal, IsUnambiguous, HasLoneStart}

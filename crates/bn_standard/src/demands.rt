@@ -1,7 +1,8 @@
 //! The five demands of standard form, each tested over the list of quintuples.
 ghost use Rattle.std.specs.Prelude.{◌≡◌, ◌↔◌, ℕ, ◌<◌, ◌≤◌, ◌^◌, IsTrue, MatchOption, length};
 ghost use Rattle.bn_machine.specs.Machine.{start_of, final_of};
-ghost use Rattle.bn_standard.specs.Standard.{Clashes, IsBeginning, BeginsWell, NamesStart, IsEnding, EndsWell, NamesFinal, IsUnambiguous, HasLoneStart, HasLoneFinal};
+ghost use Rattle.bn_standard.specs.Standard.{Clashes, IsBeginning, BeginsWell, NamesStart, IsEnding, EndsWell};
+ghost use Rattle.bn_standard.specs.Standard.{NamesFinal, IsUnambiguous, HasLoneStart, HasLoneFinal};
 ghost use Rattle.bn_standard.specs.Verdict.{IsLeastRepeat, IsLeastStart, IsLeastFinal};
 ghost use Rattle.bn_standard.specs.Search.{HasNoRepeat, IsLeastSecond};
 

@@ -1,5 +1,6 @@
 -- Circuits of elements, and their configurations with one signal.
-use Rattle.std.specs.Prelude.{◌≡◌, ℕ, ◌+◌, ◌<◌, ◌≤◌, ◌↔◌, ◌==◌, ◌&&◌, List, [], ◌∷◌, length, Option, Some, None, if◌then◌else◌, Bool, slice_get, slice_set, option_and_then}
+use Rattle.std.specs.Prelude.{◌≡◌, ℕ, ◌+◌, ◌<◌, ◌≤◌, ◌↔◌, ◌==◌, ◌&&◌, List, [], ◌∷◌, length, Option, Some, None}
+use Rattle.std.specs.Prelude.{if◌then◌else◌, Bool, slice_get, slice_set, option_and_then}
 use Rattle.std.specs.Option.{option_map_or}
 use Rattle.bn_theory.specs.Tables.{Table, IsReversible}
 use Rattle.bn_theory.specs.declared.line.Line.{Line}
@@ -69,7 +70,8 @@ abbrev pub IsPlace : Circuit → Place → Type 0
 IsPlace k (Enter e i) = i < inputs_of k.tables e
 IsPlace k (Left e o) = (o < outputs_of k.tables e) × (target k.wires (record { element = e; line = o }) ≡ None)
 
--- A configuration of the circuit: one state an element, each in range; an admissible place; and at most the greatest number of steps.
+-- A configuration of the circuit: one state an element, each in range; an admissible place; and at most the greatest
+-- number of steps.
 pub record IsConfig (k : Circuit) (c : Config) : Type 0 where
   pub count : length c.states ≡ length k.tables
   pub range : (e q : ℕ) → slice_get c.states e ≡ Some q → q < states_of k.tables e
@@ -84,7 +86,9 @@ place_at (Some to) from = Enter to.element to.line
 abbrev pub place_after : List Wire → Line → Place
 place_after ws from = place_at (target ws from) from
 
--- One element step leads from c to d: the signal enters the element, its table has a move from its state and that line, the state changes there and nowhere else, the signal goes on from the output line, and one step more is counted, within the clock.
+-- One element step leads from c to d: the signal enters the element, its table has a move from its state and that line,
+-- the state changes there and nowhere else, the signal goes on from the output line, and one step more is counted,
+-- within the clock.
 pub record Goes (k : Circuit) (c d : Config) : Type 0 where
   pub element : ℕ
   pub input : ℕ

@@ -1,4 +1,5 @@
--- Parts of a run: what a run taken back in part comes to, what is known of a path at each of its steps, and the places on the way.
+-- Parts of a run: what a run taken back in part comes to, what is known of a path at each of its steps, and the places
+-- on the way.
 use Rattle.std.specs.Prelude.{◌≡◌, ℕ, ◌+◌, ◌<◌, ◌≤◌, Bool, true, length, Some, slice_get}
 use Rattle.bn_theory.specs.Runs.{Reaches, Passes}
 use Rattle.bn_theory.specs.Circuits.{Circuit, Goes, IsCircuit, IsStuck}
@@ -8,7 +9,8 @@ use Rattle.bn_theory.specs.declared.config.Config.{Config}
 -- a run taken back in part is a shorter run
 abbrev pub RunsUndoInPart : Type 0
 RunsUndoInPart =
-    (k : Circuit) → IsCircuit k → (s r t : ℕ) (c d : Config) → t ≡ r + s → Reaches (Goes k) t c d → back k d s ≡ run k c r
+    (k : Circuit) → IsCircuit k → (s r t : ℕ) (c d : Config) → t ≡ r + s → Reaches (Goes k) t c d
+        → back k d s ≡ run k c r
 
 -- of a path, what stands strictly between its ends passes the test
 abbrev pub PathsPassBetween : Type 0
@@ -16,7 +18,8 @@ PathsPassBetween =
     (k : Circuit) (test : Config → Bool) (n t : ℕ) (c d : Config) → Passes (Goes k) test n c d → 0 < t → t < n
     → test (run k c t) ≡ true
 
--- The places told of a run are those of the run's configurations: the place with number i, from 0, is that after i + 1 steps; and there are as many as steps can be made, at most as many as are asked for.
+-- The places told of a run are those of the run's configurations: the place with number i, from 0, is that after i + 1
+-- steps; and there are as many as steps can be made, at most as many as are asked for.
 pub record ArePlacesOfRun (k : Circuit) (t : ℕ) (c : Config) : Type 0 where
   pub count : ℕ
   pub all : length (places k t c) ≡ count

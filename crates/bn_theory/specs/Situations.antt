@@ -1,4 +1,5 @@
--- Circuits without the clock: a step of the signal that counts nothing. What a run leads to doesn't depend on the number of steps made before, so laws on long runs speak of situations.
+-- Circuits without the clock: a step of the signal that counts nothing. What a run leads to doesn't depend on the
+-- number of steps made before, so laws on long runs speak of situations.
 use Rattle.std.specs.Prelude.{◌≡◌, ℕ, ◌+◌, ◌≤◌, Bool, List, Option, Some, None, slice_get, slice_set, option_and_then}
 use Rattle.bn_theory.specs.Runs.{Passes}
 use Rattle.bn_theory.specs.Circuits.{Circuit, clock, go_of, place_after, Goes}
@@ -39,7 +40,8 @@ abbrev pub turn_from : Circuit → List ℕ → Place → Option Situation
 turn_from k states (Left e o) = None
 turn_from k states (Enter e i) =
     option_and_then (λ q. option_and_then (λ (m : ℕ × ℕ).
-    Some (situation (slice_set states e m.0) (place_after k.wires (record { element = e; line = m.1 })))) (go_of k.tables e q i))
+    Some (situation (slice_set states e m.0) (place_after k.wires (record { element = e; line = m.1 }))))
+    (go_of k.tables e q i))
     (slice_get states e)
 
 abbrev pub turn : Circuit → Situation → Option Situation

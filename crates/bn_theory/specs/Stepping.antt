@@ -1,5 +1,6 @@
 -- The step of a circuit as a function, forward and backward, and runs of it.
-use Rattle.std.specs.Prelude.{ℕ, ◌+◌, nat_le, List, [], ◌∷◌, Option, Some, None, if◌then◌else◌, slice_get, slice_set, option_and_then, unwrap_or}
+use Rattle.std.specs.Prelude.{ℕ, ◌+◌, nat_le, List, [], ◌∷◌, Option, Some, None, if◌then◌else◌, slice_get, slice_set}
+use Rattle.std.specs.Prelude.{option_and_then, unwrap_or}
 use Rattle.std.proofs.Common.{zero, suc}
 use Rattle.bn_theory.specs.Circuits.{Circuit, clock, source, go_of, back_of, place_after}
 use Rattle.bn_theory.specs.declared.line.Line.{Line}
@@ -10,13 +11,19 @@ use Rattle.bn_theory.specs.declared.config.Config.{Config}
 
 -- the configuration after a move of this element to a state and an output line
 abbrev pub moved_on : Circuit → Config → ℕ → (ℕ × ℕ) → Config
-moved_on k c e m = record { states = slice_set c.states e m.0; place = place_after k.wires (record { element = e; line = m.1 }); steps = c.steps + 1 }
+moved_on k c e m = record {
+  states = slice_set c.states e m.0;
+  place = place_after k.wires (record { element = e; line = m.1 });
+  steps = c.steps + 1;
+}
 
 -- the one configuration that follows, if there is one
 abbrev pub next_from : Circuit → Config → Place → Option Config
 next_from k c (Left e o) = None
 next_from k c (Enter e i) =
-    option_and_then (λ q. option_and_then (λ m. if nat_le (c.steps + 1) clock then Some (moved_on k c e m) else None) (go_of k.tables e q i)) (slice_get c.states e)
+    option_and_then (λ q. option_and_then
+        (λ m. if nat_le (c.steps + 1) clock then Some (moved_on k c e m) else None)
+        (go_of k.tables e q i)) (slice_get c.states e)
 
 abbrev pub next : Circuit → Config → Option Config
 next k c = next_from k c c.place
@@ -34,7 +41,9 @@ moved_back d steps e m = record { states = slice_set d.states e m.0; place = Ent
 abbrev pub previous_by : Circuit → Config → ℕ → Option Config
 previous_by k d zero = None
 previous_by k d (suc steps) =
-    option_and_then (λ o. option_and_then (λ r. option_and_then (λ m. Some (moved_back d steps o.element m)) (back_of k.tables o.element r o.line)) (slice_get d.states o.element)) (line_before k.wires d.place)
+    option_and_then (λ o. option_and_then (λ r. option_and_then
+        (λ m. Some (moved_back d steps o.element m)) (back_of k.tables o.element r o.line))
+        (slice_get d.states o.element)) (line_before k.wires d.place)
 
 abbrev pub previous : Circuit → Config → Option Config
 previous k d = previous_by k d d.steps

@@ -1,10 +1,13 @@
 -- Elements as tables: what goes in, what comes out, and the way back.
-use Rattle.std.specs.Prelude.{◌≡◌, ℕ, ◌<◌, ◌==◌, ◌&&◌, if◌then◌else◌, true, false, List, [], ◌∷◌, Option, Some, None, ◌⊎◌, refl}
+use Rattle.std.specs.Prelude.{◌≡◌, ℕ, ◌<◌, ◌==◌, ◌&&◌, if◌then◌else◌, true, false, List, [], ◌∷◌, Option, Some, None}
+use Rattle.std.specs.Prelude.{◌⊎◌, refl}
 use Rattle.std.proofs.Common.{inl, inr}
 use Rattle.std.proofs.lemmas.Bool.Decides.{eqb_tells}
 use Rattle.std.proofs.lemmas.Option.{some_pair_parts}
 
--- An element seen from outside. In state q, by input line i, `go q i` is the pair of the state after and the output line, where the element has that move; `back r o` is the pair of state and input line from which a move leads to state r and output line o, where one does. All are counted from 0.
+-- An element seen from outside. In state q, by input line i, `go q i` is the pair of the state after and the output
+-- line, where the element has that move; `back r o` is the pair of state and input line from which a move leads to
+-- state r and output line o, where one does. All are counted from 0.
 pub record Table : Type 0 where
   pub states : ℕ
   pub inputs : ℕ
@@ -12,7 +15,8 @@ pub record Table : Type 0 where
   pub go : ℕ → ℕ → Option (ℕ × ℕ)
   pub back : ℕ → ℕ → Option (ℕ × ℕ)
 
--- A table is reversible where `go` and `back` undo each other, and each move leads from numbers in range to numbers in range. (A reversible sequential machine, Morita 2017; that a pair may have no move is this project's own profile.)
+-- A table is reversible where `go` and `back` undo each other, and each move leads from numbers in range to numbers in
+-- range. (A reversible sequential machine, Morita 2017; that a pair may have no move is this project's own profile.)
 pub record IsReversible (t : Table) : Type 0 where
   pub undone : (q i r o : ℕ) → t.go q i ≡ Some (r, o) → t.back r o ≡ Some (q, i)
   pub redone : (q i r o : ℕ) → t.back r o ≡ Some (q, i) → t.go q i ≡ Some (r, o)
@@ -44,13 +48,17 @@ AreOneToOne (m ∷ ms) = (go_by ms m.state m.input ≡ None) × (back_by ms m.ne
 -- each number of each move is in range
 abbrev pub AreWithin : ℕ → ℕ → ℕ → List Move → Type 0
 AreWithin states inputs outputs [] = Unit {0}
-AreWithin states inputs outputs (m ∷ ms) = (m.state < states) × (m.input < inputs) × (m.next < states) × (m.output < outputs) × AreWithin states inputs outputs ms
+AreWithin states inputs outputs (m ∷ ms) =
+    (m.state < states) × (m.input < inputs) × (m.next < states) × (m.output < outputs)
+    × AreWithin states inputs outputs ms
 
 -- the table of a list of moves
 abbrev pub table_by : ℕ → ℕ → ℕ → List Move → Table
-table_by states inputs outputs ms = record { states = states; inputs = inputs; outputs = outputs; go = go_by ms; back = back_by ms }
+table_by states inputs outputs ms =
+    record { states = states; inputs = inputs; outputs = outputs; go = go_by ms; back = back_by ms }
 
-pub pair_tells : (a b c d : ℕ) → (((a == c && b == d) ≡ true) × (a ≡ c) × (b ≡ d)) ⊎ (((a == c && b == d) ≡ false) × ((a ≡ c) → (b ≡ d) → ⊥))
+pub pair_tells : (a b c d : ℕ)
+    → (((a == c && b == d) ≡ true) × (a ≡ c) × (b ≡ d)) ⊎ (((a == c && b == d) ≡ false) × ((a ≡ c) → (b ≡ d) → ⊥))
 pair_tells a b c d =
     elim (eqb_tells a c) [
       | inl first ↦
@@ -61,7 +69,8 @@ pair_tells a b c d =
       | inr first ↦ inr (rw first.0 refl, λ e _. first.1 e)
     ]
 
-go_by-back_by : (ms : List Move) → AreOneToOne ms → (q i r o : ℕ) → go_by ms q i ≡ Some (r, o) → back_by ms r o ≡ Some (q, i)
+go_by-back_by : (ms : List Move) → AreOneToOne ms → (q i r o : ℕ) → go_by ms q i ≡ Some (r, o)
+    → back_by ms r o ≡ Some (q, i)
 go_by-back_by [] apart q i r o h = absurd (cc)
 go_by-back_by (m ∷ ms) apart q i r o h =
     elim (pair_tells m.state m.input q i) [
@@ -76,12 +85,15 @@ go_by-back_by (m ∷ ms) apart q i r o h =
           (let rest : go_by ms q i ≡ Some (r, o) = rw other.0 at h in
           let back = go_by-back_by ms apart.2 q i r o rest in
           elim (pair_tells m.next m.output r o) [
-            | inl there ↦ (let none : back_by ms m.next m.output ≡ None = apart.1 in let at_r : back_by ms r o ≡ None = rw (there.1, there.2) at none in absurd (cc))
+            | inl there ↦
+                (let none : back_by ms m.next m.output ≡ None = apart.1 in
+                let at_r : back_by ms r o ≡ None = rw (there.1, there.2) at none in absurd (cc))
             | inr there ↦ rw there.0 back
           ])
     ]
 
-back_by-go_by : (ms : List Move) → AreOneToOne ms → (q i r o : ℕ) → back_by ms r o ≡ Some (q, i) → go_by ms q i ≡ Some (r, o)
+back_by-go_by : (ms : List Move) → AreOneToOne ms → (q i r o : ℕ) → back_by ms r o ≡ Some (q, i)
+    → go_by ms q i ≡ Some (r, o)
 back_by-go_by [] apart q i r o h = absurd (cc)
 back_by-go_by (m ∷ ms) apart q i r o h =
     elim (pair_tells m.next m.output r o) [
@@ -96,12 +108,15 @@ back_by-go_by (m ∷ ms) apart q i r o h =
           (let rest : back_by ms r o ≡ Some (q, i) = rw other.0 at h in
           let go = back_by-go_by ms apart.2 q i r o rest in
           elim (pair_tells m.state m.input q i) [
-            | inl there ↦ (let none : go_by ms m.state m.input ≡ None = apart.0 in let at_q : go_by ms q i ≡ None = rw (there.1, there.2) at none in absurd (cc))
+            | inl there ↦
+                (let none : go_by ms m.state m.input ≡ None = apart.0 in
+                let at_q : go_by ms q i ≡ None = rw (there.1, there.2) at none in absurd (cc))
             | inr there ↦ rw there.0 go
           ])
     ]
 
-go_by-within : (s n k : ℕ) (ms : List Move) → AreWithin s n k ms → (q i r o : ℕ) → go_by ms q i ≡ Some (r, o) → (q < s) × (i < n) × (r < s) × (o < k)
+go_by-within : (s n k : ℕ) (ms : List Move) → AreWithin s n k ms → (q i r o : ℕ) → go_by ms q i ≡ Some (r, o)
+    → (q < s) × (i < n) × (r < s) × (o < k)
 go_by-within s n k [] within q i r o h = absurd (cc)
 go_by-within s n k (m ∷ ms) within q i r o h =
     elim (pair_tells m.state m.input q i) [
@@ -113,7 +128,8 @@ go_by-within s n k (m ∷ ms) within q i r o h =
     ]
 
 -- a list of moves that is one to one and in range makes a reversible table
-pub table_by-IsReversible : (s n k : ℕ) (ms : List Move) → AreOneToOne ms → AreWithin s n k ms → IsReversible (table_by s n k ms)
+pub table_by-IsReversible : (s n k : ℕ) (ms : List Move) → AreOneToOne ms → AreWithin s n k ms
+    → IsReversible (table_by s n k ms)
 table_by-IsReversible s n k ms apart within =
     record {
       undone = go_by-back_by ms apart;

@@ -22,7 +22,8 @@ pub fn steps_are_one_to_one()
 /// The step as a function is the step as a relation, forward and backward.
 pub fn steps_compute()
     ensures forward { (k : Circuit) (c d : Config) → (next k c ≡ Some d) ↔ Goes k c d }
-    ensures backward { (k : Circuit) → IsCircuit k → (c d : Config) → IsConfig k d → (previous k d ≡ Some c) ↔ Goes k c d }
+    ensures backward { (k : Circuit) → IsCircuit k → (c d : Config) → IsConfig k d → (previous k d ≡ Some c)
+        ↔ Goes k c d }
 {}
 
 /// A step leads from a configuration of the circuit to one, and only from one to one.
@@ -51,7 +52,8 @@ pub fn runs_are_functions()
 /// beginning, or made as many steps as were asked for, is `back`.
 pub fn runs_undo()
     ensures undone { (k : Circuit) → IsCircuit k → (n : ℕ) (c d : Config) → Reaches (Goes k) n c d → back k d n ≡ c }
-    ensures stops { (k : Circuit) → IsCircuit k → (n t : ℕ) (c d : Config) → IsConfig k c → Reaches (Goes k) n c d → n ≤ t → (n < t → IsFirst k c) → back k d t ≡ c }
+    ensures stops { (k : Circuit) → IsCircuit k → (n t : ℕ) (c d : Config) → IsConfig k c → Reaches (Goes k) n c d
+        → n ≤ t → (n < t → IsFirst k c) → back k d t ≡ c }
 {}
 
 /// A run taken back in part is a shorter run.
