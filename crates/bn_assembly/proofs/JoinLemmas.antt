@@ -25,7 +25,7 @@ use Rattle.bn_assembly.specs.Rows.{IsCellFor, AreModules}
 use Rattle.bn_assembly.specs.Assembled.{IsAssembled}
 use Rattle.bn_assembly.specs.declared.module.Module.{Module}
 use Rattle.bn_assembly.specs.declared.module.Module.TheVariants.{Control, Cell}
-use Rattle.bn_assembly.specs.declared.make.TheConstants.{MOST_ELEMENTS}
+use Rattle.bn_net.specs.declared.net.TheConstants.{MOST_ELEMENTS}
 
 -- ---- rows
 

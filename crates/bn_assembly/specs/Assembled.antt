@@ -18,9 +18,9 @@ use Rattle.bn_assembly.specs.declared.module.Module.{Module}
 use Rattle.bn_assembly.specs.declared.module.Module.TheVariants.{Control, Cell}
 use Rattle.bn_assembly.specs.declared.refusal.AssembleRefusal.{AssembleRefusal}
 use Rattle.bn_assembly.specs.declared.refusal.AssembleRefusal.TheVariants.{WordOutside, Elements, NoMemory}
-use Rattle.bn_assembly.specs.declared.windows.TheConstants.{MOST_CELLS}
+use Rattle.bn_base.specs.declared.limits.TheConstants.{MOST_COUNT}
 use Rattle.bn_assembly.specs.declared.windows.Windows.{Windows}
-use Rattle.bn_assembly.specs.declared.make.TheConstants.{MOST_ELEMENTS}
+use Rattle.bn_net.specs.declared.net.TheConstants.{MOST_ELEMENTS}
 
 -- the window of each tape, as limits of a run: tape 1 from -left to right, the history's steps, the output's letters
 abbrev pub limits_of : Windows → Limits
@@ -28,10 +28,10 @@ limits_of w = record { left = w.left1; right = w.right1; steps = w.right2; outpu
 
 -- no side is too long
 pub record AreSmall (l : Limits) : Type 0 where
-  pub left : l.left ≤ MOST_CELLS
-  pub right : l.right ≤ MOST_CELLS
-  pub steps : l.steps ≤ MOST_CELLS
-  pub output : l.output ≤ MOST_CELLS
+  pub left : l.left ≤ MOST_COUNT
+  pub right : l.right ≤ MOST_COUNT
+  pub steps : l.steps ≤ MOST_COUNT
+  pub output : l.output ≤ MOST_COUNT
 
 -- a network in a configuration, and the window for which it was assembled
 pub record Assembled : Type 0 where

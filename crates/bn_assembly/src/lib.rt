@@ -11,10 +11,10 @@ mod windows;
 mod wires;
 
 pub use assembly::Assembly;
-pub use make::{MOST_ELEMENTS, assemble, element_count};
+pub use make::{assemble, element_count};
 pub use module::Module;
 pub use refusal::AssembleRefusal;
-pub use windows::{MOST_CELLS, Windows};
+pub use windows::Windows;
 
 #[cfg(test)]
 mod tests;

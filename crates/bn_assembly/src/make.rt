@@ -22,13 +22,10 @@ use crate::wires::network_wires;
 use bn_cell::MOST_SYMBOLS;
 use bn_control::{Control, NoMemory, control};
 use bn_element::Element;
-use bn_net::{Config, Net, NetRefusal, Place, States, Wire};
+use bn_net::{Config, MOST_ELEMENTS, Net, NetRefusal, Place, States, Wire};
 use bn_quad::{QuadMachine, Uniform};
 use bn_statecount::state_count;
 use std::alloc::Global;
-
-/// The greatest number of elements of a flat board.
-pub const MOST_ELEMENTS: u64 = 1_048_576;
 
 /// The network of a uniform machine for these windows, at the start with this word. `WordOutside` comes exactly where
 /// the word is longer than the right side of tape 1; else `Elements` comes only where the flat board would have more

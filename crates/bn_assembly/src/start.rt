@@ -6,7 +6,8 @@ ghost use Rattle.bn_modules.specs.Networks.{network_start, start_cells};
 ghost use Rattle.bn_assembly.specs.Assembled.{AreSmall, IsWordOf, limits_of};
 ghost use Rattle.bn_assembly.specs.Starting.{start_state};
 
-use crate::windows::{MOST_CELLS, Windows};
+use crate::windows::Windows;
+use bn_base::MOST_COUNT;
 use bn_cell::MOST_SYMBOLS;
 use bn_control::NoMemory;
 use bn_quad::QuadMachine;
@@ -48,8 +49,8 @@ fn push_cells(
     word: &[u32],
 ) -> Result<(), NoMemory>
     requires symbols { symbols ≤ MOST_SYMBOLS }
-    requires left { left ≤ MOST_CELLS }
-    requires right { right ≤ MOST_CELLS }
+    requires left { left ≤ MOST_COUNT }
+    requires right { right ≤ MOST_COUNT }
     ensures { OnOk result (states.new.items ≡ states.old.items ++ start_cells symbols left word.now right) }
 {
     for cell in 0..left + right + 1 {

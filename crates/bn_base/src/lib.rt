@@ -1,10 +1,12 @@
 //! Numbers and lines of text, which all the texts of this project are made of.
 #![tactic(auto)]
 
+mod limits;
 mod lines;
 mod numbers;
 #[cfg(test)]
 mod tests;
 
+pub use limits::MOST_COUNT;
 pub use lines::{Lines, NextLine, one_cut};
-pub use numbers::{Digits, NoMemory, one_spelling, push_u64, read_u64};
+pub use numbers::{Digits, GREATEST, NoMemory, one_spelling, push_u64, read_u64};

@@ -31,8 +31,8 @@ impl From<AllocError> for NoMemory {
     }
 }
 
-/// The greatest number that is read.
-const GREATEST: u64 = 1 << 62;
+/// The greatest number that is read: 2^62.
+pub const GREATEST: u64 = 1 << 62;
 
 /// Reads the longest run of ASCII digits from the place `at` on, which counts from 0 and is at most
 /// the length, and answers its value and the place behind it. `NoDigit` comes exactly where the run

@@ -36,6 +36,7 @@ use Rattle.bn_layout.specs.Laws.{BoardsRead}
 use Rattle.bn_layout.specs.Readings.{BoardReads}
 use Rattle.bn_boardanswers.specs.CompileReply.{IsFlatSpelling}
 use Rattle.bn_boardanswers.specs.Laws.{BoardsAreSpelled}
+use Rattle.bn_net.specs.declared.net.TheConstants.{MOST_ELEMENTS}
 
 -- ---- bars
 
@@ -221,7 +222,7 @@ module _ (p : Program) (symbols : List ℕ) (l : Limits) (f : Flat) (flat : IsFl
     in_time = omega arith;
   }
 
-  start_admitted : StandsFor f.network (situation_at_start f) (flat_start f) → size f.network.tables ≤ 1048576 → Admits spelling
+  start_admitted : StandsFor f.network (situation_at_start f) (flat_start f) → size f.network.tables ≤ MOST_ELEMENTS → Admits spelling
   start_admitted stands few = record {
     some = within_board 0 (first_bank 0 (omega arith));
     few = few;

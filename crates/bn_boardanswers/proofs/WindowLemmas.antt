@@ -5,7 +5,7 @@ use Rattle.std.proofs.lemmas.Bool.{cases_lt}
 use Rattle.bn_theory.specs.declared.place.Place.{Place}
 use Rattle.bn_machine.specs.Machine.{Program}
 use Rattle.bn_machine.specs.Outcome.{Limits}
-use Rattle.bn_netlist.specs.Spelling.{most_elements}
+use Rattle.bn_net.specs.declared.net.TheConstants.{MOST_ELEMENTS}
 use Rattle.bn_stages.specs.Stages.{IsStandardMachine}
 use Rattle.bn_table.specs.Laws.{TablesAreMachines}
 use Rattle.bn_table.specs.Rows.{FitsTable, Named}
@@ -52,7 +52,7 @@ module _ (tells : Flat → Status → List ℕ → List Place → Type 0) (p : P
   board_some : HasAnswer (BoardReplies tells p l symbols)
   board_some = by_length (cases_lt l.right (length symbols))
     where
-      by_count : length symbols ≤ l.right → (most_elements < size there.0.network.tables) ⊎ (size there.0.network.tables ≤ most_elements) →
+      by_count : length symbols ≤ l.right → (MOST_ELEMENTS < size there.0.network.tables) ⊎ (size there.0.network.tables ≤ MOST_ELEMENTS) →
           HasAnswer (BoardReplies tells p l symbols)
       by_count fits (inl great) =
           let count = size there.0.network.tables in
@@ -64,10 +64,10 @@ module _ (tells : Flat → Status → List ℕ → List Place → Type 0) (p : P
 
       by_length : (l.right < length symbols) ⊎ (length symbols ≤ l.right) → HasAnswer (BoardReplies tells p l symbols)
       by_length (inl far) = (statuses.Size, long_line (length symbols), [], long far refl refl refl)
-      by_length (inr fits) = by_count fits (cases_lt most_elements (size there.0.network.tables))
+      by_length (inr fits) = by_count fits (cases_lt MOST_ELEMENTS (size there.0.network.tables))
 
   -- a board that isn't too large is not refused
-  not_large : (f : Flat) (count : ℕ) → ComesTo p l symbols f → CountsElements p l count → most_elements < count → ⊥
+  not_large : (f : Flat) (count : ℕ) → ComesTo p l symbols f → CountsElements p l count → MOST_ELEMENTS < count → ⊥
   not_large f count comes counts great =
       let same : size f.network.tables ≡ count = counted.0 p l (size f.network.tables) count (counted.1 p symbols l f comes.flat) counts in
       let few = comes.few in

@@ -7,7 +7,7 @@ use Rattle.bn_io.specs.Told.{Grows}
 use Rattle.bn_machine.specs.Tape.{word_tape, blank_tape}
 use Rattle.bn_machine.specs.Outcome as outcome
 use Rattle.bn_machine.specs.Outcome.{Limits, Outcome, HasOutcome}
-use Rattle.bn_netlist.specs.Spelling.{most_elements}
+use Rattle.bn_net.specs.declared.net.TheConstants.{MOST_ELEMENTS}
 use Rattle.bn_table.specs.Rows.{Named}
 use Rattle.bn_boards.specs.Boards.{size}
 use Rattle.bn_layout.specs.declared.exit.Exit.TheVariants as exit
@@ -24,6 +24,7 @@ use Rattle.bn_boardanswers.specs.Windows.{AreSmall, ComesTo, CountsElements}
 use Rattle.bn_boardanswers.specs.RunText.{elements_line, output_line, quadruple_line, run_text, shown_lines}
 use Rattle.bn_boardanswers.specs.RunText.{steps_line, stuck_line, tape_lines, window_line}
 use Rattle.bn_boardanswers.specs.RunReply.{after}
+use Rattle.bn_reply.specs.declared.limits.TheConstants.{MOST_INPUT_BYTES}
 
 -- ---- what an outcome names
 
@@ -98,7 +99,7 @@ pub record ComesOutOn (bytes letters : List ℕ) (l : Limits) (t : Named) (symbo
   pub given : IsGiven bytes letters l t symbols
   pub fits : length symbols ≤ l.right
   pub counts : CountsElements t.machine l count
-  pub few : count ≤ most_elements
+  pub few : count ≤ MOST_ELEMENTS
   pub outcome : HasOutcome t.machine symbols l i o
 
 -- ---- the headline
@@ -115,14 +116,10 @@ pub record TookOutcome (given : Option ℕ) (t : Named) (l : Limits) (symbols : 
   pub runs : (f : Flat) → ComesTo t.machine l symbols f → RunsToExit t.machine f i o
   pub tells : (f : Flat) → ComesTo t.machine l symbols f → Tells given t l symbols f i o status text
 
--- the greatest number of bytes of an input: 64 MiB
-abbrev pub most_bytes : ℕ
-most_bytes = 67108864
-
 -- whatever run the words ask for, and whatever the machine's own bounded run comes to, on an input within the limit
 abbrev pub TellsHeadline : List (List ℕ) → List ℕ → Status → Option (List ℕ) → Option (List ℕ) → Type 0
 TellsHeadline words bytes status taken took =
-    length bytes ≤ most_bytes
+    length bytes ≤ MOST_INPUT_BYTES
     → (letters : List ℕ) (l : Limits) (given : Option ℕ) → AsksRun words letters l given
     → (t : Named) (symbols : List ℕ) (count i : ℕ) (o : Outcome) → ComesOutOn bytes letters l t symbols count i o
     → TookOutcome given t l symbols count i o status taken took

@@ -5,7 +5,8 @@ use Rattle.bn_theory.specs.declared.place.Place.{Place}
 use Rattle.bn_theory.specs.Stepping.{places}
 use Rattle.bn_machine.specs.Machine.{Program}
 use Rattle.bn_machine.specs.Outcome.{Limits, Outcome, HasOutcome}
-use Rattle.bn_netlist.specs.Spelling.{Spelling, Spelled, most_elements, text_of}
+use Rattle.bn_netlist.specs.Spelling.{Spelling, Spelled, text_of}
+use Rattle.bn_net.specs.declared.net.TheConstants.{MOST_ELEMENTS}
 use Rattle.bn_table.specs.Rows.{Named}
 use Rattle.bn_boards.specs.Boards.{size}
 use Rattle.bn_layout.specs.declared.exit.Exit.{Exit}
@@ -21,7 +22,8 @@ use Rattle.bn_boardanswers.specs.CompileReply.{IsFlatSpelling, TellsStart}
 use Rattle.bn_boardanswers.specs.RunText.{run_text}
 use Rattle.bn_boardanswers.specs.RunReply.{reached, status_of, HasMoment, RunReplies, TellsRun, after, budget}
 use Rattle.bn_boardanswers.specs.Headline.{AsksRun, ComesOutOn, IsGiven, TellsHeadline}
-use Rattle.bn_boardanswers.specs.Headline.{TellsOutcome, TookOutcome, most_bytes}
+use Rattle.bn_boardanswers.specs.Headline.{TellsOutcome, TookOutcome}
+use Rattle.bn_reply.specs.declared.limits.TheConstants.{MOST_INPUT_BYTES}
 
 -- two counts of the elements of one machine's board agree, and each board has as many
 abbrev pub BoardsAreCounted : Type 0
@@ -123,7 +125,7 @@ pub record HasOneOfEach (p : Program) (l : Limits) (symbols : List ℕ) : Type 0
   pub outcome : Outcome
   pub comes_out : HasOutcome p symbols l steps outcome
   pub one_outcome : (i : ℕ) (o : Outcome) → HasOutcome p symbols l i o → (i ≡ steps) × (o ≡ outcome)
-  pub board : length symbols ≤ l.right → count ≤ most_elements → (f : Flat) × ComesTo p l symbols f
+  pub board : length symbols ≤ l.right → count ≤ MOST_ELEMENTS → (f : Flat) × ComesTo p l symbols f
       × ((g : Flat) → ComesTo p l symbols g → AreSameFlats f g)
   pub cost : (f : Flat) → ComesTo p l symbols f → (cost : ℕ) × HasCost f cost
       × ((other : ℕ) → HasCost f other → other ≡ cost)
@@ -145,7 +147,7 @@ RepliesTellOutcomes =
 abbrev pub TookReplies : List (List ℕ) → List ℕ → Status → Option (List ℕ) → Option (List ℕ) → Type 0
 TookReplies words bytes status taken took =
     (letters : List ℕ) (l : Limits) (given : Option ℕ) → AsksRun words letters l given → AreSmall l
-    → length bytes ≤ most_bytes
+    → length bytes ≤ MOST_INPUT_BYTES
     → (text : List ℕ) × (told : List Place) × RunReplies given letters l bytes status text told × Grows taken took text
 
 -- an answer that was given whole tells the headline

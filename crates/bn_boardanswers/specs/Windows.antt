@@ -5,7 +5,7 @@ use Rattle.std.specs.Prelude.{◌≡◌, ℕ, ◌<◌, ◌≤◌, List, [], ◌�
 use Rattle.bn_theory.specs.declared.place.Place.{Place}
 use Rattle.bn_machine.specs.Machine.{Program}
 use Rattle.bn_machine.specs.Outcome.{Limits}
-use Rattle.bn_netlist.specs.Spelling.{most_elements}
+use Rattle.bn_net.specs.declared.net.TheConstants.{MOST_ELEMENTS}
 use Rattle.bn_bennett.specs.Translation.{Translation, IsTranslation}
 use Rattle.bn_table.specs.Rows.{Named}
 use Rattle.bn_modules.specs.Controls.{ControlState, IsNumbering}
@@ -16,13 +16,10 @@ use Rattle.bn_reply.specs.Lines.{line}
 use Rattle.bn_reply.specs.TableReply.{StandardReplies, WordReplies}
 use Rattle.bn_reply.specs.declared.status.Status.{Status}
 use Rattle.bn_reply.specs.declared.status.Status.TheVariants as statuses
-
--- the greatest limit that may be asked for
-abbrev pub most_limit : ℕ
-most_limit = 1048576
+use Rattle.bn_base.specs.declared.limits.TheConstants.{MOST_COUNT}
 
 abbrev pub AreSmall : Limits → Type 0
-AreSmall l = (l.left ≤ most_limit) × (l.right ≤ most_limit) × (l.steps ≤ most_limit) × (l.output ≤ most_limit)
+AreSmall l = (l.left ≤ MOST_COUNT) × (l.right ≤ MOST_COUNT) × (l.steps ≤ MOST_COUNT) × (l.output ≤ MOST_COUNT)
 
 -- the board of this machine in these limits has so many elements, whatever the word
 pub record CountsElements (p : Program) (l : Limits) (count : ℕ) : Type 0 where
@@ -37,7 +34,7 @@ pub record CountsElements (p : Program) (l : Limits) (count : ℕ) : Type 0 wher
 pub record ComesTo (p : Program) (l : Limits) (symbols : List ℕ) (f : Flat) : Type 0 where
   pub fits : length symbols ≤ l.right
   pub flat : IsFlatOf p symbols l f
-  pub few : size f.network.tables ≤ most_elements
+  pub few : size f.network.tables ≤ MOST_ELEMENTS
 
 -- the lines of a word of so many letters that is too long, and of a board of so many elements, which are too many
 abbrev pub long_line : ℕ → List ℕ
@@ -52,7 +49,7 @@ pub data BoardReplies (tells : Flat → Status → List ℕ → List Place → T
     (symbols : List ℕ) (status : Status) (text : List ℕ) (told : List Place) : Type 0 where
   long : l.right < length symbols → text ≡ long_line (length symbols) → status ≡ statuses.Size → told ≡ []
       → BoardReplies tells p l symbols status text told
-  large : length symbols ≤ l.right → (count : ℕ) → CountsElements p l count → most_elements < count
+  large : length symbols ≤ l.right → (count : ℕ) → CountsElements p l count → MOST_ELEMENTS < count
       → text ≡ large_line count → status ≡ statuses.Size → told ≡ [] → BoardReplies tells p l symbols status text told
   board : (f : Flat) → ComesTo p l symbols f → tells f status text told
       → BoardReplies tells p l symbols status text told

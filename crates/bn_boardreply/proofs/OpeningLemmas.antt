@@ -13,7 +13,7 @@ use Rattle.bn_machine.specs.Machine.{Program, IsMachine}
 use Rattle.bn_machine.specs.Outcome.{Limits}
 use Rattle.bn_bennett.specs.Translation.{Translation, IsTranslation}
 use Rattle.bn_table.specs.Rows.{FitsTable, Named}
-use Rattle.bn_netlist.specs.Spelling.{most_elements}
+use Rattle.bn_net.specs.declared.net.TheConstants.{MOST_ELEMENTS}
 use Rattle.bn_modules.specs.Controls.{ControlState, letters}
 use Rattle.bn_modules.specs.Networks.{network_start}
 use Rattle.bn_control.specs.Controlled.{IsWithinLimits}
@@ -96,7 +96,7 @@ module _ (p : Program) (l : Limits) (symbols : List ℕ) (t : Translation) (is :
     is_layout = layout_is;
   }
 
-  few_elements : size (network_of a).tables ≤ most_elements
+  few_elements : size (network_of a).tables ≤ MOST_ELEMENTS
   few_elements =
       let count = elements_are (network_of a) b.net flat.board in
       let few = kept.layout.few_elements in

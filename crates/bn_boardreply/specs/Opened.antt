@@ -4,7 +4,8 @@ use Rattle.bn_theory.specs.declared.place.Place.TheVariants.{Enter, Left}
 use Rattle.bn_column.specs.Nets.{rotary_circuit}
 use Rattle.bn_machine.specs.Machine.{Program}
 use Rattle.bn_machine.specs.Outcome.{Limits}
-use Rattle.bn_netlist.specs.Spelling.{Spelling, most_elements}
+use Rattle.bn_netlist.specs.Spelling.{Spelling}
+use Rattle.bn_net.specs.declared.net.TheConstants.{MOST_ELEMENTS}
 use Rattle.bn_bennett.specs.Translation.{Translation}
 use Rattle.bn_layout.specs.Layouts.{end_place}
 use Rattle.bn_layout.specs.Flats.{Flat, flat_start}
@@ -31,7 +32,7 @@ pub record IsMade (p : Program) (l : Limits) (symbols : List ℕ) (f : Flat) (t 
 pub data IsTooLarge (p : Program) (l : Limits) (symbols : List ℕ) (reply : Reply) : Type 0 where
   long : l.right < length symbols → reply.text.items ≡ long_line (length symbols) → reply.status ≡ statuses.Size
       → IsTooLarge p l symbols reply
-  large : length symbols ≤ l.right → (count : ℕ) → CountsElements p l count → most_elements < count
+  large : length symbols ≤ l.right → (count : ℕ) → CountsElements p l count → MOST_ELEMENTS < count
       → reply.text.items ≡ large_line count → reply.status ≡ statuses.Size → IsTooLarge p l symbols reply
 
 -- the board, or what is answered where there is none

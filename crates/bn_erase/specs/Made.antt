@@ -10,6 +10,7 @@ use Rattle.bn_erasing.specs.declared.name.ErasingName.{ErasingName}
 use Rattle.bn_erasing.specs.declared.name.ErasingName.TheVariants.{First}
 use Rattle.bn_erase.specs.declared.refusal.EraseRefusal.{EraseRefusal}
 use Rattle.bn_erase.specs.declared.refusal.EraseRefusal.TheVariants.{Many, NoMemory}
+use Rattle.bn_erase.specs.declared.erasing.TheConstants.{MOST_QUADRUPLES}
 
 -- a quadruple machine, and the name of each of its states by the state's number
 pub record Erasure : Type 0 where
@@ -32,11 +33,7 @@ pub record IsErasing (p q : Program) (e : Erasure) : Type 0 where
   pub states : e.machine.states ≡ length e.names
   pub symbols : e.machine.symbols ≡ erasing_symbols p q
 
--- the most quadruples of an erasing machine: as many as a table of quadruples may have
-abbrev pub most_quadruples : ℕ
-most_quadruples = 20000
-
 -- why there is none: the list has more quadruples, and this is their number; want of memory is free
 abbrev pub IsEraseRefusal : Program → Program → EraseRefusal → Type 0
-IsEraseRefusal p q (Many count) = (count ≡ length (erasing p q)) × (most_quadruples < count)
+IsEraseRefusal p q (Many count) = (count ≡ length (erasing p q)) × (MOST_QUADRUPLES < count)
 IsEraseRefusal p q NoMemory = Unit {0}

@@ -8,7 +8,7 @@ ghost use Rattle.bn_machine.specs.Machine.{IsMachine};
 ghost use Rattle.bn_quad.specs.Quadruples.{inverse_of};
 ghost use Rattle.bn_stages.specs.Stages.{IsStandardMachine};
 ghost use Rattle.bn_table.specs.Rows.{FitsTable};
-ghost use Rattle.bn_erase.specs.Made.{IsErasing, IsEraseRefusal, erasure_of, most_quadruples};
+ghost use Rattle.bn_erase.specs.Made.{IsErasing, IsEraseRefusal, erasure_of};
 ghost use Rattle.bn_erase.specs.Numbered.{AreErasing, backward_quad, joint_names, joint_quads, meeting_of, new_state};
 
 use crate::refusal::EraseRefusal;
@@ -72,7 +72,7 @@ pub fn erase(alloc: Global, first: &Standard, second: &Standard) -> Result<Erasi
     requires second { FitsTable second.now }
     requires symbols { first.now.symbols ≡ second.now.symbols }
     ensures made { IfOk result (IsErasing first.now second.now) }
-    ensures few { OnOk result (length (erasing first.now second.now) ≤ most_quadruples) }
+    ensures few { OnOk result (length (erasing first.now second.now) ≤ MOST_QUADRUPLES) }
     ensures refused { IfErr result (IsEraseRefusal first.now second.now) }
 {
     erasing_counts();

@@ -7,7 +7,7 @@ use Rattle.bn_stages.specs.Stages.{IsStandardMachine}
 use Rattle.bn_erasing.specs.Outcome.{Halted, Outcome, Running, Stuck}
 use Rattle.bn_erasing.proofs.OutcomeLemmas.{outcome_exists, outcome_is_one}
 use Rattle.bn_erase.specs.Joint.{IsJoint, Joint, joined}
-use Rattle.bn_erase.specs.Made.{most_quadruples}
+use Rattle.bn_erase.specs.declared.erasing.TheConstants.{MOST_QUADRUPLES}
 use Rattle.bn_reply.specs.Answering.{HasAnswer, IsDone, IsOneAnswer, IsSettled}
 use Rattle.bn_reply.specs.Codes.{IsReplyStatus}
 use Rattle.bn_reply.specs.TableReply.{WordReplies}
@@ -17,14 +17,15 @@ use Rattle.bn_reply.proofs.LetterLemmas.{HasAlphabet}
 use Rattle.bn_reply.proofs.SettledLemmas.{agree, done_settled, lettered_settled}
 use Rattle.bn_reply.proofs.TableLemmas.{reads_table}
 use Rattle.bn_erasereply.specs.EraseReply.{CountedReplies, EraseIsSettled, EraseRunIsSettled, LongReplies, TellsErasing, erase_text, erasing_of}
-use Rattle.bn_erasereply.specs.EraseReply.{few, lettered, long, long_line, many, many_line, most_letters, outcome_text, short, status_of}
+use Rattle.bn_erasereply.specs.EraseReply.{few, lettered, long, long_line, many, many_line, outcome_text, short, status_of}
+use Rattle.bn_base.specs.declared.limits.TheConstants.{MOST_COUNT}
 use Rattle.bn_erasereply.proofs.JudgedLemmas.{both_standard, joint_of_tables}
 use Rattle.bn_erasereply.proofs.PairLemmas.{pair_settled}
 
 -- ---- the number of quadruples
 
 module _ (tells : Status → List ℕ → List Place → Type 0) (j : Joint) (settled : IsSettled tells) where
-  counted_some : (most_quadruples < length (erasing_of j)) ⊎ (length (erasing_of j) ≤ most_quadruples) → HasAnswer (CountedReplies tells j)
+  counted_some : (MOST_QUADRUPLES < length (erasing_of j)) ⊎ (length (erasing_of j) ≤ MOST_QUADRUPLES) → HasAnswer (CountedReplies tells j)
   counted_some (inl more) = (statuses.Size, many_line (length (erasing_of j)), [], many more refl refl refl)
   counted_some (inr less) = let some = settled.some in (some.0, some.1, some.2, few less some.3)
 
@@ -39,7 +40,7 @@ module _ (tells : Status → List ℕ → List Place → Type 0) (j : Joint) (se
   counted_status s text told (few h answer) = settled.status s text told answer
 
   pub counted_settled : IsSettled (CountedReplies tells j)
-  counted_settled = record { some = counted_some (cases_lt most_quadruples (length (erasing_of j))); one = counted_one; status = counted_status }
+  counted_settled = record { some = counted_some (cases_lt MOST_QUADRUPLES (length (erasing_of j))); one = counted_one; status = counted_status }
 
 -- ---- the run
 
@@ -70,7 +71,7 @@ module _ (j : Joint) (n : ℕ) (symbols : List ℕ) (first : IsStandardMachine j
   run_settled : IsSettled (TellsErasing j n symbols)
   run_settled = record { some = run_some; one = run_one; status = λ s text told h. subst IsReplyStatus (sym h.status_is) (outcome_answers h.outcome) }
 
-  long_some : (most_letters < length symbols) ⊎ (length symbols ≤ most_letters) → HasAnswer (LongReplies j n symbols)
+  long_some : (MOST_COUNT < length symbols) ⊎ (length symbols ≤ MOST_COUNT) → HasAnswer (LongReplies j n symbols)
   long_some (inl more) = (statuses.Size, long_line (length symbols), [], long more refl refl refl)
   long_some (inr less) = let some = (counted_settled (TellsErasing j n symbols) j run_settled).some in (some.0, some.1, some.2, short less some.3)
 
@@ -85,7 +86,7 @@ module _ (j : Joint) (n : ℕ) (symbols : List ℕ) (first : IsStandardMachine j
   long_status s text told (short h answer) = (counted_settled (TellsErasing j n symbols) j run_settled).status s text told answer
 
   pub long_settled : IsSettled (LongReplies j n symbols)
-  long_settled = record { some = long_some (cases_lt most_letters (length symbols)); one = long_one; status = long_status }
+  long_settled = record { some = long_some (cases_lt MOST_COUNT (length symbols)); one = long_one; status = long_status }
 
 -- ---- the commands
 

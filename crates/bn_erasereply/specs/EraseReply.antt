@@ -11,7 +11,7 @@ use Rattle.bn_erasing.specs.Erasing.{erasing}
 use Rattle.bn_erasing.specs.Outcome.{HasOutcome, Outcome, Halted, Stuck, Running}
 use Rattle.bn_erasing.specs.declared.name.ErasingName.{ErasingName}
 use Rattle.bn_erase.specs.Joint.{Joint, joined}
-use Rattle.bn_erase.specs.Made.{most_quadruples}
+use Rattle.bn_erase.specs.declared.erasing.TheConstants.{MOST_QUADRUPLES}
 use Rattle.bn_erase.specs.Printed.{erasing_text, history_names, letter_names}
 use Rattle.bn_reply.specs.Answering.{IsDone, IsSettled}
 use Rattle.bn_reply.specs.Lines.{line}
@@ -20,6 +20,7 @@ use Rattle.bn_reply.specs.Words.{letters_of}
 use Rattle.bn_reply.specs.declared.status.Status.{Status}
 use Rattle.bn_reply.specs.declared.status.Status.TheVariants as statuses
 use Rattle.bn_erasereply.specs.Pairs.{PairReplies}
+use Rattle.bn_base.specs.declared.limits.TheConstants.{MOST_COUNT}
 
 -- ---- the machine
 
@@ -52,9 +53,9 @@ long_line count = line (codes "size: word needs " ∷ decimal count ∷ [])
 -- at most: that it has more, or that.
 pub data CountedReplies (tells : Status → List ℕ → List Place → Type 0) (j : Joint) (status : Status) (text : List ℕ)
     (told : List Place) : Type 0 where
-  many : most_quadruples < length (erasing_of j) → text ≡ many_line (length (erasing_of j)) → status ≡ statuses.Size
+  many : MOST_QUADRUPLES < length (erasing_of j) → text ≡ many_line (length (erasing_of j)) → status ≡ statuses.Size
       → told ≡ [] → CountedReplies tells j status text told
-  few : length (erasing_of j) ≤ most_quadruples → tells status text told → CountedReplies tells j status text told
+  few : length (erasing_of j) ≤ MOST_QUADRUPLES → tells status text told → CountedReplies tells j status text told
 
 -- what `erase` answers to these bytes: the erasing machine of the two tables' machines
 abbrev pub EraseReplies : List ℕ → Status → List ℕ → List Place → Type 0
@@ -65,10 +66,6 @@ EraseReplies = PairReplies (λ t u. CountedReplies (IsDone (erase_text (joined t
 -- a table with the joint letters, so that a word of them is a word of its letters
 abbrev pub lettered : Joint → Named
 lettered j = named j.first [] j.letters
-
--- the most letters of a word
-abbrev pub most_letters : ℕ
-most_letters = 1048576
 
 -- the lines of a run that halts after i steps with these words on the work tape and the output tape; of one that is
 -- stuck after i steps in this state; and of one that has made all n steps
@@ -107,9 +104,9 @@ pub record TellsErasing (j : Joint) (n : ℕ) (symbols : List ℕ) (status : Sta
 -- What is answered to the symbols of a word: that they are too many, or what is answered to the machines.
 pub data LongReplies (j : Joint) (n : ℕ) (symbols : List ℕ) (status : Status) (text : List ℕ)
     (told : List Place) : Type 0 where
-  long : most_letters < length symbols → text ≡ long_line (length symbols) → status ≡ statuses.Size → told ≡ []
+  long : MOST_COUNT < length symbols → text ≡ long_line (length symbols) → status ≡ statuses.Size → told ≡ []
       → LongReplies j n symbols status text told
-  short : length symbols ≤ most_letters → CountedReplies (TellsErasing j n symbols) j status text told
+  short : length symbols ≤ MOST_COUNT → CountedReplies (TellsErasing j n symbols) j status text told
       → LongReplies j n symbols status text told
 
 -- what `erase =W n` answers to these bytes: the run of the erasing machine from the word, of at most n steps

@@ -6,12 +6,13 @@ use Rattle.bn_table.specs.Rows.{Named}
 use Rattle.bn_standard.specs.Standard.{IsStandard}
 use Rattle.bn_stages.specs.Laws.{HaltsAfter}
 use Rattle.bn_erase.specs.Joint.{joined}
-use Rattle.bn_erase.specs.Made.{most_quadruples}
+use Rattle.bn_erase.specs.declared.erasing.TheConstants.{MOST_QUADRUPLES}
 use Rattle.bn_reply.specs.Cuts.{IsCut}
 use Rattle.bn_reply.specs.Words.{IsSpelledBy}
 use Rattle.bn_reply.specs.declared.status.Status.{Status}
 use Rattle.bn_reply.specs.declared.status.Status.TheVariants.{Done}
-use Rattle.bn_erasereply.specs.EraseReply.{EraseRunReplies, erasing_of, halted_lines, lettered, most_letters}
+use Rattle.bn_erasereply.specs.EraseReply.{EraseRunReplies, erasing_of, halted_lines, lettered}
+use Rattle.bn_base.specs.declared.limits.TheConstants.{MOST_COUNT}
 
 -- the bytes are two tables with machines in standard form, the word is spelled by these symbols of the joint letters,
 -- and neither the word nor the erasing machine is too large
@@ -24,8 +25,8 @@ pub record IsAskedOf (bytes word : List ℕ) (t u : Named) (symbols : List ℕ) 
   pub standard_first : IsStandard t.machine.quints
   pub standard_second : IsStandard u.machine.quints
   pub spells : IsSpelledBy (lettered (joined t u)) word symbols
-  pub short : length symbols ≤ most_letters
-  pub few : length (erasing_of (joined t u)) ≤ most_quadruples
+  pub short : length symbols ≤ MOST_COUNT
+  pub few : length (erasing_of (joined t u)) ≤ MOST_QUADRUPLES
 
 -- Over the joint alphabet the first machine halts on these symbols after v steps with the output y, the second on y
 -- after w steps with these symbols as its output, and i is the erasing machine's number of steps, at most n.

@@ -16,14 +16,12 @@ ghost use Rattle.bn_erase.specs.Made.{IsErasing, name_of};
 use crate::letters::{OpenedWord, open_word, push_letters};
 use crate::pair::{JudgedPair, OpenedPair, judge_pair, open_pair};
 use crate::run::{Ended, Ending, run_word};
+use bn_base::MOST_COUNT;
 use bn_erase::{EraseRefusal, Erasing, Joined, erase, erasing_names, joined_are_judged_alike};
 use bn_qtable::write_quads;
 use bn_reply::{NoMemory, Reply, Status};
 use bn_standard::Standard;
 use std::alloc::Global;
-
-/// The most letters of a word.
-const MOST_LETTERS: usize = 1_048_576;
 
 /// What `erase` answers to some bytes, which are a table, a line `%` and a second table: whether there is such a line,
 /// both are tables, both machines are in standard form, and the erasing machine has at most 20,000 quadruples; and then
@@ -51,7 +49,7 @@ pub fn reply_erase_run(
     steps: u32,
     bytes: &[u8],
 ) -> Result<Reply, NoMemory>
-    requires { steps ≤ 1048576 }
+    requires { steps ≤ MOST_COUNT }
     ensures { IfOk result (λ r. EraseRunReplies word.now steps bytes.now r.status r.text.items []) }
 {
     joined_are_judged_alike();
@@ -121,7 +119,7 @@ fn reply_word(
     word: &[u8],
     steps: u32,
 ) -> Result<Reply, NoMemory>
-    requires few { steps ≤ 1048576 }
+    requires few { steps ≤ MOST_COUNT }
     requires standard { AreOf joined.now first.now second.now }
     ensures { IfOk result (λ r.
         WordReplies (LongReplies joined.now steps) (lettered joined.now) word.now r.status r.text.items []) }
@@ -143,13 +141,13 @@ fn reply_symbols(
     symbols: &[u32],
     steps: u32,
 ) -> Result<Reply, NoMemory>
-    requires few { steps ≤ 1048576 }
+    requires few { steps ≤ MOST_COUNT }
     requires standard { AreOf joined.now first.now second.now }
     requires letters { All (IsLetterSymbol (lettered joined.now)) symbols.now }
     ensures { IfOk result (λ r. LongReplies joined.now steps symbols.now r.status r.text.items []) }
 {
     let count = symbols.len();
-    if count > MOST_LETTERS {
+    if count as u64 > MOST_COUNT {
         return Ok(Reply {
             text: format!(in alloc; "size: word needs {count}\n")?.into_bytes(),
             status: Status::Size,

@@ -6,6 +6,7 @@ ghost use Rattle.bn_machine.specs.Run.{IsOutput};
 ghost use Rattle.bn_erasing.specs.Outcome.{rewound};
 ghost use Rattle.bn_erasereply.specs.EraseRun.{ComesOutOf, HasEnded, IsErasingOfSome, IsRun, StaysInside};
 
+use bn_base::MOST_COUNT;
 use bn_erase::{Erasing, erasings_are_uniform};
 use bn_erasing::{erasing_numbers, runs_stay_near};
 use bn_machine::{Tape, TapeRefusal};
@@ -40,8 +41,8 @@ pub(crate) fn run_word(
     word: &[u32],
     steps: u32,
 ) -> Result<Ended, NoMemory>
-    requires few { steps ≤ 1048576 }
-    requires short { length word.now ≤ 1048576 }
+    requires few { steps ≤ MOST_COUNT }
+    requires short { length word.now ≤ MOST_COUNT }
     requires erasing { IsErasingOfSome erasing.now }
     ensures { IfOk result (λ r. HasEnded erasing.now word.now steps r.steps r.ending) }
 {
@@ -64,8 +65,8 @@ pub(crate) fn run_word(
 
 // A tape with this word that reaches so far to both sides at least.
 fn wide_tape(alloc: Global, side: u32, word: &[u32]) -> Result<Tape, NoMemory>
-    requires few { side ≤ 1048577 }
-    requires short { length word.now ≤ 1048576 }
+    requires few { side ≤ MOST_COUNT + 1 }
+    requires short { length word.now ≤ MOST_COUNT }
     ensures { IfOk result (λ t. t ≡ new_window side (max side (length word.now)) word.now) }
 {
     let right = side.max(word.len() as u32);

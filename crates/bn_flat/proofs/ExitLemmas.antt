@@ -21,7 +21,7 @@ use Rattle.bn_layout.specs.declared.exit.Exit.{Exit}
 use Rattle.bn_layout.specs.declared.exit.Exit.TheVariants as exit
 use Rattle.bn_layout.specs.Layouts.{Layout, letters_at, lines_at, cell_element, cell_output, end_place, IsNamedExit, inside, ends, stuck, right, left}
 use Rattle.bn_layout.proofs.PlaceLemmas.{output-within}
-use Rattle.bn_assembly.specs.declared.make.TheConstants.{MOST_ELEMENTS}
+use Rattle.bn_net.specs.declared.net.TheConstants.{MOST_ELEMENTS}
 use Rattle.bn_flat.specs.Flattened.{IsLayoutKept}
 use Rattle.bn_flat.proofs.LayoutLemmas.{control_within, cell_within}
 

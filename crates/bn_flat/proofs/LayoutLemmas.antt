@@ -5,7 +5,7 @@ use Rattle.std.proofs.Math.Nat.{mul-le-mul_right, mul-le-mul_left}
 use Rattle.bn_modules.specs.Networks.{cell_size, cells_in}
 use Rattle.bn_layout.specs.Layouts.{Layout, letters_at, lines_at, first_element, cell_element, elements_of}
 use Rattle.bn_cell.specs.declared.numbers.TheConstants.{MOST_SYMBOLS}
-use Rattle.bn_assembly.specs.declared.make.TheConstants.{MOST_ELEMENTS}
+use Rattle.bn_net.specs.declared.net.TheConstants.{MOST_ELEMENTS}
 use Rattle.bn_flat.specs.Flattened.{IsLayoutKept}
 
 -- a product of bounded numbers

@@ -36,7 +36,7 @@ use Rattle.bn_flat.specs.Flattened.{IsReached}
 use Rattle.bn_flat.specs.Starts.{start_by}
 use Rattle.bn_flat.proofs.CopyLemmas.{bank_bars}
 use Rattle.bn_assembly.specs.Assembled.{Assembled, IsKept, network_of}
-use Rattle.bn_assembly.specs.declared.make.TheConstants.{MOST_ELEMENTS}
+use Rattle.bn_net.specs.declared.net.TheConstants.{MOST_ELEMENTS}
 
 -- a machine by its parts
 abbrev by_parts : List (Rule ℕ) → ℕ → List ℕ → Quadruples

@@ -21,7 +21,7 @@ use Rattle.bn_modules.specs.Networks.{network_start}
 use Rattle.bn_boards.specs.Boards.{IsBoard, board_start}
 use Rattle.bn_layout.specs.Layouts.{Layout, IsLayout, lines_at, elements_of}
 use Rattle.bn_assembly.specs.Assembled.{Assembled, AreSmall, IsAssembled, network_of}
-use Rattle.bn_assembly.specs.declared.make.TheConstants.{MOST_ELEMENTS}
+use Rattle.bn_net.specs.declared.net.TheConstants.{MOST_ELEMENTS}
 
 -- a net, a configuration of it, the line by which the signal enters at the start, the line by which it leaves at the
 -- end, and the layout

@@ -10,9 +10,9 @@ ghost use Rattle.bn_assembly.specs.Modules.{module_table};
 ghost use Rattle.bn_flat.specs.BoardWires.{module_circuit};
 
 use crate::wiring::size_of;
-use bn_assembly::{MOST_ELEMENTS, Module};
+use bn_assembly::Module;
 use bn_element::{Element, HORIZONTAL, VERTICAL};
-use bn_net::{Net, NoMemory};
+use bn_net::{MOST_ELEMENTS, Net, NoMemory};
 use std::alloc::Global;
 
 // The bars of the board of this net of modules in these states.

@@ -10,9 +10,10 @@ ghost use Rattle.bn_assembly.specs.Assembled.{limits_of};
 ghost use Rattle.bn_flat.specs.Flattened.{IsLayoutKept, IsFirstWithin};
 ghost use Rattle.bn_control.specs.Controlled.{IsTapeAwaited};
 
-use bn_assembly::{MOST_ELEMENTS, Windows};
+use bn_assembly::Windows;
+use bn_base::MOST_COUNT;
 use bn_cell::MOST_SYMBOLS;
-use bn_net::NoMemory;
+use bn_net::{MOST_ELEMENTS, NoMemory};
 use std::alloc::Global;
 use std::marker::Model;
 
@@ -129,7 +130,7 @@ impl Layout {
         requires last { tape ≤ 3 }
         ensures number { result ≡ cells_in self.now.limits tape }
         ensures some { 1 ≤ result }
-        ensures few { result ≤ 2097153 }
+        ensures few { result ≤ 2 * MOST_COUNT + 1 }
     {
         self.windows.cells(tape)
     }
@@ -139,7 +140,7 @@ impl Layout {
         requires first { 1 ≤ tape }
         requires last { tape ≤ 3 }
         ensures number { result ≡ left_of self.now.limits tape }
-        ensures few { result ≤ 1048576 }
+        ensures few { result ≤ MOST_COUNT }
     {
         if tape == 1 { self.windows.left1 } else { 0 }
     }

@@ -13,10 +13,10 @@ use crate::bars::start_bars;
 use crate::board::Board;
 use crate::numbers::layout_of;
 use crate::wiring::{bases, board_wires};
-use bn_assembly::{Assembly, MOST_ELEMENTS, Module};
+use bn_assembly::{Assembly, Module};
 use bn_column::rotary_net;
 use bn_element::{Rotary, WEST};
-use bn_net::{Config, Line, Net, NoMemory, Place, States};
+use bn_net::{Config, Line, MOST_ELEMENTS, Net, NoMemory, Place, States};
 use bn_packed::Packed;
 use std::alloc::Global;
 

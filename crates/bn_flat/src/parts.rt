@@ -5,7 +5,7 @@ ghost use Rattle.bn_net.specs.Order.{AreInOrder};
 ghost use Rattle.bn_column.specs.Nets.{rotary_circuit};
 ghost use Rattle.bn_column.specs.Wirings.{AreWiresOf};
 ghost use Rattle.bn_theory.specs.Circuits.{IsCircuit};
-ghost use Rattle.bn_assembly.specs.declared.make.TheConstants.{MOST_ELEMENTS};
+ghost use Rattle.bn_net.specs.declared.net.TheConstants.{MOST_ELEMENTS};
 ghost use Rattle.bn_flat.specs.BoardWires.{IsTargetBefore};
 
 use crate::board::Board;

@@ -8,9 +8,9 @@ ghost use Rattle.bn_boards.specs.Boards.{AreModules, IsBoardWire, base, size, si
 ghost use Rattle.bn_assembly.specs.Modules.{module_table};
 ghost use Rattle.bn_flat.specs.BoardWires.{AreBases, IsOwnWire, IsBetween, IsWireBefore, module_circuit};
 
-use bn_assembly::{MOST_ELEMENTS, Module};
+use bn_assembly::Module;
 use bn_element::{EAST, Element, WEST};
-use bn_net::{Line, Net, NoMemory, Wire};
+use bn_net::{Line, MOST_ELEMENTS, Net, NoMemory, Wire};
 use bn_realise::bank_wires;
 use std::alloc::Global;
 

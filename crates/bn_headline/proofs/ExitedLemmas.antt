@@ -49,6 +49,8 @@ use Rattle.bn_layout.proofs.SameLemmas.{number_once}
 use Rattle.bn_headline.specs.Laws.{BoardsRunToTheirExit}
 use Rattle.bn_theory.proofs.RunPartLemmas.{steps_of_run}
 use Rattle.bn_network.proofs.LastLemmas.{one_tape}
+use Rattle.bn_net.specs.declared.net.TheConstants.{MOST_ELEMENTS}
+use Rattle.bn_base.specs.declared.limits.TheConstants.{MOST_COUNT}
 
 -- the quadruple machine's steps within the strides
 quad_run : (f : Flat) (test : Situation → Bool) (n : ℕ) (s t : Situation) (c d : Configuration ℕ) → Reaches (Strides f test) n (s, c) (t, d)
@@ -78,7 +80,7 @@ bound_covers e n s o few =
     below : (a b c e : ℕ) → a ≤ b → c ≡ b + 48 * e → 4 * e + a ≤ c
     below a b c e h k = omega arith
 
-below_clock : (e s o : ℕ) → e ≤ 1048576 → s ≤ 1048576 → o ≤ 1048576 → 48 * e * (4 * s + 4 * o + 7) < clock
+below_clock : (e s o : ℕ) → e ≤ MOST_ELEMENTS → s ≤ MOST_COUNT → o ≤ MOST_COUNT → 48 * e * (4 * s + 4 * o + 7) < clock
 below_clock e s o a b c =
     let most : 48 * e * (4 * s + 4 * o + 7) ≤ 50331648 * 8388615 = mul-le (48 * e) (4 * s + 4 * o + 7) 50331648 8388615 (omega arith) (omega arith) in
     omega (arith, most)
@@ -153,7 +155,7 @@ module _ (p : Program) (f : Flat) (test : Situation
 
   in_time : bound_of f.layout < clock
   in_time =
-      let elements : elements_in f ≤ 1048576 = subst (λ x. x ≤ 1048576) reads.whole accepted.few in
+      let elements : elements_in f ≤ MOST_ELEMENTS = subst (λ x. x ≤ MOST_ELEMENTS) reads.whole accepted.few in
       subst (λ x. x < clock) (sym bound_is) (below_clock (elements_in f) f.limits.steps f.limits.output elements accepted.small.2 accepted.small.3)
 
   -- ---- the run

@@ -4,6 +4,8 @@ use Rattle.std.specs.Prelude.{◌≡◌, ◌≢◌, ℕ, ◌≤◌, List, length
 use Rattle.bn_theory.specs.Alike.{AreAlike}
 use Rattle.bn_theory.specs.Circuits.{Circuit}
 use Rattle.bn_theory.specs.declared.config.Config.{Config}
+use Rattle.bn_base.specs.declared.limits.TheConstants.{MOST_COUNT}
+use Rattle.bn_net.specs.declared.net.TheConstants.{MOST_ELEMENTS}
 use Rattle.bn_machine.specs.Machine.{Program}
 use Rattle.bn_machine.specs.Outcome.{Limits}
 use Rattle.bn_quad.specs.Quadruples.{Quadruples}
@@ -51,8 +53,8 @@ pub record IsAccepted (p : Program) (word : List ℕ) (l : Limits) (f : Flat) : 
   pub letters : IsSpelledBy p word
   pub nonblank : All (λ s. s ≢ 0) word
   pub fits : length word ≤ l.right
-  pub small : (l.left ≤ 1048576) × (l.right ≤ 1048576) × (l.steps ≤ 1048576) × (l.output ≤ 1048576)
-  pub few : size f.network.tables ≤ 1048576
+  pub small : (l.left ≤ MOST_COUNT) × (l.right ≤ MOST_COUNT) × (l.steps ≤ MOST_COUNT) × (l.output ≤ MOST_COUNT)
+  pub few : size f.network.tables ≤ MOST_ELEMENTS
 
 -- two boards of one machine, word and limits: the same up to the order of wires
 pub record AreSameFlats (f g : Flat) : Type 0 where

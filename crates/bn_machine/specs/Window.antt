@@ -6,6 +6,7 @@ use Rattle.bn_machine.specs.Tape.{Tape, Cells, cell, cells_from, moved, word_tap
 use Rattle.bn_machine.specs.declared.quint.Shift.{Shift}
 use Rattle.bn_machine.specs.declared.quint.Side.{Side}
 use Rattle.bn_machine.specs.declared.quint.Side.TheVariants.{Left, Right}
+use Rattle.bn_machine.specs.declared.tape.TheConstants.Tape.{GREATEST_SIDE}
 
 -- where a head may be: at every position, or at those from -left to right
 pub data Room : Type 0 where
@@ -51,10 +52,10 @@ IsInside w p = IsBetween w.left w.right p
 abbrev pub Leaves : Windowed → Shift → Side → Type 0
 Leaves w s side = IsBeyond w.left w.right side (moved w.tape.head s)
 
--- Each side has at most 2,097,152 cells; the head is inside; all that lies outside is blank.
+-- Each side has at most `GREATEST_SIDE` cells; the head is inside; all that lies outside is blank.
 pub record IsWindowed (w : Windowed) : Type 0 where
-  pub left_side : w.left ≤ 2097152
-  pub right_side : w.right ≤ 2097152
+  pub left_side : w.left ≤ GREATEST_SIDE
+  pub right_side : w.right ≤ GREATEST_SIDE
   pub head : IsInside w w.tape.head
   pub outside : (p : ℤ) → cell w.tape p ≢ 0 → IsInside w p
 
@@ -68,8 +69,8 @@ window_of left right cells at = record {
 
 -- the list has one cell a position, and the head is at one of them
 pub record IsStored (left right : ℕ) (cells : List ℕ) (at : ℕ) : Type 0 where
-  pub left_side : left ≤ 2097152
-  pub right_side : right ≤ 2097152
+  pub left_side : left ≤ GREATEST_SIDE
+  pub right_side : right ≤ GREATEST_SIDE
   pub cells_number : length cells ≡ left + right + 1
   pub head_inside : at < length cells
 

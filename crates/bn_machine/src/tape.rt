@@ -1,6 +1,7 @@
 //! Tapes in a window of cells.
 ghost use Rattle.std.specs.Prelude.{◌≡◌, ◌↔◌, ◌≤◌, ◌<◌, ◌+◌, ◌-◌, ◌^◌, ◌++◌, length, replicate, IsSome, IfSome, IfOk};
 ghost use Rattle.std.specs.Prelude.{OnOk, IfErr};
+ghost use Rattle.bn_machine.specs.declared.tape.TheConstants.Tape.{GREATEST_SIDE};
 
 use crate::quint::{Shift, Side};
 use std::alloc::{AllocError, Global};
@@ -130,8 +131,8 @@ impl Tape {
 
 // The cells of a new tape: blanks up to position 0, the word, and blanks to the right end.
 fn new_cells(alloc: Global, left: u32, right: u32, word: &[u32]) -> Result<Vec<u32>, AllocError>
-    requires left_side { left ≤ 2097152 }
-    requires right_side { right ≤ 2097152 }
+    requires left_side { left ≤ GREATEST_SIDE }
+    requires right_side { right ≤ GREATEST_SIDE }
     requires fits { length word.now ≤ right }
     ensures { IfOk result (λ v. v.items ≡ replicate (left + 1) 0 ++ word.now ++ replicate (right - length word.now) 0) }
 {

@@ -7,6 +7,6 @@ mod row_map;
 mod watch;
 
 pub use bn_theory::{CLOCK, Config, Line, Place, States, Wire};
-pub use net::Net;
+pub use net::{MOST_ELEMENTS, Net};
 pub use refusal::{NetRefusal, NoMemory};
 pub use watch::{MemWatch, Quiet, Watch};

@@ -21,6 +21,9 @@ use bn_theory::{CLOCK, Config, Line, Place, Wire};
 use std::alloc::{AllocError, Global};
 use std::marker::Model;
 
+/// The most elements of a circuit that is read, made or written as a text (this project's own profile).
+pub const MOST_ELEMENTS: u64 = 1_048_576;
+
 /// Elements with wires from output lines to input lines, one to one. Elements and their lines are
 /// counted from 0. Clauses see the elements and the list of wires, in the order of their output
 /// lines. The wires are kept both ways, so that a step forward and a step backward are look-ups.

@@ -12,7 +12,8 @@ use Rattle.bn_theory.specs.declared.line.Line.{Line}
 use Rattle.bn_theory.specs.declared.line.Wire.{Wire}
 use Rattle.bn_theory.specs.declared.place.Place.TheVariants.{Enter, Left}
 use Rattle.bn_netlist.specs.Sentences.{Sentence, Title, Count, Start, End, Steps, At, Element, IsSayable, sentence_text, lines_text}
-use Rattle.bn_netlist.specs.Spelling.{Spelling, Spelled, most_elements}
+use Rattle.bn_netlist.specs.Spelling.{Spelling, Spelled}
+use Rattle.bn_net.specs.declared.net.TheConstants.{MOST_ELEMENTS}
 use Rattle.bn_netlist.specs.Faults.{Fault, malformed, too_many, no_element, out_of_order, end_wired, left_wired, start_fed, second_source, header_lines, count_in, is_end_in, is_left_in, is_start_in, wires_in, wire_fault, or_else, outputs_fault, element_at, fault_of, kind_of, IsNext, IsFaulty, BeginsWithFault, IsFirstFault}
 use Rattle.bn_netlist.specs.Reading.{word_taken, ended, number_after, named_after, row_of, named, title_said}
 use Rattle.bn_netlist.proofs.ReaderLemmas.{row_sentence, count_said, start_said, end_said, steps_said, place_said_by, place_said, row_said, said}
@@ -171,7 +172,7 @@ outputs_formed before ws e o (Some to ∷ xs) =
 
 fault-formed : (before : List Sentence) (x : Sentence) → fault_of before x ≢ Some malformed
 fault-formed before Title = none_formed
-fault-formed before (Count c) = if_formed (nat_le c most_elements) _ _ none_formed (some_formed too_many too_many_formed)
+fault-formed before (Count c) = if_formed (nat_le c MOST_ELEMENTS) _ _ none_formed (some_formed too_many too_many_formed)
 fault-formed before (Start l) = if_formed (nat_lt l.element (count_in before)) _ _ none_formed (some_formed no_element no_element_formed)
 fault-formed before (End l) = if_formed (nat_lt l.element (count_in before)) _ _ none_formed (some_formed no_element no_element_formed)
 fault-formed before (Steps t) = none_formed

@@ -7,7 +7,7 @@ use Rattle.bn_base.proofs.LineLemmas.{lines-agree, cut-lines-differ}
 use Rattle.bn_theory.specs.declared.line.Line.{Line}
 use Rattle.bn_theory.specs.declared.place.Place.TheVariants.{Enter, Left}
 use Rattle.bn_netlist.specs.Sentences.{Sentence, Title, Count, Start, End, Steps, At, sentence_text}
-use Rattle.bn_netlist.specs.Spelling.{most_elements}
+use Rattle.bn_net.specs.declared.net.TheConstants.{MOST_ELEMENTS}
 use Rattle.bn_netlist.specs.Faults.{Fault, malformed, too_many, no_element, header_lines, count_in, IsNext}
 use Rattle.bn_netlist.specs.Reading.{word_taken, ended, number_after, named_after, named, title_said}
 use Rattle.bn_netlist.proofs.ReaderLemmas.{said}
@@ -82,20 +82,20 @@ pub title_refuses : (left bytes behind : List ℕ) → IsInLine bytes → false 
 title_refuses left bytes behind in_line h begins = unsaid_refuses [] left bytes behind 1 refl (omega arith) in_line begins (no_value (title_said bytes) h)
 
 -- line 2
-pub count_reads : (left bytes behind : List ℕ) (c : ℕ) → Some c ≡ number_after (codes "elements ") bytes → 0 < c → c ≤ most_elements → left ≡ bytes ++ 10 ∷ behind → Reads (Title ∷ []) left (Count c) behind
+pub count_reads : (left bytes behind : List ℕ) (c : ℕ) → Some c ≡ number_after (codes "elements ") bytes → 0 < c → c ≤ MOST_ELEMENTS → left ≡ bytes ++ 10 ∷ behind → Reads (Title ∷ []) left (Count c) behind
 count_reads left bytes behind c h some few begins =
     let taken = number_after-takes (codes "elements ") bytes c (sym h) in
-    let test : nat_le c most_elements ≡ true = grind (arith, nat_tests) in
+    let test : nat_le c MOST_ELEMENTS ≡ true = grind (arith, nat_tests) in
     record {
       begins = begins ∙ ap (λ b. b ++ 10 ∷ behind) taken.1;
       next = record { sayable = (some, taken.0); kind = refl; room = omega arith };
       faultless = rw test refl;
     }
 
-pub count_refuses : (left bytes behind : List ℕ) (c : ℕ) → Some c ≡ number_after (codes "elements ") bytes → most_elements < c → left ≡ bytes ++ 10 ∷ behind → Refuses (Title ∷ []) left (TooMany 2)
+pub count_refuses : (left bytes behind : List ℕ) (c : ℕ) → Some c ≡ number_after (codes "elements ") bytes → MOST_ELEMENTS < c → left ≡ bytes ++ 10 ∷ behind → Refuses (Title ∷ []) left (TooMany 2)
 count_refuses left bytes behind c h many begins =
     let taken = number_after-takes (codes "elements ") bytes c (sym h) in
-    let test : nat_le c most_elements ≡ false = grind (arith, nat_tests) in
+    let test : nat_le c MOST_ELEMENTS ≡ false = grind (arith, nat_tests) in
     finds too_many (record {
       says = Count c;
       behind = behind;

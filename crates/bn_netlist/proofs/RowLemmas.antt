@@ -11,7 +11,8 @@ use Rattle.bn_theory.specs.declared.place.Place.{Place}
 use Rattle.bn_theory.specs.declared.place.Place.TheVariants.{Enter, Left}
 use Rattle.bn_element.specs.Rotary.{rotary}
 use Rattle.bn_netlist.specs.Sentences.{Sentence, Title, Count, Start, End, Steps, At, Element, AreNameable, IsSayable}
-use Rattle.bn_netlist.specs.Spelling.{Spelling, Admits, circuit_of, most_elements, targets_of, element_sentences, sentences_of}
+use Rattle.bn_netlist.specs.Spelling.{Spelling, Admits, circuit_of, targets_of, element_sentences, sentences_of}
+use Rattle.bn_net.specs.declared.net.TheConstants.{MOST_ELEMENTS}
 use Rattle.bn_netlist.specs.Faults.{header_lines, is_left_by, wires_from, wires_in, wire_fault, outputs_fault, element_at, named_fault, IsNext, AreFaultlessAfter, AreFaultless}
 use Rattle.bn_netlist.specs.Header.{header_then, header_of}
 use Rattle.bn_netlist.proofs.WireLemmas.{rotary_input, rotary_output, rotary_state, other_line, Each, each_append, each_weaker, source-none, place_of}
@@ -112,7 +113,7 @@ module _ (s : Spelling) (a : Admits s) where
       let from : Line = record { element = e; line = o } in
       let within = rotary_input s.elements to.element to.line (a.circuit.wired from to are.0).1 in
       let below : to.element < s.elements = within.0 in
-      let few : s.elements ≤ most_elements = a.few in
+      let few : s.elements ≤ MOST_ELEMENTS = a.few in
       ((omega arith, within.1), nameable_targets e (suc o) xs are.1)
 
   -- the rows, one after another
@@ -121,7 +122,7 @@ module _ (s : Spelling) (a : Admits s) where
   rows_ok done e (q ∷ qs) made count range before =
       let xs : List (Option Line) = targets_of s.wires e in
       let are : AreTargets e 0 xs = (refl, (refl, (refl, (refl, tt)))) in
-      let few : s.elements ≤ most_elements = a.few in
+      let few : s.elements ≤ MOST_ELEMENTS = a.few in
       let next : IsNext (header_then (header_of s) done) (Element e q xs) =
       record {
         sayable = (omega arith, range 0 q refl, refl, nameable_targets e 0 xs are);
@@ -148,9 +149,9 @@ module _ (s : Spelling) (a : Admits s) where
 -- the header of a text that may be spelled, and its rows
 pub admitted-faultless : (s : Spelling) → Admits s → AreFaultless (sentences_of s)
 admitted-faultless s a =
-    let few : s.elements ≤ most_elements = a.few in
+    let few : s.elements ≤ MOST_ELEMENTS = a.few in
     let some : 0 < s.elements = a.some in
-    let counted : nat_le s.elements most_elements ≡ true = grind (arith, nat_tests) in
+    let counted : nat_le s.elements MOST_ELEMENTS ≡ true = grind (arith, nat_tests) in
     let start = rotary_input s.elements s.start.element s.start.line a.start in
     let end = rotary_output s.elements s.end.element s.end.line a.end in
     let start_below : s.start.element < s.elements = start.0 in
@@ -191,12 +192,12 @@ admitted-faultless s a =
     place_there (Enter e i) place =
         let there = rotary_input s.elements e i place in
         let below : e < s.elements = there.0 in
-        let few : s.elements ≤ most_elements = a.few in
+        let few : s.elements ≤ MOST_ELEMENTS = a.few in
         let test : nat_lt e s.elements ≡ true = grind (arith, nat_tests) in
         ((omega arith, there.1), rw test refl)
     place_there (Left e o) place =
         let there = rotary_output s.elements e o place.0 in
         let below : e < s.elements = there.0 in
-        let few : s.elements ≤ most_elements = a.few in
+        let few : s.elements ≤ MOST_ELEMENTS = a.few in
         let test : nat_lt e s.elements ≡ true = grind (arith, nat_tests) in
         ((omega arith, there.1), rw test refl)

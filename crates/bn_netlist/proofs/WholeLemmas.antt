@@ -16,7 +16,8 @@ use Rattle.bn_net.specs.declared.refusal.NetRefusal.{NetRefusal}
 use Rattle.bn_net.specs.declared.refusal.NetRefusal.TheVariants.{Range, TwoTargets, TwoSources, NoMemory}
 use Rattle.bn_element.specs.Rotary.{rotary}
 use Rattle.bn_netlist.specs.Sentences.{Sentence, Title, Count, Start, End, Steps, At, Element, IsSayable, lines_text}
-use Rattle.bn_netlist.specs.Spelling.{Spelling, Admits, most_elements, targets_of, element_sentences, text_of}
+use Rattle.bn_netlist.specs.Spelling.{Spelling, Admits, targets_of, element_sentences, text_of}
+use Rattle.bn_net.specs.declared.net.TheConstants.{MOST_ELEMENTS}
 use Rattle.bn_netlist.specs.Faults.{Fault, is_left_by, wires_from, wires_in, element_at, AreFaultlessAfter}
 use Rattle.bn_netlist.specs.Header.{header_then}
 use Rattle.bn_netlist.proofs.NetLemmas.{map-replicate}
@@ -265,7 +266,7 @@ whole-admitted h rows ws whole targets sources circuit =
     in
     record {
       some = after_count.0.sayable.0;
-      few = counted-few h.count most_elements _ after_count.1;
+      few = counted-few h.count MOST_ELEMENTS _ after_count.1;
       circuit = circuit;
       config = record {
         count = made ∙ sym (length_tables h.count);
@@ -310,7 +311,7 @@ pub whole-few_wires : (h : Header) (rows : List Sentence) → IsWhole h rows →
 whole-few_wires h rows whole =
     let few = few_wires h [] rows whole.faultless.2.2.2.2.2.2 in
     let count : length rows ≡ h.count = whole.count in
-    let bound : h.count ≤ most_elements = counted-few h.count most_elements _ whole.faultless.2.1 in
+    let bound : h.count ≤ MOST_ELEMENTS = counted-few h.count MOST_ELEMENTS _ whole.faultless.2.1 in
     omega arith
 
 -- a net with these elements and wires is what the text spells

@@ -10,7 +10,8 @@ use Rattle.bn_theory.specs.declared.place.Place.{Place}
 use Rattle.bn_theory.specs.declared.place.Place.TheVariants.{Enter, Left}
 use Rattle.bn_netlist.specs.Sentences.{Sentence, Title, Count, Start, End, Steps, At, Element, sentence_text}
 use Rattle.bn_netlist.specs.Sentences.{lines_text, IsSayable}
-use Rattle.bn_netlist.specs.Spelling.{Spelling, Spelled, most_elements}
+use Rattle.bn_netlist.specs.Spelling.{Spelling, Spelled}
+use Rattle.bn_net.specs.declared.net.TheConstants.{MOST_ELEMENTS}
 
 -- The faults of a line: it hasn't its form; it says a count above the greatest; an element is named that isn't there;
 -- an element line hasn't the next number; a wire leaves the end; a wire leaves the line by which the signal has left; a
@@ -103,7 +104,7 @@ named_fault before e = if nat_lt e (count_in before) then None else Some no_elem
 -- The first fault of a line that has its form and says this, after these lines.
 abbrev pub fault_of : List Sentence → Sentence → Option Fault
 fault_of before Title = None
-fault_of before (Count c) = if nat_le c most_elements then None else Some too_many
+fault_of before (Count c) = if nat_le c MOST_ELEMENTS then None else Some too_many
 fault_of before (Start l) = named_fault before l.element
 fault_of before (End l) = named_fault before l.element
 fault_of before (Steps t) = None

@@ -8,6 +8,7 @@ use Rattle.bn_theory.specs.declared.line.Wire.{Wire}
 use Rattle.bn_theory.specs.declared.config.Config.{Config}
 use Rattle.bn_element.specs.Rotary.{rotary, north, east, south, west}
 use Rattle.bn_netlist.specs.Sentences.{Sentence, Title, Count, Start, End, Steps, At, Element, lines_text}
+use Rattle.bn_net.specs.declared.net.TheConstants.{MOST_ELEMENTS}
 
 -- what a text spells: a circuit of so many rotary elements with its wires, a configuration of it, and two lines that it
 -- names: the start, an input line, and the end, an output line
@@ -22,17 +23,13 @@ pub record Spelling : Type 0 where
 abbrev pub circuit_of : Spelling → Circuit
 circuit_of s = record { tables = replicate s.elements rotary; wires = s.wires }
 
--- the greatest number of elements
-abbrev pub most_elements : ℕ
-most_elements = 1048576
-
 -- What may be spelled: 1 to 1,048,576 elements, wires that lead one to one from output lines to input lines, a
 -- configuration of this circuit, a start into which no wire leads and an end from which none leads. That the
 -- configuration is one of this circuit says too that its place is admissible and that its steps are at most 2 to the
 -- power 62.
 pub record Admits (s : Spelling) : Type 0 where
   pub some : 0 < s.elements
-  pub few : s.elements ≤ most_elements
+  pub few : s.elements ≤ MOST_ELEMENTS
   pub circuit : IsCircuit (circuit_of s)
   pub config : IsConfig (circuit_of s) s.config
   pub start : IsInput (replicate s.elements rotary) s.start

@@ -12,10 +12,8 @@ use crate::header::Header;
 use crate::refusal::NetlistRefusal;
 use crate::whole_line::whole_line;
 use bn_base::Lines;
+use bn_net::MOST_ELEMENTS;
 use bn_theory::{Line, Place};
-
-// The greatest number of elements of a circuit.
-const MOST_ELEMENTS: u64 = 1_048_576;
 
 /// Reads the six lines before those of the elements.
 pub(crate) fn read_header(lines: &mut Lines<'_>) -> Result<Header, NetlistRefusal>

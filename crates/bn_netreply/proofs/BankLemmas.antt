@@ -10,7 +10,8 @@ use Rattle.bn_theory.specs.Circuits.{Circuit, target, source, IsCircuit, IsConfi
 use Rattle.bn_theory.proofs.StepLemmas.{slice_get-set_same, slice_get-set_other}
 use Rattle.bn_theory.specs.declared.line.Line.{Line}
 use Rattle.bn_element.specs.Rotary.{rotary, horizontal, vertical, west}
-use Rattle.bn_netlist.specs.Spelling.{Spelling, Admits, Spelled, circuit_of, most_elements, text_of}
+use Rattle.bn_netlist.specs.Spelling.{Spelling, Admits, Spelled, circuit_of, text_of}
+use Rattle.bn_net.specs.declared.net.TheConstants.{MOST_ELEMENTS}
 use Rattle.bn_netlist.proofs.WireLemmas.{rotary_inputs, rotary_outputs, rotary_reversible, rotary_states}
 use Rattle.bn_column.specs.Columns.{line_at}
 use Rattle.bn_column.proofs.WiringsLemmas.{apart-IsOneToOne}
@@ -91,7 +92,7 @@ module _ (m : Machine) (state row : ℕ) (state_in : state < m.states) (row_in :
       let out = ((machine_table-IsReversible m).arrives state row move.0 move.1 goes).1 in
       (let h = row_inside m.states m.lines (m.states - 1) move.1 (omega arith) out in omega arith, omega arith)
 
-  pub bank-Admits : (s : Spelling) → IsBankSpelling m state row s → elements_of m ≤ most_elements → IsCircuit (circuit_of s) → Admits s
+  pub bank-Admits : (s : Spelling) → IsBankSpelling m state row s → elements_of m ≤ MOST_ELEMENTS → IsCircuit (circuit_of s) → Admits s
   bank-Admits s h few circuit =
       record {
         some = (let some = some_elements m.states m.lines state state_in in let is = h.elements in omega arith);
@@ -120,7 +121,7 @@ module _ (m : Machine) (state row : ℕ) (state_in : state < m.states) (row_in :
           (subst (λ from. IsBankWire 0 (machine_table m) from to) h.end wire))
 
   -- each bank that isn't too large has a spelling
-  pub bank_spelled : elements_of m ≤ most_elements → (s : Spelling) × IsBankSpelling m state row s × Spelled s (text_of s)
+  pub bank_spelled : elements_of m ≤ MOST_ELEMENTS → (s : Spelling) × IsBankSpelling m state row s × Spelled s (text_of s)
   bank_spelled few =
       let ws = bank_list 0 (machine_table m) (machine_table-IsReversible m) refl (omega arith) in
       let s : Spelling = record {
@@ -169,7 +170,7 @@ net_spelling m v c state row is net config start end =
     }
 
 -- the output line of a bank, and its turning line, are below 2^32
-pub exit_fits : (m : Machine) (q i : ℕ) → q < m.states → i < m.lines → elements_of m ≤ 1048576 → q * (m.lines + 1) + i < 1048576
+pub exit_fits : (m : Machine) (q i : ℕ) → q < m.states → i < m.lines → elements_of m ≤ MOST_ELEMENTS → q * (m.lines + 1) + i < MOST_ELEMENTS
 exit_fits m q i state row few = let h = row_inside m.states m.lines q i state row in omega arith
 
 -- a net is the circuit of what it spells
@@ -177,8 +178,8 @@ pub net_circuit : (c : NetConfig) (net : Parts Rotary) → net ≡ c.net → IsC
 net_circuit c net same is = subst IsCircuit (circuits-agree c) (subst (λ n. IsCircuit (circuit (λ _. rotary) n)) same is)
 
 -- the number of an output line's element
-pub output_fits : (m : Machine) (q i n k o : ℕ) (move : ℕ × ℕ) → q < m.states → i < m.lines → elements_of m ≤ 1048576 → (machine_table m).go q i ≡ Some move →
-    n ≡ m.states → k ≡ m.lines → o ≡ move.1 → (n - 1) * (k + 1) + o < 1048576
+pub output_fits : (m : Machine) (q i n k o : ℕ) (move : ℕ × ℕ) → q < m.states → i < m.lines → elements_of m ≤ MOST_ELEMENTS → (machine_table m).go q i ≡ Some move →
+    n ≡ m.states → k ≡ m.lines → o ≡ move.1 → (n - 1) * (k + 1) + o < MOST_ELEMENTS
 output_fits m q i n k o move state row few goes states lines out =
     let low = ((machine_table-IsReversible m).arrives q i move.0 move.1 goes).1 in
     let h = exit_fits m (m.states - 1) move.1 (omega arith) low few in

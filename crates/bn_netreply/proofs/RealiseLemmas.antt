@@ -4,7 +4,8 @@ use Rattle.std.proofs.Common.{zero, suc, arith, sym, ap, subst, ◌∙◌, inl, 
 use Rattle.std.proofs.lemmas.Bool.{cases_lt}
 use Rattle.bn_theory.specs.Circuits.{target}
 use Rattle.bn_theory.specs.declared.line.Line.{Line}
-use Rattle.bn_netlist.specs.Spelling.{Spelling, most_elements, text_of}
+use Rattle.bn_netlist.specs.Spelling.{Spelling, text_of}
+use Rattle.bn_net.specs.declared.net.TheConstants.{MOST_ELEMENTS}
 use Rattle.bn_entries.specs.Entries.{entries_of}
 use Rattle.bn_rsm.proofs.SoundLemmas.{refusal_once, sound-or-refused, sound-refusal}
 use Rattle.bn_rsm.specs.Faults as moves
@@ -53,7 +54,7 @@ not_lacking : (m : Machine) (q i : ℕ) (text : List ℕ) → LacksPlace m q i t
 not_lacking m q i text (no_state low told) a b = omega arith
 not_lacking m q i text (no_line there low told) a b = omega arith
 
-bank_inside : (m : Machine) (q i : ℕ) (text : List ℕ) → TellsBank m q i text → (q ≤ m.states) × (i ≤ m.lines) × (elements_of m ≤ most_elements)
+bank_inside : (m : Machine) (q i : ℕ) (text : List ℕ) → TellsBank m q i text → (q ≤ m.states) × (i ≤ m.lines) × (elements_of m ≤ MOST_ELEMENTS)
 bank_inside m q i text h =
     let place = h.place in
     let few = h.spelled.admitted.few in
@@ -91,7 +92,7 @@ less_one (suc k) h = (k, omega arith)
 bank_to_all : (m : Machine) (q i : ℕ) → 1 ≤ q → 1 ≤ i → HasAnswer (BankReplies m q i)
 bank_to_all m q i some_state some_row = by_state (cases_lt m.states q)
   where
-    by_count : q ≤ m.states → i ≤ m.lines → (most_elements < elements_of m) ⊎ (elements_of m ≤ most_elements) → HasAnswer (BankReplies m q i)
+    by_count : q ≤ m.states → i ≤ m.lines → (MOST_ELEMENTS < elements_of m) ⊎ (elements_of m ≤ MOST_ELEMENTS) → HasAnswer (BankReplies m q i)
     by_count there row (inl over) = (statuses.Size, _, [], large (record { state_in = there; row_in = row; many = over; told = refl }) refl refl)
     by_count there row (inr few) =
         let state = less_one q some_state in
@@ -113,7 +114,7 @@ bank_to_all m q i some_state some_row = by_state (cases_lt m.states q)
 
     by_line : q ≤ m.states → (m.lines < i) ⊎ (i ≤ m.lines) → HasAnswer (BankReplies m q i)
     by_line there (inl low) = (statuses.Word, _, [], lacking (no_line there low refl) refl refl)
-    by_line there (inr row) = by_count there row (cases_lt most_elements (elements_of m))
+    by_line there (inr row) = by_count there row (cases_lt MOST_ELEMENTS (elements_of m))
 
     by_state : (m.states < q) ⊎ (q ≤ m.states) → HasAnswer (BankReplies m q i)
     by_state (inl low) = (statuses.Word, _, [], lacking (no_state low refl) refl refl)

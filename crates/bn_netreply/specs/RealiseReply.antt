@@ -4,7 +4,8 @@
 use Rattle.std.specs.Prelude.{◌≡◌, ◌≢◌, ◌↔◌, ℕ, ◌+◌, ◌<◌, ◌≤◌, List, [], ◌∷◌, Some, codes, decimal}
 use Rattle.bn_theory.specs.Circuits.{target}
 use Rattle.bn_theory.specs.declared.line.Line.{Line}
-use Rattle.bn_netlist.specs.Spelling.{Spelling, Spelled, most_elements}
+use Rattle.bn_netlist.specs.Spelling.{Spelling, Spelled}
+use Rattle.bn_net.specs.declared.net.TheConstants.{MOST_ELEMENTS}
 use Rattle.bn_entries.specs.Entries.{entries_of}
 use Rattle.bn_rsm.specs.Machines.{Machine, machine_table}
 use Rattle.bn_rsm.specs.declared.refusal.RsmRefusal.{RsmRefusal}
@@ -67,7 +68,7 @@ pub record IsPlaceOf (m : Machine) (q i state row : ℕ) : Type 0 where
 pub record TellsElements (m : Machine) (q i : ℕ) (text : List ℕ) : Type 0 where
   pub state_in : q ≤ m.states
   pub row_in : i ≤ m.lines
-  pub many : most_elements < elements_of m
+  pub many : MOST_ELEMENTS < elements_of m
   pub told : text ≡ line (codes "size: elements " ∷ decimal (elements_of m) ∷ [])
 
 -- What is spelled is the machine's bank, with the bank's own wires and no others, at rest in this state, with the

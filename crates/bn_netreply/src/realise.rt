@@ -9,7 +9,7 @@ ghost use Rattle.bn_netreply.specs.Refused.{IsRsmRefused};
 ghost use Rattle.bn_netreply.specs.RealiseReply.{BankReplies, IsBankSpelling, RealiseIsSettled, RealiseReplies};
 
 use bn_element::{EAST, Element, WEST};
-use bn_net::Line;
+use bn_net::{Line, MOST_ELEMENTS};
 use bn_netlist::{NetConfig, write_config};
 use bn_realise::{Bank, BankRefusal, bank};
 use bn_reply::{NoMemory, Reply, Status, empty_text, field_text, record_text};
@@ -105,7 +105,7 @@ fn bank_text(
     line: u32,
 ) -> Result<Vec<u8>, NoMemory>
     requires is { IsBankOf bank (machine_table rsm.now) }
-    requires few { elements_of rsm.now ≤ 1048576 }
+    requires few { elements_of rsm.now ≤ MOST_ELEMENTS }
     requires state { state < rsm.now.states }
     requires line { line < rsm.now.lines }
     ensures { IfOk result (λ text. (s : Spelling) × IsBankSpelling rsm.now state line s × Spelled s text.items) }
@@ -134,7 +134,7 @@ fn bank_text(
 // The line by which the signal comes out of the bank: the output line of the move, or the loose line
 // where the pair has no move.
 fn exit_line(rsm: &Rsm, state: u32, line: u32) -> Line
-    requires few { elements_of rsm.now ≤ 1048576 }
+    requires few { elements_of rsm.now ≤ MOST_ELEMENTS }
     requires state { state < rsm.now.states }
     requires line { line < rsm.now.lines }
     ensures { result ≡ exit_after 0 (machine_table rsm.now) state line ((machine_table rsm.now).go state line) }

@@ -7,10 +7,6 @@ use Rattle.bn_theory.specs.declared.line.Line.{Line}
 use Rattle.bn_theory.specs.declared.line.Wire.{Wire}
 use Rattle.bn_plan.specs.Lists.{IsIn, Pairwise}
 
--- the greatest number of elements of a circuit that has a floor plan
-abbrev pub most_planned : ℕ
-most_planned = 4194304
-
 -- Each element takes eight positions, for its outputs north, east, south and west, and then for its inputs in the same
 -- order. This is the position of an output line.
 abbrev pub output_position : Line → ℕ

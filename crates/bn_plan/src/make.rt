@@ -2,10 +2,9 @@
 
 ghost use Rattle.std.specs.Prelude.{◌≤◌, length, IfOk};
 ghost use Rattle.bn_plan.specs.Plans.{IsFloorPlan};
-ghost use Rattle.bn_plan.specs.Wires.{most_planned};
 
 use crate::floor::Plan;
-use crate::positions::POSITIONS;
+use crate::positions::{MOST_ELEMENTS, POSITIONS};
 use crate::sweep::Sweep;
 use bn_element::Rotary;
 use bn_net::{Net, NoMemory};
@@ -17,7 +16,7 @@ use std::alloc::Global;
 /// the order of their lesser ends each wire takes the least track, from 1, on which every earlier
 /// wire ends before it. (This project's own profile.)
 pub fn plan(alloc: Global, net: &Net<Rotary>) -> Result<Plan, NoMemory>
-    requires { length net.now.elements ≤ most_planned }
+    requires { length net.now.elements ≤ MOST_ELEMENTS }
     ensures { IfOk result (IsFloorPlan net.now.wires) }
 {
     let positions = POSITIONS * net.len();

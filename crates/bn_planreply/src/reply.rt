@@ -1,12 +1,11 @@
 //! The command `plan`.
 
 ghost use Rattle.std.specs.Prelude.{◌≡◌, ◌≤◌, [], IfOk, length};
-ghost use Rattle.bn_netlist.specs.Spelling.{most_elements};
 ghost use Rattle.bn_planreply.specs.PlanReply.{PlanIsSettled, PlanReplies, TellsPlan};
 
 use crate::text::plan_text;
 use bn_element::Rotary;
-use bn_net::Net;
+use bn_net::{MOST_ELEMENTS, Net};
 use bn_netlist::read_config;
 use bn_netreply::refuse_config;
 use bn_plan::plan;
@@ -26,7 +25,7 @@ pub fn reply_plan(alloc: Global, bytes: &[u8]) -> Result<Reply, NoMemory>
 
 // What is answered of a net that was read.
 fn plan_net(alloc: Global, net: &Net<Rotary>) -> Result<Reply, NoMemory>
-    requires { length net.now.elements ≤ most_elements }
+    requires { length net.now.elements ≤ MOST_ELEMENTS }
     ensures status { IfOk result (λ r. r.status ≡ Status.Done) }
     ensures text { IfOk result (λ r. TellsPlan net.now.wires (length net.now.elements) r.text.items) }
 {

@@ -6,6 +6,7 @@ ghost use Rattle.bn_rsm.specs.Costs.{pass_cost, cost_by, table_cost};
 ghost use Rattle.bn_realise.specs.BankNets.{elements_of};
 
 use bn_element::Element;
+use bn_net::MOST_ELEMENTS;
 use bn_rsm::Rsm;
 
 /// The element steps of the machine's bank from this state and input line, both counted from 0, to the
@@ -13,7 +14,7 @@ use bn_rsm::Rsm;
 pub fn bank_cost(rsm: &Rsm, state: u32, line: u32) -> u64
     requires some_states { 0 < rsm.now.states }
     requires some_lines { 0 < rsm.now.lines }
-    requires few { elements_of rsm.now ≤ 1048576 }
+    requires few { elements_of rsm.now ≤ MOST_ELEMENTS }
     requires state { state < rsm.now.states }
     requires line { line < rsm.now.lines }
     ensures { result ≡ table_cost (machine_table rsm.now) state line }

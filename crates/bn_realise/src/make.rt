@@ -8,20 +8,21 @@ use crate::standing::Bank;
 use crate::wires::bank_wires;
 use bn_column::rotary_net;
 use bn_element::Element;
+use bn_net::MOST_ELEMENTS;
 use bn_rsm::Rsm;
 use std::alloc::Global;
 
-/// The bank of a machine. `Elements` comes exactly where it would have more than 1,048,576 elements.
+/// The bank of a machine. `Elements` comes exactly where it would have more than `MOST_ELEMENTS` elements.
 pub fn bank(alloc: Global, rsm: &Rsm) -> Result<Bank, BankRefusal>
     requires some_states { 0 < rsm.now.states }
     requires some_lines { 0 < rsm.now.lines }
     ensures made { IfOk result (λ v. IsBankOf v (machine_table rsm.now)) }
-    ensures elements { (result ≡ Err (BankRefusal.Elements (elements_of rsm.now))) ↔ (1048576 < elements_of rsm.now) }
+    ensures elements { (result ≡ Err (BankRefusal.Elements (elements_of rsm.now))) ↔ (MOST_ELEMENTS < elements_of rsm.now) }
     ensures count { IfErr result (IsCounted (elements_of rsm.now)) }
 {
     let (states, lines) = (rsm.states(), rsm.lines_in());
     let count = u64::from(states) * (u64::from(lines) + 1);
-    if count > 1_048_576 {
+    if count > MOST_ELEMENTS {
         return Err(BankRefusal::Elements { count });
     }
     let wires = bank_wires(alloc, rsm, 0)?;

@@ -7,7 +7,7 @@ ghost use Rattle.bn_column.specs.Nets.{rotary_circuit};
 
 use crate::refusal::NoMemory;
 use bn_element::{HORIZONTAL, Rotary, VERTICAL, WEST};
-use bn_net::{CLOCK, Config, Net, Place, States};
+use bn_net::{CLOCK, Config, MOST_ELEMENTS, Net, Place, States};
 use std::alloc::Global;
 use std::marker::Model;
 
@@ -28,7 +28,7 @@ impl Model for Bank {
     ghost view = { λ v. record { net = v.net; states = v.states; lines = v.lines } };
 
     ghost invariant = { λ v. (length v.net.elements ≡ v.states * (v.lines + 1))
-        × (v.states * (v.lines + 1) ≤ 1048576) };
+        × (v.states * (v.lines + 1) ≤ MOST_ELEMENTS) };
 }
 
 impl Bank {
@@ -38,7 +38,7 @@ impl Bank {
     // The bank with this net and these numbers of states and lines.
     pub(crate) fn of(net: Net<Rotary>, states: u32, lines: u32) -> Bank
         requires elements { length net.elements ≡ states * (lines + 1) }
-        requires few { states * (lines + 1) ≤ 1048576 }
+        requires few { states * (lines + 1) ≤ MOST_ELEMENTS }
         ensures { result ≡ record { net = net; states = states; lines = lines } }
     {
         Bank { net, states, lines }
@@ -101,7 +101,7 @@ impl Bank {
 
 // The bars of a bank at rest in this state: all vertical but for the bottom of the state's column.
 fn resting(alloc: Global, states: u32, lines: u32, state: u32) -> Result<Vec<u32>, NoMemory>
-    requires few { states * (lines + 1) ≤ 1048576 }
+    requires few { states * (lines + 1) ≤ MOST_ELEMENTS }
     requires state { state < states }
     ensures { IfOk result (λ v. v.items ≡ slice_set (replicate (states * (lines + 1)) 1) (bottom_at 0 lines state) 0) }
 {

@@ -5,6 +5,7 @@
 mod cut;
 mod laws;
 mod letters;
+mod limits;
 mod lines;
 mod opening;
 mod reply;
@@ -14,6 +15,7 @@ mod writing;
 pub use cut::cut_input;
 pub use laws::inputs_are_cut_once;
 pub use letters::push_letters;
+pub use limits::MOST_INPUT_BYTES;
 pub use lines::{empty_text, field_text, record_text, why_text};
 pub use opening::{Judged, OpenedTable, OpenedWord, judge_table, open_table, open_word};
 pub use reply::{NoMemory, Reply};

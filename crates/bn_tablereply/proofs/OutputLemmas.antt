@@ -9,6 +9,7 @@ use Rattle.bn_machine.specs.Tape.{cell}
 use Rattle.bn_machine.specs.Window.{Windowed, IsWindowed, IsInside}
 use Rattle.bn_machine.specs.Run.{IsOutput}
 use Rattle.bn_tablereply.specs.MachineRun.{IsLetterAt}
+use Rattle.bn_machine.specs.declared.tape.TheConstants.Tape.{GREATEST_SIDE}
 
 -- outside of the window all is blank
 pub blank_outside : (w : Windowed) → IsWindowed w → (position : ℤ) → (IsInside w position → ⊥) → cell w.tape position ≡ 0
@@ -38,8 +39,8 @@ nothing_read w position h e = record {
 -- the number of letters is bounded by the window
 pub few_read : (w : Windowed) (position : ℤ) (y : List ℕ) → HasRead w position y → length y ≤ 4194304
 few_read w position y h =
-    let left_side : w.left ≤ 2097152 = h.windowed.left_side in
-    let right_side : w.right ≤ 2097152 = h.windowed.right_side in
+    let left_side : w.left ≤ GREATEST_SIDE = h.windowed.left_side in
+    let right_side : w.right ≤ GREATEST_SIDE = h.windowed.right_side in
     let above = h.windowed.head.above in
     let inside = h.inside in
     omega (arith, ints, above, inside)

@@ -20,10 +20,12 @@ use Rattle.bn_machine.specs.declared.machine.Turn.TheVariants as turns
 use Rattle.bn_tablereply.specs.MachineRun.{Reached, IsRun, IsWholeOutput, IsEndingOf, StaysInside, ending_of}
 use Rattle.bn_tablereply.specs.declared.machine_run.Ending.{Ending}
 use Rattle.bn_tablereply.specs.declared.machine_run.Ending.TheVariants.{Halted, Stuck, Running}
+use Rattle.bn_machine.specs.declared.tape.TheConstants.Tape.{GREATEST_SIDE}
+use Rattle.bn_base.specs.declared.limits.TheConstants.{MOST_COUNT}
 
 -- as many letters as a tape can hold
 abbrev most : ℕ
-most = 2097152
+most = GREATEST_SIDE
 
 -- A run of made steps, n at most, on the front of a word in a window that is wider than n on both sides, and the moment at which the run of the whole word then
 -- is.
@@ -37,7 +39,7 @@ record Cuts (p : Program) (word : List ℕ) (made : ℕ) (c : Moment) (v : Windo
   right_room : made < v.right
   right_side : v.right ≤ most
 
-cuts : (p : Program) (word : List ℕ) (n left right made at : ℕ) (v : Windowed) → n ≤ 1048576 → n < left → n < right → right ≤ most → made ≤ n →
+cuts : (p : Program) (word : List ℕ) (n left right made at : ℕ) (v : Windowed) → n ≤ MOST_COUNT → n < left → n < right → right ≤ most → made ≤ n →
     Reached p made (start_of p.quints) (new_window left right (take (min most (length word)) word)) at v → Cuts p word made (moment at v) v
 cuts p word n left right made at v few low high side early r =
     let front : After p (take (min most (length word)) word) made (moment at v) = run_anywhere (within left right) p made _ (moment at v) r.run in
@@ -59,7 +61,7 @@ seen : (p : Program) (word : List ℕ) (made : ℕ) (c : Moment) (v : Windowed) 
 seen p word made c v h = let high = h.near.below in let early = h.early in omega (arith, ints)
 
 -- the turn behind the run stays inside the window
-pub turn_inside : (p : Program) (word : List ℕ) (n left right made at : ℕ) (v : Windowed) (turn : Turn) (after : ℕ) (u : Windowed) → n ≤ 1048576 → n < left →
+pub turn_inside : (p : Program) (word : List ℕ) (n left right made at : ℕ) (v : Windowed) (turn : Turn) (after : ℕ) (u : Windowed) → n ≤ MOST_COUNT → n < left →
     n < right → right ≤ most → made ≤ n → Reached p made (start_of p.quints) (new_window left right (take (min most (length word)) word)) at v →
     IsTurn p turn at v after u → StaysInside turn
 turn_inside p word n left right made at v turns.Final after u few low high side early r turn = tt
@@ -94,7 +96,7 @@ whole_output p word made c v y letters same h out = by_end out.whole
         subst (IsOutput h.whole.tape) (sym (long.1 ∙ rest)) (output_beyond p word most made c h.whole out.near h.early letters h.run h.agrees reach near)
 
 -- how the run of the whole word comes out
-pub whole_ending : (p : Program) (word : List ℕ) (n left right made at : ℕ) (v : Windowed) (turn : Turn) (after : ℕ) (u : Windowed) (e : Ending) → n ≤ 1048576 →
+pub whole_ending : (p : Program) (word : List ℕ) (n left right made at : ℕ) (v : Windowed) (turn : Turn) (after : ℕ) (u : Windowed) (e : Ending) → n ≤ MOST_COUNT →
     n < left → n < right → right ≤ most → All (λ s. s ≢ 0) word → made ≤ n → (made < n → turn ≢ turns.Moved) →
     Reached p made (start_of p.quints) (new_window left right (take (min most (length word)) word)) at v → IsTurn p turn at v after u →
     IsEndingOf turn u (drop (min most (length word)) word) e → HasEnding p word n made (ending_of e)
@@ -142,7 +144,7 @@ whole_ending p word n left right made at v turn after u e few low high side lett
 
 -- The program's run: the tape is made from the front of the word, with more cells on both sides than there are steps.
 pub record Starts (p : Program) (word : List ℕ) (n held right state : ℕ) (w : Windowed) : Type 0 where
-  pub few : n ≤ 1048576
+  pub few : n ≤ MOST_COUNT
   pub front : held ≡ min most (length word)
   pub side : right ≡ max held (n + 1)
   pub state_is : state ≡ start_of p.quints

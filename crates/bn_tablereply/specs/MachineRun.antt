@@ -12,6 +12,7 @@ use Rattle.bn_machine.specs.declared.machine.Turn.{Turn}
 use Rattle.bn_machine.specs.declared.machine.Turn.TheVariants as turns
 use Rattle.bn_tablereply.specs.declared.machine_run.Ending.{Ending}
 use Rattle.bn_tablereply.specs.declared.machine_run.Ending.TheVariants.{Halted, Stuck, Running}
+use Rattle.bn_machine.specs.declared.tape.TheConstants.Tape.{GREATEST_SIDE}
 
 -- So many steps lead from a state and a tape in a window to another state and tape in that window.
 pub record Reached (p : Program) (made state : ℕ) (w : Windowed) (at : ℕ) (v : Windowed) : Type 0 where
@@ -41,8 +42,8 @@ pub record IsWholeOutput (w : Windowed) (rest y : List ℕ) : Type 0 where
   pub near : List ℕ
   pub output : IsOutput w.tape near
   pub inside : (w.tape.head +ℤ pos (length near)) ≤ℤ pos w.right
-  pub whole : ((w.tape.head +ℤ pos (length near) ≢ pos 2097152) × (y ≡ near))
-      ⊎ ((w.tape.head +ℤ pos (length near) ≡ pos 2097152) × (y ≡ near ++ rest))
+  pub whole : ((w.tape.head +ℤ pos (length near) ≢ pos GREATEST_SIDE) × (y ≡ near))
+      ⊎ ((w.tape.head +ℤ pos (length near) ≡ pos GREATEST_SIDE) × (y ≡ near ++ rest))
 
 -- the turn doesn't say that the head would leave the window
 abbrev pub StaysInside : Turn → Type 0

@@ -7,6 +7,7 @@ ghost use Rattle.bn_tablereply.specs.MachineReply.{halted_lines, running_line, s
 ghost use Rattle.bn_tablereply.specs.MachineRun.{FitsTable, ending_of};
 
 use crate::machine_run::{Ended, Ending, run_word};
+use bn_base::MOST_COUNT;
 use bn_reply::{
     Judged, NoMemory, OpenedTable, OpenedWord, Reply, Status, judge_table, open_table, open_word,
     push_letters,
@@ -22,7 +23,7 @@ pub fn reply_machine(
     steps: u32,
     bytes: &[u8],
 ) -> Result<Reply, NoMemory>
-    requires { steps ≤ 1048576 }
+    requires { steps ≤ MOST_COUNT }
     ensures { IfOk result (λ r. MachineReplies word.now steps bytes.now r.status r.text.items []) }
 {
     match open_table(alloc, bytes)? {
@@ -33,7 +34,7 @@ pub fn reply_machine(
 
 // What `machine` answers to a table.
 fn run_table(alloc: Global, table: &Table, word: &[u8], steps: u32) -> Result<Reply, NoMemory>
-    requires { steps ≤ 1048576 }
+    requires { steps ≤ MOST_COUNT }
     ensures { IfOk result (λ r. JudgedReplies
         (WordReplies (TellsRun table.now steps) table.now word.now) table.now r.status r.text.items []) }
 {
@@ -45,7 +46,7 @@ fn run_table(alloc: Global, table: &Table, word: &[u8], steps: u32) -> Result<Re
 
 // What is answered of a table's machine on a word.
 fn reply_word(alloc: Global, table: &Table, word: &[u8], steps: u32) -> Result<Reply, NoMemory>
-    requires { steps ≤ 1048576 }
+    requires { steps ≤ MOST_COUNT }
     ensures { IfOk result (λ r. WordReplies (TellsRun table.now steps) table.now word.now r.status r.text.items []) }
 {
     match open_word(alloc, table, word)? {

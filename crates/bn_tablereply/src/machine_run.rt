@@ -6,6 +6,7 @@ ghost use Rattle.bn_machine.specs.Tape.{cell};
 ghost use Rattle.bn_machine.specs.Window.{IsWindowed};
 ghost use Rattle.bn_tablereply.specs.MachineRun.{IsEndingOf, IsLetterAt, IsRun, StaysInside, IsWholeOutput, ending_of};
 
+use bn_base::MOST_COUNT;
 use bn_machine::{Machine, Tape, TapeRefusal, Turn};
 use bn_reply::NoMemory;
 use std::alloc::Global;
@@ -36,7 +37,7 @@ pub(crate) fn run_word(
     word: &[u32],
     steps: u32,
 ) -> Result<Ended, NoMemory>
-    requires few { steps ≤ 1048576 }
+    requires few { steps ≤ MOST_COUNT }
     requires letters { All (λ symbol. symbol ≢ 0) word.now }
     ensures { IfOk result (λ r. HasEnding machine.now word.now steps r.steps (ending_of r.ending)) }
 {

@@ -8,18 +8,19 @@ use Rattle.bn_words.proofs.FormLemmas.{one_form}
 use Rattle.bn_reply.specs.Answering.{HasAnswer}
 use Rattle.bn_reply.specs.declared.status.Status.TheVariants.{Usage, Size}
 use Rattle.bn_reply.proofs.SettledLemmas.{agree}
-use Rattle.bn_top.specs.Answers.{Answers, no_form, unread, too_long, replied, Replies, input_limit, size_text}
+use Rattle.bn_top.specs.Answers.{Answers, no_form, unread, too_long, replied, Replies, size_text}
+use Rattle.bn_reply.specs.declared.limits.TheConstants.{MOST_INPUT_BYTES}
 use Rattle.bn_top.specs.Laws.{AnswersAreOne, RequestsAreAnswered}
 use Rattle.bn_top.proofs.Commands.{settled}
 
 by_length : (words : List (List ℕ)) (request : Request) (bytes : List ℕ) → HasForm words request → reads_input request.form ≡ true →
-    (input_limit < length bytes) ⊎ (length bytes ≤ input_limit) → HasAnswer (Answers words bytes)
+    (MOST_INPUT_BYTES < length bytes) ⊎ (length bytes ≤ MOST_INPUT_BYTES) → HasAnswer (Answers words bytes)
 by_length words request bytes form reads (inl long) = (Size, size_text, [], too_long request form reads long refl refl refl)
 by_length words request bytes form reads (inr short) = let h = (settled words request form bytes).some in (h.0, h.1, h.2, replied request form reads short h.3)
 
 by_reading : (words : List (List ℕ)) (request : Request) (bytes : List ℕ) → HasForm words request →
     (reads_input request.form ≡ true) ⊎ (reads_input request.form ≡ false) → HasAnswer (Answers words bytes)
-by_reading words request bytes form (inl reads) = by_length words request bytes form reads (cases_lt input_limit (length bytes))
+by_reading words request bytes form (inl reads) = by_length words request bytes form reads (cases_lt MOST_INPUT_BYTES (length bytes))
 by_reading words request bytes form (inr nothing) = let h = (settled words request form []).some in (h.0, h.1, h.2, unread request form nothing h.3)
 
 pub requests-are-answered : RequestsAreAnswered

@@ -3,7 +3,8 @@ use Rattle.std.specs.Prelude.{◌≡◌, ℕ, ◌≤◌, List, [], Option, Some,
 use Rattle.std.proofs.Common.{sym, subst, ◌∙◌}
 use Rattle.bn_theory.specs.declared.place.Place.{Place}
 use Rattle.bn_machine.specs.Outcome.{Limits}
-use Rattle.bn_words.specs.Forms.{most_increments, most_limit, most_number, row_of}
+use Rattle.bn_words.specs.Forms.{most_increments, row_of}
+use Rattle.bn_base.specs.declared.limits.TheConstants.{MOST_COUNT}
 use Rattle.bn_words.specs.Requests.{AreWithin, HasForm, Request, letters_at, number_at}
 use Rattle.bn_words.specs.declared.form.Form.{Form}
 use Rattle.bn_words.specs.declared.form.Form.TheVariants.{Step, Back, Check, Machine, Reversible, Bennett, Realise, Standard}
@@ -51,14 +52,14 @@ use Rattle.bn_top.specs.Answers.{Replies, RepliesBy, limits_at}
 -- ---- the laws
 
 -- four counts up to the greatest limit of a window are limits that may be asked for
-small_limits : (kinds : List Kind) (request : Request) → AreWithin kinds request.arguments → slice_get kinds 1 ≡ Some (Count most_limit) →
-    slice_get kinds 2 ≡ Some (Count most_limit) → slice_get kinds 3 ≡ Some (Count most_limit) → slice_get kinds 4 ≡ Some (Count most_limit) →
+small_limits : (kinds : List Kind) (request : Request) → AreWithin kinds request.arguments → slice_get kinds 1 ≡ Some (Count MOST_COUNT) →
+    slice_get kinds 2 ≡ Some (Count MOST_COUNT) → slice_get kinds 3 ≡ Some (Count MOST_COUNT) → slice_get kinds 4 ≡ Some (Count MOST_COUNT) →
     AreSmall (limits_at request)
 small_limits kinds request within a b c d = (
-  count_most kinds request.arguments 1 most_limit within a,
-  count_most kinds request.arguments 2 most_limit within b,
-  count_most kinds request.arguments 3 most_limit within c,
-  count_most kinds request.arguments 4 most_limit within d,
+  count_most kinds request.arguments 1 MOST_COUNT within a,
+  count_most kinds request.arguments 2 MOST_COUNT within b,
+  count_most kinds request.arguments 3 MOST_COUNT within c,
+  count_most kinds request.arguments 4 MOST_COUNT within d,
 )
 
 -- an ordinal up to the most increments is a number of increments
@@ -79,8 +80,8 @@ settled_by Bennett request within = bennett_settled
 settled_by Standard request within = standard_settled
 settled_by Realise request within = λ bytes.
     let kinds = (row_of Realise).kinds in
-    let least : (n : ℕ) → slice_get kinds n ≡ Some (Ordinal most_number) → 1 ≤ number_at request n =
-    λ n here. ordinal_least kinds request.arguments n most_number within here in
+    let least : (n : ℕ) → slice_get kinds n ≡ Some (Ordinal MOST_COUNT) → 1 ≤ number_at request n =
+    λ n here. ordinal_least kinds request.arguments n MOST_COUNT within here in
     realise_settled (number_at request 0) (number_at request 1) bytes (least 0 refl) (least 1 refl)
 settled_by Compile request within = λ bytes. compile_settled (letters_at request 0) (limits_at request) bytes
     (small_limits (row_of Compile).kinds request within refl refl refl refl)

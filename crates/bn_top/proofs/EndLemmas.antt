@@ -15,7 +15,8 @@ use Rattle.bn_reply.specs.declared.status.Status.{Status}
 use Rattle.bn_reply.specs.declared.status.Status.TheVariants.{Usage, Size, ReadFault, WriteFault, NoMemory}
 use Rattle.bn_reply.proofs.ReplyLemmas.{grows_nothing}
 use Rattle.bn_reply.proofs.Walks.{hears-nothing}
-use Rattle.bn_top.specs.Answers.{Answers, no_form, unread, too_long, replied, Replies, input_limit, usage_text, size_text}
+use Rattle.bn_top.specs.Answers.{Answers, no_form, unread, too_long, replied, Replies, usage_text, size_text}
+use Rattle.bn_reply.specs.declared.limits.TheConstants.{MOST_INPUT_BYTES}
 use Rattle.bn_top.specs.Told.{EndsWithoutInput, IsAnswered, IsBegun, IsBroken, NeedsNoInput, unbegun, begun}
 use Rattle.bn_top.proofs.AnswerLemmas.{not_both}
 use Rattle.bn_top.proofs.Commands.{settled}
@@ -228,22 +229,22 @@ module _ (words : List (List ℕ)) (request : Request) (form : HasForm words req
   -- an input that is too long
   module _ (told : Option (List Place)) (before now : ℕ) (text : List ℕ) (is : text ≡ size_text)
       (ends : Finishes Size result taken took before now text) where
-    pub size_answered : (left : Option (List ℕ)) → IfSome left (λ bytes. input_limit < length bytes) → IsAnswer result →
+    pub size_answered : (left : Option (List ℕ)) → IfSome left (λ bytes. MOST_INPUT_BYTES < length bytes) → IsAnswer result →
         IfSome left (λ bytes. IsAnswered words bytes result taken took told told)
     size_answered left long answer =
-        by_told left (λ bytes. input_limit < length bytes) (λ bytes. IsAnswered words bytes result taken took told told) (λ bytes over.
+        by_told left (λ bytes. MOST_INPUT_BYTES < length bytes) (λ bytes. IsAnswered words bytes result taken took told told) (λ bytes over.
         given words result Size taken took told before now bytes size_text text
         (λ s e. too_long request form reads over e refl refl) is answer ends) long
 
-    pub size_cut : (left : Option (List ℕ)) → IfSome left (λ bytes. input_limit < length bytes) → result ≡ WriteFault →
+    pub size_cut : (left : Option (List ℕ)) → IfSome left (λ bytes. MOST_INPUT_BYTES < length bytes) → result ≡ WriteFault →
         IfSome left (λ bytes. IsBegun words bytes taken took told told)
     size_cut left long failed =
-        by_told left (λ bytes. input_limit < length bytes) (λ bytes. IsBegun words bytes taken took told told) (λ bytes over.
+        by_told left (λ bytes. MOST_INPUT_BYTES < length bytes) (λ bytes. IsBegun words bytes taken took told told) (λ bytes over.
         cut_short words result Size taken took told before now bytes size_text text
         (λ s e. too_long request form reads over e refl refl) is tt failed ends) long
 
   -- an input that is read
-  module _ (told heard : Option (List Place)) (bytes : List ℕ) (within : length bytes ≤ input_limit) (before now : ℕ)
+  module _ (told heard : Option (List Place)) (bytes : List ℕ) (within : length bytes ≤ MOST_INPUT_BYTES) (before now : ℕ)
       (left after : Option (List ℕ)) (read : IfSome left (λ xs. (bytes ≡ xs) × (after ≡ Some []))) where
     answers : (status : Status) (text : List ℕ) (places : List Place) → Replies request bytes status text places → Answers words bytes status text places
     answers status text places right = replied request form reads within right

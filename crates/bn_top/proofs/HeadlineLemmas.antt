@@ -5,7 +5,8 @@ use Rattle.bn_base.specs.Number.{greatest}
 use Rattle.bn_theory.specs.declared.place.Place.{Place}
 use Rattle.bn_machine.specs.Outcome.{Limits}
 use Rattle.bn_words.specs.Arguments.{AreArguments, Argument, IsNumber, Number, Word}
-use Rattle.bn_words.specs.Forms.{most_limit, reads_input}
+use Rattle.bn_words.specs.Forms.{reads_input}
+use Rattle.bn_base.specs.declared.limits.TheConstants.{MOST_COUNT}
 use Rattle.bn_words.specs.Requests.{Request, HasForm, HasNoForm}
 use Rattle.bn_words.specs.declared.form.Form.TheVariants.{Run, RunWithin, Generate}
 use Rattle.bn_words.specs.declared.kind.Kind.{Kind}
@@ -16,7 +17,8 @@ use Rattle.bn_genreply.specs.GenerateReply.{GenerateReplies}
 use Rattle.bn_genreply.specs.Laws.{GeneratedRunsTellOutcomes}
 use Rattle.bn_reply.specs.Codes.{IsAnswer}
 use Rattle.bn_reply.specs.declared.status.Status.{Status}
-use Rattle.bn_boardanswers.specs.Headline.{AsksRun, TellsHeadline, most_bytes}
+use Rattle.bn_boardanswers.specs.Headline.{AsksRun, TellsHeadline}
+use Rattle.bn_reply.specs.declared.limits.TheConstants.{MOST_INPUT_BYTES}
 use Rattle.bn_boardanswers.specs.RunReply.{RunReplies}
 use Rattle.bn_boardanswers.specs.Windows.{AreSmall}
 use Rattle.bn_boardanswers.proofs.ClosedLemmas.{headline_told}
@@ -32,13 +34,13 @@ number_of n low = record { spelled = refl; bound = low }
 -- a word and four limits, and what stands behind them
 window_arguments : (letters : List ℕ) (l : Limits) (kinds : List Kind) (words : List (List ℕ)) (arguments : List Argument) → AreSmall l →
     AreArguments kinds words arguments →
-    AreArguments (Letters ∷ Count most_limit ∷ Count most_limit ∷ Count most_limit ∷ Count most_limit ∷ kinds)
+    AreArguments (Letters ∷ Count MOST_COUNT ∷ Count MOST_COUNT ∷ Count MOST_COUNT ∷ Count MOST_COUNT ∷ kinds)
     ((61 ∷ letters) ∷ decimal l.left ∷ decimal l.right ∷ decimal l.steps ∷ decimal l.output ∷ words)
     (Word letters ∷ Number l.left ∷ Number l.right ∷ Number l.steps ∷ Number l.output ∷ arguments)
 window_arguments letters l kinds words arguments small rest =
     (refl, (limit l.left small.0, (limit l.right small.1, (limit l.steps small.2, (limit l.output small.3, rest)))))
   where
-    limit : (n : ℕ) → n ≤ most_limit → IsNumber (decimal n) n × (n ≤ most_limit)
+    limit : (n : ℕ) → n ≤ MOST_COUNT → IsNumber (decimal n) n × (n ≤ MOST_COUNT)
     limit n low = (number_of n (omega arith), low)
 
 -- what the words of a run ask for
@@ -72,7 +74,7 @@ run_replies letters l (Some e) bytes status text told h = h
 
 -- whatever run the words ask for, the answer is the reply to it
 asked_reply : (words : List (List ℕ)) (bytes : List ℕ) (status : Status) (text : List ℕ) (told : List Place) → Answers words bytes status text told →
-    (letters : List ℕ) (l : Limits) (given : Option ℕ) → AsksRun words letters l given → AreSmall l → length bytes ≤ most_bytes →
+    (letters : List ℕ) (l : Limits) (given : Option ℕ) → AsksRun words letters l given → AreSmall l → length bytes ≤ MOST_INPUT_BYTES →
     RunReplies given letters l bytes status text told
 asked_reply words bytes status text told (no_form none s t p) letters l given asks small short =
     absurd (none (asked letters l given) (asked_form words letters l given asks small))

@@ -1,7 +1,8 @@
 -- What the kinds of the forms with a window say of its limits.
 use Rattle.std.specs.Prelude.{◌≡◌, ℕ, ◌<◌, ◌≤◌, Some, slice_get, refl}
 use Rattle.std.proofs.Common.{arith, sym, subst}
-use Rattle.bn_words.specs.Forms.{most_limit, row_of}
+use Rattle.bn_words.specs.Forms.{row_of}
+use Rattle.bn_base.specs.declared.limits.TheConstants.{MOST_COUNT}
 use Rattle.bn_words.specs.Requests.{IsNumeric, IsRequest, Request, number_at}
 use Rattle.bn_words.specs.declared.form.Form.{Form}
 use Rattle.bn_words.specs.declared.form.Form.TheVariants.{Step, Back, Check, Machine, Reversible, Bennett, Realise, Compile, Run, RunWithin, View, Session}
@@ -11,10 +12,10 @@ use Rattle.bn_top.specs.Answers.{HasWindow}
 
 -- the words behind the word are counts up to the greatest limit
 pub record HasLimits (form : Form) : Type 0 where
-  pub left : slice_get (row_of form).kinds 1 ≡ Some (Count most_limit)
-  pub right : slice_get (row_of form).kinds 2 ≡ Some (Count most_limit)
-  pub steps : slice_get (row_of form).kinds 3 ≡ Some (Count most_limit)
-  pub output : slice_get (row_of form).kinds 4 ≡ Some (Count most_limit)
+  pub left : slice_get (row_of form).kinds 1 ≡ Some (Count MOST_COUNT)
+  pub right : slice_get (row_of form).kinds 2 ≡ Some (Count MOST_COUNT)
+  pub steps : slice_get (row_of form).kinds 3 ≡ Some (Count MOST_COUNT)
+  pub output : slice_get (row_of form).kinds 4 ≡ Some (Count MOST_COUNT)
 
 pub limits : (form : Form) → HasWindow form → HasLimits form
 limits Compile h = record { left = refl; right = refl; steps = refl; output = refl }
@@ -25,8 +26,8 @@ limits Session h = record { left = refl; right = refl; steps = refl; output = re
 limits _ h = absurd h
 
 -- such a word is a number, up to that limit
-pub numeric : (request : Request) (n : ℕ) → slice_get (row_of request.form).kinds n ≡ Some (Count most_limit) → IsNumeric (slice_get (row_of request.form).kinds n)
+pub numeric : (request : Request) (n : ℕ) → slice_get (row_of request.form).kinds n ≡ Some (Count MOST_COUNT) → IsNumeric (slice_get (row_of request.form).kinds n)
 numeric request n is = subst IsNumeric (sym is) tt
 
-pub within_limit : (request : Request) (n x : ℕ) → IsRequest request → slice_get (row_of request.form).kinds n ≡ Some (Count most_limit) → x ≡ number_at request n → x ≤ most_limit
-within_limit request n x within is same = let most = count_most (row_of request.form).kinds request.arguments n most_limit within is in omega arith
+pub within_limit : (request : Request) (n x : ℕ) → IsRequest request → slice_get (row_of request.form).kinds n ≡ Some (Count MOST_COUNT) → x ≡ number_at request n → x ≤ MOST_COUNT
+within_limit request n x within is same = let most = count_most (row_of request.form).kinds request.arguments n MOST_COUNT within is in omega arith

@@ -11,7 +11,7 @@ use Rattle.bn_words.specs.declared.form.Form.TheVariants.{Standard}
 use Rattle.bn_words.specs.declared.form.Form.TheVariants.{Compile, Run, RunWithin, View, Session, Plan, Generate, Erase}
 use Rattle.bn_words.specs.declared.form.Form.TheVariants.{EraseRun}
 use Rattle.bn_boardanswers.specs.CompileReply.{CompileReplies}
-use Rattle.bn_boardanswers.specs.Headline.{most_bytes}
+use Rattle.bn_reply.specs.declared.limits.TheConstants.{MOST_INPUT_BYTES}
 use Rattle.bn_boardanswers.specs.RunReply.{RunReplies}
 use Rattle.bn_erasereply.specs.EraseReply.{EraseReplies, EraseRunReplies}
 use Rattle.bn_genreply.specs.GenerateReply.{GenerateReplies}
@@ -27,10 +27,6 @@ use Rattle.bn_sessionreply.specs.SessionReply.{SessionReplies}
 use Rattle.bn_viewreply.specs.ViewReply.{ViewReplies}
 use Rattle.bn_reply.specs.declared.status.Status.{Status}
 use Rattle.bn_reply.specs.declared.status.Status.TheVariants.{Usage, Size}
-
--- the greatest number of bytes of an input: 64 MiB
-abbrev pub input_limit : ℕ
-input_limit = most_bytes
 
 -- the lines that need no reading
 abbrev pub usage_text : List ℕ
@@ -92,7 +88,8 @@ pub data Answers (words : List (List ℕ)) (bytes : List ℕ) (status : Status) 
   unread : (request : Request) → HasForm words request → reads_input request.form ≡ false →
       Replies request [] status text told → Answers words bytes status text told
   too_long : (request : Request) → HasForm words request → reads_input request.form ≡ true
-      → input_limit < length bytes →
+      → MOST_INPUT_BYTES < length bytes →
       status ≡ Size → text ≡ size_text → told ≡ [] → Answers words bytes status text told
-  replied : (request : Request) → HasForm words request → reads_input request.form ≡ true → length bytes ≤ input_limit →
+  replied : (request : Request) → HasForm words request → reads_input request.form ≡ true
+      → length bytes ≤ MOST_INPUT_BYTES →
       Replies request bytes status text told → Answers words bytes status text told

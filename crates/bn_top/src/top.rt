@@ -8,7 +8,7 @@ ghost use Rattle.bn_net.specs.Watching.{Hears};
 ghost use Rattle.bn_reply.specs.Codes.{IsAnswer};
 ghost use Rattle.bn_words.specs.Requests.{HasNoForm};
 ghost use Rattle.bn_boardanswers.specs.Headline.{TellsHeadline};
-ghost use Rattle.bn_top.specs.Answers.{Replies, input_limit, read_fault_text};
+ghost use Rattle.bn_top.specs.Answers.{Replies, read_fault_text};
 ghost use Rattle.bn_reply.specs.Replying.{AnswerEnds};
 ghost use Rattle.bn_top.specs.Told.{EndsWithoutInput, IsAnswered, IsBegun, IsBroken, NeedsNoInput};
 ghost use Rattle.bn_top.specs.Told.{UsageEnds, IsReadFaultCut, GaveMore, TellsGenerate};
@@ -17,12 +17,9 @@ use crate::dispatch::reply_to;
 use bn_genreply::generated_runs_tell_outcomes;
 use bn_io::{ReadRefusal, Sink, Source, read_all};
 use bn_net::Watch;
-use bn_reply::{Status, finish};
+use bn_reply::{MOST_INPUT_BYTES, Status, finish};
 use bn_words::{Request, read_words};
 use std::alloc::Global;
-
-/// The greatest number of bytes of an input: 64 MiB.
-const INPUT_LIMIT: u64 = 67_108_864;
 
 /// Answers the words of a command line: reads the input from the source where the words have a
 /// form and its command reads one, gives the answer's text to the sink, and answers the status.
@@ -68,10 +65,10 @@ pub fn workbench<S: Source, K: Sink, W: Watch>(
 
     // How much is read otherwise.
     ensures read { (NeedsNoInput (map string_bytes words.now.items) → ⊥) → IsAnswer result → result ≢ Status.Usage →
-        IfSome (S.left source.old) (λ bytes. length bytes ≤ input_limit → S.left source.new ≡ Some []) }
+        IfSome (S.left source.old) (λ bytes. length bytes ≤ MOST_INPUT_BYTES → S.left source.new ≡ Some []) }
     ensures size { (NeedsNoInput (map string_bytes words.now.items) → ⊥) → IfSome (S.left source.old)
-        (λ bytes. result ≡ Status.Size → input_limit < length bytes →
-        GaveMore (S.left source.old) (S.left source.new) input_limit) }
+        (λ bytes. result ≡ Status.Size → MOST_INPUT_BYTES < length bytes →
+        GaveMore (S.left source.old) (S.left source.new) MOST_INPUT_BYTES) }
 
     // What stands after a fault, and its cause.
     ensures read_cause { result ≡ Status.ReadFault → Rose (S.faults source.old) (S.faults source.new) }
@@ -97,7 +94,7 @@ pub fn workbench<S: Source, K: Sink, W: Watch>(
         generated_runs_tell_outcomes();
         return answer(alloc, &request, b"", sink, watch);
     }
-    match read_all(alloc, source, INPUT_LIMIT) {
+    match read_all(alloc, source, MOST_INPUT_BYTES) {
         Ok(bytes) => answer(alloc, &request, bytes.as_slice(), sink, watch),
         Err(ReadRefusal::ReadFault) => finish(sink, b"read fault\n", Status::ReadFault),
         Err(ReadRefusal::TooLong) => finish(sink, b"size: input\n", Status::Size),

@@ -8,6 +8,7 @@ use Rattle.bn_words.specs.declared.form.Form.TheVariants.{Step, Back, Check, Mac
 use Rattle.bn_words.specs.declared.form.Form.TheVariants.{Standard}
 use Rattle.bn_words.specs.declared.form.Form.TheVariants.{Compile, Run, RunWithin, View, Session, Plan, Generate, Erase}
 use Rattle.bn_words.specs.declared.form.Form.TheVariants.{EraseRun}
+use Rattle.bn_base.specs.declared.limits.TheConstants.{MOST_COUNT}
 
 -- a row: the command's name, and the kinds of the words behind it
 pub record Row : Type 0 where
@@ -17,30 +18,22 @@ pub record Row : Type 0 where
 abbrev row : List ℕ → List Kind → Row
 row name kinds = record { name = name; kinds = kinds }
 
--- the greatest number of steps of a machine by itself, of a state and of a line
-abbrev pub most_number : ℕ
-most_number = 1048576
-
--- the greatest limit of a window
-abbrev pub most_limit : ℕ
-most_limit = 1048576
-
 -- the most increments of the machine whose run is generated
 abbrev pub most_increments : ℕ
 most_increments = 4
 
 -- a word and the four limits of a window, and what stands behind them
 abbrev window_kinds : List Kind → List Kind
-window_kinds rest = Letters ∷ Count most_limit ∷ Count most_limit ∷ Count most_limit ∷ Count most_limit ∷ rest
+window_kinds rest = Letters ∷ Count MOST_COUNT ∷ Count MOST_COUNT ∷ Count MOST_COUNT ∷ Count MOST_COUNT ∷ rest
 
 abbrev pub row_of : Form → Row
 row_of Step = row (codes "step") (Count greatest ∷ [])
 row_of Back = row (codes "back") (Count greatest ∷ [])
 row_of Check = row (codes "check") []
-row_of Machine = row (codes "machine") (Letters ∷ Count most_number ∷ [])
+row_of Machine = row (codes "machine") (Letters ∷ Count MOST_COUNT ∷ [])
 row_of Reversible = row (codes "reversible") []
 row_of Bennett = row (codes "bennett") []
-row_of Realise = row (codes "realise") (Ordinal most_number ∷ Ordinal most_number ∷ [])
+row_of Realise = row (codes "realise") (Ordinal MOST_COUNT ∷ Ordinal MOST_COUNT ∷ [])
 row_of Standard = row (codes "standard") []
 row_of Compile = row (codes "compile") (window_kinds [])
 row_of Run = row (codes "run") (window_kinds [])
@@ -50,7 +43,7 @@ row_of Session = row (codes "session") (window_kinds [])
 row_of Plan = row (codes "plan") []
 row_of Generate = row (codes "generate") (Ordinal most_increments ∷ [])
 row_of Erase = row (codes "erase") []
-row_of EraseRun = row (codes "erase") (Letters ∷ Count most_number ∷ [])
+row_of EraseRun = row (codes "erase") (Letters ∷ Count MOST_COUNT ∷ [])
 
 -- whether the command reads an input
 abbrev pub reads_input : Form → Bool

@@ -5,15 +5,7 @@ ghost use Rattle.bn_words.specs.Forms.{reads_input, row_of};
 
 use crate::kind::Kind;
 use crate::kind::Kind::{Count, Letters, Ordinal};
-
-/// The greatest number of steps of a circuit: 2^62.
-const MOST_STEPS: u64 = 1 << 62;
-
-/// The greatest number of steps of a machine by itself, of a state and of a line.
-const MOST_NUMBER: u64 = 1_048_576;
-
-/// The greatest limit of a window: of the cells on a side of tape 1, the steps of the history, the cells of the output.
-const MOST_LIMIT: u64 = 1_048_576;
+use bn_base::{GREATEST, MOST_COUNT};
 
 /// The most increments of the machine whose run is generated.
 const MOST_INCREMENTS: u64 = 4;
@@ -21,20 +13,20 @@ const MOST_INCREMENTS: u64 = 4;
 /// A word and the four limits of a window.
 const WINDOW: [Kind; 5] = [
     Letters,
-    Count(MOST_LIMIT),
-    Count(MOST_LIMIT),
-    Count(MOST_LIMIT),
-    Count(MOST_LIMIT),
+    Count(MOST_COUNT),
+    Count(MOST_COUNT),
+    Count(MOST_COUNT),
+    Count(MOST_COUNT),
 ];
 
 /// A word, the four limits of a window, and a greatest number of steps.
 const WINDOW_AND_STEPS: [Kind; 6] = [
     Letters,
-    Count(MOST_LIMIT),
-    Count(MOST_LIMIT),
-    Count(MOST_LIMIT),
-    Count(MOST_LIMIT),
-    Count(MOST_STEPS),
+    Count(MOST_COUNT),
+    Count(MOST_COUNT),
+    Count(MOST_COUNT),
+    Count(MOST_COUNT),
+    Count(GREATEST),
 ];
 
 /// A form of a command line. A name may have several forms, told apart by what stands behind it.
@@ -119,13 +111,13 @@ impl Form {
         ensures kinds { result.kinds.now ≡ (row_of self).kinds }
     {
         match self {
-            Form::Step => Row::new("step", &[Count(MOST_STEPS)]),
-            Form::Back => Row::new("back", &[Count(MOST_STEPS)]),
+            Form::Step => Row::new("step", &[Count(GREATEST)]),
+            Form::Back => Row::new("back", &[Count(GREATEST)]),
             Form::Check => Row::new("check", &[]),
-            Form::Machine => Row::new("machine", &[Letters, Count(MOST_NUMBER)]),
+            Form::Machine => Row::new("machine", &[Letters, Count(MOST_COUNT)]),
             Form::Reversible => Row::new("reversible", &[]),
             Form::Bennett => Row::new("bennett", &[]),
-            Form::Realise => Row::new("realise", &[Ordinal(MOST_NUMBER), Ordinal(MOST_NUMBER)]),
+            Form::Realise => Row::new("realise", &[Ordinal(MOST_COUNT), Ordinal(MOST_COUNT)]),
             Form::Standard => Row::new("standard", &[]),
             Form::Compile => Row::new("compile", &WINDOW),
             Form::Run => Row::new("run", &WINDOW),
@@ -135,7 +127,7 @@ impl Form {
             Form::Plan => Row::new("plan", &[]),
             Form::Generate => Row::new("generate", &[Ordinal(MOST_INCREMENTS)]),
             Form::Erase => Row::new("erase", &[]),
-            Form::EraseRun => Row::new("erase", &[Letters, Count(MOST_NUMBER)]),
+            Form::EraseRun => Row::new("erase", &[Letters, Count(MOST_COUNT)]),
         }
     }
 }

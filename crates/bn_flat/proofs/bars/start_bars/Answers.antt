@@ -5,7 +5,7 @@ use Rattle.bn_element.specs.Rotary.{horizontal, vertical}
 use Rattle.bn_realise.specs.Banks.{bottom_at}
 use Rattle.bn_boards.specs.Boards.{size_of}
 use Rattle.bn_assembly.specs.Modules.{module_table}
-use Rattle.bn_assembly.specs.declared.make.TheConstants.{MOST_ELEMENTS}
+use Rattle.bn_net.specs.declared.net.TheConstants.{MOST_ELEMENTS}
 use Rattle.bn_flat.specs.BoardWires.{module_circuit}
 use Rattle.bn_flat.proofs.WireLemmas.{module_at}
 use Rattle.bn_flat.proofs.CopyLemmas.{bank_bars, bars_more}

@@ -1,4 +1,4 @@
-use Rattle.bn_assembly.specs.declared.make.TheConstants.{MOST_ELEMENTS}
+use Rattle.bn_net.specs.declared.net.TheConstants.{MOST_ELEMENTS}
 use Rattle.bn_flat.proofs.WireLemmas.{output_fits, entered_within, entered_fits, between_is}
 use Rattle.bn_flat.proofs.wiring.between.Goals as goal
 

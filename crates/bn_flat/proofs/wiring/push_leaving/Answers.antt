@@ -1,5 +1,5 @@
 use Rattle.std.proofs.Common.{rules, arith, ◌≤◌, ◌+◌, ◌*◌}
-use Rattle.bn_assembly.specs.declared.make.TheConstants.{MOST_ELEMENTS}
+use Rattle.bn_net.specs.declared.net.TheConstants.{MOST_ELEMENTS}
 use Rattle.bn_flat.proofs.WireLemmas.{module_at, module_ended}
 use Rattle.std.proofs.Math.Nat.{mul-le-mul_right}
 use Rattle.bn_assembly.specs.Modules.{module_table}

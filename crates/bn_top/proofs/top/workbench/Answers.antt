@@ -2,7 +2,7 @@ use Rattle.std.proofs.Common.{true, false, [], ◌≡◌, ◌<◌, ◌≤◌, ma
 use Rattle.std.specs.String.{string_bytes}
 use Rattle.bn_words.specs.Requests.{HasForm, HasNoForm}
 use Rattle.bn_reply.specs.declared.status.Status.TheVariants.{Size}
-use Rattle.bn_top.specs.Answers.{input_limit}
+use Rattle.bn_reply.specs.declared.limits.TheConstants.{MOST_INPUT_BYTES}
 use Rattle.bn_top.specs.Told.{GaveMore}
 use Rattle.bn_top.proofs.EndLemmas.{cut_cause, for_any, is_complete, never_read_fault, never_usage, read_as}
 use Rattle.bn_top.proofs.EndLemmas.{reply_answered, reply_cut, reply_wanting, size_answered, size_cut, usage_answered, usage_cut}
@@ -23,7 +23,7 @@ returns-in-Ok-clause-answered g c =
     let form = subst (λ ws. HasForm (map (string_bytes {Z = Global}) ws) c.in-Some.request) c.as_slice.ensures.value c.in-Some.ensures in
     let reads = reads_as c.form.result c.in-Some.request.form c.reads_input.result true c.form.ensures.value c.reads_input.ensures c.if-not-reads_input.false in
     let bytes = c.as_slice-in-Ok.result.now in
-    let within : length bytes ≤ input_limit = omega (arith, c.as_slice-in-Ok.ensures.len, c.in-Ok.ensures.within) in
+    let within : length bytes ≤ MOST_INPUT_BYTES = omega (arith, c.as_slice-in-Ok.ensures.len, c.in-Ok.ensures.within) in
     let left = g.S.Source.left c.args.source.now in
     let after = g.S.Source.left c.read_all.new.source in
     let read = read_as left after c.in-Ok.bytes.items bytes c.as_slice-in-Ok.ensures.value c.in-Ok.ensures.whole in
@@ -37,7 +37,7 @@ returns-in-Ok-clause-write_fault g c =
     let form = subst (λ ws. HasForm (map (string_bytes {Z = Global}) ws) c.in-Some.request) c.as_slice.ensures.value c.in-Some.ensures in
     let reads = reads_as c.form.result c.in-Some.request.form c.reads_input.result true c.form.ensures.value c.reads_input.ensures c.if-not-reads_input.false in
     let bytes = c.as_slice-in-Ok.result.now in
-    let within : length bytes ≤ input_limit = omega (arith, c.as_slice-in-Ok.ensures.len, c.in-Ok.ensures.within) in
+    let within : length bytes ≤ MOST_INPUT_BYTES = omega (arith, c.as_slice-in-Ok.ensures.len, c.in-Ok.ensures.within) in
     let left = g.S.Source.left c.args.source.now in
     let after = g.S.Source.left c.read_all.new.source in
     let read = read_as left after c.in-Ok.bytes.items bytes c.as_slice-in-Ok.ensures.value c.in-Ok.ensures.whole in
@@ -51,7 +51,7 @@ returns-in-Ok-clause-no_memory g c =
     let form = subst (λ ws. HasForm (map (string_bytes {Z = Global}) ws) c.in-Some.request) c.as_slice.ensures.value c.in-Some.ensures in
     let reads = reads_as c.form.result c.in-Some.request.form c.reads_input.result true c.form.ensures.value c.reads_input.ensures c.if-not-reads_input.false in
     let bytes = c.as_slice-in-Ok.result.now in
-    let within : length bytes ≤ input_limit = omega (arith, c.as_slice-in-Ok.ensures.len, c.in-Ok.ensures.within) in
+    let within : length bytes ≤ MOST_INPUT_BYTES = omega (arith, c.as_slice-in-Ok.ensures.len, c.in-Ok.ensures.within) in
     let left = g.S.Source.left c.args.source.now in
     let after = g.S.Source.left c.read_all.new.source in
     let read = read_as left after c.in-Ok.bytes.items bytes c.as_slice-in-Ok.ensures.value c.in-Ok.ensures.whole in
@@ -345,5 +345,5 @@ returns-in-Err-TooLong-clause-size g c = λ needs.
     let after = g.S.Source.left c.read_all.new.source in
     let taken = c.in-Err-TooLong.ensures.taken in
     let longer = taken.1.longer (ap (λ e. Err e) c.in-Err-TooLong.field-0-is) in
-    for_any left (λ bytes. c.finish-in-Err-TooLong.result ≡ Size → input_limit < length bytes → GaveMore left after input_limit)
+    for_any left (λ bytes. c.finish-in-Err-TooLong.result ≡ Size → MOST_INPUT_BYTES < length bytes → GaveMore left after MOST_INPUT_BYTES)
     (λ bytes is over. (taken.0, taken.1.lost, longer))
