@@ -1,0 +1,31 @@
+-- Words on lists, whose entries are counted from 1, and on numbers.
+use Rattle.std.specs.Prelude.{◌≡◌, ℕ, zero, suc, ◌<◌, List, [], ◌∷◌, Option, Some, None, slice_get, ◌⊎◌}
+
+-- the n-th entry of a list, counted from 1
+abbrev pub nth : {X : Type 0} → List X → ℕ → Option X
+nth xs zero = None
+nth xs (suc i) = slice_get xs i
+
+-- the element is one of the list's
+abbrev pub IsIn : {X : Type 0} → List X → X → Type 0
+IsIn [] x = ⊥
+IsIn (y ∷ ys) x = (x ≡ y) ⊎ IsIn ys x
+
+-- each entry that stands before the n-th has the property
+pub record AllBefore {X : Type 0} (P : X → Type 0) (xs : List X) (n : ℕ) : Type 0 where
+  pub each : (m : ℕ) (x : X) → m < n → nth xs m ≡ Some x → P x
+
+-- the n-th entry is x, and it is the first that has the property
+pub record IsFirst {X : Type 0} (P : X → Type 0) (xs : List X) (n : ℕ) (x : X) : Type 0 where
+  pub stands : nth xs n ≡ Some x
+  pub holds : P x
+  pub first : (m : ℕ) (y : X) → m < n → nth xs m ≡ Some y → P y → ⊥
+
+-- no entry has the property
+pub record HasNone {X : Type 0} (P : X → Type 0) (xs : List X) : Type 0 where
+  pub none : (n : ℕ) (x : X) → nth xs n ≡ Some x → P x → ⊥
+
+-- the number is the least that has the property
+pub record IsLeast (P : ℕ → Type 0) (n : ℕ) : Type 0 where
+  pub holds : P n
+  pub least : (m : ℕ) → m < n → P m → ⊥

@@ -1,0 +1,6 @@
+//! What the other crates share: words on lists, for the clauses, and the refusal of a call that found no memory.
+#![tactic(auto)]
+
+mod memory;
+
+pub use memory::NoMemory;
