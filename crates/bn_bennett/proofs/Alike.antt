@@ -2,14 +2,14 @@
 use Rattle.std.proofs.Common.{◌≡◌, ◌<◌, ◌+◌, ◌*◌, ◌∷◌, ◌∙◌, ℕ, suc, zero, List, [], length, Some, sym, ap, subst, arith}
 use Rattle.std.proofs.lemmas.Option.{get_or_from_slice_get, slice_get_within}
 use Rattle.bn_theory.specs.Runs.{Reaches}
-use Rattle.bn_machine.specs.Machine.{Program, nth}
+use Rattle.bn_machine.specs.Machine.{Program}
+use Rattle.bn_lists.specs.Lists.{nth, IsIn}
 use Rattle.bn_quad.specs.Quadruples.{Admits, Configuration, Goes, Quadruples, everywhere, IsRuleInRange, Rooms, Rule, final_of, initial_of}
 use Rattle.bn_quad.proofs.QuadStepLemmas.{goes_leads}
 use Rattle.bn_machine.specs.Tape.{blank_tape, scanned, word_tape}
 use Rattle.bn_machine.specs.Outcome as outcome
 use Rattle.bn_machine.specs.Outcome.{HasOutcome, Limits, Outcome}
 use Rattle.std.specs.Prelude.{◌↔◌}
-use Rattle.bn_stages.specs.In.{IsIn}
 use Rattle.bn_stages.proofs.MembershipLemmas.{each_of_two, from_flat_map, in_head, in_tail}
 use Rattle.bn_stages.specs.Laws.{BennettsTheorem, BoundedRunsAgree, HaltsAfter, NumbersPassTests, NumbersRunAlike}
 use Rattle.bn_stages.specs.List.{bennett, initial_name, final_name}

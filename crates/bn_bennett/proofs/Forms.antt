@@ -11,7 +11,8 @@ use Rattle.bn_base.specs.Number.{AreDigits}
 use Rattle.bn_entries.specs.Forms.{is_name_byte, is_state_name, is_symbol, is_symbol_byte}
 use Rattle.bn_entries.proofs.FormsLemmas.{all-at}
 use Rattle.bn_entries.proofs.NumberingLemmas.{both_true}
-use Rattle.bn_machine.specs.Machine.{IsMachine, nth}
+use Rattle.bn_machine.specs.Machine.{IsMachine}
+use Rattle.bn_lists.specs.Lists.{nth}
 use Rattle.bn_qtable.specs.Named.{AreNamed, HasNames}
 use Rattle.bn_stages.specs.Laws.{ListHasNames}
 use Rattle.bn_stages.specs.declared.name.Name.{Name}

@@ -6,8 +6,9 @@ use Rattle.std.proofs.lemmas.List.{length-map}
 use Rattle.std.proofs.lemmas.Option.{get_or_from_slice_get, slice_get-map, slice_get_within}
 use Rattle.bn_entries.specs.Numbering.{firsts_by}
 use Rattle.bn_machine.specs.declared.quint.Shift.TheVariants.{Stay}
-use Rattle.bn_machine.specs.Machine.{Program, IsMachine, final_of, nth}
-use Rattle.bn_machine.proofs.MachineLemmas.{nth-get_or, nth_once}
+use Rattle.bn_machine.specs.Machine.{Program, IsMachine, final_of}
+use Rattle.bn_lists.specs.Lists.{nth, IsIn}
+use Rattle.bn_lists.proofs.ListLemmas.{nth-get_or, nth_once}
 use Rattle.bn_quad.specs.Quadruples.{Deed, Rewrite, Move, Rule, Quadruples, IsQuadMachine, IsDeedInRange, AreDeedsInRange, deeds_of}
 use Rattle.bn_quad.specs.Overlap.{IsDeterministic, IsReversible, IsUniform}
 use Rattle.bn_quad.specs.Kept.{IsActInRange, IsReadInRange, IsSound, IsFirstFault, Agree, act_of, quad_of, read_of, rule_of, rules_of}
@@ -16,7 +17,6 @@ use Rattle.bn_quad.specs.Calls.{IsMadeOf, IsUniformMachine, IsQuadRefusal}
 use Rattle.bn_quad.specs.declared.quad.Quad.{Quad}
 use Rattle.bn_quad.specs.declared.refusal.QuadRefusal.{QuadRefusal}
 use Rattle.bn_quad.specs.declared.refusal.QuadRefusal.TheVariants as refusal
-use Rattle.bn_stages.specs.In.{IsIn}
 use Rattle.bn_stages.proofs.MembershipLemmas.{in_map}
 use Rattle.bn_stages.specs.Laws.{ListCountsNames, ListHasLength, ListIsInRange, NumbersPassTests}
 use Rattle.bn_stages.specs.Names.{states_in}

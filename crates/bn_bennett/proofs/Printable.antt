@@ -2,7 +2,8 @@
 use Rattle.std.proofs.Common.{◌≡◌, ◌<◌, ◌≤◌, ◌+◌, ℕ, length, Some, slice_get, subst, arith, inl, inr, suc}
 use Rattle.std.proofs.lemmas.Option.{get_or_from_slice_get, slice_get_within}
 use Rattle.std.proofs.Common.{zero}
-use Rattle.bn_machine.specs.Machine.{Program, IsInRange, IsMachine, nth}
+use Rattle.bn_machine.specs.Machine.{Program, IsInRange, IsMachine}
+use Rattle.bn_lists.specs.Lists.{nth}
 use Rattle.bn_machine.specs.declared.quint.Quint.{Quint}
 use Rattle.bn_stages.specs.Laws.{ListCountsNames, ListHasNames}
 use Rattle.bn_stages.specs.List.{bennett}

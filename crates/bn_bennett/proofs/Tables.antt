@@ -12,8 +12,7 @@ use Rattle.std.proofs.lemmas.Option.{get_or_from_slice_get, slice_get-get_or}
 use Rattle.std.proofs.lemmas.Slice.Eq.{bytes_eq-Decides}
 use Rattle.bn_entries.specs.Numbering.{firsts, firsts_by}
 use Rattle.bn_entries.proofs.NumberingLemmas.{any-firsts, firsts-push}
-use Rattle.bn_machine.specs.Machine.{nth}
-use Rattle.bn_stages.specs.In.{IsIn}
+use Rattle.bn_lists.specs.Lists.{nth, IsIn}
 use Rattle.bn_stages.proofs.MembershipLemmas.{each_of_two, in_head, in_tail, in_left, in_cases, not_in_empty}
 use Rattle.bn_entries.specs.Forms.{is_symbol}
 use Rattle.bn_entries.proofs.FormsLemmas.{all-at}

@@ -8,11 +8,11 @@ use Rattle.std.proofs.lemmas.List.{length-map}
 use Rattle.std.proofs.lemmas.Option.{get_or_from_slice_get, slice_get_within, slice_get-get_or}
 use Rattle.bn_entries.specs.Numbering.{firsts_by}
 use Rattle.bn_entries.proofs.NumberingLemmas.{any-at, any-firsts}
-use Rattle.bn_machine.specs.Machine.{Program, IsMachine, final_of, nth}
-use Rattle.bn_machine.proofs.MachineLemmas.{nth-get_or}
+use Rattle.bn_machine.specs.Machine.{Program, IsMachine, final_of}
+use Rattle.bn_lists.specs.Lists.{nth, IsIn}
+use Rattle.bn_lists.proofs.ListLemmas.{nth-get_or}
 use Rattle.bn_machine.specs.declared.quint.Shift.TheVariants.{Stay}
 use Rattle.bn_quad.specs.Quadruples.{Rule, Quadruples, IsQuadMachine, IsRuleInRange}
-use Rattle.bn_stages.specs.In.{IsIn}
 use Rattle.bn_stages.proofs.MembershipLemmas.{in_head, in_tail}
 use Rattle.bn_stages.specs.Laws.{ListHasLength, ListIsInRange}
 use Rattle.bn_stages.specs.List.{bennett, symbols_of}

@@ -6,8 +6,8 @@ use Rattle.std.proofs.lemmas.List.{length-map, length-set}
 use Rattle.std.proofs.lemmas.List.FromFn.{get_or-map-range_with_len, length-range_with_len}
 use Rattle.std.proofs.lemmas.Option.{slice_get_within, get_or_from_slice_get}
 use Rattle.bn_theory.proofs.StepLemmas.{slice_get-set_same, slice_get-set_other}
-use Rattle.bn_machine.specs.Machine.{nth}
-use Rattle.bn_machine.proofs.MachineLemmas.{nth_within, nth_once}
+use Rattle.bn_lists.specs.Lists.{nth}
+use Rattle.bn_lists.proofs.ListLemmas.{nth_within, nth_once}
 use Rattle.bn_quad.specs.Quadruples.{Rule, Quadruples, IsQuadMachine, final_of}
 use Rattle.bn_quad.specs.Calls.{IsUniformMachine}
 use Rattle.bn_quad.specs.Kept.{quad_of}

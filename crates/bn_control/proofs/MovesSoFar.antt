@@ -1,6 +1,6 @@
 -- The moves of a control by names as the program keeps them.
 use Rattle.std.specs.Prelude.{◌≡◌, ℕ, ◌≤◌, List, Some}
-use Rattle.bn_machine.specs.Machine.{nth}
+use Rattle.bn_lists.specs.Lists.{nth}
 use Rattle.bn_quad.specs.Quadruples.{Quadruples, Rule, initial_of}
 use Rattle.bn_modules.specs.Controls.{ControlMove, Begin, Outside, IsEntry}
 use Rattle.bn_cell.proofs.MemberLemmas.{IsMember}

@@ -2,8 +2,8 @@
 use Rattle.std.proofs.Common.{◌≡◌, inl, inr, get_or, ℕ, zero, suc, ◌+◌, ◌*◌, ◌<◌, ◌≤◌, List, [], ◌∷◌, ◌++◌, length, map, Some, refl, sym, ap, subst, ◌∙◌, arith, length-append}
 use Rattle.std.proofs.lemmas.Bool.Decides.{eqb_tells}
 use Rattle.std.proofs.lemmas.Option.{slice_get-get_or}
-use Rattle.bn_machine.specs.Machine.{nth}
-use Rattle.bn_machine.proofs.MachineLemmas.{nth_within, nth_once}
+use Rattle.bn_lists.specs.Lists.{nth}
+use Rattle.bn_lists.proofs.ListLemmas.{nth_within, nth_once}
 use Rattle.bn_quad.specs.Quadruples.{Rule, Quadruples, IsQuadMachine, initial_of}
 use Rattle.bn_quad.specs.Calls.{IsUniformMachine}
 use Rattle.bn_quad.specs.Kept.{quad_of}

@@ -4,7 +4,8 @@ use Rattle.std.specs.List.{filter, range_with_len}
 use Rattle.std.proofs.lemmas.Bool.{eqb-true}
 use Rattle.std.proofs.lemmas.List.FromFn.{length-range_with_len}
 use Rattle.std.proofs.lemmas.List.Sums.{length-filter}
-use Rattle.bn_machine.specs.Machine.{Program, IsInRange, nth, start_of, final_of}
+use Rattle.bn_machine.specs.Machine.{Program, IsInRange, start_of, final_of}
+use Rattle.bn_lists.specs.Lists.{nth}
 use Rattle.bn_machine.specs.declared.quint.Quint.{Quint}
 use Rattle.bn_stages.specs.List.{bennett}
 use Rattle.bn_stages.specs.Names.{NumbersStates, IsNameOf, Mentions}

@@ -5,8 +5,9 @@ use Rattle.std.proofs.lemmas.Bool.{eqb-true}
 use Rattle.std.proofs.lemmas.Bool.Decides.{eqb_tells}
 use Rattle.std.proofs.lemmas.List.{map-append, reverse-append, reverse-reverse}
 use Rattle.std.proofs.lemmas.Option.{slice_get-get_or}
-use Rattle.bn_machine.specs.Machine.{Program, nth, start_of, final_of as final_state}
-use Rattle.bn_machine.proofs.MachineLemmas.{nth-get_or}
+use Rattle.bn_machine.specs.Machine.{Program, start_of, final_of as final_state}
+use Rattle.bn_lists.specs.Lists.{nth, IsIn}
+use Rattle.bn_lists.proofs.ListLemmas.{nth-get_or}
 use Rattle.bn_machine.specs.declared.quint.Quint.{Quint}
 use Rattle.bn_machine.specs.declared.quint.Shift.TheVariants as way
 use Rattle.bn_machine.specs.declared.quint.Side.{Side}
@@ -18,7 +19,6 @@ use Rattle.bn_controllaws.proofs.ListLemmas.{same_length as same_symbols}
 use Rattle.bn_controllaws.proofs.RangeLemmas.{rule_in_range}
 use Rattle.bn_controllaws.proofs.UniformLemmas.{same_domain, same_range}
 use Rattle.bn_cell.proofs.MemberLemmas.{IsMember, in_front, behind, of_two}
-use Rattle.bn_stages.specs.In.{IsIn}
 use Rattle.bn_stages.specs.List.{bennett, goes_right, goes_left, writes_ahead, shifts_ahead, begins_copy, turns_left, ends_copy, shifts_back, writes_back}
 use Rattle.bn_stages.proofs.ListLemmas.{has_goes_right, has_goes_left, has_writes_ahead, has_shifts_ahead, has_begins_copy, has_turns_left, has_ends_copy, has_shifts_back, has_writes_back}
 use Rattle.bn_stages.proofs.Counts.{list_has_names}

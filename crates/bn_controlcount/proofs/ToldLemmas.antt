@@ -2,10 +2,10 @@
 use Rattle.std.proofs.Common.{◌≡◌, ◌≢◌, inl, inr, Bool, true, false, ◌==◌, ◌||◌, ℕ, zero, suc, List, [], ◌∷◌, Some, refl, ap, ◌∙◌, eq-eqb, slice_get}
 use Rattle.std.specs.List.{list_any}
 use Rattle.std.proofs.lemmas.Bool.Decides.{eqb_tells}
-use Rattle.bn_machine.specs.Machine.{Program, nth, start_of, final_of}
+use Rattle.bn_machine.specs.Machine.{Program, start_of, final_of}
+use Rattle.bn_lists.specs.Lists.{nth, IsIn}
 use Rattle.bn_machine.specs.declared.quint.Quint.{Quint}
 use Rattle.bn_quad.specs.Quadruples.{Rule}
-use Rattle.bn_stages.specs.In.{IsIn}
 use Rattle.bn_stages.specs.List.{bennett}
 use Rattle.bn_stages.proofs.ListLemmas.{each_rule}
 use Rattle.bn_stages.specs.Stages.{IsStandardMachine}

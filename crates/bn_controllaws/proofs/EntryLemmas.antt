@@ -1,6 +1,6 @@
 -- The first command of a state.
 use Rattle.std.proofs.Common.{◌≡◌, ℕ, List, [], ◌∷◌, Some, refl, sym, ap, ◌∙◌}
-use Rattle.bn_machine.specs.Machine.{nth}
+use Rattle.bn_lists.specs.Lists.{nth}
 use Rattle.bn_machine.specs.declared.quint.Side.{Side}
 use Rattle.bn_quad.specs.Quadruples.{Quadruples, Rule, deeds_of, final_of}
 use Rattle.bn_quad.specs.Calls.{IsUniformMachine}

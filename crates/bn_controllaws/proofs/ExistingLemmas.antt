@@ -1,7 +1,7 @@
 -- Each state has a first command.
 use Rattle.std.proofs.Common.{◌≡◌, slice_get, ◌≢◌, inl, inr, ◌⊎◌, ℕ, zero, suc, ◌<◌, ◌==◌, List, [], ◌∷◌, Some, refl}
 use Rattle.std.proofs.lemmas.Bool.{cases_Bool, eqb-false, eqb-true}
-use Rattle.bn_machine.specs.Machine.{nth}
+use Rattle.bn_lists.specs.Lists.{nth}
 use Rattle.bn_machine.specs.declared.quint.Side.{Side}
 use Rattle.bn_quad.specs.Quadruples.{Quadruples, Rule, final_of}
 use Rattle.bn_quad.specs.Calls.{IsUniformMachine}

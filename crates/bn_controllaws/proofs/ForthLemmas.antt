@@ -1,7 +1,7 @@
 -- A state and an input line have one move.
 use Rattle.std.proofs.Common.{◌≡◌, ℕ, suc, List, [], ◌∷◌, ◌++◌, length, Some, sym, ap, ◌∙◌}
 use Rattle.std.proofs.lemmas.List.{map-append}
-use Rattle.bn_machine.specs.Machine.{nth}
+use Rattle.bn_lists.specs.Lists.{nth}
 use Rattle.bn_quad.specs.Quadruples.{Quadruples, Rule, deeds_of, initial_of}
 use Rattle.bn_quad.specs.Calls.{IsUniformMachine}
 use Rattle.bn_modules.specs.Controls.{ControlGoes, ControlLine, ControlMove, ControlState, IsEntry, begins, reads_on, shifts_on, writes_on, symbols_in, to_reads, to_writes, reads_of, shifts_of, writes_of}

@@ -2,7 +2,7 @@
 use Rattle.std.proofs.Common.{◌≡◌, ◌⊎◌, inl, inr, slice_get, ℕ, zero, suc, ◌<◌, List, [], ◌∷◌, ◌++◌, reverse, Some, refl, sym, ap, subst, arith}
 use Rattle.std.proofs.lemmas.Bool.{cases_lt}
 use mathlib.Core.List.{reverse_aux}
-use Rattle.bn_machine.specs.Machine.{nth}
+use Rattle.bn_lists.specs.Lists.{nth}
 
 -- an element of a list
 abbrev pub IsMember : {A : Type 0} → A → List A → Type 0

@@ -2,8 +2,8 @@
 use Rattle.std.specs.Prelude.{◌≡◌, ℕ, ◌<◌, List, [], ◌∷◌, Some, ◌⊎◌}
 use Rattle.std.proofs.Common.{arith, sym, subst, inl, inr}
 use Rattle.std.proofs.lemmas.Bool.{cases_lt}
-use Rattle.bn_machine.specs.Machine.{nth}
-use Rattle.bn_machine.proofs.MachineLemmas.{nth_once}
+use Rattle.bn_lists.specs.Lists.{nth}
+use Rattle.bn_lists.proofs.ListLemmas.{nth_once}
 use Rattle.bn_quad.specs.Quadruples.{Deed, Rewrite, Move, Rule, deeds_of}
 use Rattle.bn_quad.specs.Overlap.{IsAlike, MeetsInDomain, MeetsInRange, OnEachTape, HaveSameTapes, OverlapsInDomain, OverlapsInRange, IsDeterministic, IsReversible, HasNoClash}
 use Rattle.bn_quad.specs.declared.clash.Clash.TheVariants.{Reads, Writes}

@@ -1,7 +1,7 @@
 -- The states of a control, listed and put in order.
 use Rattle.std.proofs.Common.{◌≡◌, ◌≢◌, ◌⊎◌, inl, inr, ℕ, ◌<◌, List, [], ◌∷◌, ◌++◌, Some, refl}
 use Rattle.std.proofs.lemmas.Bool.Decides.{eqb_tells}
-use Rattle.bn_machine.specs.Machine.{nth}
+use Rattle.bn_lists.specs.Lists.{nth}
 use Rattle.bn_machine.specs.declared.quint.Side.{Side}
 use Rattle.bn_quad.specs.Quadruples.{Quadruples, Rule, final_of}
 use Rattle.bn_modules.specs.Controls.{ControlState, Begin, End, Reads, Shifts, Writes, IsNotLeft, Occurs, is_begin, is_end, is_open, is_read, is_shift, is_write, reads_of, shifts_of, writes_of, symbols_in, IsNumbering}

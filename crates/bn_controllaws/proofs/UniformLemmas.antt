@@ -1,6 +1,6 @@
 -- What uniform machines have, rule by rule.
 use Rattle.std.proofs.Common.{◌≡◌, ℕ, suc, List, [], ◌∷◌, Some, refl}
-use Rattle.bn_machine.specs.Machine.{nth}
+use Rattle.bn_lists.specs.Lists.{nth}
 use Rattle.bn_machine.specs.declared.quint.Shift.TheVariants as way
 use Rattle.bn_quad.specs.Quadruples.{Deed, Rewrite, Move, Quadruples, Rule, deeds_of}
 use Rattle.bn_quad.specs.Overlap.{HaveSameTapes, IsIdle, IsSilent}

@@ -1,7 +1,7 @@
 -- What the laws of this crate say, each the contract of a function with an empty body.
 use Rattle.std.specs.Prelude.{◌≡◌, ℕ, ◌<◌, List, Some}
 use Rattle.bn_theory.specs.Tables.{Table}
-use Rattle.bn_machine.specs.Machine.{nth}
+use Rattle.bn_lists.specs.Lists.{nth}
 use Rattle.bn_quad.specs.Overlap.{HaveSameTapes, OverlapsInDomain, OverlapsInRange, IsDeterministic, IsReversible}
 use Rattle.bn_quad.specs.Overlap.{HasNoClash}
 use Rattle.bn_quad.specs.declared.clash.Clash.TheVariants.{Reads, Writes}

@@ -3,10 +3,10 @@ use Rattle.std.specs.Prelude.{◌≡◌, ℕ, zero, suc, ◌+◌, ◌*◌, ◌<�
 use Rattle.std.proofs.Common.{sym, ap, ◌∙◌, subst, arith}
 use Rattle.std.proofs.lemmas.Option.{get_or_from_slice_get, slice_get_within}
 use Rattle.bn_theory.specs.Runs.{Reaches}
-use Rattle.bn_machine.specs.Machine.{Program, nth}
+use Rattle.bn_machine.specs.Machine.{Program}
+use Rattle.bn_lists.specs.Lists.{nth, IsIn}
 use Rattle.bn_machine.specs.Tape.{blank_tape, word_tape}
 use Rattle.bn_quad.specs.Quadruples.{Configuration, Goes, IsRuleInRange, Rule, everywhere, final_of, initial_of}
-use Rattle.bn_stages.specs.In.{IsIn}
 use Rattle.bn_stages.proofs.MembershipLemmas.{each_of_two, from_flat_map, in_head, in_tail}
 use Rattle.bn_stages.specs.Laws.{HaltsAfter}
 use Rattle.bn_stages.specs.Names.{states_in}

@@ -9,7 +9,7 @@ use Rattle.bn_quad.specs.Kept.{quad_of}
 use Rattle.bn_quad.specs.Quadruples.{IsRuleInRange, Rule, final_of, turned_list}
 use Rattle.bn_quad.proofs.KeptLemmas.{rules_of-quads}
 use Rattle.bn_quad.specs.declared.quad.Quad.{Quad}
-use Rattle.bn_stages.specs.In.{IsIn}
+use Rattle.bn_lists.specs.Lists.{IsIn}
 use Rattle.bn_stages.proofs.MembershipLemmas.{from_map, in_append, in_left, in_map, in_right}
 use Rattle.bn_stages.proofs.Apart.{Apart, apart_append, apart_map, apart_weaker}
 use Rattle.bn_stages.specs.Laws.{ListCountsNames, ListHasNames, NumbersPassTests}

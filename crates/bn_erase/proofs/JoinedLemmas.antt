@@ -9,7 +9,7 @@ use Rattle.bn_machine.specs.MachineCalls.{IsMachineRefusal}
 use Rattle.bn_machine.specs.declared.quint.Quint.{Quint}
 use Rattle.bn_machine.specs.declared.machine.MachineRefusal.{MachineRefusal}
 use Rattle.bn_machine.specs.declared.machine.MachineRefusal.TheVariants.{Empty, Range}
-use Rattle.bn_stages.specs.In.{IsIn}
+use Rattle.bn_lists.specs.Lists.{IsIn}
 use Rattle.bn_stages.proofs.Halted.{quint_in_range}
 use Rattle.bn_table.specs.Rows.{IsTable, Named, blank}
 use Rattle.bn_table.proofs.Bounds.{fits_table}

@@ -6,8 +6,7 @@ use Rattle.std.proofs.lemmas.Bool.{cases_lt}
 use Rattle.std.proofs.lemmas.Bool.Decides.{eqb_tells}
 use Rattle.std.proofs.lemmas.Option.{slice_get_within, slice_get-get_or}
 use Rattle.bn_entries.proofs.NumberingLemmas.{number_stays}
-use Rattle.bn_machine.specs.Machine.{nth}
-use Rattle.bn_stages.specs.In.{IsIn}
+use Rattle.bn_lists.specs.Lists.{nth, IsIn}
 use Rattle.bn_stages.proofs.Apart.{Apart, apart_append, apart_places, apart_from_places}
 use Rattle.bn_stages.proofs.MembershipLemmas.{in_head, in_tail, in_cases, not_in_empty, in_left, in_right}
 use Rattle.bn_erase.specs.Joint.{joint_letters, IsAlphabet}

@@ -12,8 +12,7 @@ use Rattle.std.proofs.lemmas.Option.{cond_some, get_or_from_slice_get, slice_get
 use Rattle.bn_entries.specs.Forms.{is_symbol_byte}
 use Rattle.bn_entries.specs.NumberingLaws.{AreApart}
 use Rattle.bn_entries.proofs.NumberingLemmas.{both_true, no_more_than}
-use Rattle.bn_machine.specs.Machine.{nth}
-use Rattle.bn_stages.specs.In.{IsIn}
+use Rattle.bn_lists.specs.Lists.{nth, IsIn}
 use Rattle.bn_stages.proofs.Apart.{Apart}
 use Rattle.bn_stages.proofs.ListLemmas.{in_range}
 use Rattle.bn_stages.proofs.MembershipLemmas.{in_head, in_tail, in_cases, not_in_empty}

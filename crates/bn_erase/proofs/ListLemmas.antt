@@ -4,12 +4,11 @@ use Rattle.std.proofs.Common.{refl, sym, ap, ◌∙◌, subst, arith, get_or}
 use Rattle.std.proofs.lemmas.List.{map-append, reverse-append}
 use Rattle.std.proofs.lemmas.List.Elements.{All-map, All-same, All-tail}
 use Rattle.std.proofs.lemmas.Option.{get_or_from_slice_get, slice_get-get_or, slice_get_within}
-use Rattle.bn_machine.specs.Machine.{nth}
+use Rattle.bn_lists.specs.Lists.{nth, IsIn}
 use Rattle.bn_quad.specs.Kept.{quad_of}
 use Rattle.bn_quad.specs.Quadruples.{IsQuadMachine, IsRuleInRange, Quadruples, Rule, final_of, inverse_of, turned, turned_list}
 use Rattle.bn_quad.specs.declared.quad.Quad.{Quad}
 use Rattle.bn_bennett.specs.Draft.{IsBelow}
-use Rattle.bn_stages.specs.In.{IsIn}
 use Rattle.bn_stages.proofs.MembershipLemmas.{in_head, in_tail, from_map}
 use Rattle.bn_stages.specs.Renamed.{renamed, rename}
 use Rattle.bn_quadlists.specs.Lists.{exchanged, exchanged_list}

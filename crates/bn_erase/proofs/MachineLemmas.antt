@@ -4,15 +4,15 @@ use Rattle.std.specs.Option.{option_map}
 use Rattle.std.proofs.Common.{refl, sym, ap, ◌∙◌, subst, arith, get_or}
 use Rattle.std.proofs.lemmas.List.{length-map}
 use Rattle.std.proofs.lemmas.Option.{slice_get-map}
-use Rattle.bn_machine.specs.Machine.{IsMachine, Program, nth}
-use Rattle.bn_machine.proofs.MachineLemmas.{nth-get_or, nth_once}
+use Rattle.bn_machine.specs.Machine.{IsMachine, Program}
+use Rattle.bn_lists.specs.Lists.{nth, IsIn}
+use Rattle.bn_lists.proofs.ListLemmas.{nth-get_or, nth_once}
 use Rattle.bn_quad.specs.Calls.{IsMadeOf, IsQuadRefusal, IsUniformMachine}
 use Rattle.bn_quad.specs.Kept.{Agree, IsActInRange, IsReadInRange, IsSound, act_of, quad_of, read_of, rule_of, rules_of}
 use Rattle.bn_quad.specs.Quadruples.{AreDeedsInRange, Deed, IsDeedInRange, IsQuadMachine, Move, Quadruples, Rewrite, Rule, deeds_of}
 use Rattle.bn_quad.proofs.KeptLemmas.{nth-rules_of, quads-apart}
 use Rattle.bn_quad.specs.declared.quad.Quad.{Quad}
 use Rattle.bn_quad.specs.declared.refusal.QuadRefusal.{QuadRefusal}
-use Rattle.bn_stages.specs.In.{IsIn}
 use Rattle.bn_stages.proofs.MembershipLemmas.{in_map}
 use Rattle.bn_stages.specs.Renamed.{rename, renamed, name_at}
 use Rattle.bn_stages.specs.Stages.{IsStandardMachine}

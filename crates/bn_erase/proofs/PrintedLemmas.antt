@@ -9,7 +9,8 @@ use Rattle.std.proofs.lemmas.List.{length-map, length-take-le, map-append, take_
 use Rattle.std.proofs.lemmas.Option.{get_or_from_slice_get, same_Some, slice_get-get_or}
 use Rattle.bn_entries.specs.Forms.{is_name_byte, is_state_name, is_symbol}
 use Rattle.bn_entries.proofs.FormsLemmas.{all-at}
-use Rattle.bn_machine.specs.Machine.{IsMachine, Program, nth}
+use Rattle.bn_machine.specs.Machine.{IsMachine, Program}
+use Rattle.bn_lists.specs.Lists.{nth}
 use Rattle.bn_qtable.specs.Named.{AreNamed}
 use Rattle.bn_quad.specs.Names.{Naming}
 use Rattle.bn_stages.specs.declared.name.Name.{Name}

@@ -5,7 +5,8 @@ use Rattle.std.proofs.lemmas.List.{length-map}
 use Rattle.std.proofs.lemmas.List.Elements.{All-map}
 use Rattle.std.proofs.lemmas.List.Folds.{flat_map-map}
 use Rattle.bn_entries.specs.Numbering.{AreNumberedByFirst}
-use Rattle.bn_machine.specs.Machine.{Program, IsMachine, IsInRange, start_of, final_of, nth}
+use Rattle.bn_machine.specs.Machine.{Program, IsMachine, IsInRange, start_of, final_of}
+use Rattle.bn_lists.specs.Lists.{nth}
 use Rattle.bn_machine.specs.declared.quint.Quint.{Quint}
 use Rattle.bn_quadlists.proofs.MappedLemmas.{mapped_before, nth_mapped}
 use Rattle.bn_stages.proofs.Halted.{quint_in_range, some_symbol}

@@ -52,7 +52,7 @@ module _ (qs rs : List Quint) (a : AreAlike qs rs) where
   refused_too (StartUsed i) h = (
     unambiguous_too h.0,
     a.begins.0 h.1,
-    record { uses = (a.starts i).0 h.2.uses; least = λ m low k. h.2.least m low ((a.starts m).1 k) },
+    record { holds = (a.starts i).0 h.2.holds; least = λ m low k. h.2.least m low ((a.starts m).1 k) },
   )
   refused_too Last h = (unambiguous_too h.0, a.begins.0 h.1, lone_start_too h.2, λ k. h.3 (a.ends.1 k))
   refused_too (FinalUsed i) h = (
@@ -60,7 +60,7 @@ module _ (qs rs : List Quint) (a : AreAlike qs rs) where
     a.begins.0 h.1,
     lone_start_too h.2,
     a.ends.0 h.3,
-    record { uses = (a.finals i).0 h.4.uses; least = λ m low k. h.4.least m low ((a.finals m).1 k) },
+    record { holds = (a.finals i).0 h.4.holds; least = λ m low k. h.4.least m low ((a.finals m).1 k) },
   )
   refused_too NoMemory h = tt
 

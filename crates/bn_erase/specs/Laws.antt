@@ -9,7 +9,7 @@ use Rattle.bn_qtable.specs.Named.{HasNames}
 use Rattle.bn_standard.specs.Standard.{IsStandard}
 use Rattle.bn_standard.specs.Verdict.{IsRefusal}
 use Rattle.bn_standard.specs.declared.why.Why.{Why}
-use Rattle.bn_stages.specs.In.{IsIn}
+use Rattle.bn_lists.specs.Lists.{IsIn}
 use Rattle.bn_stages.specs.Laws.{HaltsAfter}
 use Rattle.bn_stages.specs.Renamed.{KeepsApart}
 use Rattle.bn_stages.specs.Stages.{IsStandardMachine, IsSpelledBy}

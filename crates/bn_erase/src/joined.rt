@@ -3,7 +3,7 @@ ghost use Rattle.std.specs.Prelude.{◌≡◌, ℕ, ◌<◌, ◌≤◌, ◌^◌,
 ghost use Rattle.std.specs.Prelude.{filter, length, map, not, position, slice_get, slice_index};
 ghost use Rattle.std.specs.List.{list_any};
 ghost use Rattle.bn_machine.specs.Machine.{IsInRange};
-ghost use Rattle.bn_stages.specs.In.{IsIn};
+ghost use Rattle.bn_lists.specs.Lists.{IsIn};
 ghost use Rattle.bn_table.specs.Rows.{IsTable};
 ghost use Rattle.bn_erase.specs.Joint.{joined, joint_letters, number_in};
 ghost use Rattle.bn_erase.specs.Recoded.{recoded, recoded_quint, widened};

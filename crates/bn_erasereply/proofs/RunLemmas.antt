@@ -4,7 +4,8 @@ use Rattle.std.proofs.Common.{sym, subst, ap, ◌∙◌, arith, inl, inr}
 use Rattle.std.proofs.lemmas.Bool.{cases_lt}
 use Rattle.std.proofs.lemmas.Option.{get_or_from_slice_get, slice_get_within}
 use Rattle.bn_theory.specs.Runs.{Reaches}
-use Rattle.bn_machine.specs.Machine.{Program, nth}
+use Rattle.bn_machine.specs.Machine.{Program}
+use Rattle.bn_lists.specs.Lists.{nth, IsIn}
 use Rattle.bn_machine.specs.Run.{IsOutput}
 use Rattle.bn_machine.specs.Window.{Windowed, new_window, within}
 use Rattle.bn_quad.specs.Quadruples.{Configuration, Goes, GoesBy, IsQuadMachine, IsRuleInRange, Quadruples, Rooms, Rule, final_of, initial_of}
@@ -12,7 +13,6 @@ use Rattle.bn_quad.specs.Calls.{IsQuadTurn, configuration, rooms_of}
 use Rattle.bn_quad.specs.declared.tapes.Tapes.{Tapes}
 use Rattle.bn_quad.specs.declared.tapes.QuadTurn.{QuadTurn}
 use Rattle.bn_quad.specs.declared.tapes.QuadTurn.TheVariants as turns
-use Rattle.bn_stages.specs.In.{IsIn}
 use Rattle.bn_stages.specs.Names.{states_in}
 use Rattle.bn_stages.specs.Renamed.{in_state}
 use Rattle.bn_stages.specs.Stages.{IsStandardMachine}

@@ -9,7 +9,8 @@ use Rattle.bn_theory.proofs.RunsLemmas.{runs_join}
 use Rattle.bn_machine.specs.Tape.{Tape, scanned, ahead, word_tape}
 use Rattle.bn_machine.proofs.TapeLemmas.{write-scanned, scanned-ahead}
 use Rattle.bn_machine.specs.Window.{anywhere}
-use Rattle.bn_machine.specs.Machine.{Program, Moment, Goes, IsFinal, start, final_of, nth}
+use Rattle.bn_machine.specs.Machine.{Program, Moment, Goes, IsFinal, start, final_of}
+use Rattle.bn_lists.specs.Lists.{nth, IsIn}
 use Rattle.bn_machine.specs.Machine as machine
 use Rattle.bn_machine.specs.Run.{After, Follows, IsOutput, Ending, EndsAt, halts, sticks, runs}
 use Rattle.bn_machine.proofs.MachineStepLemmas.{run_follows}
@@ -17,7 +18,6 @@ use Rattle.bn_machine.proofs.OutcomeLemmas.{run_goes_on, ending_exists}
 use Rattle.bn_quad.specs.Quadruples.{Rule, Configuration, AppliesTo, Leads, HasNoRule, turned, turned_list, everywhere}
 use Rattle.bn_quad.specs.Overlap.{IsDeterministic}
 use Rattle.bn_quad.proofs.ReversibleLemmas.{same_configuration}
-use Rattle.bn_stages.specs.In.{IsIn}
 use Rattle.bn_stages.specs.List.{bennett, initial_name, final_name, goes_left, passes_letter, ends_copy}
 use Rattle.bn_stages.proofs.ListLemmas.{each_rule, has_goes_left, has_passes_letter, has_ends_copy}
 use Rattle.bn_stages.specs.Names.{IsUniformFrom}

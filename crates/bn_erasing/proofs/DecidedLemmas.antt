@@ -5,7 +5,7 @@ use Rattle.std.proofs.lemmas.Bool.Decides.{eqb_tells}
 use Rattle.bn_theory.specs.Runs.{Reaches}
 use Rattle.bn_machine.specs.Tape.{Tape, scanned}
 use Rattle.bn_quad.specs.Quadruples.{Deed, Rewrite, Move, Rule, Configuration, Admits, AppliesTo, after, HasNoRule, everywhere}
-use Rattle.bn_stages.specs.In.{IsIn}
+use Rattle.bn_lists.specs.Lists.{IsIn}
 use Rattle.bn_stages.proofs.MembershipLemmas.{in_head, in_tail, in_cases, not_in_empty}
 use Rattle.bn_stages.specs.Steps.{Steps}
 use Rattle.bn_stages.specs.declared.name.Name.{Name}

@@ -8,7 +8,7 @@ use Rattle.bn_standard.specs.Standard.{IsStandard}
 use Rattle.bn_quad.specs.Quadruples.{Deed, Rewrite, Move, Rule, deeds_of, turned_deed, turned, turned_list, IsDeedInRange, AreDeedsInRange}
 use Rattle.bn_quad.specs.Overlap.{HasNoClash}
 use Rattle.bn_quad.specs.declared.clash.Clash.TheVariants.{Domain, Range}
-use Rattle.bn_stages.specs.In.{IsIn}
+use Rattle.bn_lists.specs.Lists.{IsIn}
 use Rattle.bn_stages.proofs.MembershipLemmas.{from_map, in_map, in_append}
 use Rattle.bn_stages.specs.List.{bennett, initial_name, final_name}
 use Rattle.bn_stages.specs.Names.{states_in, IsUniformFrom}

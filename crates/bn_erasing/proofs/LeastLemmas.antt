@@ -4,7 +4,8 @@ use Rattle.std.proofs.Common.{refl, sym, ap, ◌∙◌, subst, arith, get_or, in
 use Rattle.bn_machine.specs.Tape.{Tape, scanned, write, shift, blank_tape}
 use Rattle.bn_machine.proofs.TapeLemmas.{write-scanned, cell-word}
 use Rattle.bn_machine.specs.Window.{anywhere}
-use Rattle.bn_machine.specs.Machine.{IsMachine, IsInRange, Goes, start, nth}
+use Rattle.bn_machine.specs.Machine.{IsMachine, IsInRange, Goes, start}
+use Rattle.bn_lists.specs.Lists.{nth}
 use Rattle.bn_machine.specs.Run.{IsOutput}
 use Rattle.bn_machine.specs.declared.quint.Quint.{Quint}
 use Rattle.bn_machine.specs.declared.quint.Shift.TheVariants.{Stay, Right}
@@ -68,7 +69,7 @@ first_step = (
   record {
     going = λ e. absurd (omega arith);
     quint = one;
-    match = record { stands = refl; matches = record { from = refl; reads = cell-word [] (pos 0) }; first = λ m r low e h. at_place (λ n q. n < 1 → ⊥) (λ k. absurd (omega arith)) (λ k. absurd (omega arith)) m r e low };
+    match = record { stands = refl; holds = record { from = refl; reads = cell-word [] (pos 0) }; first = λ m r low e h. at_place (λ n q. n < 1 → ⊥) (λ k. absurd (omega arith)) (λ k. absurd (omega arith)) m r e low };
     applies = record { from = refl; reads = cell-word [] (pos 0); writes = refl; to = refl };
     stays = tt;
   },
@@ -80,7 +81,7 @@ second_step = (
   record {
     going = λ e. absurd (omega arith);
     quint = two;
-    match = record { stands = refl; matches = record { from = refl; reads = scans_blank }; first = λ m r low e h. at_place (λ n q. n < 2 → 1 ≡ q.state → ⊥) (λ k same. absurd (omega arith)) (λ k same. absurd (omega arith)) m r e low h.from };
+    match = record { stands = refl; holds = record { from = refl; reads = scans_blank }; first = λ m r low e h. at_place (λ n q. n < 2 → 1 ≡ q.state → ⊥) (λ k same. absurd (omega arith)) (λ k same. absurd (omega arith)) m r e low h.from };
     applies = record { from = refl; reads = scans_blank; writes = refl; to = refl };
     stays = tt;
   },

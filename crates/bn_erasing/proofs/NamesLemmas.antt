@@ -4,7 +4,7 @@ use Rattle.std.proofs.Common.{refl, sym, ap, ◌∙◌, subst, arith, inl, inr, 
 use Rattle.std.proofs.lemmas.List.{length-map}
 use Rattle.bn_machine.specs.Machine.{Program, IsMachine}
 use Rattle.bn_quad.specs.Quadruples.{Rule, turned}
-use Rattle.bn_stages.specs.In.{IsIn}
+use Rattle.bn_lists.specs.Lists.{IsIn}
 use Rattle.bn_stages.proofs.MembershipLemmas.{in_head, in_tail, in_cases, in_left, in_right, in_append, in_map, from_map, from_flat_map, each_of_two}
 use Rattle.bn_stages.specs.List.{bennett, final_name}
 use Rattle.bn_stages.specs.Names.{states_in, NumbersStates, Mentions}

@@ -3,12 +3,12 @@ use Rattle.std.specs.Prelude.{◌≡◌, ℕ, zero, suc, ◌+◌, ◌<◌, List,
 use Rattle.std.proofs.Common.{sym, ap, ◌∙◌, subst, arith, length-append}
 use Rattle.std.proofs.lemmas.List.{length-map}
 use Rattle.bn_theory.specs.Runs.{Reaches}
-use Rattle.bn_machine.specs.Machine.{Program, nth}
+use Rattle.bn_machine.specs.Machine.{Program}
+use Rattle.bn_lists.specs.Lists.{nth, IsIn}
 use Rattle.bn_quad.specs.Quadruples.{Rule, Configuration, turned, turned_list, Rooms, initial_of, final_of}
 use Rattle.bn_quad.specs.Overlap.{HasNoClash}
 use Rattle.bn_quad.proofs.ReversibleLemmas.{nth-turned_list}
 use Rattle.bn_quad.specs.declared.clash.Clash.TheVariants.{Domain, Range}
-use Rattle.bn_stages.specs.In.{IsIn}
 use Rattle.bn_stages.specs.List.{bennett}
 use Rattle.bn_stages.specs.Names.{states_in, IsUniformFrom}
 use Rattle.bn_stages.proofs.NumberLemmas.{uniform_numbers, run_of_goes, run_of_steps}

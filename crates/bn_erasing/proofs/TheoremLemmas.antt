@@ -8,7 +8,7 @@ use Rattle.bn_machine.specs.Machine.{Program, start}
 use Rattle.bn_machine.proofs.MachineStepLemmas.{run_follows}
 use Rattle.bn_quad.specs.Quadruples.{Rule, Configuration, turned_list, everywhere}
 use Rattle.bn_quad.proofs.ReversibleLemmas.{same_configuration}
-use Rattle.bn_stages.specs.In.{IsIn}
+use Rattle.bn_lists.specs.Lists.{IsIn}
 use Rattle.bn_stages.proofs.MembershipLemmas.{in_map}
 use Rattle.bn_stages.specs.List.{bennett, initial_name, final_name}
 use Rattle.bn_stages.specs.Names.{states_in}

@@ -1,7 +1,8 @@
 -- What the laws of this crate say, each the contract of a function with an empty body.
 use Rattle.std.specs.Prelude.{◌≡◌, ◌≢◌, ◌↔◌, ℕ, ◌+◌, ◌*◌, ◌<◌, ◌≤◌, ⊤, List, [], length, Some, slice_get}
 use Rattle.bn_theory.specs.Runs.{Reaches}
-use Rattle.bn_machine.specs.Machine.{Program, Moment, IsMachine, IsStuck, nth}
+use Rattle.bn_machine.specs.Machine.{Program, Moment, IsMachine, IsStuck}
+use Rattle.bn_lists.specs.Lists.{nth, IsIn}
 use Rattle.bn_machine.specs.Run.{After}
 use Rattle.bn_machine.specs.declared.quint.Shift.TheVariants.{Left, Right}
 use Rattle.bn_standard.specs.Standard.{IsStandard}
@@ -11,7 +12,6 @@ use Rattle.bn_machine.specs.Window.{Room, anywhere, within}
 use Rattle.bn_stages.specs.Renamed.{rename, in_state, KeepsApart}
 use Rattle.bn_erasing.specs.Outcome.{Outcome, Halted, Stuck, HasOutcome}
 use Rattle.bn_quad.specs.Overlap.{IsDeterministic, IsReversible, IsUniform}
-use Rattle.bn_stages.specs.In.{IsIn}
 use Rattle.bn_stages.specs.List.{initial_name}
 use Rattle.bn_stages.specs.Steps.{Steps, Exit, Leaving, EndsAt}
 use Rattle.bn_machine.specs.declared.quint.Side.{Side}

@@ -2,7 +2,8 @@
 use Rattle.std.specs.Prelude.{◌⊎◌, Some, slice_get, length}
 use Rattle.std.proofs.Common.{◌≡◌, ◌∙◌, ◌<◌, ◌+◌, ◌∷◌, [], ℕ, zero, suc, List, Bool, true, ◌&&◌, ◌||◌, eqb, ltb, sym, ap, subst, arith, inl, inr}
 use Rattle.std.proofs.lemmas.Bool.{and_parts, or_cases, eqb-true, ltb-true}
-use Rattle.bn_machine.specs.Machine.{nth, start_of, final_of}
+use Rattle.bn_machine.specs.Machine.{start_of, final_of}
+use Rattle.bn_lists.specs.Lists.{nth}
 use Rattle.bn_machine.specs.declared.quint.Quint.{Quint}
 use Rattle.bn_standard.specs.Standard.{NamesStart, NamesFinal, IsUnambiguous, HasLoneStart, HasLoneFinal}
 

@@ -6,7 +6,8 @@ use Rattle.std.proofs.lemmas.Bool.{and_parts, ltb-true}
 use Rattle.std.proofs.lemmas.Option.{slice_get_within, get_or_from_slice_get}
 use Rattle.std.proofs.lemmas.List.Sums.{AllPass-from_list_all}
 use Rattle.bn_entries.specs.Numbering.{firsts_by, numbers_from}
-use Rattle.bn_machine.specs.Machine.{nth, final_of, IsInRange, IsFirstFault}
+use Rattle.bn_machine.specs.Machine.{final_of, IsInRange, IsFirstFault}
+use Rattle.bn_lists.specs.Lists.{nth}
 use Rattle.bn_machine.specs.declared.quint.Quint.{Quint}
 use Rattle.bn_machine.specs.declared.quint.Shift.TheVariants.{Stay, Right}
 use Rattle.bn_standard.specs.Standard.{IsStandard}

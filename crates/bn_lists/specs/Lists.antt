@@ -6,10 +6,15 @@ abbrev pub nth : {X : Type 0} → List X → ℕ → Option X
 nth xs zero = None
 nth xs (suc i) = slice_get xs i
 
--- the element is one of the list's
-abbrev pub IsIn : {X : Type 0} → List X → X → Type 0
-IsIn [] x = ⊥
-IsIn (y ∷ ys) x = (x ≡ y) ⊎ IsIn ys x
+-- x stands in the list
+pub record IsIn {X : Type 0} (xs : List X) (x : X) : Type 0 where
+  pub place : ℕ
+  pub stands : nth xs place ≡ Some x
+
+-- The list has the element: the same by recursion, as the first entry or among the rest.
+abbrev pub Has : {X : Type 0} → List X → X → Type 0
+Has [] x = ⊥
+Has (y ∷ ys) x = (x ≡ y) ⊎ Has ys x
 
 -- each entry that stands before the n-th has the property
 pub record AllBefore {X : Type 0} (P : X → Type 0) (xs : List X) (n : ℕ) : Type 0 where

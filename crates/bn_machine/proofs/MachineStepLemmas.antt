@@ -1,17 +1,17 @@
 -- Lemmas on steps and runs of machines, for the layers above.
-use Rattle.std.specs.Prelude.{◌≡◌, ◌≢◌, ℕ, zero, suc, ◌<◌, ◌≤◌, ℤ, pos, negsuc, ◌+ℤ◌, ◌-ℤ◌, ◌≤ℤ◌, List, [], ◌∷◌, ◌++◌, length, Some, ◌⊎◌, take}
+use Rattle.std.specs.Prelude.{◌≡◌, ◌≢◌, ℕ, zero, suc, ◌<◌, ◌≤◌, ℤ, pos, negsuc, ◌+ℤ◌, ◌-ℤ◌, ◌≤ℤ◌, List, [], ◌∷◌, ◌++◌, length, ◌⊎◌, take}
 use Rattle.std.proofs.Common.{refl, sym, subst, ◌∙◌, ap, arith, inl, inr, add-one, length-append, cond}
 use Rattle.std.specs.Ordering.{int_eq}
 use Rattle.std.proofs.lemmas.List.{get_or-take}
 use Rattle.std.proofs.lemmas.Int.{ints}
-use Rattle.std.proofs.lemmas.Bool.{cases_lt}
 use Rattle.std.proofs.lemmas.Bool.Decides.{eqb_tells}
 use Rattle.bn_theory.specs.Runs.{Reaches, IsFunction}
 use Rattle.bn_theory.proofs.RunsLemmas.{runs_more}
 use Rattle.bn_machine.specs.Tape.{Tape, cell, scanned, write, shift, moved, letter_at}
 use Rattle.bn_machine.proofs.TapeLemmas.{cell-word, cell-write, cell-write_beside}
 use Rattle.bn_machine.specs.Window.{Room, anywhere, within, Allows, IsBetween}
-use Rattle.bn_machine.specs.Machine.{Program, Moment, Matches, Applies, IsFirstMatch, HasNoMatch, GoesBy, Goes, IsFinal, IsStuck, start, final_of, nth}
+use Rattle.bn_machine.specs.Machine.{Program, Moment, Matches, Applies, IsFirstMatch, HasNoMatch, GoesBy, Goes, IsFinal, IsStuck, start, final_of}
+use Rattle.bn_lists.proofs.ListLemmas.{first_once, first_or_none}
 use Rattle.bn_machine.specs.Run.{After, AfterWithin, Follows}
 use Rattle.bn_machine.specs.declared.quint.Shift.{Shift}
 use Rattle.bn_machine.specs.declared.quint.Shift.TheVariants.{Left, Stay, Right}
@@ -23,15 +23,7 @@ same_moment c d states tapes = λ i. record { state = states i; tape = tapes i }
 
 -- the first that matches is one
 pub first_match_once : (qs : List Quint) (s a n m : ℕ) (q r : Quint) → IsFirstMatch qs s a n q → IsFirstMatch qs s a m r → (n ≡ m) × (q ≡ r)
-first_match_once qs s a n m q r f g = by_order (cases_lt n m) (cases_lt m n)
-  where
-    by_order : (n < m) ⊎ (m ≤ n) → (m < n) ⊎ (n ≤ m) → (n ≡ m) × (q ≡ r)
-    by_order (inl h) k = absurd (g.first n q h f.stands f.matches)
-    by_order (inr h) (inl k) = absurd (f.first m r k g.stands g.matches)
-    by_order (inr h) (inr k) =
-        let same : n ≡ m = omega arith in
-        let there : nth qs m ≡ Some q = subst (λ i. nth qs i ≡ Some q) same f.stands in
-        (same, cc)
+first_match_once qs s a n m q r f g = first_once (λ t. Matches t s a) qs n m q r f g
 
 decided : (a b : ℕ) → (a ≡ b) ⊎ (a ≢ b)
 decided a b = elim (eqb_tells a b) [ inl h ↦ inl h.1 | inr h ↦ inr h.1 ]
@@ -44,49 +36,9 @@ matches_or_not q s a =
       | inr other ↦ inr (λ m. other m.from)
     ]
 
--- a search in a longer list
-one_later : (q : Quint) (qs : List Quint) (s a n : ℕ) (r : Quint) → (Matches q s a → ⊥) → IsFirstMatch qs s a n r → IsFirstMatch (q ∷ qs) s a (suc n) r
-one_later q qs s a n r other f = record { stands = stands n f.stands; matches = f.matches; first = first }
-  where
-    stands : (m : ℕ) → nth qs m ≡ Some r → nth (q ∷ qs) (suc m) ≡ Some r
-    stands zero e = absurd (cc)
-    stands (suc m) e = e
-
-    first : (m : ℕ) (t : Quint) → m < suc n → nth (q ∷ qs) m ≡ Some t → Matches t s a → ⊥
-    first zero t h e matches = absurd (cc)
-    first (suc zero) t h e matches = let same : q ≡ t = cc in other (subst (λ x. Matches x s a) (sym same) matches)
-    first (suc (suc m)) t h e matches = f.first (suc m) t (omega arith) e matches
-
-none_later : (q : Quint) (qs : List Quint) (s a : ℕ) → (Matches q s a → ⊥) → HasNoMatch qs s a → HasNoMatch (q ∷ qs) s a
-none_later q qs s a other f = record { none = none }
-  where
-    none : (m : ℕ) (t : Quint) → nth (q ∷ qs) m ≡ Some t → Matches t s a → ⊥
-    none zero t e matches = absurd (cc)
-    none (suc zero) t e matches = let same : q ≡ t = cc in other (subst (λ x. Matches x s a) (sym same) matches)
-    none (suc (suc m)) t e matches = f.none (suc m) t e matches
-
-at_once : (q : Quint) (qs : List Quint) (s a : ℕ) → Matches q s a → IsFirstMatch (q ∷ qs) s a 1 q
-at_once q qs s a matches = record { stands = refl; matches = matches; first = none }
-  where
-    none : (m : ℕ) (t : Quint) → m < 1 → nth (q ∷ qs) m ≡ Some t → Matches t s a → ⊥
-    none zero t h e f = absurd (cc)
-    none (suc m) t h e f = absurd (omega arith)
-
 -- some quintuple is the first that matches, or none matches
 pub first_match_or_none : (qs : List Quint) (s a : ℕ) → ((n : ℕ) × (q : Quint) × IsFirstMatch qs s a n q) ⊎ HasNoMatch qs s a
-first_match_or_none [] s a = inr (record { none = none })
-  where
-    none : (m : ℕ) (t : Quint) → nth {X = Quint} [] m ≡ Some t → Matches t s a → ⊥
-    none zero t e f = absurd (cc)
-    none (suc m) t e f = absurd (cc)
-first_match_or_none (q ∷ qs) s a =
-    elim (matches_or_not q s a) [
-      | inl matches ↦ inl (1, q, at_once q qs s a matches)
-      | inr other ↦ elim (first_match_or_none qs s a) [
-        | inl found ↦ inl (suc found.0, found.1, one_later q qs s a found.0 found.1 other found.2)
-        | inr none ↦ inr (none_later q qs s a other none)
-      ]
-    ]
+first_match_or_none qs s a = first_or_none (λ q. Matches q s a) (λ q. matches_or_not q s a) qs
 
 -- the moment that a quintuple leads to
 abbrev pub moment_after : Quint → Moment → Moment
@@ -128,7 +80,7 @@ final_stuck_or_goes p c =
               going = going;
               quint = found.1;
               match = found.2;
-              applies = record { from = found.2.matches.from; reads = found.2.matches.reads; writes = refl; to = refl };
+              applies = record { from = found.2.holds.from; reads = found.2.holds.reads; writes = refl; to = refl };
               stays = tt;
             },
           ),
@@ -144,7 +96,7 @@ pub final_not_going : (room : Room) (p : Program) (c d : Moment) → IsFinal p c
 final_not_going room p c d final goes = goes.1.going final
 
 pub stuck_not_going : (room : Room) (p : Program) (c d : Moment) → IsStuck p c → Goes room p c d → ⊥
-stuck_not_going room p c d stuck goes = stuck.none.none goes.0 goes.1.quint goes.1.match.stands goes.1.match.matches
+stuck_not_going room p c d stuck goes = stuck.none.none goes.0 goes.1.quint goes.1.match.stands goes.1.match.holds
 
 moved_near : (p : ℤ) (s : Shift) → ((p -ℤ pos 1) ≤ℤ moved p s) × (moved p s ≤ℤ (p +ℤ pos 1))
 moved_near p Left = (omega (arith, ints), omega (arith, ints))
@@ -248,7 +200,7 @@ agrees_step b p c d e a h goes =
           going = λ final. by.going (a.state ∙ final);
           quint = by.quint;
           match = match;
-          applies = record { from = match.matches.from; reads = match.matches.reads; writes = refl; to = refl };
+          applies = record { from = match.holds.from; reads = match.holds.reads; writes = refl; to = refl };
           stays = tt;
         },
       ),

@@ -4,7 +4,7 @@ use Rattle.std.proofs.Common.{ap, ◌∙◌, arith, get_or, set, replicate, ◌+
 use Rattle.std.proofs.lemmas.Int.{ints, by_lt_z}
 use Rattle.std.proofs.lemmas.List.{get_or_past}
 use Rattle.std.specs.Int.RustNames.{unsigned_abs}
-use Rattle.bn_machine.specs.Tape.{Cells, cell, scanned, write, cells_from, symbol_at}
+use Rattle.bn_machine.specs.Tape.{cell, scanned, write, cells_from, symbol_at}
 use Rattle.bn_machine.proofs.TapeLemmas.{symbol_at-before, symbol_at-cells_from, cells_from-set, cells_from-blanks, cells_from-trailing}
 use Rattle.bn_machine.specs.Window.{with_tape, IsWindowed, window_of, IsStored, new_window}
 

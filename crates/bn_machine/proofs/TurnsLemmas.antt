@@ -18,7 +18,7 @@ same_window : (w v x : Windowed) → v ≡ with_tape w v.tape → x ≡ with_tap
 same_window w v x e f tapes = e ∙ ap (with_tape w) tapes ∙ sym f
 
 stuck_not_leaving : (p : Program) (s : ℕ) (w : Windowed) (side : Side) → IsStuck p (moment s w) → IsLeaving p s w side → ⊥
-stuck_not_leaving p s w side stuck l = stuck.none.none l.number l.quint l.match.stands l.match.matches
+stuck_not_leaving p s w side stuck l = stuck.none.none l.number l.quint l.match.stands l.match.holds
 
 -- a head that would leave the window makes no step inside it
 leaving_not_going : (p : Program) (s : ℕ) (w : Windowed) (side : Side) (d : Moment) → IsLeaving p s w side → Goes (within w.left w.right) p (moment s w) d → ⊥

@@ -1,19 +1,11 @@
 -- Machines given by quintuples, and the step of such a machine (Bennett 1973).
-use Rattle.std.specs.Prelude.{◌≡◌, ◌≢◌, ℕ, zero, suc, ◌<◌, ◌^◌, List, [], ◌∷◌, length, Option, Some, None, slice_get}
+use Rattle.std.specs.Prelude.{◌≡◌, ◌≢◌, ℕ, ◌<◌, ◌^◌, List, [], ◌∷◌, length, Some}
 use Rattle.std.specs.Prelude.{All}
 use Rattle.bn_machine.specs.Tape.{Tape, scanned, write, shift, word_tape}
 use Rattle.bn_machine.specs.Window.{Room, Allows, Windowed, Leaves}
 use Rattle.bn_machine.specs.declared.quint.Quint.{Quint}
 use Rattle.bn_machine.specs.declared.quint.Side.{Side}
-
--- the n-th entry of a list, counted from 1
-abbrev pub nth : {X : Type 0} → List X → ℕ → Option X
-nth xs zero = None
-nth xs (suc i) = slice_get xs i
-
--- each entry that stands before the n-th has the property
-pub record AllBefore {X : Type 0} (P : X → Type 0) (xs : List X) (n : ℕ) : Type 0 where
-  pub each : (m : ℕ) (x : X) → m < n → nth xs m ≡ Some x → P x
+use Rattle.bn_lists.specs.Lists.{nth, HasNone, IsFirst}
 
 -- a machine: its quintuples in order, and how many states and symbols it has
 pub record Program : Type 0 where
@@ -62,15 +54,13 @@ pub record Matches (q : Quint) (state symbol : ℕ) : Type 0 where
   pub from : state ≡ q.state
   pub reads : symbol ≡ q.read
 
--- Quintuple n, counted from 1, is the first of the list that has this state and reads this symbol.
-pub record IsFirstMatch (qs : List Quint) (state symbol n : ℕ) (q : Quint) : Type 0 where
-  pub stands : nth qs n ≡ Some q
-  pub matches : Matches q state symbol
-  pub first : (m : ℕ) (r : Quint) → m < n → nth qs m ≡ Some r → Matches r state symbol → ⊥
+-- quintuple n, counted from 1, is the first of the list that has this state and reads this symbol
+abbrev pub IsFirstMatch : List Quint → ℕ → ℕ → ℕ → Quint → Type 0
+IsFirstMatch qs state symbol n q = IsFirst (λ r. Matches r state symbol) qs n q
 
--- No quintuple has this state and reads this symbol.
-pub record HasNoMatch (qs : List Quint) (state symbol : ℕ) : Type 0 where
-  pub none : (n : ℕ) (q : Quint) → nth qs n ≡ Some q → Matches q state symbol → ⊥
+-- no quintuple has this state and reads this symbol
+abbrev pub HasNoMatch : List Quint → ℕ → ℕ → Type 0
+HasNoMatch qs state symbol = HasNone (λ q. Matches q state symbol) qs
 
 -- A step by this quintuple leads from c to d: it has c's state and scanned symbol, writes, shifts and changes the
 -- state.

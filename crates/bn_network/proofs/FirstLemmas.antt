@@ -14,7 +14,7 @@ use Rattle.bn_rsm.specs.Laws.{CostsAreBounded}
 use Rattle.bn_machine.specs.Tape.{word_tape, blank_tape, letter_at}
 use Rattle.bn_machine.proofs.TapeLemmas.{cell-word}
 use Rattle.bn_machine.specs.Window.{IsBetween}
-use Rattle.bn_machine.specs.Machine.{nth}
+use Rattle.bn_lists.specs.Lists.{nth}
 use Rattle.bn_machine.specs.Outcome.{Limits}
 use Rattle.bn_quad.specs.Quadruples.{Rule, Configuration, Quadruples, IsQuadMachine, initial_of}
 use Rattle.bn_quad.specs.Calls.{IsUniformMachine}

@@ -8,7 +8,7 @@ use Rattle.bn_theory.specs.Circuits.{Circuit, go_of, place_after}
 use Rattle.bn_theory.specs.declared.place.Place.TheVariants.{Enter, Left}
 use Rattle.bn_rsm.specs.Costs.{table_cost, cost_by}
 use Rattle.bn_rsm.specs.Laws.{CostsAreBounded}
-use Rattle.bn_machine.specs.Machine.{nth}
+use Rattle.bn_lists.specs.Lists.{nth}
 use Rattle.bn_machine.specs.Tape.{scanned, write}
 use Rattle.bn_machine.specs.Window.{IsBetween, IsBeyond}
 use Rattle.bn_machine.specs.Outcome.{Limits}

@@ -5,7 +5,7 @@ use Rattle.std.proofs.lemmas.Nat.{mul-le}
 use Rattle.std.proofs.lemmas.Bool.{cases_Bool, eqb-false, eqb-true}
 use Rattle.bn_theory.specs.Circuits.{Circuit, place_after}
 use Rattle.bn_rsm.specs.Laws.{CostsAreBounded}
-use Rattle.bn_machine.specs.Machine.{nth}
+use Rattle.bn_lists.specs.Lists.{nth}
 use Rattle.bn_machine.specs.Tape.{Tape}
 use Rattle.bn_machine.specs.Window.{IsBetween}
 use Rattle.bn_machine.specs.Outcome.{Limits}
@@ -75,7 +75,7 @@ module _ (costs : CostsAreBounded) (commands : Commands) (has : StatesHaveEntrie
   next_moment s c d now n by =
       let r = by.rule in
       let stands = by.first.stands in
-      let applies = by.first.applies in
+      let applies = by.first.holds in
       let range = rule_range m machine n r stands in
       let deeds = deeds_range m r range in
       let e = (has m machine uniform).some r.to range.to in

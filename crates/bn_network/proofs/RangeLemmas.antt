@@ -3,7 +3,7 @@ use Rattle.std.specs.Prelude.{◌≡◌, ℕ, ◌+◌, ◌*◌, ◌<◌, ◌≤�
 use Rattle.std.proofs.Common.{zero, suc, arith, ap, subst, inl, inr}
 use Rattle.std.proofs.lemmas.Option.{get_or_from_slice_get, slice_get_within}
 use Rattle.std.proofs.lemmas.List.{length-reverse}
-use Rattle.bn_machine.specs.Machine.{nth}
+use Rattle.bn_lists.specs.Lists.{nth}
 use Rattle.bn_machine.specs.Outcome.{Limits}
 use Rattle.bn_machine.specs.declared.quint.Shift.TheVariants as way
 use Rattle.bn_machine.specs.declared.quint.Side.{Side}

@@ -1,7 +1,7 @@
 -- A quadruple's commands, and the control's way over them.
 use Rattle.std.specs.Prelude.{◌≡◌, ℕ, List, [], ◌∷◌, ◌++◌, Some, refl}
 use Rattle.std.proofs.Common.{sym, ap, subst, ◌∙◌, append_assoc}
-use Rattle.bn_machine.specs.Machine.{nth}
+use Rattle.bn_lists.specs.Lists.{nth}
 use Rattle.bn_machine.specs.declared.quint.Side.{Side}
 use Rattle.bn_quad.specs.Quadruples.{Rule, Quadruples}
 use Rattle.bn_modules.specs.declared.cell_line.CellLine.{CellLine}

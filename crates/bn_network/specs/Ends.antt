@@ -4,7 +4,7 @@ use Rattle.bn_theory.specs.declared.place.Place.TheVariants.{Enter, Left}
 use Rattle.bn_machine.specs.Tape.{Tape, scanned}
 use Rattle.bn_machine.specs.Outcome.{Limits}
 use Rattle.bn_machine.specs.declared.quint.Side.TheVariants as side
-use Rattle.bn_machine.specs.Machine.{nth}
+use Rattle.bn_lists.specs.Lists.{nth}
 use Rattle.bn_quad.specs.Quadruples.{Rule, Configuration, Quadruples}
 use Rattle.bn_stages.specs.Steps.{Exit, Finished, Stopped, Leaving}
 use Rattle.bn_modules.specs.declared.cell_line.CellLine.TheVariants.{TakeRight, TakeLeft, Answer, Read}

@@ -5,7 +5,7 @@ use Rattle.std.proofs.lemmas.Bool.{cases_lt, cases_Bool}
 use Rattle.std.proofs.lemmas.Bool.Decides.{eqb_tells, Decides-ltb}
 use Rattle.bn_theory.specs.declared.line.Wire.{Wire}
 use Rattle.bn_plan.specs.declared.tracked.Tracked.{Tracked}
-use Rattle.bn_plan.specs.Lists.{IsIn}
+use Rattle.bn_lists.specs.Lists.{Has}
 use Rattle.bn_plan.specs.Wires.{lesser, greater}
 use Rattle.bn_plan.specs.Plans.{wire_of, wires_of, IsFree, TakesLeast, TakeLeast, IsPlan, tracks_of}
 use Rattle.bn_plan.specs.Assigned.{is_free, first_free, tracked, assigned}
@@ -39,7 +39,7 @@ free_tells (t ∷ ts) n w = elim (eqb_tells t.track n) [
   ]
 ]
   where
-    passed : IsFree ts n (lesser w) → (t.track ≡ n → greater (wire_of t) < lesser w) → (s : Tracked) → IsIn (t ∷ ts) s → s.track ≡ n → greater (wire_of s) < lesser w
+    passed : IsFree ts n (lesser w) → (t.track ≡ n → greater (wire_of t) < lesser w) → (s : Tracked) → Has (t ∷ ts) s → s.track ≡ n → greater (wire_of s) < lesser w
     passed free here s (inl e) f = subst (λ (x : Tracked). greater (wire_of x) < lesser w) (sym e) (here (sym (ap (λ (x : Tracked). x.track) e) ∙ f))
     passed free here s (inr h) f = free s h f
 

@@ -6,7 +6,8 @@ use Rattle.std.proofs.lemmas.Bool.Decides.{eqb_tells}
 use Rattle.std.proofs.lemmas.List.{get_or-replicate, get_or-set_same, get_or-set_other, length-set, length-replicate}
 use Rattle.bn_theory.specs.declared.line.Wire.{Wire}
 use Rattle.bn_plan.specs.declared.tracked.Tracked.{Tracked}
-use Rattle.bn_plan.specs.Lists.{IsIn, Pairwise}
+use Rattle.bn_plan.specs.Lists.{Pairwise}
+use Rattle.bn_lists.specs.Lists.{Has}
 use Rattle.bn_plan.specs.Wires.{lesser, greater, AreRotary}
 use Rattle.bn_plan.specs.Plans.{wire_of, wires_of, IsFree, TakeLeast, tracks_of}
 use Rattle.bn_plan.specs.Sweeping.{Swept, IsWidest, IsSwept, TakesFree, TakesNew, TakesTrack, placed}
@@ -16,9 +17,9 @@ use Rattle.bn_plan.proofs.SweepLemmas.{in_push, push_old, push_new, pairwise_pus
 
 -- ---- a wire that begins
 
-module _ (ws : List Wire) (r : AreRotary ws) (w : Wire) (s : Swept) (is : IsSwept ws (lesser w) s) (member : IsIn ws w) where
+module _ (ws : List Wire) (r : AreRotary ws) (w : Wire) (s : Swept) (is : IsSwept ws (lesser w) s) (member : Has ws w) where
   -- it hasn't begun before, and no wire that has ends where it begins or ends
-  ends_elsewhere : (t : Tracked) → IsIn s.wires t → greater (wire_of t) ≢ greater w
+  ends_elsewhere : (t : Tracked) → Has s.wires t → greater (wire_of t) ≢ greater w
   ends_elsewhere t h e =
       let know = known ws r (lesser w) s is t h in
       let same : wire_of t ≡ w = greaters_apart ws r (wire_of t) w know.0 member e in
@@ -26,7 +27,7 @@ module _ (ws : List Wire) (r : AreRotary ws) (w : Wire) (s : Swept) (is : IsSwep
       let low = know.1 in
       absurd (omega (arith, low, also))
 
-  ends_before : (t : Tracked) → IsIn s.wires t → greater (wire_of t) < lesser w + 1 → greater (wire_of t) < lesser w
+  ends_before : (t : Tracked) → Has s.wires t → greater (wire_of t) < lesser w + 1 → greater (wire_of t) < lesser w
   ends_before t h low = elim (cases_lt (greater (wire_of t)) (lesser w)) [
     | inl less ↦ less
     | inr high ↦ absurd (ends_apart ws r (wire_of t) w (known ws r (lesser w) s is t h).0 member (omega (arith, low, high)))
@@ -34,39 +35,39 @@ module _ (ws : List Wire) (r : AreRotary ws) (w : Wire) (s : Swept) (is : IsSwep
 
   -- with this track
   module _ (n : ℕ) where
-    more_cases : (t : Tracked) → IsIn (s.wires ++ placed w n ∷ []) t → IsIn s.wires t ⊎ (t ≡ placed w n)
+    more_cases : (t : Tracked) → Has (s.wires ++ placed w n ∷ []) t → Has s.wires t ⊎ (t ≡ placed w n)
     more_cases = in_push s.wires (placed w n)
 
     order_more : Pairwise (λ (t u : Tracked). lesser (wire_of t) < lesser (wire_of u)) (s.wires ++ placed w n ∷ [])
     order_more = pairwise_push (λ (t u : Tracked). lesser (wire_of t) < lesser (wire_of u)) s.wires (placed w n) is.order (λ t h. (known ws r (lesser w) s is t h).1)
 
-    begun_more : (v : Wire) → IsIn (wires_of (s.wires ++ placed w n ∷ [])) v ↔ IsIn ws v × (lesser v < lesser w + 1)
+    begun_more : (v : Wire) → Has (wires_of (s.wires ++ placed w n ∷ [])) v ↔ Has ws v × (lesser v < lesser w + 1)
     begun_more v = (there, back)
       where
-        there : IsIn (wires_of (s.wires ++ placed w n ∷ [])) v → IsIn ws v × (lesser v < lesser w + 1)
+        there : Has (wires_of (s.wires ++ placed w n ∷ [])) v → Has ws v × (lesser v < lesser w + 1)
         there h = let from = in_map_cases wire_of (s.wires ++ placed w n ∷ []) v h in elim (more_cases from.0 from.1) [
           | inl k ↦
               let know = known ws r (lesser w) s is from.0 k in
               let low = know.1 in
-              subst (λ x. IsIn ws x × (lesser x < lesser w + 1)) (sym from.2) (know.0, omega (arith, low))
+              subst (λ x. Has ws x × (lesser x < lesser w + 1)) (sym from.2) (know.0, omega (arith, low))
           | inr e ↦
               let same : v ≡ w = from.2 ∙ ap wire_of e in
-              subst (λ x. IsIn ws x × (lesser x < lesser w + 1)) (sym same) (member, let self : lesser w ≡ lesser w = refl in omega (arith, self))
+              subst (λ x. Has ws x × (lesser x < lesser w + 1)) (sym same) (member, let self : lesser w ≡ lesser w = refl in omega (arith, self))
         ]
 
-        back : IsIn ws v × (lesser v < lesser w + 1) → IsIn (wires_of (s.wires ++ placed w n ∷ [])) v
+        back : Has ws v × (lesser v < lesser w + 1) → Has (wires_of (s.wires ++ placed w n ∷ [])) v
         back h = elim (cases_lt (lesser v) (lesser w)) [
           | inl low ↦
               let from = in_map_cases wire_of s.wires v ((is.begun v).1 (h.0, low)) in
-              subst (IsIn (wires_of (s.wires ++ placed w n ∷ []))) (sym from.2) (in_map wire_of (s.wires ++ placed w n ∷ []) from.0 (push_old s.wires (placed w n) from.0 from.1))
+              subst (Has (wires_of (s.wires ++ placed w n ∷ []))) (sym from.2) (in_map wire_of (s.wires ++ placed w n ∷ []) from.0 (push_old s.wires (placed w n) from.0 from.1))
           | inr high ↦
               let upper = h.1 in
               let same : v ≡ w = lessers_apart ws r v w h.0 member (omega (arith, high, upper)) in
-              subst (IsIn (wires_of (s.wires ++ placed w n ∷ []))) (sym same) (in_map wire_of (s.wires ++ placed w n ∷ []) (placed w n) (push_new s.wires (placed w n)))
+              subst (Has (wires_of (s.wires ++ placed w n ∷ []))) (sym same) (in_map wire_of (s.wires ++ placed w n ∷ []) (placed w n) (push_new s.wires (placed w n)))
         ]
 
     -- the positions at which wires end
-    ends_more : greater w < length s.ending → (t : Tracked) → IsIn (s.wires ++ placed w n ∷ []) t → lesser w + 1 ≤ greater (wire_of t)
+    ends_more : greater w < length s.ending → (t : Tracked) → Has (s.wires ++ placed w n ∷ []) t → lesser w + 1 ≤ greater (wire_of t)
         → get_or (slice_set s.ending (greater w) (Some n)) (greater (wire_of t)) None ≡ Some t.track
     ends_more inside t h reach = elim (more_cases t h) [
       | inl k ↦ get_or-set_other s.ending (greater w) (greater (wire_of t)) (Some n) None (ends_elsewhere t k) ∙ is.ends t k (omega (arith, reach))
@@ -74,7 +75,7 @@ module _ (ws : List Wire) (r : AreRotary ws) (w : Wire) (s : Swept) (is : IsSwep
     ]
 
     ended_more : (q m : ℕ) → lesser w + 1 ≤ q → q < length (slice_set s.ending (greater w) (Some n)) → get_or (slice_set s.ending (greater w) (Some n)) q None ≡ Some m
-        → (t : Tracked) × IsIn (s.wires ++ placed w n ∷ []) t × (greater (wire_of t) ≡ q)
+        → (t : Tracked) × Has (s.wires ++ placed w n ∷ []) t × (greater (wire_of t) ≡ q)
     ended_more q m reach more some = elim (eqb_tells q (greater w)) [
       | inl same ↦ (placed w n, push_new s.wires (placed w n), sym same.1)
       | inr other ↦
@@ -135,12 +136,12 @@ module _ (ws : List Wire) (r : AreRotary ws) (w : Wire) (s : Swept) (is : IsSwep
       apart : Pairwise (λ (x y : ℕ). x ≢ y) (n ∷ new.free)
       apart = moved_apart s.free (n ∷ new.free) takes.taken is.once
 
-      there : (m : ℕ) → IsIn new.free m → (0 < m) × (m ≤ new.tracks) × IsFree (s.wires ++ placed w n ∷ []) m (lesser w + 1)
+      there : (m : ℕ) → Has new.free m → (0 < m) × (m ≤ new.tracks) × IsFree (s.wires ++ placed w n ∷ []) m (lesser w + 1)
       there m h =
           let old = (is.free m).0 (moved_back s.free (n ∷ new.free) takes.taken m (inr h)) in
           (old.0, let low = old.1 in let same = takes.tracks in omega (arith, low, same), free_more n m (λ e. apart.0 m h (sym e)) old.2)
 
-      back : (m : ℕ) → (0 < m) × (m ≤ new.tracks) × IsFree (s.wires ++ placed w n ∷ []) m (lesser w + 1) → IsIn new.free m
+      back : (m : ℕ) → (0 < m) × (m ≤ new.tracks) × IsFree (s.wires ++ placed w n ∷ []) m (lesser w + 1) → Has new.free m
       back m h =
           let old = (is.free m).1 (h.0, (let low = h.1 in let same = takes.tracks in omega (arith, low, same)), free_old n m h.2) in
           elim (moved_in s.free (n ∷ new.free) takes.taken m old) [ inl e ↦ absurd (other_track n m h.2 e) | inr k ↦ k ]
@@ -155,7 +156,7 @@ module _ (ws : List Wire) (r : AreRotary ws) (w : Wire) (s : Swept) (is : IsSwep
         before = before;
       })
         where
-          before : (t : Tracked) → IsIn (s.wires ++ placed w n ∷ []) t → lesser (wire_of t) < new.densest → t.track < new.tracks
+          before : (t : Tracked) → Has (s.wires ++ placed w n ∷ []) t → lesser (wire_of t) < new.densest → t.track < new.tracks
           before t k low = elim (more_cases n t k) [
             | inl l ↦ let less = h.before t l (let same = takes.densest in omega (arith, low, same)) in let same = takes.tracks in omega (arith, less, same)
             | inr e ↦
@@ -175,7 +176,7 @@ module _ (ws : List Wire) (r : AreRotary ws) (w : Wire) (s : Swept) (is : IsSwep
     begun = begun_more n;
     tracks = tracks_of-push s.wires (placed w n) ∙ widest;
     few = let few = is.few in let next = takes.is_next in let same = takes.tracks in omega (arith, few, next, same);
-    free = λ m. ((λ h. absurd (subst (λ x. IsIn x m) takes.none_left h)), back m);
+    free = λ m. ((λ h. absurd (subst (λ x. Has x m) takes.none_left h)), back m);
     once = subst (Pairwise (λ (x y : ℕ). x ≢ y)) (sym takes.none_left) tt;
     ends = ends_more n inside;
     ended = ended_more n;
@@ -186,12 +187,12 @@ module _ (ws : List Wire) (r : AreRotary ws) (w : Wire) (s : Swept) (is : IsSwep
       unused t h e = let low = within ws r (lesser w) s is t h in let next = takes.is_next in absurd (omega (arith, low, e, next))
 
       lesser_taken : (m : ℕ) → 0 < m → m < n → IsFree s.wires m (lesser w) → ⊥
-      lesser_taken m some low free = absurd (subst (λ x. IsIn x m) takes.none_free ((is.free m).1 (some, (let next = takes.is_next in omega (arith, low, next)), free)))
+      lesser_taken m some low free = absurd (subst (λ x. Has x m) takes.none_free ((is.free m).1 (some, (let next = takes.is_next in omega (arith, low, next)), free)))
 
       widest : max (tracks_of s.wires) n ≡ new.tracks
       widest = let next = takes.is_next in let same = takes.tracks in let all = is.tracks in omega (arith, next, same, all)
 
-      back : (m : ℕ) → (0 < m) × (m ≤ new.tracks) × IsFree (s.wires ++ placed w n ∷ []) m (lesser w + 1) → IsIn new.free m
+      back : (m : ℕ) → (0 < m) × (m ≤ new.tracks) × IsFree (s.wires ++ placed w n ∷ []) m (lesser w + 1) → Has new.free m
       back m h = elim (eqb_tells m n) [
         | inl e ↦ absurd (other_track n m h.2 e.1)
         | inr other ↦
@@ -200,10 +201,10 @@ module _ (ws : List Wire) (r : AreRotary ws) (w : Wire) (s : Swept) (is : IsSwep
             let next = takes.is_next in
             let same = takes.tracks in
             let few : m ≤ s.tracks = omega (arith, differ, low, next, same) in
-            absurd (subst (λ x. IsIn x m) takes.none_free ((is.free m).1 (h.0, few, free_old n m h.2)))
+            absurd (subst (λ x. Has x m) takes.none_free ((is.free m).1 (h.0, few, free_old n m h.2)))
       ]
 
-      before : (t : Tracked) → IsIn (s.wires ++ placed w n ∷ []) t → lesser (wire_of t) < new.densest → t.track < new.tracks
+      before : (t : Tracked) → Has (s.wires ++ placed w n ∷ []) t → lesser (wire_of t) < new.densest → t.track < new.tracks
       before t k low = elim (more_cases n t k) [
         | inl l ↦ let bound = within ws r (lesser w) s is t l in let next = takes.is_next in let same = takes.tracks in omega (arith, bound, next, same)
         | inr e ↦
@@ -244,7 +245,7 @@ swept_start ws n = record {
 -- a wire that takes this track is written behind the others, and its track where it ends
 pub begin_swept : (w : Wire) (s new : Swept) (n p g : ℕ) → p ≡ lesser w → g ≡ greater w → TakesTrack s p n new → g < length new.ending
     → (wires : List Tracked) (ending : List (Option ℕ)) → wires ≡ new.wires ++ placed w n ∷ [] → ending ≡ slice_set new.ending g (Some n)
-    → (ws : List Wire) → AreRotary ws → IsIn ws w → IsSwept ws (lesser w) s
+    → (ws : List Wire) → AreRotary ws → Has ws w → IsSwept ws (lesser w) s
     → IsSwept ws (lesser w + 1) (record { wires = wires; free = new.free; ending = ending; tracks = new.tracks; densest = new.densest })
 begin_swept w s new n p g first last takes inside wires ending all track ws r member is =
     let old : TakesTrack s (lesser w) n new = subst (λ x. TakesTrack s x n new) first takes in

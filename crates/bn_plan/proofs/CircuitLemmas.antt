@@ -11,13 +11,14 @@ use Rattle.bn_net.proofs.WireListLemmas.{line_tells}
 use Rattle.bn_theory.specs.Circuits.{Circuit, IsCircuit, IsInput, IsOutput, target, source, inputs_of, outputs_of}
 use Rattle.bn_theory.specs.declared.line.Line.{Line}
 use Rattle.bn_theory.specs.declared.line.Wire.{Wire}
-use Rattle.bn_plan.specs.Lists.{IsIn, Pairwise}
+use Rattle.bn_plan.specs.Lists.{Pairwise}
+use Rattle.bn_lists.specs.Lists.{Has}
 use Rattle.bn_plan.specs.Wires.{output_position, input_position, greater, AreRotary, AreWiresOf}
 use Rattle.bn_plan.specs.Sweeping.{BeginsAt}
 use Rattle.bn_plan.proofs.PositionLemmas.{output_input, begins_out, begins_in, out_only, in_only}
 
 -- where no two wires leave one line, each is the wire of its line
-target_of_wire : (ws : List Wire) → Pairwise (λ (v w : Wire). v.from ≢ w.from) ws → (w : Wire) → IsIn ws w → target ws w.from ≡ Some w.to
+target_of_wire : (ws : List Wire) → Pairwise (λ (v w : Wire). v.from ≢ w.from) ws → (w : Wire) → Has ws w → target ws w.from ≡ Some w.to
 target_of_wire [] apart w h = absurd h
 target_of_wire (v ∷ vs) apart w (inl e) = subst (λ (x : Wire). target (v ∷ vs) x.from ≡ Some x.to) (sym e) here
   where
@@ -28,7 +29,7 @@ target_of_wire (v ∷ vs) apart w (inr h) =
     elim (line_tells v.from w.from) [ inl same ↦ absurd (apart.0 w h same.1) | inr other ↦ rw other.0 rest ]
 
 -- two wires that end at one line begin at one
-ends_once : (k : Circuit) (ws : List Wire) → IsCircuit k → AreWiresOf k.wires ws → (v w : Wire) → IsIn ws v → IsIn ws w → v.to ≡ w.to → v.from ≡ w.from
+ends_once : (k : Circuit) (ws : List Wire) → IsCircuit k → AreWiresOf k.wires ws → (v w : Wire) → Has ws v → Has ws w → v.to ≡ w.to → v.from ≡ w.from
 ends_once k ws circuit are v w h l e =
     let first = (circuit.one_to_one v.from v.to).0 ((are.each v).0 h) in
     let second = (circuit.one_to_one w.from w.to).0 ((are.each w).0 l) in
@@ -36,7 +37,7 @@ ends_once k ws circuit are v w h l e =
     cc
 
 -- so no two end at one line
-to_apart : (ws : List Wire) → ((v w : Wire) → IsIn ws v → IsIn ws w → v.to ≡ w.to → v.from ≡ w.from) → Pairwise (λ (v w : Wire). v.from ≢ w.from) ws → Pairwise (λ (v w : Wire). v.to ≢ w.to) ws
+to_apart : (ws : List Wire) → ((v w : Wire) → Has ws v → Has ws w → v.to ≡ w.to → v.from ≡ w.from) → Pairwise (λ (v w : Wire). v.from ≢ w.from) ws → Pairwise (λ (v w : Wire). v.to ≢ w.to) ws
 to_apart [] once apart = tt
 to_apart (v ∷ vs) once apart = ((λ w h e. apart.0 w h (once v w (inl refl) (inr h) e)), to_apart vs (λ x y h k e. once x y (inr h) (inr k) e) apart.1)
 
@@ -57,7 +58,7 @@ circuits_are_rotary k ws circuit four are = record {
 -- ---- nets
 
 -- a line comes before none that is the same
-first_apart : (a : Line) (ws : List Wire) → ComesFirst a ws → (w : Wire) → IsIn ws w → a ≢ w.from
+first_apart : (a : Line) (ws : List Wire) → ComesFirst a ws → (w : Wire) → Has ws w → a ≢ w.from
 first_apart a [] first w h same = absurd h
 first_apart a (v ∷ vs) first w (inl e) same = differ a v.from first.0 (same ∙ ap (λ (x : Wire). x.from) e)
   where
@@ -72,7 +73,7 @@ order_apart [] order = tt
 order_apart (w ∷ ws) order = (first_apart w.from ws order.0, order_apart ws order.1)
 
 -- where a line leads, a wire leads
-wire_of_target : (ws : List Wire) (w : Wire) → target ws w.from ≡ Some w.to → IsIn ws w
+wire_of_target : (ws : List Wire) (w : Wire) → target ws w.from ≡ Some w.to → Has ws w
 wire_of_target [] w is = absurd (cc)
 wire_of_target (v ∷ vs) w is = elim (line_tells v.from w.from) [
   | inl same ↦ let to : Some v.to ≡ Some w.to = rw same.0 at is in let also : w.to ≡ v.to = cc in inl (λ i. record { from = (sym same.1) i; to = also i })
@@ -203,13 +204,13 @@ module _ (net : Parts Rotary) (k : IsCircuit (circuit (λ _. rotary) net)) (orde
       ]
 
   -- the lines of a wire are there
-  pub ends_near : (most : ℕ) → length net.elements ≤ most → (w : Wire) → IsIn net.wires w → IsNear most w.from × IsNear most w.to
+  pub ends_near : (most : ℕ) → length net.elements ≤ most → (w : Wire) → Has net.wires w → IsNear most w.from × IsNear most w.to
   ends_near most few w h =
       let wired = k.wired w.from w.to (((net_wires net.wires order).each w).0 h) in
       (output_near net most w.from few wired.0, input_near net most w.to few wired.1)
 
   -- and its ends are positions
-  pub ends_within : (w : Wire) → IsIn net.wires w → greater w < 8 * length net.elements
+  pub ends_within : (w : Wire) → Has net.wires w → greater w < 8 * length net.elements
   unfolding greater
   ends_within w h =
       let near = ends_near (length net.elements) (omega arith) w h in

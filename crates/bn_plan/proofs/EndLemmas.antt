@@ -12,7 +12,8 @@ use Rattle.bn_element.specs.declared.rotary.Rotary.{Rotary}
 use Rattle.bn_net.specs.Parts.{Parts, circuit}
 use Rattle.bn_net.specs.Order.{AreInOrder}
 use Rattle.bn_plan.specs.declared.tracked.Tracked.{Tracked}
-use Rattle.bn_plan.specs.Lists.{IsIn, Pairwise}
+use Rattle.bn_plan.specs.Lists.{Pairwise}
+use Rattle.bn_lists.specs.Lists.{Has}
 use Rattle.bn_plan.specs.Wires.{lesser, Covers, density, IsDensest, AreRotary}
 use Rattle.bn_plan.specs.Plans.{wire_of, wires_of, tracks_of, IsPlan, IsFloorPlan}
 use Rattle.bn_plan.specs.Sweeping.{Swept, IsWidest, IsSwept, floor_of}
@@ -31,7 +32,7 @@ strict ws zs distinct order all =
     (pairwise_both (λ v w. lesser v ≤ lesser w) (λ v w. lesser v ≢ lesser w) zs order apart)
 
 -- a list in strict order that has the same wires is the list in order
-same_permutation : (ws us : List Wire) → AreRotary ws → Pairwise (λ v w. lesser v < lesser w) us → ((w : Wire) → IsIn us w ↔ IsIn ws w) → IsPermutation ws us
+same_permutation : (ws us : List Wire) → AreRotary ws → Pairwise (λ v w. lesser v < lesser w) us → ((w : Wire) → Has us w ↔ Has ws w) → IsPermutation ws us
 same_permutation ws us r order same =
     let sorted = in_order ws in
     let equal : sorted.0 ≡ us = same_sorted sorted.0 us (strict ws sorted.0 (starts_are_apart ws r) sorted.1 sorted.2) order
@@ -39,7 +40,7 @@ same_permutation ws us r order same =
     (λ w h. moves_in ws sorted.0 sorted.2 w ((same w).0 h)) in
     subst (IsPermutation ws) equal sorted.2
 
-module _ (ws : List Wire) (r : AreRotary ws) (p : ℕ) (s : Swept) (is : IsSwept ws p s) (behind : (w : Wire) → IsIn ws w → lesser w < p) where
+module _ (ws : List Wire) (r : AreRotary ws) (p : ℕ) (s : Swept) (is : IsSwept ws p s) (behind : (w : Wire) → Has ws w → lesser w < p) where
   whole : IsPlan ws s.wires
   whole = record {
     all = same_permutation ws (wires_of s.wires) r (pairwise_map (λ v w. lesser v < lesser w) wire_of s.wires is.order) (λ w. ((λ h. ((is.begun w).0 h).0), λ h. (is.begun w).1 (h, behind w h)));
@@ -72,7 +73,7 @@ module _ (ws : List Wire) (r : AreRotary ws) (p : ℕ) (s : Swept) (is : IsSwept
         let size = length-down_from n in
         omega (arith, bound, count, size, next)
       where
-        low : (t : Tracked) → IsIn s.wires t → Covers q (wire_of t) → IsIn (down_from n) t.track
+        low : (t : Tracked) → Has s.wires t → Covers q (wire_of t) → Has (down_from n) t.track
         low t h c =
             let less = d.before t h (let starts = c.starts in omega (arith, starts, early)) in
             down_from_in n t.track (all_counted [] s.wires is.least t h) (omega (arith, less, next))
@@ -101,7 +102,7 @@ module _ (ws : List Wire) (r : AreRotary ws) (p : ℕ) (s : Swept) (is : IsSwept
 pub net_floor : (net : Parts Rotary) → IsCircuit (circuit (λ _. rotary) net) → AreInOrder net.wires → (p : ℕ) (s : Swept) → 8 * length net.elements ≤ p → IsSwept net.wires p s → IsFloorPlan net.wires (floor_of s)
 net_floor net k order p s behind is = swept_floor net.wires (net_rotary net k order) p s is passed
   where
-    passed : (w : Wire) → IsIn net.wires w → lesser w < p
+    passed : (w : Wire) → Has net.wires w → lesser w < p
     passed w h =
         let within = ends_within net k order w h in
         let below = ends_ordered w in

@@ -4,7 +4,7 @@ use Rattle.std.specs.List.{count_by}
 use Rattle.std.proofs.Common.{sym, ◌∙◌, ap, arith}
 use Rattle.bn_theory.specs.declared.line.Wire.{Wire}
 use Rattle.bn_plan.specs.declared.tracked.Tracked.{Tracked}
-use Rattle.bn_plan.specs.Lists.{IsIn}
+use Rattle.bn_lists.specs.Lists.{Has}
 use Rattle.bn_plan.specs.Wires.{density, IsDensest, AreRotary}
 use Rattle.bn_plan.specs.Plans.{FloorPlan, IsPlan, IsFloorPlan, IsAssignment, HasTracks}
 use Rattle.bn_plan.proofs.DensityLemmas.{densest, densest_is, densest_once, densest_none, starts_are_apart}
@@ -25,7 +25,7 @@ density_same : (ws vs : List Wire) (a b : List Tracked) → a ≡ b → IsPlan w
 density_same ws vs a b same first second p = density_of ws a p first.all ∙ ap (λ ts. count_by (covers_at p) ts) same ∙ sym (density_of vs b p second.all)
 
 -- and only one
-pub floor_once : (ws vs : List Wire) (f g : FloorPlan) → AreRotary ws → AreRotary vs → ((w : Wire) → IsIn ws w ↔ IsIn vs w) → IsFloorPlan ws f → IsFloorPlan vs g → f ≡ g
+pub floor_once : (ws vs : List Wire) (f g : FloorPlan) → AreRotary ws → AreRotary vs → ((w : Wire) → Has ws w ↔ Has vs w) → IsFloorPlan ws f → IsFloorPlan vs g → f ≡ g
 floor_once ws vs f g first second same a b =
     let wires = plan_once ws vs f.wires g.wires (starts_are_apart ws first) (starts_are_apart vs second) same a.plan b.plan in
     let counts = density_same ws vs f.wires g.wires wires a.plan b.plan in

@@ -8,7 +8,8 @@ use Rattle.std.proofs.lemmas.List.Sorted.{IsPermutation-refl, IsPermutation-cons
 use Rattle.std.proofs.lemmas.Map.Keys.{IsDistinct-IsPermutation}
 use Rattle.bn_theory.specs.declared.line.Wire.{Wire}
 use Rattle.bn_plan.specs.declared.tracked.Tracked.{Tracked}
-use Rattle.bn_plan.specs.Lists.{IsIn, Pairwise}
+use Rattle.bn_plan.specs.Lists.{Pairwise}
+use Rattle.bn_lists.specs.Lists.{Has}
 use Rattle.bn_plan.specs.Wires.{lesser}
 use Rattle.bn_plan.specs.Plans.{wire_of, wires_of, IsFree, TakesLeast, TakeLeast, IsPlan, tracks_of}
 use Rattle.bn_plan.proofs.ListLemmas.{pairwise_weaker, pairwise_map, pairwise_unmap, pairwise_both, distinct_pairwise, in_contains, contains_in, eqb_flips}
@@ -24,13 +25,13 @@ InOrder ws = Pairwise (λ v w. lesser v ≤ lesser w) ws
 record Inserted (w : Wire) (ws zs : List Wire) : Type 0 where
   order : InOrder zs
   all : IsPermutation (w ∷ ws) zs
-  from : (v : Wire) → IsIn zs v → (v ≡ w) ⊎ IsIn ws v
+  from : (v : Wire) → Has zs v → (v ≡ w) ⊎ Has ws v
 
 -- before the first
 insert_first : (w v : Wire) (vs : List Wire) → InOrder (v ∷ vs) → lesser w ≤ lesser v → Inserted w (v ∷ vs) (w ∷ v ∷ vs)
 insert_first w v vs order low = record { order = (first, order); all = IsPermutation-refl (w ∷ v ∷ vs); from = λ u h. h }
   where
-    first : (u : Wire) → IsIn (v ∷ vs) u → lesser w ≤ lesser u
+    first : (u : Wire) → Has (v ∷ vs) u → lesser w ≤ lesser u
     first u (inl e) = subst (λ x. lesser w ≤ lesser x) (sym e) low
     first u (inr h) = let next = order.0 u h in omega (arith, low, next)
 
@@ -42,7 +43,7 @@ insert_later w v vs zs order high rest = record {
   from = from;
 }
   where
-    from : (u : Wire) → IsIn (v ∷ zs) u → (u ≡ w) ⊎ IsIn (v ∷ vs) u
+    from : (u : Wire) → Has (v ∷ zs) u → (u ≡ w) ⊎ Has (v ∷ vs) u
     from u (inl e) = inr (inl e)
     from u (inr h) = elim (rest.from u h) [ inl e ↦ inl e | inr k ↦ inr (inr k) ]
 
@@ -106,13 +107,13 @@ plan_exists ws =
 -- ---- only one
 
 -- two lists in strict order with the same elements are one
-pub same_sorted : (xs ys : List Wire) → Pairwise (λ v w. lesser v < lesser w) xs → Pairwise (λ v w. lesser v < lesser w) ys → ((w : Wire) → IsIn xs w → IsIn ys w) → ((w : Wire) → IsIn ys w → IsIn xs w) → xs ≡ ys
+pub same_sorted : (xs ys : List Wire) → Pairwise (λ v w. lesser v < lesser w) xs → Pairwise (λ v w. lesser v < lesser w) ys → ((w : Wire) → Has xs w → Has ys w) → ((w : Wire) → Has ys w → Has xs w) → xs ≡ ys
 same_sorted [] [] a b there back = refl
 same_sorted [] (y ∷ ys) a b there back = absurd (back y (inl refl))
 same_sorted (x ∷ xs) [] a b there back = absurd (there x (inl refl))
 same_sorted (x ∷ xs) (y ∷ ys) a b there back = let rest = same_sorted xs ys a.1 b.1 tail_there tail_back in λ i. heads i ∷ rest i
   where
-    by_heads : (x ≡ y) ⊎ IsIn ys x → (y ≡ x) ⊎ IsIn xs y → x ≡ y
+    by_heads : (x ≡ y) ⊎ Has ys x → (y ≡ x) ⊎ Has xs y → x ≡ y
     by_heads (inl e) k = e
     by_heads (inr h) (inl e) = sym e
     by_heads (inr h) (inr k) = let one = b.0 x h in let two = a.0 y k in absurd (omega (arith, one, two))
@@ -123,10 +124,10 @@ same_sorted (x ∷ xs) (y ∷ ys) a b there back = let rest = same_sorted xs ys 
     not_first : (w z : Wire) → lesser w < lesser z → z ≡ w → ⊥
     not_first w z low e = let same : lesser z ≡ lesser w = ap lesser e in absurd (omega (arith, low, same))
 
-    tail_there : (w : Wire) → IsIn xs w → IsIn ys w
+    tail_there : (w : Wire) → Has xs w → Has ys w
     tail_there w h = elim (there w (inr h)) [ inl e ↦ absurd (not_first x w (a.0 w h) (e ∙ sym heads)) | inr k ↦ k ]
 
-    tail_back : (w : Wire) → IsIn ys w → IsIn xs w
+    tail_back : (w : Wire) → Has ys w → Has xs w
     tail_back w h = elim (back w (inr h)) [ inl e ↦ absurd (not_first y w (b.0 w h) (e ∙ heads)) | inr k ↦ k ]
 
 -- the wires of a plan are in strict order
@@ -139,11 +140,11 @@ strict ws plan distinct p =
     (pairwise_both (λ v w. lesser v ≤ lesser w) (λ v w. lesser v ≢ lesser w) (wires_of plan) order apart)
 
 -- the wires of one plan are in every other
-pub moves_in : (xs ys : List Wire) → IsPermutation xs ys → (w : Wire) → IsIn xs w → IsIn ys w
+pub moves_in : (xs ys : List Wire) → IsPermutation xs ys → (w : Wire) → Has xs w → Has ys w
 moves_in xs ys all w h = let there = Contains-permutation xs ys w all (in_contains xs w h) in contains_in ys w there.0 there.1 there.2
 
 -- two plans of the same wires have them in the same order
-same_wires : (ws vs : List Wire) (a b : List Tracked) → IsDistinct eqb (map lesser ws) → IsDistinct eqb (map lesser vs) → ((w : Wire) → IsIn ws w ↔ IsIn vs w) → IsPlan ws a → IsPlan vs b → wires_of a ≡ wires_of b
+same_wires : (ws vs : List Wire) (a b : List Tracked) → IsDistinct eqb (map lesser ws) → IsDistinct eqb (map lesser vs) → ((w : Wire) → Has ws w ↔ Has vs w) → IsPlan ws a → IsPlan vs b → wires_of a ≡ wires_of b
 same_wires ws vs a b first second same p q = same_sorted (wires_of a) (wires_of b) (strict ws a first p) (strict vs b second q)
     (λ w h. moves_in vs (wires_of b) q.all w ((same w).0 (moves_in (wires_of a) ws (IsPermutation-sym ws (wires_of a) p.all) w h)))
     (λ w h. moves_in ws (wires_of a) p.all w ((same w).1 (moves_in (wires_of b) vs (IsPermutation-sym vs (wires_of b) q.all) w h)))
@@ -170,5 +171,5 @@ same_tracks earlier (s ∷ a) (t ∷ b) e p q =
     λ i. first i ∷ rest i
 
 -- so two plans are one
-pub plan_once : (ws vs : List Wire) (a b : List Tracked) → IsDistinct eqb (map lesser ws) → IsDistinct eqb (map lesser vs) → ((w : Wire) → IsIn ws w ↔ IsIn vs w) → IsPlan ws a → IsPlan vs b → a ≡ b
+pub plan_once : (ws vs : List Wire) (a b : List Tracked) → IsDistinct eqb (map lesser ws) → IsDistinct eqb (map lesser vs) → ((w : Wire) → Has ws w ↔ Has vs w) → IsPlan ws a → IsPlan vs b → a ≡ b
 plan_once ws vs a b first second same p q = same_tracks [] a b (same_wires ws vs a b first second same p q) p.tracks q.tracks

@@ -6,7 +6,8 @@ use Rattle.bn_theory.specs.Circuits.{target}
 use Rattle.bn_theory.proofs.StepLemmas.{same_lines}
 use Rattle.bn_theory.specs.declared.line.Line.{Line}
 use Rattle.bn_theory.specs.declared.line.Wire.{Wire}
-use Rattle.bn_plan.specs.Lists.{IsIn, Pairwise}
+use Rattle.bn_plan.specs.Lists.{Pairwise}
+use Rattle.bn_lists.specs.Lists.{Has}
 use Rattle.bn_plan.specs.Wires.{output_position, input_position, lesser, greater, AreRotary, AreWiresOf}
 use Rattle.bn_plan.specs.Sweeping.{BeginsAt}
 
@@ -39,7 +40,7 @@ ends_of w = elim (cases_lt (output_position w.from) (input_position w.to)) [
 ]
 
 -- elements with the same image are one, where no two have one
-same_image : {X Y : Type 0} (f : X → Y) (xs : List X) → Pairwise (λ x y. f x ≢ f y) xs → (x y : X) → IsIn xs x → IsIn xs y → f x ≡ f y → x ≡ y
+same_image : {X Y : Type 0} (f : X → Y) (xs : List X) → Pairwise (λ x y. f x ≢ f y) xs → (x y : X) → Has xs x → Has xs y → f x ≡ f y → x ≡ y
 same_image f [] apart x y h k e = absurd h
 same_image f (z ∷ zs) apart x y (inl h) (inl k) e = h ∙ sym k
 same_image f (z ∷ zs) apart x y (inl h) (inr k) e = absurd (apart.0 y k (ap f (sym h) ∙ e))
@@ -47,17 +48,17 @@ same_image f (z ∷ zs) apart x y (inr h) (inl k) e = absurd (apart.0 x h (ap f 
 same_image f (z ∷ zs) apart x y (inr h) (inr k) e = same_image f zs apart.1 x y h k e
 
 module _ (ws : List Wire) (r : AreRotary ws) where
-  by_output : (v w : Wire) → IsIn ws v → IsIn ws w → output_position v.from ≡ output_position w.from → v ≡ w
+  by_output : (v w : Wire) → Has ws v → Has ws w → output_position v.from ≡ output_position w.from → v ≡ w
   by_output v w h k e = same_image (λ (x : Wire). x.from) ws r.from_apart v w h k (same_output v.from w.from (r.lines v h).from (r.lines w k).from e)
 
-  by_input : (v w : Wire) → IsIn ws v → IsIn ws w → input_position v.to ≡ input_position w.to → v ≡ w
+  by_input : (v w : Wire) → Has ws v → Has ws w → input_position v.to ≡ input_position w.to → v ≡ w
   by_input v w h k e = same_image (λ (x : Wire). x.to) ws r.to_apart v w h k (same_input v.to w.to (r.lines v h).to (r.lines w k).to e)
 
-  clash : (v w : Wire) → IsIn ws v → IsIn ws w → output_position v.from ≢ input_position w.to
+  clash : (v w : Wire) → Has ws v → Has ws w → output_position v.from ≢ input_position w.to
   clash v w h k = output_input v.from w.to (r.lines v h).from (r.lines w k).to
 
   -- the ends of one wire stand apart
-  pub lesser_below : (w : Wire) → IsIn ws w → lesser w < greater w
+  pub lesser_below : (w : Wire) → Has ws w → lesser w < greater w
   unfolding lesser greater
   lesser_below w h = let apart = clash w w h h in elim (cases_lt (output_position w.from) (input_position w.to)) [
     | inl low ↦ omega (arith, low)
@@ -68,7 +69,7 @@ module _ (ws : List Wire) (r : AreRotary ws) where
   ]
 
   -- two wires that end at one position are one
-  pub greaters_apart : (v w : Wire) → IsIn ws v → IsIn ws w → greater v ≡ greater w → v ≡ w
+  pub greaters_apart : (v w : Wire) → Has ws v → Has ws w → greater v ≡ greater w → v ≡ w
   greaters_apart v w h k e = by_ends (ends_of v) (ends_of w)
     where
       by_ends : Ends v → Ends w → v ≡ w
@@ -78,7 +79,7 @@ module _ (ws : List Wire) (r : AreRotary ws) where
       by_ends (backward a b) (onward c d) = absurd (clash v w h k (sym b ∙ e ∙ d))
 
   -- two wires that begin at one position are one
-  pub lessers_apart : (v w : Wire) → IsIn ws v → IsIn ws w → lesser v ≡ lesser w → v ≡ w
+  pub lessers_apart : (v w : Wire) → Has ws v → Has ws w → lesser v ≡ lesser w → v ≡ w
   lessers_apart v w h k e = by_ends (ends_of v) (ends_of w)
     where
       by_ends : Ends v → Ends w → v ≡ w
@@ -88,7 +89,7 @@ module _ (ws : List Wire) (r : AreRotary ws) where
       by_ends (backward a b) (onward c d) = absurd (clash w v k h (sym c ∙ sym e ∙ a))
 
   -- no wire ends where one begins
-  pub ends_apart : (v w : Wire) → IsIn ws v → IsIn ws w → greater v ≢ lesser w
+  pub ends_apart : (v w : Wire) → Has ws v → Has ws w → greater v ≢ lesser w
   ends_apart v w h k e = by_ends (ends_of v) (ends_of w)
     where
       one : v ≡ w → ⊥

@@ -8,7 +8,8 @@ use Rattle.std.proofs.lemmas.List.Sorted.{IsPermutation-sym, Contains-permutatio
 use Rattle.std.proofs.lemmas.Map.Keys.{IsDistinct-IsPermutation}
 use Rattle.bn_theory.specs.declared.line.Wire.{Wire}
 use Rattle.bn_plan.specs.declared.tracked.Tracked.{Tracked}
-use Rattle.bn_plan.specs.Lists.{IsIn, Pairwise}
+use Rattle.bn_plan.specs.Lists.{Pairwise}
+use Rattle.bn_lists.specs.Lists.{Has}
 use Rattle.bn_plan.specs.Wires.{lesser, greater, Covers, Fit, AreRotary}
 use Rattle.bn_plan.specs.Plans.{wire_of, wires_of, IsFree, TakesLeast, TakeLeast, tracks_of}
 use Rattle.bn_plan.specs.Sweeping.{Swept, IsSwept, BeginsAt}
@@ -17,30 +18,30 @@ use Rattle.bn_plan.proofs.TrackLemmas.{tracks_fit, below_tracks_of, all_counted}
 
 -- ---- lists with one element more at their end
 
-pub in_push : {X : Type 0} (xs : List X) (y x : X) → IsIn (xs ++ y ∷ []) x → IsIn xs x ⊎ (x ≡ y)
+pub in_push : {X : Type 0} (xs : List X) (y x : X) → Has (xs ++ y ∷ []) x → Has xs x ⊎ (x ≡ y)
 in_push [] y x (inl e) = inr e
 in_push [] y x (inr h) = absurd h
 in_push (z ∷ zs) y x (inl e) = inl (inl e)
 in_push (z ∷ zs) y x (inr h) = elim (in_push zs y x h) [ inl k ↦ inl (inr k) | inr e ↦ inr e ]
 
-pub push_old : {X : Type 0} (xs : List X) (y x : X) → IsIn xs x → IsIn (xs ++ y ∷ []) x
+pub push_old : {X : Type 0} (xs : List X) (y x : X) → Has xs x → Has (xs ++ y ∷ []) x
 push_old [] y x h = absurd h
 push_old (z ∷ zs) y x (inl e) = inl e
 push_old (z ∷ zs) y x (inr h) = inr (push_old zs y x h)
 
-pub push_new : {X : Type 0} (xs : List X) (y : X) → IsIn (xs ++ y ∷ []) y
+pub push_new : {X : Type 0} (xs : List X) (y : X) → Has (xs ++ y ∷ []) y
 push_new [] y = inl refl
 push_new (z ∷ zs) y = inr (push_new zs y)
 
-pub pairwise_push : {X : Type 0} (R : X → X → Type 0) (xs : List X) (y : X) → Pairwise R xs → ((x : X) → IsIn xs x → R x y) → Pairwise R (xs ++ y ∷ [])
+pub pairwise_push : {X : Type 0} (R : X → X → Type 0) (xs : List X) (y : X) → Pairwise R xs → ((x : X) → Has xs x → R x y) → Pairwise R (xs ++ y ∷ [])
 pairwise_push R [] y a each = ((λ x h. absurd h), tt)
 pairwise_push R (z ∷ zs) y a each = (first, pairwise_push R zs y a.1 (λ x h. each x (inr h)))
   where
-    first : (x : _) → IsIn (zs ++ y ∷ []) x → R z x
+    first : (x : _) → Has (zs ++ y ∷ []) x → R z x
     first x h = elim (in_push zs y x h) [ inl k ↦ a.0 x k | inr e ↦ subst (R z) (sym e) (each z (inl refl)) ]
 
 -- two elements are one, or related one way or the other
-pairwise_pick : {X : Type 0} (R : X → X → Type 0) (xs : List X) → Pairwise R xs → (x y : X) → IsIn xs x → IsIn xs y → (x ≡ y) ⊎ (R x y ⊎ R y x)
+pairwise_pick : {X : Type 0} (R : X → X → Type 0) (xs : List X) → Pairwise R xs → (x y : X) → Has xs x → Has xs y → (x ≡ y) ⊎ (R x y ⊎ R y x)
 pairwise_pick R [] a x y h k = absurd h
 pairwise_pick R (z ∷ zs) a x y (inl h) (inl k) = inl (h ∙ sym k)
 pairwise_pick R (z ∷ zs) a x y (inl h) (inr k) = inr (inl (subst (λ w. R w y) (sym h) (a.0 y k)))
@@ -52,10 +53,10 @@ tracks_of-push [] t = omega arith
 tracks_of-push (u ∷ us) t = let rest = tracks_of-push us t in omega (arith, rest)
 
 -- elements of a list are those of another order of it
-pub moved_in : {X : Type 0} (xs ys : List X) → IsPermutation xs ys → (x : X) → IsIn xs x → IsIn ys x
+pub moved_in : {X : Type 0} (xs ys : List X) → IsPermutation xs ys → (x : X) → Has xs x → Has ys x
 moved_in xs ys all x h = let there = Contains-permutation xs ys x all (in_contains xs x h) in contains_in ys x there.0 there.1 there.2
 
-pub moved_back : {X : Type 0} (xs ys : List X) → IsPermutation xs ys → (x : X) → IsIn ys x → IsIn xs x
+pub moved_back : {X : Type 0} (xs ys : List X) → IsPermutation xs ys → (x : X) → Has ys x → Has xs x
 moved_back xs ys all = moved_in ys xs (IsPermutation-sym xs ys all)
 
 -- numbers without repeats stay so
@@ -69,22 +70,22 @@ abbrev onto : List Tracked → List Tracked → List Tracked
 onto [] ts = ts
 onto (u ∷ us) ts = onto us (u ∷ ts)
 
-in_onto : (us ts : List Tracked) (t : Tracked) → IsIn (onto us ts) t → IsIn us t ⊎ IsIn ts t
+in_onto : (us ts : List Tracked) (t : Tracked) → Has (onto us ts) t → Has us t ⊎ Has ts t
 in_onto [] ts t h = inr h
 in_onto (u ∷ us) ts t h = elim (in_onto us (u ∷ ts) t h) [
   | inl k ↦ inl (inr k)
   | inr k ↦ sides k
 ]
   where
-    sides : IsIn (u ∷ ts) t → IsIn (u ∷ us) t ⊎ IsIn ts t
+    sides : Has (u ∷ ts) t → Has (u ∷ us) t ⊎ Has ts t
     sides (inl e) = inl (inl e)
     sides (inr k) = inr k
 
-onto_below : (us ts : List Tracked) (t : Tracked) → IsIn ts t → IsIn (onto us ts) t
+onto_below : (us ts : List Tracked) (t : Tracked) → Has ts t → Has (onto us ts) t
 onto_below [] ts t h = h
 onto_below (u ∷ us) ts t h = onto_below us (u ∷ ts) t (inr h)
 
-onto_in : (us ts : List Tracked) (t : Tracked) → IsIn us t → IsIn (onto us ts) t
+onto_in : (us ts : List Tracked) (t : Tracked) → Has us t → Has (onto us ts) t
 onto_in [] ts t h = absurd h
 onto_in (u ∷ us) ts t (inl e) = onto_below us (u ∷ ts) t (inl e)
 onto_in (u ∷ us) ts t (inr h) = onto_in us (u ∷ ts) t h
@@ -101,7 +102,7 @@ least_onto ts t a = record {
   least = λ n some low free. a.least n some low (λ s h e. free s (onto_in ts [] s h) e);
 }
   where
-    back : (s : Tracked) → IsIn (onto ts []) s → IsIn ts s
+    back : (s : Tracked) → Has (onto ts []) s → Has ts s
     back s h = elim (in_onto ts [] s h) [ inl k ↦ k | inr none ↦ absurd none ]
 
 pub take_least_push : (ts : List Tracked) (t : Tracked) → TakeLeast [] ts → TakesLeast ts t → TakeLeast [] (ts ++ t ∷ [])
@@ -111,23 +112,23 @@ take_least_push ts t a here = least_push [] ts t a (least_onto ts t here)
 
 module _ (ws : List Wire) (r : AreRotary ws) (p : ℕ) (s : Swept) (is : IsSwept ws p s) where
   -- a wire that has begun is one of the list's, and its lesser end is behind
-  pub known : (t : Tracked) → IsIn s.wires t → IsIn ws (wire_of t) × (lesser (wire_of t) < p)
+  pub known : (t : Tracked) → Has s.wires t → Has ws (wire_of t) × (lesser (wire_of t) < p)
   known t h = (is.begun (wire_of t)).0 (in_map wire_of s.wires t h)
 
-  pub counted : (t : Tracked) → IsIn s.wires t → 0 < t.track
+  pub counted : (t : Tracked) → Has s.wires t → 0 < t.track
   counted t h = all_counted [] s.wires is.least t h
 
-  pub within : (t : Tracked) → IsIn s.wires t → t.track ≤ s.tracks
+  pub within : (t : Tracked) → Has s.wires t → t.track ≤ s.tracks
   within t h = let low = below_tracks_of s.wires t h in omega (arith, low, is.tracks)
 
   -- two wires of one track that both reach the position are one
-  one_reaches : (t u : Tracked) → IsIn s.wires t → IsIn s.wires u → t.track ≡ u.track → p ≤ greater (wire_of t) → p ≤ greater (wire_of u) → t ≡ u
+  one_reaches : (t u : Tracked) → Has s.wires t → Has s.wires u → t.track ≡ u.track → p ≤ greater (wire_of t) → p ≤ greater (wire_of u) → t ≡ u
   one_reaches t u h k same low high = elim (pairwise_pick (λ (x y : Tracked). x.track ≡ y.track → Fit (wire_of x) (wire_of y)) s.wires (tracks_fit [] s.wires is.least) t u h k) [
     | inl e ↦ e
     | inr apart ↦ absurd (fits apart)
   ]
     where
-      cover : (x : Tracked) → IsIn s.wires x → p ≤ greater (wire_of x) → Covers p (wire_of x)
+      cover : (x : Tracked) → Has s.wires x → p ≤ greater (wire_of x) → Covers p (wire_of x)
       cover x l reach = let begun = (known x l).1 in record { starts = omega (arith, begun); ends = reach }
 
       fits : (t.track ≡ u.track → Fit (wire_of t) (wire_of u)) ⊎ (u.track ≡ t.track → Fit (wire_of u) (wire_of t)) → ⊥
@@ -135,14 +136,14 @@ module _ (ws : List Wire) (r : AreRotary ws) (p : ℕ) (s : Swept) (is : IsSwept
       fits (inr fit) = fit (sym same) p (cover u k high) (cover t h low)
 
   -- where a wire of a track reaches the position, the track isn't free
-  not_free : (t : Tracked) → IsIn s.wires t → p ≤ greater (wire_of t) → IsIn s.free t.track → ⊥
+  not_free : (t : Tracked) → Has s.wires t → p ≤ greater (wire_of t) → Has s.free t.track → ⊥
   not_free t h reach k = let early = ((is.free t.track).0 k).2 t h refl in absurd (omega (arith, early, reach))
 
   -- the wires that have begun, at the next position
-  begun_still : ((w : Wire) → BeginsAt ws p w → ⊥) → (w : Wire) → IsIn (wires_of s.wires) w ↔ IsIn ws w × (lesser w < p + 1)
+  begun_still : ((w : Wire) → BeginsAt ws p w → ⊥) → (w : Wire) → Has (wires_of s.wires) w ↔ Has ws w × (lesser w < p + 1)
   begun_still none w = ((λ h. let k = (is.begun w).0 h in let low = k.1 in (k.0, omega (arith, low))), back)
     where
-      back : IsIn ws w × (lesser w < p + 1) → IsIn (wires_of s.wires) w
+      back : Has ws w × (lesser w < p + 1) → Has (wires_of s.wires) w
       back h = elim (cases_lt (lesser w) p) [
         | inl low ↦ (is.begun w).1 (h.0, low)
         | inr high ↦ let upper = h.1 in absurd (none w (h.0, omega (arith, high, upper)))
@@ -165,7 +166,7 @@ module _ (ws : List Wire) (r : AreRotary ws) (p : ℕ) (s : Swept) (is : IsSwept
     densest = is.densest;
   }
     where
-      passed : (t : Tracked) → IsIn s.wires t → greater (wire_of t) < p + 1 → greater (wire_of t) < p
+      passed : (t : Tracked) → Has s.wires t → greater (wire_of t) < p + 1 → greater (wire_of t) < p
       passed t h low = elim (cases_lt (greater (wire_of t)) p) [
         | inl less ↦ less
         | inr high ↦
@@ -184,17 +185,17 @@ module _ (ws : List Wire) (r : AreRotary ws) (p : ℕ) (s : Swept) (is : IsSwept
     tracks = is.tracks;
     few = let few = is.few in omega (arith, few);
     free = λ n. (there n, back n);
-    once = moved_apart (x ∷ s.free) free moved ((λ n h e. not_free (last.0) last.1 (omega (arith, last.2)) (subst (IsIn s.free) (sym e ∙ track) h)), is.once);
+    once = moved_apart (x ∷ s.free) free moved ((λ n h e. not_free (last.0) last.1 (omega (arith, last.2)) (subst (Has s.free) (sym e ∙ track) h)), is.once);
     ends = λ t h reach. is.ends t h (omega (arith, reach));
     ended = λ q n reach more some_there. is.ended q n (omega (arith, reach)) more some_there;
     densest = is.densest;
   }
     where
-      last : (t : Tracked) × IsIn s.wires t × (greater (wire_of t) ≡ p)
+      last : (t : Tracked) × Has s.wires t × (greater (wire_of t) ≡ p)
       last = is.ended p x (omega arith) inside some
 
       -- the wire that ends at the position has the track that is kept there
-      track_there : (t : Tracked) → IsIn s.wires t → greater (wire_of t) ≡ p → x ≡ t.track
+      track_there : (t : Tracked) → Has s.wires t → greater (wire_of t) ≡ p → x ≡ t.track
       track_there t h here =
           let both : Some x ≡ Some t.track = sym some ∙ ap (λ q. get_or s.ending q None) (sym here) ∙ is.ends t h (omega (arith, here)) in
           cc
@@ -215,11 +216,11 @@ module _ (ws : List Wire) (r : AreRotary ws) (p : ℕ) (s : Swept) (is : IsSwept
                 omega (arith, place, here)
           ]
 
-      sides : (n : ℕ) → IsIn (x ∷ s.free) n → (0 < n) × (n ≤ s.tracks) × IsFree s.wires n (p + 1)
+      sides : (n : ℕ) → Has (x ∷ s.free) n → (0 < n) × (n ≤ s.tracks) × IsFree s.wires n (p + 1)
       sides n (inl e) = freed n e
       sides n (inr h) = let k = (is.free n).0 h in (k.0, k.1, λ t l e. let early = k.2 t l e in omega (arith, early))
 
-      there : (n : ℕ) → IsIn free n → (0 < n) × (n ≤ s.tracks) × IsFree s.wires n (p + 1)
+      there : (n : ℕ) → Has free n → (0 < n) × (n ≤ s.tracks) × IsFree s.wires n (p + 1)
       there n h = sides n (moved_back (x ∷ s.free) free moved n h)
 
       earlier : (n : ℕ) → n ≢ x → IsFree s.wires n (p + 1) → IsFree s.wires n p
@@ -228,7 +229,7 @@ module _ (ws : List Wire) (r : AreRotary ws) (p : ℕ) (s : Swept) (is : IsSwept
         | inr high ↦ let low = ends t h e in absurd (other (sym e ∙ sym (track_there t h (omega (arith, low, high)))))
       ]
 
-      back : (n : ℕ) → (0 < n) × (n ≤ s.tracks) × IsFree s.wires n (p + 1) → IsIn free n
+      back : (n : ℕ) → (0 < n) × (n ≤ s.tracks) × IsFree s.wires n (p + 1) → Has free n
       back n h = moved_in (x ∷ s.free) free moved n (elim (eqb_tells n x) [
         | inl same ↦ inl same.1
         | inr other ↦ inr ((is.free n).1 (h.0, h.1, earlier n other.1 h.2))

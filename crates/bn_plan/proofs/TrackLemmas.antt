@@ -10,7 +10,8 @@ use Rattle.std.proofs.lemmas.List.Sums.{length-filter}
 use Rattle.std.proofs.lemmas.List.Sorted.{sum_by-IsPermutation}
 use Rattle.bn_theory.specs.declared.line.Wire.{Wire}
 use Rattle.bn_plan.specs.declared.tracked.Tracked.{Tracked}
-use Rattle.bn_plan.specs.Lists.{IsIn, Pairwise}
+use Rattle.bn_plan.specs.Lists.{Pairwise}
+use Rattle.bn_lists.specs.Lists.{Has}
 use Rattle.bn_plan.specs.Wires.{lesser, greater, Covers, covers, Fit, density, IsDensest}
 use Rattle.bn_plan.specs.Plans.{wire_of, wires_of, IsFree, TakeLeast, IsPlan, tracks_of, TracksFit, IsAssignment, HasTracks}
 use Rattle.bn_plan.proofs.ListLemmas.{in_map, in_map_cases, pairwise_weaker, pairwise_map, pairwise_filter, in_filter, filter_in, count-cons, count-map, no_longer, down_from, length-down_from, down_from_in, down_from_within, down_from_apart}
@@ -23,7 +24,7 @@ apart_fit : (v w : Wire) → greater v < lesser w → Fit v w
 apart_fit v w before p a b = absurd (omega (arith, before, a.ends, b.starts))
 
 -- an earlier wire and a later one of its track
-fits_earlier : (earlier ts : List Tracked) → TakeLeast earlier ts → (s t : Tracked) → IsIn earlier s → IsIn ts t → s.track ≡ t.track → Fit (wire_of s) (wire_of t)
+fits_earlier : (earlier ts : List Tracked) → TakeLeast earlier ts → (s t : Tracked) → Has earlier s → Has ts t → s.track ≡ t.track → Fit (wire_of s) (wire_of t)
 fits_earlier earlier [] a s t h k e = absurd k
 fits_earlier earlier (u ∷ ts) a s t h (inl same) e =
     apart_fit (wire_of s) (wire_of t) (subst (λ (x : Tracked). greater (wire_of s) < lesser (wire_of x)) (sym same) (a.0.free s h (e ∙ ap (λ (x : Tracked). x.track) same)))
@@ -59,7 +60,7 @@ density_of ws ts p all = sym (sum_by-IsPermutation (λ w. cond (covers p w) 1 0)
 -- ---- no assignment has fewer tracks
 
 -- the wires at one position have different tracks
-pub cover_bound : (ts : List Tracked) (used : List ℕ) (p : ℕ) → TracksFit ts → ((t : Tracked) → IsIn ts t → Covers p (wire_of t) → IsIn used t.track) → count_by (covers_at p) ts ≤ length used
+pub cover_bound : (ts : List Tracked) (used : List ℕ) (p : ℕ) → TracksFit ts → ((t : Tracked) → Has ts t → Covers p (wire_of t) → Has used t.track) → count_by (covers_at p) ts ≤ length used
 cover_bound ts used p fit has =
     let apart = pairwise_map (λ x y. x ≢ y) (λ (t : Tracked). t.track) (filter (covers_at p) ts)
     (pairwise_weaker (λ (s t : Tracked). s.track ≡ t.track → Fit (wire_of s) (wire_of t)) (λ (s t : Tracked). s.track ≢ t.track) (filter (covers_at p) ts) differ
@@ -68,14 +69,14 @@ cover_bound ts used p fit has =
     let count = length-tracks_at p ts in
     omega (arith, count, bound)
   where
-    differ : (s t : Tracked) → IsIn (filter (covers_at p) ts) s → IsIn (filter (covers_at p) ts) t → (s.track ≡ t.track → Fit (wire_of s) (wire_of t)) → s.track ≢ t.track
+    differ : (s t : Tracked) → Has (filter (covers_at p) ts) s → Has (filter (covers_at p) ts) t → (s.track ≡ t.track → Fit (wire_of s) (wire_of t)) → s.track ≢ t.track
     differ s t h k fits e = fits e p (covers_is p (wire_of s) (filter_in (covers_at p) ts s h).1) (covers_is p (wire_of t) (filter_in (covers_at p) ts t k).1)
 
-    held : (x : ℕ) → IsIn (tracks_at p ts) x → IsIn used x
+    held : (x : ℕ) → Has (tracks_at p ts) x → Has used x
     held x h =
         let from = in_map_cases (λ (t : Tracked). t.track) (filter (covers_at p) ts) x h in
         let stays = filter_in (covers_at p) ts from.0 from.1 in
-        subst (IsIn used) (sym from.2) (has from.0 stays.0 (covers_is p (wire_of from.0) stays.1))
+        subst (Has used) (sym from.2) (has from.0 stays.0 (covers_is p (wire_of from.0) stays.1))
 
 pub tracks_are_needed : (ws : List Wire) (ts : List Tracked) (used : List ℕ) (p : ℕ) → IsAssignment ws ts → HasTracks used ts → density ws p ≤ length used
 tracks_are_needed ws ts used p a has =
@@ -88,7 +89,7 @@ tracks_are_needed ws ts used p a has =
 -- the wire of this track, of the earlier ones, that doesn't end before
 pub record Blocks (earlier : List Tracked) (n : ℕ) (w : Wire) : Type 0 where
   pub tracked : Tracked
-  pub stands : IsIn earlier tracked
+  pub stands : Has earlier tracked
   pub track : tracked.track ≡ n
   pub reaches : lesser w ≤ greater (wire_of tracked)
 
@@ -110,26 +111,26 @@ free_or_blocked (t ∷ ts) n w = elim (free_or_blocked ts n w) [
   ]
 ]
   where
-    passed : IsFree ts n (lesser w) → (t.track ≡ n → greater (wire_of t) < lesser w) → (s : Tracked) → IsIn (t ∷ ts) s → s.track ≡ n → greater (wire_of s) < lesser w
+    passed : IsFree ts n (lesser w) → (t.track ≡ n → greater (wire_of t) < lesser w) → (s : Tracked) → Has (t ∷ ts) s → s.track ≡ n → greater (wire_of s) < lesser w
     passed free here s (inl e) f = subst (λ (x : Tracked). greater (wire_of x) < lesser w) (sym e) (here (sym (ap (λ (x : Tracked). x.track) e) ∙ f))
     passed free here s (inr h) f = free s h f
 
 -- where every track below T holds a wire that covers the position, T - 1 wires do
-many_cover : (ts : List Tracked) (p m : ℕ) → ((n : ℕ) → 0 < n → n ≤ m → (t : Tracked) × IsIn ts t × (t.track ≡ n) × Covers p (wire_of t)) → m ≤ count_by (covers_at p) ts
+many_cover : (ts : List Tracked) (p m : ℕ) → ((n : ℕ) → 0 < n → n ≤ m → (t : Tracked) × Has ts t × (t.track ≡ n) × Covers p (wire_of t)) → m ≤ count_by (covers_at p) ts
 many_cover ts p m each =
     let bound = no_longer (down_from m) (tracks_at p ts) (down_from_apart m) held in
     let first = length-down_from m in
     let second = length-tracks_at p ts in
     omega (arith, bound, first, second)
   where
-    held : (n : ℕ) → IsIn (down_from m) n → IsIn (tracks_at p ts) n
+    held : (n : ℕ) → Has (down_from m) n → Has (tracks_at p ts) n
     held n h =
         let within = down_from_within m n h in
         let found = each n within.0 within.1 in
-        subst (IsIn (tracks_at p ts)) found.2 (in_map (λ (t : Tracked). t.track) (filter (covers_at p) ts) found.0 (in_filter (covers_at p) ts found.0 found.1 (covers_true p (wire_of found.0) found.3)))
+        subst (Has (tracks_at p ts)) found.2 (in_map (λ (t : Tracked). t.track) (filter (covers_at p) ts) found.0 (in_filter (covers_at p) ts found.0 found.1 (covers_true p (wire_of found.0) found.3)))
 
 -- a wire's track is at most the number of wires that cover its lesser end
-pub track_bound : (earlier ts : List Tracked) → ((s t : Tracked) → IsIn earlier s → IsIn ts t → lesser (wire_of s) ≤ lesser (wire_of t)) → Pairwise (λ (s t : Tracked). lesser (wire_of s) ≤ lesser (wire_of t)) ts → TakeLeast earlier ts → (t : Tracked) → IsIn ts t
+pub track_bound : (earlier ts : List Tracked) → ((s t : Tracked) → Has earlier s → Has ts t → lesser (wire_of s) ≤ lesser (wire_of t)) → Pairwise (λ (s t : Tracked). lesser (wire_of s) ≤ lesser (wire_of t)) ts → TakeLeast earlier ts → (t : Tracked) → Has ts t
     → t.track ≤ count_by (covers_at (lesser (wire_of t))) earlier + count_by (covers_at (lesser (wire_of t))) ts
 track_bound earlier [] before order a t h = absurd h
 track_bound earlier (u ∷ ts) before order a t (inr h) =
@@ -138,12 +139,12 @@ track_bound earlier (u ∷ ts) before order a t (inr h) =
     let second = count-cons (covers_at (lesser (wire_of t))) u ts in
     omega (arith, rest, first, second)
   where
-    still : (s t : Tracked) → IsIn (u ∷ earlier) s → IsIn ts t → lesser (wire_of s) ≤ lesser (wire_of t)
+    still : (s t : Tracked) → Has (u ∷ earlier) s → Has ts t → lesser (wire_of s) ≤ lesser (wire_of t)
     still s t (inl e) k = subst (λ (x : Tracked). lesser (wire_of x) ≤ lesser (wire_of t)) (sym e) (order.0 t k)
     still s t (inr h) k = before s t h (inr k)
 track_bound earlier (u ∷ ts) before order a t (inl e) = subst (λ (x : Tracked). x.track ≤ count_by (covers_at (lesser (wire_of x))) earlier + count_by (covers_at (lesser (wire_of x))) (u ∷ ts)) (sym e) here
   where
-    covered : (m : ℕ) → suc m ≡ u.track → (n : ℕ) → 0 < n → n ≤ m → (s : Tracked) × IsIn earlier s × (s.track ≡ n) × Covers (lesser (wire_of u)) (wire_of s)
+    covered : (m : ℕ) → suc m ≡ u.track → (n : ℕ) → 0 < n → n ≤ m → (s : Tracked) × Has earlier s × (s.track ≡ n) × Covers (lesser (wire_of u)) (wire_of s)
     covered m sum n some h = elim (free_or_blocked earlier n (wire_of u)) [
       | inl free ↦ absurd (a.0.least n some (omega (arith, sum, h)) free)
       | inr b ↦ (b.tracked, b.stands, b.track, record { starts = before b.tracked u b.stands (inl refl); ends = b.reaches })
@@ -166,18 +167,18 @@ track_bound earlier (u ∷ ts) before order a t (inl e) = subst (λ (x : Tracked
 -- ---- the tracks that are used
 
 -- no track is beyond the greatest
-pub below_tracks_of : (ts : List Tracked) (t : Tracked) → IsIn ts t → t.track ≤ tracks_of ts
+pub below_tracks_of : (ts : List Tracked) (t : Tracked) → Has ts t → t.track ≤ tracks_of ts
 below_tracks_of [] t h = absurd h
 below_tracks_of (u ∷ ts) t (inl e) = let same : t.track ≡ u.track = ap (λ (x : Tracked). x.track) e in omega (arith, same)
 below_tracks_of (u ∷ ts) t (inr h) = let rest = below_tracks_of ts t h in omega (arith, rest)
 
 -- a bound on each is one on the greatest
-tracks_bound : (ts : List Tracked) (d : ℕ) → ((t : Tracked) → IsIn ts t → t.track ≤ d) → tracks_of ts ≤ d
+tracks_bound : (ts : List Tracked) (d : ℕ) → ((t : Tracked) → Has ts t → t.track ≤ d) → tracks_of ts ≤ d
 tracks_bound [] d each = omega arith
 tracks_bound (t ∷ ts) d each = let here = each t (inl refl) in let rest = tracks_bound ts d (λ s h. each s (inr h)) in omega (arith, here, rest)
 
 -- the greatest is one of them
-greatest_used : (ts : List Tracked) → 0 < tracks_of ts → (t : Tracked) × IsIn ts t × (t.track ≡ tracks_of ts)
+greatest_used : (ts : List Tracked) → 0 < tracks_of ts → (t : Tracked) × Has ts t × (t.track ≡ tracks_of ts)
 greatest_used [] some = absurd (omega arith)
 greatest_used (t ∷ ts) some = elim (cases_lt t.track (tracks_of ts)) [
   | inl less ↦ let rest = greatest_used ts (omega (arith, less)) in (rest.0, inr rest.1, rest.2 ∙ omega (arith, less))
@@ -185,13 +186,13 @@ greatest_used (t ∷ ts) some = elim (cases_lt t.track (tracks_of ts)) [
 ]
 
 -- tracks count from 1
-pub all_counted : (earlier ts : List Tracked) → TakeLeast earlier ts → (t : Tracked) → IsIn ts t → 0 < t.track
+pub all_counted : (earlier ts : List Tracked) → TakeLeast earlier ts → (t : Tracked) → Has ts t → 0 < t.track
 all_counted earlier [] a t h = absurd h
 all_counted earlier (u ∷ ts) a t (inl e) = subst (λ (x : Tracked). 0 < x.track) (sym e) a.0.counted
 all_counted earlier (u ∷ ts) a t (inr h) = all_counted (u ∷ earlier) ts a.1 t h
 
 -- below a track that is used all are used
-below_used : (earlier ts : List Tracked) → TakeLeast earlier ts → (t : Tracked) → IsIn ts t → (n : ℕ) → 0 < n → n < t.track → (s : Tracked) × (IsIn earlier s ⊎ IsIn ts s) × (s.track ≡ n)
+below_used : (earlier ts : List Tracked) → TakeLeast earlier ts → (t : Tracked) → Has ts t → (n : ℕ) → 0 < n → n < t.track → (s : Tracked) × (Has earlier s ⊎ Has ts s) × (s.track ≡ n)
 below_used earlier [] a t h n some low = absurd h
 below_used earlier (u ∷ ts) a t (inl e) n some low =
     let same : t.track ≡ u.track = ap (λ (x : Tracked). x.track) e in
@@ -201,19 +202,19 @@ below_used earlier (u ∷ ts) a t (inl e) n some low =
     ]
 below_used earlier (u ∷ ts) a t (inr h) n some low = placed (below_used (u ∷ earlier) ts a.1 t h n some low)
   where
-    moved : (s : Tracked) → (IsIn (u ∷ earlier) s ⊎ IsIn ts s) → IsIn earlier s ⊎ IsIn (u ∷ ts) s
+    moved : (s : Tracked) → (Has (u ∷ earlier) s ⊎ Has ts s) → Has earlier s ⊎ Has (u ∷ ts) s
     moved s (inl (inl e)) = inr (inl e)
     moved s (inl (inr k)) = inl k
     moved s (inr k) = inr (inr k)
 
-    placed : ((s : Tracked) × (IsIn (u ∷ earlier) s ⊎ IsIn ts s) × (s.track ≡ n)) → (s : Tracked) × (IsIn earlier s ⊎ IsIn (u ∷ ts) s) × (s.track ≡ n)
+    placed : ((s : Tracked) × (Has (u ∷ earlier) s ⊎ Has ts s) × (s.track ≡ n)) → (s : Tracked) × (Has earlier s ⊎ Has (u ∷ ts) s) × (s.track ≡ n)
     placed p = (p.0, moved p.0 p.1, p.2)
 
 -- the plan uses the tracks up to the greatest density
-pub plans_use_no_more : (ws : List Wire) (plan : List Tracked) (d p : ℕ) → IsPlan ws plan → IsDensest ws d p → (tracks_of plan ≡ d) × ((t : Tracked) → IsIn plan t → (0 < t.track) × (t.track ≤ d)) × ((n : ℕ) → 0 < n → n ≤ d → (t : Tracked) × IsIn plan t × (t.track ≡ n))
+pub plans_use_no_more : (ws : List Wire) (plan : List Tracked) (d p : ℕ) → IsPlan ws plan → IsDensest ws d p → (tracks_of plan ≡ d) × ((t : Tracked) → Has plan t → (0 < t.track) × (t.track ≤ d)) × ((n : ℕ) → 0 < n → n ≤ d → (t : Tracked) × Has plan t × (t.track ≡ n))
 plans_use_no_more ws plan d p a densest = (same, (λ t h. (all_counted [] plan a.tracks t h, each t h)), used)
   where
-    each : (t : Tracked) → IsIn plan t → t.track ≤ d
+    each : (t : Tracked) → Has plan t → t.track ≤ d
     each t h =
         let bound = track_bound [] plan (λ s u k l. absurd k) a.order a.tracks t h in
         let count = density_of ws plan (lesser (wire_of t)) a.all in
@@ -228,7 +229,7 @@ plans_use_no_more ws plan d p a densest = (same, (λ t h. (all_counted [] plan a
         let long = length-down_from (tracks_of plan) in
         omega (arith, few, needed, long, densest.reached)
 
-    used : (n : ℕ) → 0 < n → n ≤ d → (t : Tracked) × IsIn plan t × (t.track ≡ n)
+    used : (n : ℕ) → 0 < n → n ≤ d → (t : Tracked) × Has plan t × (t.track ≡ n)
     used n some h =
         let top = greatest_used plan (omega (arith, same, some, h)) in
         elim (cases_lt n top.0.track) [

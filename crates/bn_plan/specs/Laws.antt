@@ -4,7 +4,7 @@ use Rattle.bn_theory.specs.Circuits.{Circuit, IsCircuit, inputs_of, outputs_of}
 use Rattle.bn_theory.specs.declared.line.Wire.{Wire}
 use Rattle.bn_element.specs.Rotary.{north, east, south, west}
 use Rattle.bn_plan.specs.declared.tracked.Tracked.{Tracked}
-use Rattle.bn_plan.specs.Lists.{IsIn}
+use Rattle.bn_lists.specs.Lists.{Has}
 use Rattle.bn_plan.specs.Wires.{density, IsDensest, AreRotary, AreWiresOf}
 use Rattle.bn_plan.specs.Plans.{FloorPlan, IsPlan, IsFloorPlan, IsAssignment, TracksFit, HasTracks, tracks_of, wires_of}
 use Rattle.bn_plan.specs.Assigned.{assigned}
@@ -13,7 +13,7 @@ use Rattle.bn_plan.specs.Assigned.{assigned}
 -- order they are listed
 abbrev pub HasOneFloorPlan : Type 0
 HasOneFloorPlan = ((ws : List Wire) → (f : FloorPlan) × IsFloorPlan ws f)
-    × ((ws vs : List Wire) (f g : FloorPlan) → AreRotary ws → AreRotary vs → ((w : Wire) → IsIn ws w ↔ IsIn vs w)
+    × ((ws vs : List Wire) (f g : FloorPlan) → AreRotary ws → AreRotary vs → ((w : Wire) → Has ws w ↔ Has vs w)
     → IsFloorPlan ws f → IsFloorPlan vs g → f ≡ g)
 
 -- wires of one track fit
@@ -34,8 +34,8 @@ NoneHasFewer = (ws : List Wire) (f : FloorPlan) (ts : List Tracked) (used : List
 abbrev pub TracksAreTheDensity : Type 0
 TracksAreTheDensity = (ws : List Wire) (f : FloorPlan) → IsFloorPlan ws f
     → (density ws f.densest ≡ f.tracks)
-    × ((t : Tracked) → IsIn f.wires t → (0 < t.track) × (t.track ≤ f.tracks))
-    × ((n : ℕ) → 0 < n → n ≤ f.tracks → (t : Tracked) × IsIn f.wires t × (t.track ≡ n))
+    × ((t : Tracked) → Has f.wires t → (0 < t.track) × (t.track ≤ f.tracks))
+    × ((n : ℕ) → 0 < n → n ≤ f.tracks → (t : Tracked) × Has f.wires t × (t.track ≡ n))
 
 -- without wires there are no tracks, and the densest position is the first
 abbrev pub NoWiresNoTracks : Type 0

@@ -3,7 +3,8 @@ use Rattle.std.specs.Prelude.{◌≡◌, ℕ, ◌<◌, ◌≤◌, max, List, [],
 use Rattle.std.specs.List.Sorted.{IsPermutation}
 use Rattle.bn_theory.specs.declared.line.Wire.{Wire}
 use Rattle.bn_plan.specs.declared.tracked.Tracked.{Tracked}
-use Rattle.bn_plan.specs.Lists.{IsIn, Pairwise}
+use Rattle.bn_plan.specs.Lists.{Pairwise}
+use Rattle.bn_lists.specs.Lists.{Has}
 use Rattle.bn_plan.specs.Wires.{lesser, greater, Fit, IsDensest}
 
 -- the wire without its track
@@ -16,7 +17,7 @@ wires_of ts = map wire_of ts
 
 -- each of these wires that is on this track ends before the position
 abbrev pub IsFree : List Tracked → ℕ → ℕ → Type 0
-IsFree ts n p = (t : Tracked) → IsIn ts t → t.track ≡ n → greater (wire_of t) < p
+IsFree ts n p = (t : Tracked) → Has ts t → t.track ≡ n → greater (wire_of t) < p
 
 -- the wire is on the least track, from 1, on which each earlier wire ends before it
 pub record TakesLeast (earlier : List Tracked) (t : Tracked) : Type 0 where
@@ -65,4 +66,4 @@ pub record IsAssignment (ws : List Wire) (ts : List Tracked) : Type 0 where
 
 -- the list has every track that is used
 abbrev pub HasTracks : List ℕ → List Tracked → Type 0
-HasTracks used ts = (t : Tracked) → IsIn ts t → IsIn used t.track
+HasTracks used ts = (t : Tracked) → Has ts t → Has used t.track

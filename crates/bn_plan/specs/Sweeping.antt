@@ -3,7 +3,8 @@ use Rattle.std.specs.Prelude.{◌≡◌, ◌≢◌, ◌↔◌, ◌⊎◌, ℕ, �
 use Rattle.std.specs.List.Sorted.{IsPermutation}
 use Rattle.bn_theory.specs.declared.line.Wire.{Wire}
 use Rattle.bn_plan.specs.declared.tracked.Tracked.{Tracked}
-use Rattle.bn_plan.specs.Lists.{IsIn, Pairwise}
+use Rattle.bn_plan.specs.Lists.{Pairwise}
+use Rattle.bn_lists.specs.Lists.{Has}
 use Rattle.bn_plan.specs.Wires.{lesser, greater}
 use Rattle.bn_plan.specs.Plans.{FloorPlan, wire_of, wires_of, IsFree, TakeLeast, tracks_of}
 
@@ -19,10 +20,10 @@ pub record Swept : Type 0 where
 -- a wire of the greatest track begins at this position, and none before it
 pub record IsWidest (ts : List Tracked) (n p : ℕ) : Type 0 where
   pub first : Tracked
-  pub stands : IsIn ts first
+  pub stands : Has ts first
   pub track : first.track ≡ n
   pub begins : lesser (wire_of first) ≡ p
-  pub before : (t : Tracked) → IsIn ts t → lesser (wire_of t) < p → t.track < n
+  pub before : (t : Tracked) → Has ts t → lesser (wire_of t) < p → t.track < n
 
 -- This is kept before position p of the wires that begin before it. They stand in order, each on its least track; the
 -- free tracks are those whose wires all end before p, each there once; and at each position from p on the track is kept
@@ -30,25 +31,25 @@ pub record IsWidest (ts : List Tracked) (n p : ℕ) : Type 0 where
 pub record IsSwept (ws : List Wire) (p : ℕ) (s : Swept) : Type 0 where
   pub order : Pairwise (λ (t u : Tracked). lesser (wire_of t) < lesser (wire_of u)) s.wires
   pub least : TakeLeast [] s.wires
-  pub begun : (w : Wire) → IsIn (wires_of s.wires) w ↔ IsIn ws w × (lesser w < p)
+  pub begun : (w : Wire) → Has (wires_of s.wires) w ↔ Has ws w × (lesser w < p)
   pub tracks : tracks_of s.wires ≡ s.tracks
   pub few : s.tracks ≤ p
-  pub free : (n : ℕ) → IsIn s.free n ↔ (0 < n) × (n ≤ s.tracks) × IsFree s.wires n p
+  pub free : (n : ℕ) → Has s.free n ↔ (0 < n) × (n ≤ s.tracks) × IsFree s.wires n p
   pub once : Pairwise (λ (m n : ℕ). m ≢ n) s.free
-  pub ends : (t : Tracked) → IsIn s.wires t → p ≤ greater (wire_of t) →
+  pub ends : (t : Tracked) → Has s.wires t → p ≤ greater (wire_of t) →
       get_or s.ending (greater (wire_of t)) None ≡ Some t.track
   pub ended : (q n : ℕ) → p ≤ q → q < length s.ending → get_or s.ending q None ≡ Some n →
-      (t : Tracked) × IsIn s.wires t × (greater (wire_of t) ≡ q)
+      (t : Tracked) × Has s.wires t × (greater (wire_of t) ≡ q)
   pub densest : ((s.tracks ≡ 0) × (s.densest ≡ 0)) ⊎ IsWidest s.wires s.tracks s.densest
 
 -- this wire of the list begins at this position, or none does
 abbrev pub BeginsAt : List Wire → ℕ → Wire → Type 0
-BeginsAt ws p w = IsIn ws w × (lesser w ≡ p)
+BeginsAt ws p w = Has ws w × (lesser w ≡ p)
 
 -- the least free track, which is then free no more
 pub record TakesFree (old : Swept) (track : ℕ) (new : Swept) : Type 0 where
   pub taken : IsPermutation old.free (track ∷ new.free)
-  pub least : (n : ℕ) → IsIn old.free n → track ≤ n
+  pub least : (n : ℕ) → Has old.free n → track ≤ n
   pub tracks : new.tracks ≡ old.tracks
   pub densest : new.densest ≡ old.densest
 

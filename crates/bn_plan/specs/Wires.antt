@@ -5,7 +5,8 @@ use Rattle.std.specs.List.{count_by}
 use Rattle.bn_theory.specs.Circuits.{target}
 use Rattle.bn_theory.specs.declared.line.Line.{Line}
 use Rattle.bn_theory.specs.declared.line.Wire.{Wire}
-use Rattle.bn_plan.specs.Lists.{IsIn, Pairwise}
+use Rattle.bn_plan.specs.Lists.{Pairwise}
+use Rattle.bn_lists.specs.Lists.{Has}
 
 -- Each element takes eight positions, for its outputs north, east, south and west, and then for its inputs in the same
 -- order. This is the position of an output line.
@@ -53,11 +54,11 @@ pub record HasFourLines (w : Wire) : Type 0 where
 
 -- the wires lead from elements of four lines each way to such, no two from one line, and no two to one line
 pub record AreRotary (ws : List Wire) : Type 0 where
-  pub lines : (w : Wire) → IsIn ws w → HasFourLines w
+  pub lines : (w : Wire) → Has ws w → HasFourLines w
   pub from_apart : Pairwise (λ (v w : Wire). v.from ≢ w.from) ws
   pub to_apart : Pairwise (λ (v w : Wire). v.to ≢ w.to) ws
 
 -- These are the wires of a circuit that has this list of wires, each listed once: those that a signal goes along.
 pub record AreWiresOf (circuit ws : List Wire) : Type 0 where
-  pub each : (w : Wire) → IsIn ws w ↔ (target circuit w.from ≡ Some w.to)
+  pub each : (w : Wire) → Has ws w ↔ (target circuit w.from ≡ Some w.to)
   pub once : Pairwise (λ (v w : Wire). v.from ≢ w.from) ws

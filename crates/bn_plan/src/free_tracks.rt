@@ -1,7 +1,7 @@
 //! The tracks that are free, of which the least is wanted next.
 
 ghost use Rattle.std.specs.Prelude.{◌≡◌, ◌≤◌, ℕ, [], ◌∷◌, IfSome, IfNone, OnOk};
-ghost use Rattle.bn_plan.specs.Lists.{IsIn};
+ghost use Rattle.bn_lists.specs.Lists.{Has};
 ghost use Rattle.std.specs.List.Sorted.{IsPermutation};
 
 use bn_net::NoMemory;
@@ -51,7 +51,7 @@ impl FreeTracks {
     /// Takes the least track out, `None` where there is none.
     pub(crate) fn take_least(&mut self) -> Option<u32>
         ensures taken { IfSome result (λ n. IsPermutation self.old (n ∷ self.new)) }
-        ensures least { IfSome result (λ n. (m : ℕ) → IsIn self.old m → n ≤ m) }
+        ensures least { IfSome result (λ n. (m : ℕ) → Has self.old m → n ≤ m) }
         ensures none { IfNone result (self.old ≡ []) }
         ensures kept { IfNone result (self.new ≡ self.old) }
     {

@@ -2,7 +2,7 @@
 
 ghost use Rattle.std.specs.Prelude.{◌≡◌, ◌+◌, ◌*◌, ◌<◌, ◌≤◌, ◌^◌, [], List, length, replicate, IfOk, OnOk};
 ghost use Rattle.bn_theory.specs.declared.line.Wire.{Wire};
-ghost use Rattle.bn_plan.specs.Lists.{IsIn};
+ghost use Rattle.bn_lists.specs.Lists.{Has};
 ghost use Rattle.bn_plan.specs.Wires.{lesser, greater, AreRotary, HasFourLines};
 ghost use Rattle.bn_plan.specs.Sweeping.{Swept, IsSwept, BeginsAt, TakesTrack, floor_of};
 
@@ -107,7 +107,7 @@ impl Sweep {
         requires position { greater wire < length self.old.ending }
         requires tracks { self.old.tracks + 1 < 2 ^ 32 }
         ensures positions { OnOk result (length self.new.ending ≡ length self.old.ending) }
-        ensures swept { OnOk result ((ws : List Wire) → AreRotary ws → IsIn ws wire →
+        ensures swept { OnOk result ((ws : List Wire) → AreRotary ws → Has ws wire →
             IsSwept ws (lesser wire) self.old → IsSwept ws (lesser wire + 1) self.new) }
     {
         let Wire { from, to } = wire;

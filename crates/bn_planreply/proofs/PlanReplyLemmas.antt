@@ -15,7 +15,8 @@ use Rattle.bn_netlist.specs.declared.refusal.NetlistRefusal.TheVariants.{Syntax,
 use Rattle.bn_netlist.proofs.NetTextLemmas.{spellings-agree, faulty_texts-spell-nothing}
 use Rattle.bn_netlist.proofs.FaultLemmas.{faults-agree}
 use Rattle.bn_netlist.proofs.DecideLemmas.{texts-spell-or-fault}
-use Rattle.bn_plan.specs.Lists.{IsIn, Pairwise}
+use Rattle.bn_plan.specs.Lists.{Pairwise}
+use Rattle.bn_lists.specs.Lists.{Has}
 use Rattle.bn_plan.specs.Wires.{AreRotary, AreWiresOf}
 use Rattle.bn_plan.proofs.ListLemmas.{in_filter, filter_in, pairwise_filter}
 use Rattle.bn_plan.proofs.CircuitLemmas.{circuits_are_rotary}
@@ -67,7 +68,7 @@ abbrev leading : List Wire → List Wire
 leading [] = []
 leading (w ∷ ws) = w ∷ filter (λ (v : Wire). not (same_line w.from v.from)) (leading ws)
 
-leads_there : (ws : List Wire) (v : Wire) → IsIn (leading ws) v → target ws v.from ≡ Some v.to
+leads_there : (ws : List Wire) (v : Wire) → Has (leading ws) v → target ws v.from ≡ Some v.to
 leads_there [] v h = absurd h
 leads_there (w ∷ ws) v (inl e) = subst (λ (x : Wire). target (w ∷ ws) x.from ≡ Some x.to) (sym e) here
   where
@@ -81,7 +82,7 @@ leads_there (w ∷ ws) v (inr h) =
       | inr other ↦ rw other.0 rest
     ]
 
-leads_back : (ws : List Wire) (v : Wire) → target ws v.from ≡ Some v.to → IsIn (leading ws) v
+leads_back : (ws : List Wire) (v : Wire) → target ws v.from ≡ Some v.to → Has (leading ws) v
 leads_back [] v is = absurd (cc)
 leads_back (w ∷ ws) v is = elim (line_tells w.from v.from) [
   | inl same ↦ let to : Some w.to ≡ Some v.to = rw same.0 at is in let also : v.to ≡ w.to = cc in inl (λ i. record { from = (sym same.1) i; to = also i })
@@ -92,7 +93,7 @@ leading_apart : (ws : List Wire) → Pairwise (λ (v w : Wire). v.from ≢ w.fro
 leading_apart [] = tt
 leading_apart (w ∷ ws) = (first, pairwise_filter (λ (v x : Wire). v.from ≢ x.from) (λ (v : Wire). not (same_line w.from v.from)) (leading ws) (leading_apart ws))
   where
-    first : (v : Wire) → IsIn (filter (λ (x : Wire). not (same_line w.from x.from)) (leading ws)) v → w.from ≢ v.from
+    first : (v : Wire) → Has (filter (λ (x : Wire). not (same_line w.from x.from)) (leading ws)) v → w.from ≢ v.from
     first v h e = let stays = filter_in (λ (x : Wire). not (same_line w.from x.from)) (leading ws) v h in elim (line_tells w.from v.from) [
       | inl same ↦ let clash : not true ≡ true = ap not (sym same.0) ∙ stays.1 in absurd (cc)
       | inr other ↦ absurd (other.1 e)

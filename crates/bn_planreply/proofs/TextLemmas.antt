@@ -4,7 +4,7 @@ use Rattle.std.proofs.Common.{refl, inl, inr, sym, ap, ◌∙◌, arith, append_
 use Rattle.bn_theory.specs.declared.line.Wire.{Wire}
 use Rattle.std.proofs.lemmas.List.Sorted.{IsPermutation-sym}
 use Rattle.bn_plan.specs.declared.tracked.Tracked.{Tracked}
-use Rattle.bn_plan.specs.Lists.{IsIn}
+use Rattle.bn_lists.specs.Lists.{Has}
 use Rattle.bn_plan.specs.Wires.{HasFourLines, AreRotary}
 use Rattle.bn_plan.specs.Plans.{FloorPlan, IsFloorPlan, wire_of, wires_of}
 use Rattle.bn_plan.proofs.ListLemmas.{in_map}
@@ -12,7 +12,7 @@ use Rattle.bn_plan.proofs.PlanLemmas.{moves_in}
 use Rattle.bn_planreply.specs.PlanReply.{wire_line, wire_lines}
 
 -- what stands at a place is in the list
-pub at_in : {X : Type 0} (xs : List X) (i : ℕ) (d : X) → i < length xs → IsIn xs (get_or xs i d)
+pub at_in : {X : Type 0} (xs : List X) (i : ℕ) (d : X) → i < length xs → Has xs (get_or xs i d)
 at_in [] i d h = absurd (omega (arith, h))
 at_in (x ∷ xs) zero d h = inl refl
 at_in (x ∷ xs) (suc i) d h = inr (at_in xs i d (omega (arith, h)))
@@ -33,5 +33,5 @@ text_more old before after ts i d so_far h is =
     ∙ ap (λ xs. old ++ xs) (sym (lines_more ts i d h)) ∙ ap (λ n. old ++ wire_lines (take n ts)) next
 
 -- the wires of a floor plan lead from elements of four lines to such
-pub floor_lines : (ws : List Wire) (f : FloorPlan) → AreRotary ws → IsFloorPlan ws f → (t : Tracked) → IsIn f.wires t → HasFourLines (wire_of t)
+pub floor_lines : (ws : List Wire) (f : FloorPlan) → AreRotary ws → IsFloorPlan ws f → (t : Tracked) → Has f.wires t → HasFourLines (wire_of t)
 floor_lines ws f r is t h = r.lines (wire_of t) (moves_in (wires_of f.wires) ws (IsPermutation-sym ws (wires_of f.wires) is.plan.all) (wire_of t) (in_map wire_of f.wires t h))

@@ -3,7 +3,7 @@
 ghost use Rattle.std.specs.Prelude.{◌≡◌, ◌<◌, ◌++◌, ◌∷◌, [], IfOk, OnOk, decimal};
 ghost use Rattle.bn_netlist.specs.Sentences.{line_text};
 ghost use Rattle.bn_plan.specs.declared.tracked.Tracked.{Tracked};
-ghost use Rattle.bn_plan.specs.Lists.{IsIn};
+ghost use Rattle.bn_lists.specs.Lists.{Has};
 ghost use Rattle.bn_plan.specs.Plans.{wire_of};
 ghost use Rattle.bn_plan.specs.Wires.{HasFourLines};
 ghost use Rattle.bn_planreply.specs.PlanReply.{plan_text, wire_line, wire_lines};
@@ -18,7 +18,7 @@ use std::alloc::Global;
 /// The text of a floor plan of so many elements: four lines with a number each, and a line a wire.
 /// Elements and positions are counted from 0, tracks from 1. (This project's own profile.)
 pub(crate) fn plan_text(alloc: Global, elements: u32, plan: &Plan) -> Result<Vec<u8>, NoMemory>
-    requires { (t : Tracked) → IsIn plan.now.wires t → HasFourLines (wire_of t) }
+    requires { (t : Tracked) → Has plan.now.wires t → HasFourLines (wire_of t) }
     ensures { IfOk result (λ text. text.items ≡ plan_text elements plan.now) }
 {
     let wires = plan.wires();
@@ -33,7 +33,7 @@ pub(crate) fn plan_text(alloc: Global, elements: u32, plan: &Plan) -> Result<Vec
 
 // The line of each wire, in their order.
 fn push_wires(text: &mut Vec<u8>, wires: &[Tracked]) -> Result<(), NoMemory>
-    requires { (t : Tracked) → IsIn wires.now t → HasFourLines (wire_of t) }
+    requires { (t : Tracked) → Has wires.now t → HasFourLines (wire_of t) }
     ensures { OnOk result (text.new.items ≡ text.old.items ++ wire_lines wires.now) }
 {
     for wire in wires {

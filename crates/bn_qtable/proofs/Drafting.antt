@@ -3,7 +3,7 @@ use Rattle.std.proofs.Common.{◌≡◌, ◌<◌, ◌≤◌, get_or, ◌∷◌, 
 use Rattle.std.proofs.lemmas.List.{map-append}
 use Rattle.std.proofs.lemmas.List.Elements.{All-head, All-tail}
 use Rattle.std.proofs.lemmas.Option.{slice_get-get_or}
-use Rattle.bn_machine.specs.Machine.{nth}
+use Rattle.bn_lists.specs.Lists.{nth}
 use Rattle.bn_quad.specs.Names.{Naming}
 use Rattle.bn_quad.specs.Quadruples.{Deed, Rewrite, Move, Rule, Quadruples, IsDeedInRange, IsRuleInRange}
 use Rattle.bn_quad.specs.Kept.{Agree, IsUnmixed, IsActInRange, IsFirstFault, IsReadInRange, IsSound, act_at, act_of, deed_of, quad_of, read_at, read_of, rule_of, rules_of}

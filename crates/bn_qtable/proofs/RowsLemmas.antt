@@ -4,7 +4,7 @@ use Rattle.std.specs.List.{list_all}
 use Rattle.std.proofs.lemmas.Option.{slice_get-get_or}
 use Rattle.bn_entries.specs.Forms.{is_state_name, is_symbol}
 use Rattle.bn_entries.proofs.FormsLemmas.{all-at}
-use Rattle.bn_machine.specs.Machine.{nth}
+use Rattle.bn_lists.specs.Lists.{nth}
 use Rattle.bn_qtable.specs.Named.{AreNamed, HasNames}
 use Rattle.bn_qtable.specs.Rows.{IsTable, IsTableOf, QuadTable}
 

@@ -10,7 +10,7 @@ use Rattle.bn_entries.specs.Forms.{is_state_name, is_symbol}
 use Rattle.bn_entries.proofs.FormsLemmas.{plain-state-name, plain-symbol}
 use Rattle.bn_entries.specs.Lines.{is_plain, is_plain_entry, line_of, lines_of}
 use Rattle.bn_entries.proofs.LinesLemmas.{entries_of-lines_of, lines_of-push}
-use Rattle.bn_machine.specs.Machine.{nth}
+use Rattle.bn_lists.specs.Lists.{nth}
 use Rattle.bn_machine.specs.declared.quint.Shift.{Shift}
 use Rattle.bn_machine.specs.declared.quint.Shift.TheVariants.{Left, Stay, Right}
 use Rattle.bn_quad.specs.Names.{Naming}

@@ -4,7 +4,7 @@ ghost use Rattle.std.specs.Prelude.{◌≡◌, ◌≤◌, ◌++◌, ◌∷◌, [
 ghost use Rattle.bn_entries.specs.Entries.{entries_of};
 ghost use Rattle.bn_entries.specs.Forms.{is_state_name, is_symbol};
 ghost use Rattle.bn_entries.specs.Lines.{is_plain, is_plain_entry, line_of, lines_of};
-ghost use Rattle.bn_machine.specs.Machine.{nth};
+ghost use Rattle.bn_lists.specs.Lists.{nth};
 ghost use Rattle.bn_quad.specs.Names.{symbols_on};
 ghost use Rattle.bn_quad.specs.Kept.{Agree, IsUnmixed, deed_of, rule_of};
 ghost use Rattle.bn_qtable.specs.Entry.{entry_of, shift_text, read_field, act_field};

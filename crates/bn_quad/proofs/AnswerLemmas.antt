@@ -4,11 +4,11 @@ use Rattle.std.proofs.Common.{refl, sym, subst, ◌∙◌, ap, arith, inl, inr}
 use Rattle.std.proofs.lemmas.Bool.{cases_lt}
 use Rattle.bn_machine.specs.Tape.{moved}
 use Rattle.bn_machine.specs.Window.{Windowed, with_tape}
-use Rattle.bn_machine.specs.Machine.{nth}
-use Rattle.bn_machine.proofs.MachineLemmas.{nth_once}
+use Rattle.bn_lists.specs.Lists.{nth}
+use Rattle.bn_lists.proofs.ListLemmas.{nth_once}
 use Rattle.bn_machine.proofs.OutcomeLemmas.{beyond_one_side, not_inside_and_beyond}
 use Rattle.bn_quad.specs.Quadruples.{Deed, Rewrite, Move, Rule, deeds_of, Configuration, after, Quadruples, IsFirstRule, GoesBy, AreAllowed, IsStuck}
-use Rattle.bn_quad.specs.Overlap.{IsClash, HasNoClash, IsLeastClash, HasNoFlaw, IsFirstFlaw}
+use Rattle.bn_quad.specs.Overlap.{IsClash, HasNoClash, IsLeastClash, IsFlawed, HasNoFlaw, IsFirstFlaw}
 use Rattle.bn_quad.specs.Kept.{IsFirstFault, IsQuadInRange}
 use Rattle.bn_quad.specs.Calls.{configuration, windows_of, rooms_of, DeedLeaves, DeedStays, LeavesAt, IsLeaving, AreSameWindows, IsQuadRefusal, IsNotUniform, IsUniformRefusal}
 use Rattle.bn_quad.proofs.QuadStepLemmas.{first_rule_once}
@@ -25,15 +25,8 @@ use Rattle.bn_quad.specs.declared.refusal.UniformRefusal.{UniformRefusal}
 use Rattle.bn_quad.specs.declared.refusal.UniformRefusal.TheVariants as uniform
 use Rattle.bn_quad.specs.declared.tapes.Tapes.{Tapes}
 use Rattle.bn_quad.specs.declared.tapes.QuadTurn.TheVariants as turn
-
--- the least number with a property is one
-least_once : (i j : ℕ) → (i < j → ⊥) → (j < i → ⊥) → i ≡ j
-least_once i j low high = by_order (cases_lt i j) (cases_lt j i)
-  where
-    by_order : (i < j) ⊎ (j ≤ i) → (j < i) ⊎ (i ≤ j) → i ≡ j
-    by_order (inl h) k = absurd (low h)
-    by_order (inr h) (inl k) = absurd (high k)
-    by_order (inr h) (inr k) = omega arith
+use Rattle.bn_lists.proofs.LeastLemmas.{least_once}
+use Rattle.bn_lists.proofs.ListLemmas.{first_once}
 
 fault_once : (states : ℕ) (symbols : List ℕ) (qs : List Quad) (i j : ℕ) (q p : Quad) → IsFirstFault states symbols qs i q → IsFirstFault states symbols qs j p → (i ≡ j) × (q ≡ p)
 fault_once states symbols qs i j q p h k =
@@ -67,10 +60,10 @@ no_least : {clash : Clash} {rs : List (Rule ℕ)} {i j : ℕ} → HasNoClash cla
 no_least {i = i} {j = j} none least = none.none i j least.holds
 
 flaw_once : (flaw : Flaw) (rs : List (Rule ℕ)) (i j : ℕ) → IsFirstFlaw flaw rs i → IsFirstFlaw flaw rs j → i ≡ j
-flaw_once flaw rs i j a b = least_once i j (λ h. b.first i a.rule h a.stands a.flawed) (λ h. a.first j b.rule h b.stands b.flawed)
+flaw_once flaw rs i j a b = (first_once (IsFlawed flaw) rs i j a.0 b.0 a.1 b.1).0
 
 no_first : {flaw : Flaw} {rs : List (Rule ℕ)} {i : ℕ} → HasNoFlaw flaw rs → IsFirstFlaw flaw rs i → ⊥
-no_first {i = i} none first = none.none i first.rule first.stands first.flawed
+no_first {i = i} none first = none.none i first.0 first.1.stands first.1.holds
 
 uneven_once : (rs : List (Rule ℕ)) (a b : NotUniform) → IsNotUniform rs a → IsNotUniform rs b → a ≡ b
 uneven_once rs (uneven.ReadMask i j) (uneven.ReadMask m n) h k = let e = clash_once _ rs i j m n h k in λ t. uneven.ReadMask (e.0 t) (e.1 t)
@@ -157,7 +150,7 @@ same_tapes w v x t u e f same =
     λ i. record { one = one i; two = two i; three = three i }
 
 stuck_not_first : (p : Quadruples) (c : Configuration ℕ) (n : ℕ) (r : Rule ℕ) → IsStuck p c → IsFirstRule p.rules c n r → ⊥
-stuck_not_first p c n r stuck f = stuck.none.none n r f.stands f.applies
+stuck_not_first p c n r stuck f = stuck.none.none n r f.stands f.holds
 
 pub quad_turn_once : QuadTurnsAreOne
 quad_turn_once p turn.Final turn.Final s w t u v x h k = (refl, h.1 ∙ sym k.1, h.2 ∙ sym k.2)

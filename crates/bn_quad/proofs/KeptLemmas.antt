@@ -6,8 +6,8 @@ use Rattle.std.proofs.lemmas.List.Elements.{All-map}
 use Rattle.bn_quad.specs.Quadruples.{Deed, Rewrite, Move, Rule, quadruples_of, deeds_of, IsDeedInRange, AreDeedsInRange, IsRuleInRange, IsQuadMachine, final_of}
 use Rattle.bn_quad.specs.Kept.{read_of, act_of, quad_of, deed_of, rule_of, rules_of, read_at, act_at, Agree, IsReadInRange, IsActInRange, IsUnmixed, IsSound, IsKept, IsFirstFault}
 use Rattle.bn_quad.specs.Calls.{IsMadeOf}
-use Rattle.bn_machine.specs.Machine.{AllBefore, nth}
-use Rattle.bn_machine.proofs.MachineLemmas.{nth-get_or}
+use Rattle.bn_lists.specs.Lists.{AllBefore, nth}
+use Rattle.bn_lists.proofs.ListLemmas.{nth-get_or}
 use Rattle.std.specs.Option.{option_map}
 use Rattle.std.proofs.lemmas.Option.{slice_get-map, slice_get-get_or}
 use Rattle.bn_quad.specs.declared.quad.Quad.{Quad}

@@ -3,22 +3,15 @@ use Rattle.std.specs.Prelude.{◌≡◌, ◌≢◌, ℕ, ◌<◌, ◌≤◌, Lis
 use Rattle.std.proofs.Common.{sym, ap, ◌∙◌, subst, arith, inl, inr}
 use Rattle.std.proofs.lemmas.Bool.{cases_lt}
 use Rattle.bn_theory.specs.Runs.{IsFunction}
-use Rattle.bn_machine.specs.Machine.{nth}
-use Rattle.bn_machine.proofs.MachineLemmas.{nth_once}
+use Rattle.bn_lists.specs.Lists.{nth}
+use Rattle.bn_lists.proofs.ListLemmas.{first_once}
 use Rattle.bn_quad.specs.Quadruples.{Rule, Configuration, AppliesTo, after, LeadsBy, Quadruples, final_of, IsFirstRule, Rooms, everywhere, AreAllowed, GoesBy, Goes}
 use Rattle.bn_quad.specs.Overlap.{IsDeterministic}
 use Rattle.bn_quad.proofs.ReversibleLemmas.{one_applies}
 
 -- the first that applies is one
 pub first_rule_once : (rs : List (Rule ℕ)) (c : Configuration ℕ) (n m : ℕ) (r s : Rule ℕ) → IsFirstRule rs c n r → IsFirstRule rs c m s → (n ≡ m) × (r ≡ s)
-first_rule_once rs c n m r s f g = by_order (cases_lt n m) (cases_lt m n)
-  where
-    by_order : (n < m) ⊎ (m ≤ n) → (m < n) ⊎ (n ≤ m) → (n ≡ m) × (r ≡ s)
-    by_order (inl h) k = absurd (g.first n r h f.stands f.applies)
-    by_order (inr h) (inl k) = absurd (f.first m s k g.stands g.applies)
-    by_order (inr h) (inr k) =
-        let same : n ≡ m = omega arith in
-        (same, nth_once rs m r s (subst (λ i. nth rs i ≡ Some r) same f.stands) g.stands)
+first_rule_once rs c n m r s f g = first_once (λ t. AppliesTo t c) rs n m r s f g
 
 -- a step has one quadruple and one end, whatever the rooms
 pub goes_by_once : (rooms other : Rooms) (p : Quadruples) (n m : ℕ) (c d e : Configuration ℕ) → GoesBy rooms p n c d → GoesBy other p m c e → (n ≡ m) × (d ≡ e)
@@ -31,13 +24,13 @@ goes_function rooms p = λ c d e f g. (goes_by_once rooms rooms p f.0 g.0 c d e 
 
 -- a step is made by a quadruple that leads from its start to its end
 pub goes_leads : (rooms : Rooms) (p : Quadruples) (n : ℕ) (c d : Configuration ℕ) → GoesBy rooms p n c d → LeadsBy p.rules n c d
-goes_leads rooms p n c d g = record { rule = g.rule; stands = g.first.stands; leads = record { applies = g.first.applies; gives = g.gives } }
+goes_leads rooms p n c d g = record { rule = g.rule; stands = g.first.stands; leads = record { applies = g.first.holds; gives = g.gives } }
 
 -- of quadruples that are apart in domain the one that applies is the first that does
 pub only_is_first : (rs : List (Rule ℕ)) (n : ℕ) (r : Rule ℕ) (c : Configuration ℕ) → IsDeterministic rs → nth rs n ≡ Some r → AppliesTo r c → IsFirstRule rs c n r
 only_is_first rs n r c apart here applies = record {
   stands = here;
-  applies = applies;
+  holds = applies;
   first = λ m s h e k. let same : m ≡ n = one_applies rs m n s r c apart e here k applies in omega arith;
 }
 

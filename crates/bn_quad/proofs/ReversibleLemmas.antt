@@ -7,8 +7,8 @@ use Rattle.std.proofs.Common.{refl, sym, ap, ◌∙◌, subst, arith, inl, inr, 
 use Rattle.std.proofs.lemmas.Bool.{cases_lt}
 use Rattle.bn_machine.specs.Tape.{Tape, scanned, write, blank_tape}
 use Rattle.bn_machine.proofs.TapeLemmas.{scanned-write, write-back, shift-back, opposite-opposite}
-use Rattle.bn_machine.specs.Machine.{nth}
-use Rattle.bn_machine.proofs.MachineLemmas.{nth_within, nth_once}
+use Rattle.bn_lists.specs.Lists.{nth}
+use Rattle.bn_lists.proofs.ListLemmas.{nth_within, nth_once}
 use Rattle.bn_quad.specs.Quadruples.{Deed, Rewrite, Move, Rule, Configuration, Admits, done, AppliesTo, after, Leads, LeadsBy, HasOneSuccessor, HasOnePredecessor, turned_deed, turned, turned_list}
 use Rattle.bn_quad.specs.Overlap.{MeetsInDomain, MeetsInRange, OverlapsInDomain, OverlapsInRange, IsClash, IsDeterministic, IsReversible}
 use Rattle.bn_quad.specs.declared.clash.Clash.TheVariants.{Range}

@@ -2,8 +2,8 @@
 use Rattle.std.specs.Prelude.{◌≡◌, ℕ, zero, suc, ◌<◌, ◌≤◌, List, length, Some, ◌⊎◌}
 use Rattle.std.proofs.Common.{subst, arith, inl, inr}
 use Rattle.std.proofs.lemmas.Bool.{cases_lt}
-use Rattle.bn_machine.specs.Machine.{AllBefore, nth}
-use Rattle.bn_machine.proofs.MachineLemmas.{nth_within, nth_once}
+use Rattle.bn_lists.specs.Lists.{AllBefore, nth}
+use Rattle.bn_lists.proofs.ListLemmas.{nth_within, nth_once, all_before_one, all_before_more, first_at, none_to_end}
 use Rattle.bn_quad.specs.Quadruples.{Rule, Configuration, AppliesTo, IsFirstRule, HasNoRule}
 use Rattle.bn_quad.specs.Overlap.{Clashes, IsClash, HasNoClash, IsLeastClash, IsFlawed, HasNoFlaw, IsFirstFlaw}
 use Rattle.bn_quad.specs.declared.clash.Clash.{Clash}
@@ -60,34 +60,26 @@ no_clash clash rs n past before = record { none = λ i j k. let known : i ≤ le
 pub least_clash : (clash : Clash) (rs : List (Rule ℕ)) (i j : ℕ) → HasNoClashBefore clash rs i → IsLeastPartner clash rs i j → IsLeastClash clash rs i j
 least_clash clash rs i j before k = record { holds = k.holds; least_first = before.none; least_second = k.least }
 
-pub record HasNoFlawBefore (flaw : Flaw) (rs : List (Rule ℕ)) (n : ℕ) : Type 0 where
-  pub none : (m : ℕ) (r : Rule ℕ) → m < n → nth rs m ≡ Some r → IsFlawed flaw r → ⊥
+-- none of the quadruples before the n-th has the flaw
+abbrev pub HasNoFlawBefore : Flaw → List (Rule ℕ) → ℕ → Type 0
+HasNoFlawBefore flaw rs n = AllBefore (λ r. IsFlawed flaw r → ⊥) rs n
 
 pub no_flaw_before_one : (flaw : Flaw) (rs : List (Rule ℕ)) → HasNoFlawBefore flaw rs 1
-no_flaw_before_one flaw rs = record { none = none }
-  where
-    none : (m : ℕ) (r : Rule ℕ) → m < 1 → nth rs m ≡ Some r → IsFlawed flaw r → ⊥
-    none zero r h e k = absurd (cc)
-    none (suc m) r h e k = absurd (omega arith)
+no_flaw_before_one flaw rs = all_before_one (λ r. IsFlawed flaw r → ⊥) rs
 
-pub no_flaw_more : (flaw : Flaw) (rs : List (Rule ℕ)) (n : ℕ) (r : Rule ℕ) → HasNoFlawBefore flaw rs n → nth rs n ≡ Some r → (IsFlawed flaw r → ⊥) → HasNoFlawBefore flaw rs (suc n)
-no_flaw_more flaw rs n r before here sound = record { none = λ m s h e k. by_order m s e k (cases_lt m n) h }
-  where
-    by_order : (m : ℕ) (s : Rule ℕ) → nth rs m ≡ Some s → IsFlawed flaw s → (m < n) ⊎ (n ≤ m) → m < suc n → ⊥
-    by_order m s e k (inl low) h = before.none m s low e k
-    by_order m s e k (inr high) h =
-        let same : m ≡ n = omega arith in
-        let one : s ≡ r = nth_once rs n s r (subst (λ i. nth rs i ≡ Some s) same e) here in
-        sound (subst (IsFlawed flaw) one k)
+pub no_flaw_more : (flaw : Flaw) (rs : List (Rule ℕ)) (n : ℕ) (r : Rule ℕ) → HasNoFlawBefore flaw rs n
+    → nth rs n ≡ Some r → (IsFlawed flaw r → ⊥) → HasNoFlawBefore flaw rs (suc n)
+no_flaw_more flaw rs n r before here sound = all_before_more (λ s. IsFlawed flaw s → ⊥) rs n r before here sound
 
 pub no_flaw : (flaw : Flaw) (rs : List (Rule ℕ)) (n : ℕ) → length rs < n → HasNoFlawBefore flaw rs n → HasNoFlaw flaw rs
-no_flaw flaw rs n past before = record { none = λ m r e k. let known : m ≤ length rs = nth_within rs m r e in before.none m r (omega arith) e k }
+no_flaw flaw rs n past before = none_to_end (IsFlawed flaw) rs n past before
 
-pub first_flaw : (flaw : Flaw) (rs : List (Rule ℕ)) (n : ℕ) (r : Rule ℕ) → HasNoFlawBefore flaw rs n → nth rs n ≡ Some r → IsFlawed flaw r → IsFirstFlaw flaw rs n
-first_flaw flaw rs n r before here k = record { rule = r; stands = here; flawed = k; first = before.none }
+pub first_flaw : (flaw : Flaw) (rs : List (Rule ℕ)) (n : ℕ) (r : Rule ℕ) → HasNoFlawBefore flaw rs n
+    → nth rs n ≡ Some r → IsFlawed flaw r → IsFirstFlaw flaw rs n
+first_flaw flaw rs n r before here k = (r, first_at (IsFlawed flaw) rs n r before here k)
 
 pub first_rule_at : (rs : List (Rule ℕ)) (c : Configuration ℕ) (n : ℕ) (r : Rule ℕ) → AllBefore (λ s. AppliesTo s c → ⊥) rs n → nth rs n ≡ Some r → AppliesTo r c → IsFirstRule rs c n r
-first_rule_at rs c n r before here applies = record { stands = here; applies = applies; first = before.each }
+first_rule_at rs c n r before here applies = first_at (λ s. AppliesTo s c) rs n r before here applies
 
 pub no_rule : (rs : List (Rule ℕ)) (c : Configuration ℕ) (n : ℕ) → length rs < n → AllBefore (λ s. AppliesTo s c → ⊥) rs n → HasNoRule rs c
-no_rule rs c n past before = record { none = λ m r e. let known : m ≤ length rs = nth_within rs m r e in before.each m r (omega arith) e }
+no_rule rs c n past before = none_to_end (λ s. AppliesTo s c) rs n past before

@@ -1,6 +1,6 @@
 -- Quadruples as the program keeps them, and the rules that they stand for.
 use Rattle.std.specs.Prelude.{◌≡◌, ℕ, ◌<◌, ◌^◌, List, [], ◌∷◌, Option, Some, None, ⊤, length, map, slice_index_or, All}
-use Rattle.bn_machine.specs.Machine.{nth}
+use Rattle.bn_lists.specs.Lists.{nth}
 use Rattle.bn_machine.specs.Tape.{Tape, scanned, write, shift}
 use Rattle.bn_machine.specs.Window.{Windowed, IsInside, Leaves}
 use Rattle.bn_machine.specs.declared.quint.Side.{Side}

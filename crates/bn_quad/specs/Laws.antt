@@ -1,6 +1,6 @@
 -- What the laws of this crate say, each the contract of a function with an empty body.
 use Rattle.std.specs.Prelude.{◌≡◌, ◌≢◌, ◌↔◌, ℕ, List, Some, map}
-use Rattle.bn_machine.specs.Machine.{nth}
+use Rattle.bn_lists.specs.Lists.{nth}
 use Rattle.bn_quad.specs.Quadruples.{Rule, Configuration, AppliesTo, Leads, LeadsBy, Quadruples, turned, final_of}
 use Rattle.bn_quad.specs.Quadruples.{Rooms, everywhere, GoesBy, Goes}
 use Rattle.bn_theory.specs.Runs.{IsFunction}

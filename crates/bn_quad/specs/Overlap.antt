@@ -1,7 +1,7 @@
 -- The local tests on quadruples: overlap in domain and in range (Bennett 1973), and uniform tapes by state (this
 -- project's own profile).
 use Rattle.std.specs.Prelude.{◌≡◌, ℕ, ◌<◌, List, [], ◌∷◌, Some, ⊤}
-use Rattle.bn_machine.specs.Machine.{nth}
+use Rattle.bn_lists.specs.Lists.{nth, HasNone, IsFirst}
 use Rattle.bn_quad.specs.declared.clash.Clash.{Clash}
 use Rattle.bn_quad.specs.declared.clash.Clash.TheVariants.{Domain, Range, Reads, Writes}
 use Rattle.bn_quad.specs.declared.clash.Flaw.{Flaw}
@@ -119,15 +119,12 @@ IsFlawed (Enters state) r = r.to ≡ state
 IsFlawed (Leaves state) r = r.from ≡ state
 
 -- no quadruple has the flaw
-pub record HasNoFlaw (flaw : Flaw) (rs : List (Rule ℕ)) : Type 0 where
-  pub none : (n : ℕ) (r : Rule ℕ) → nth rs n ≡ Some r → IsFlawed flaw r → ⊥
+abbrev pub HasNoFlaw : Flaw → List (Rule ℕ) → Type 0
+HasNoFlaw flaw rs = HasNone (IsFlawed flaw) rs
 
 -- quadruple i, counted from 1, is the first that has the flaw
-pub record IsFirstFlaw (flaw : Flaw) (rs : List (Rule ℕ)) (i : ℕ) : Type 0 where
-  pub rule : Rule ℕ
-  pub stands : nth rs i ≡ Some rule
-  pub flawed : IsFlawed flaw rule
-  pub first : (m : ℕ) (r : Rule ℕ) → m < i → nth rs m ≡ Some r → IsFlawed flaw r → ⊥
+abbrev pub IsFirstFlaw : Flaw → List (Rule ℕ) → ℕ → Type 0
+IsFirstFlaw flaw rs i = (r : Rule ℕ) × IsFirst (IsFlawed flaw) rs i r
 
 -- the flaws that concern the initial and the final state of the list
 abbrev pub initial_flaw : List (Rule ℕ) → Flaw

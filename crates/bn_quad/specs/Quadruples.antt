@@ -4,7 +4,7 @@
 use Rattle.std.specs.Prelude.{◌≡◌, ◌≢◌, ℕ, ◌<◌, ◌^◌, List, [], ◌∷◌, length, map, reverse, Some, ⊤, All}
 use Rattle.bn_machine.specs.Tape.{Tape, scanned, write, shift, opposite}
 use Rattle.bn_machine.specs.Window.{Room, anywhere, Allows}
-use Rattle.bn_machine.specs.Machine.{nth}
+use Rattle.bn_lists.specs.Lists.{nth, HasNone, IsFirst}
 use Rattle.bn_machine.specs.declared.quint.Shift.{Shift}
 
 -- what a quadruple does on one tape: read this symbol and write that one, or shift the head by this much
@@ -150,14 +150,12 @@ inverse_of p = record { rules = turned_list p.rules; states = p.states; symbols 
 -- ---- the step of a machine
 
 -- quadruple n is the first of the list that applies
-pub record IsFirstRule (rs : List (Rule ℕ)) (c : Configuration ℕ) (n : ℕ) (r : Rule ℕ) : Type 0 where
-  pub stands : nth rs n ≡ Some r
-  pub applies : AppliesTo r c
-  pub first : (m : ℕ) (s : Rule ℕ) → m < n → nth rs m ≡ Some s → AppliesTo s c → ⊥
+abbrev pub IsFirstRule : List (Rule ℕ) → Configuration ℕ → ℕ → Rule ℕ → Type 0
+IsFirstRule rs c n r = IsFirst (λ s. AppliesTo s c) rs n r
 
 -- no quadruple applies
-pub record HasNoRule {Q : Type 0} (rs : List (Rule Q)) (c : Configuration Q) : Type 0 where
-  pub none : (n : ℕ) (r : Rule Q) → nth rs n ≡ Some r → AppliesTo r c → ⊥
+abbrev pub HasNoRule : {Q : Type 0} → List (Rule Q) → Configuration Q → Type 0
+HasNoRule rs c = HasNone (λ r. AppliesTo r c) rs
 
 -- the machine can't go on: no quadruple applies, and the state isn't the final one
 pub record IsStuck (p : Quadruples) (c : Configuration ℕ) : Type 0 where

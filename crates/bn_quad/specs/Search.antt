@@ -3,12 +3,12 @@ use Rattle.std.specs.Prelude.{ℕ, ◌<◌, List}
 use Rattle.bn_quad.specs.Quadruples.{Rule}
 use Rattle.bn_quad.specs.Overlap.{IsClash}
 use Rattle.bn_quad.specs.declared.clash.Clash.{Clash}
+use Rattle.bn_lists.specs.Lists.{IsLeast}
 
 -- quadruple i clashes with no later one, and with none of these before n
 pub record HasNoPartner (clash : Clash) (rs : List (Rule ℕ)) (i : ℕ) : Type 0 where
   pub none : (j : ℕ) → IsClash clash rs i j → ⊥
 
 -- j is the least with which quadruple i clashes
-pub record IsLeastPartner (clash : Clash) (rs : List (Rule ℕ)) (i j : ℕ) : Type 0 where
-  pub holds : IsClash clash rs i j
-  pub least : (n : ℕ) → n < j → IsClash clash rs i n → ⊥
+abbrev pub IsLeastPartner : Clash → List (Rule ℕ) → ℕ → ℕ → Type 0
+IsLeastPartner clash rs i = IsLeast (IsClash clash rs i)

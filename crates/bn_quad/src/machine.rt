@@ -33,7 +33,7 @@ impl Model for QuadMachine {
 }
 
 impl QuadMachine {
-    ghost use Rattle.bn_machine.specs.Machine.{nth};
+    ghost use Rattle.bn_lists.specs.Lists.{nth};
     ghost use Rattle.bn_quad.specs.Quadruples.{IsQuadMachine, initial_of, final_of, inverse_of, HasOneSuccessor};
     ghost use Rattle.bn_quad.specs.Quadruples.{HasOnePredecessor};
     ghost use Rattle.bn_quad.specs.Overlap.{IsDeterministic, IsReversible, IsUniform, IsLeastClash};

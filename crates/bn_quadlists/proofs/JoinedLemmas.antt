@@ -7,7 +7,7 @@ use Rattle.bn_quad.specs.Quadruples.{Rule, Configuration, Leads, Follows, Rooms}
 use Rattle.bn_quad.specs.Overlap.{Clashes, HasNoClash}
 use Rattle.bn_quad.specs.declared.clash.Clash.{Clash}
 use Rattle.bn_quad.specs.declared.clash.Clash.TheVariants.{Domain, Range, Reads, Writes}
-use Rattle.bn_stages.specs.In.{IsIn}
+use Rattle.bn_lists.specs.Lists.{IsIn}
 use Rattle.bn_stages.proofs.MembershipLemmas.{in_left, in_right, in_append}
 use Rattle.bn_stages.specs.Names.{IsUniformFrom}
 use Rattle.bn_stages.specs.Steps.{Steps}

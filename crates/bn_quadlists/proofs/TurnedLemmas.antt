@@ -4,7 +4,7 @@ use Rattle.std.proofs.Common.{refl, sym, ap, ◌∙◌, subst, arith}
 use Rattle.std.proofs.lemmas.List.{map-append, reverse-append, reverse-reverse}
 use Rattle.bn_theory.specs.Runs.{Reaches}
 use Rattle.bn_theory.proofs.RunsLemmas.{runs_more}
-use Rattle.bn_machine.proofs.MachineLemmas.{nth_within}
+use Rattle.bn_lists.proofs.ListLemmas.{nth_within}
 use Rattle.bn_machine.specs.Tape.{opposite}
 use Rattle.bn_machine.specs.declared.quint.Shift.{Shift}
 use Rattle.bn_machine.specs.declared.quint.Shift.TheVariants.{Left, Stay, Right}
@@ -13,7 +13,7 @@ use Rattle.bn_quad.specs.Overlap.{MeetsInDomain, MeetsInRange, IsAlike, IsIdle, 
 use Rattle.bn_quad.proofs.ReversibleLemmas.{turned-turned, turned_list_steps_back}
 use Rattle.bn_quad.specs.declared.clash.Clash.{Clash}
 use Rattle.bn_quad.specs.declared.clash.Clash.TheVariants.{Domain, Range, Reads, Writes}
-use Rattle.bn_stages.specs.In.{IsIn}
+use Rattle.bn_lists.specs.Lists.{IsIn}
 use Rattle.bn_stages.proofs.MembershipLemmas.{in_map, from_map, in_reverse}
 use Rattle.bn_stages.specs.Names.{IsUniformFrom}
 use Rattle.bn_stages.specs.Steps.{Steps}

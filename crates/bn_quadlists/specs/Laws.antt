@@ -4,7 +4,7 @@ use Rattle.std.specs.Prelude.{◌≡◌, ◌↔◌, ℕ, ◌+◌, List, ◌++◌
 use Rattle.bn_theory.specs.Runs.{Reaches}
 use Rattle.bn_quad.specs.Quadruples.{Rule, Configuration, turned_list, Rooms, AreAllowed}
 use Rattle.bn_quad.specs.Overlap.{IsDeterministic, IsReversible}
-use Rattle.bn_stages.specs.In.{IsIn}
+use Rattle.bn_lists.specs.Lists.{IsIn}
 use Rattle.bn_stages.specs.Names.{IsUniformFrom}
 use Rattle.bn_stages.specs.Steps.{Steps}
 use Rattle.bn_stages.specs.declared.name.Name.{Name}

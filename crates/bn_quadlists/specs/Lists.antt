@@ -2,7 +2,7 @@
 -- round is defined beside the quadruples.
 use Rattle.std.specs.Prelude.{◌≡◌, ◌≢◌, List, map}
 use Rattle.bn_quad.specs.Quadruples.{Rule, Configuration, Rooms}
-use Rattle.bn_stages.specs.In.{IsIn}
+use Rattle.bn_lists.specs.Lists.{IsIn}
 
 -- ---- tapes 1 and 3 exchanged
 

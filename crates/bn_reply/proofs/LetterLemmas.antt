@@ -5,8 +5,8 @@ use Rattle.std.specs.Prelude.{Contains, IfSome, IfNone, MatchOption, slice_get}
 use Rattle.std.proofs.lemmas.List.{take_more, map-append}
 use Rattle.std.proofs.lemmas.List.Elements.{All-push}
 use Rattle.std.proofs.lemmas.Option.{slice_get_within, get_or_from_slice_get, slice_get-get_or}
-use Rattle.bn_machine.specs.Machine.{nth, AllBefore}
-use Rattle.bn_machine.proofs.MachineLemmas.{all_before_one, all_before_more}
+use Rattle.bn_lists.specs.Lists.{nth, AllBefore}
+use Rattle.bn_lists.proofs.ListLemmas.{all_before_one, all_before_more}
 use Rattle.bn_table.specs.Rows.{Named, IsTable, blank}
 use Rattle.bn_table.proofs.RowsLemmas.{blank_first, one_symbol}
 use Rattle.bn_reply.specs.Words.{IsLetterOf, IsLetterSymbol, IsSpelledBy, IsFirstForeign, letters_of}

@@ -7,7 +7,7 @@ use Rattle.std.proofs.lemmas.Grind.{same_number_lists}
 use Rattle.std.proofs.lemmas.List.{get_or-map, length-map}
 use Rattle.std.proofs.lemmas.Option.{slice_get-get_or, slice_get_within, get_or_from_slice_get}
 use Rattle.std.proofs.Math.Seq.{take-length}
-use Rattle.bn_machine.specs.Machine.{nth}
+use Rattle.bn_lists.specs.Lists.{nth}
 use Rattle.bn_table.specs.Rows.{Named, blank}
 use Rattle.bn_reply.specs.Letters.{IsSymbolOf}
 use Rattle.bn_reply.specs.Words.{IsFirstForeign, IsLetterOf, IsSpelledBy}

@@ -1,6 +1,6 @@
 -- The letters of a table, and a word of them.
 use Rattle.std.specs.Prelude.{◌≡◌, ◌≢◌, ℕ, ◌<◌, List, length, All, Contains, map, slice_index, Some}
-use Rattle.bn_machine.specs.Machine.{nth, AllBefore}
+use Rattle.bn_lists.specs.Lists.{nth, AllBefore}
 use Rattle.bn_table.specs.Rows.{Named, blank}
 
 -- the letters of symbols

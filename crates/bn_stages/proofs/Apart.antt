@@ -3,8 +3,7 @@ use Rattle.std.specs.Prelude.{◌≡◌, ◌≢◌, ℕ, zero, suc, ◌+◌, ◌
 use Rattle.std.specs.List.{flat_map, range_with_len}
 use Rattle.std.proofs.Common.{refl, sym, subst, arith, inl, inr}
 use Rattle.std.proofs.lemmas.List.{reverse-append, reverse-reverse}
-use Rattle.bn_machine.specs.Machine.{nth}
-use Rattle.bn_stages.specs.In.{IsIn}
+use Rattle.bn_lists.specs.Lists.{nth, IsIn}
 use Rattle.bn_stages.proofs.MembershipLemmas.{in_head, in_tail, not_in_empty, in_append, in_reverse, in_cases, from_map, from_flat_map, each_of_one, each_of_two}
 use Rattle.bn_stages.proofs.ListLemmas.{from_range}
 

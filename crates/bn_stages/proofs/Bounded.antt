@@ -134,7 +134,7 @@ module _ (p : Program) (word : List ℕ) (standard : IsStandardMachine p) (lette
         record {
           run = made;
           ends = quads.leaves 2 Right (computing_within c ns goes.0 by.quint blank_tape) (λ same. cc)
-              (follow_by p (writes_ahead goes.0 by.quint) _ _ (has_writes_ahead p goes.0 by.quint by.match.stands) (computes_leads goes.0 by.quint c ns blank_tape by.match.matches.from by.match.matches.reads (scanned-word [])))
+              (follow_by p (writes_ahead goes.0 by.quint) _ _ (has_writes_ahead p goes.0 by.quint by.match.stands) (computes_leads goes.0 by.quint c ns blank_tape by.match.holds.from by.match.holds.reads (scanned-word [])))
               (inside, beyond) refl;
         },
         (history_head, refl),

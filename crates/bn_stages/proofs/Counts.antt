@@ -5,11 +5,12 @@ use Rattle.std.proofs.Common.{refl, sym, ap, ◌∙◌, subst, arith, inl, inr, 
 use Rattle.std.proofs.lemmas.List.{length-map, length-reverse, reverse-append}
 use Rattle.std.proofs.lemmas.List.FromFn.{length-range_with_len, length-enumerate_from}
 use Rattle.std.proofs.lemmas.Grind.{flat_map-append}
-use Rattle.bn_machine.specs.Machine.{Program, program_of, nth, final_of, IsMachine}
-use Rattle.bn_machine.proofs.MachineLemmas.{nth_within, nth-get_or, final_of-last}
+use Rattle.bn_machine.specs.Machine.{Program, program_of, final_of, IsMachine}
+use Rattle.bn_lists.specs.Lists.{nth, IsIn}
+use Rattle.bn_machine.proofs.MachineLemmas.{final_of-last}
+use Rattle.bn_lists.proofs.ListLemmas.{nth_within, nth-get_or}
 use Rattle.bn_machine.specs.declared.quint.Quint.{Quint}
 use Rattle.bn_quad.specs.Quadruples.{Rule, deeds_of, AreDeedsInRange}
-use Rattle.bn_stages.specs.In.{IsIn}
 use Rattle.bn_stages.proofs.MembershipLemmas.{in_head, in_tail, in_cases, not_in_empty, in_left, in_right, in_append, in_flat_map, from_flat_map, each_of_two}
 use Rattle.bn_stages.specs.List.{bennett, initial_name, final_name, symbols_of, writes_ahead, shifts_ahead, begins_copy, goes_right, copies_letter, turns_left, goes_left, passes_letter, ends_copy, shifts_back, writes_back, numbered, letters, retrace_pair, compute_rules, copy_rules, retrace_rules}
 use Rattle.bn_stages.proofs.ListLemmas.{each_rule, has_writes_ahead, has_shifts_ahead, has_goes_right, has_goes_left, has_shifts_back, has_writes_back, in_range, from_range}

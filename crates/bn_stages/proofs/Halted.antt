@@ -7,8 +7,9 @@ use Rattle.std.proofs.lemmas.List.{get_or_past, get_or_default}
 use Rattle.bn_machine.specs.Tape.{Tape, cell, scanned, write, shift, letter_at}
 use Rattle.bn_machine.proofs.TapeLemmas.{cell-word, cell-write, scanned-write}
 use Rattle.bn_machine.specs.Window.{Room}
-use Rattle.bn_machine.specs.Machine.{Program, Moment, GoesBy, IsFinal, IsMachine, IsInRange, start, start_of, final_of, nth}
-use Rattle.bn_machine.proofs.MachineLemmas.{nth_once, nth_within, nth-get_or}
+use Rattle.bn_machine.specs.Machine.{Program, Moment, GoesBy, IsFinal, IsMachine, IsInRange, start, start_of, final_of}
+use Rattle.bn_lists.specs.Lists.{nth}
+use Rattle.bn_lists.proofs.ListLemmas.{nth_once, nth_within, nth-get_or}
 use Rattle.bn_machine.specs.Run.{Follows}
 use Rattle.bn_machine.specs.declared.quint.Quint.{Quint}
 use Rattle.bn_machine.specs.declared.quint.Shift.{Shift}

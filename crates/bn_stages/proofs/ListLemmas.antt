@@ -4,10 +4,10 @@ use Rattle.std.specs.List.{flat_map, enumerate_from, range_with_len}
 use Rattle.std.proofs.Common.{sym, ap, subst, arith, inl, inr}
 use Rattle.std.proofs.lemmas.Bool.{cases_lt}
 use Rattle.std.proofs.lemmas.List.{reverse-reverse}
-use Rattle.bn_machine.specs.Machine.{Program, nth, final_of}
+use Rattle.bn_machine.specs.Machine.{Program, final_of}
+use Rattle.bn_lists.specs.Lists.{nth, IsIn}
 use Rattle.bn_machine.specs.declared.quint.Quint.{Quint}
 use Rattle.bn_quad.specs.Quadruples.{Rule}
-use Rattle.bn_stages.specs.In.{IsIn}
 use Rattle.bn_stages.proofs.MembershipLemmas.{in_head, in_tail, in_cases, not_in_empty, in_left, in_right, in_append, in_reverse, in_map, from_map, in_flat_map, from_flat_map, each_of_one, each_of_two}
 use Rattle.bn_stages.specs.List.{writes_ahead, shifts_ahead, begins_copy, goes_right, copies_letter, turns_left, goes_left, passes_letter, ends_copy, shifts_back, writes_back, numbered, letters, compute_pair, retrace_pair, compute_rules, copy_rules, retrace_rules, bennett}
 use Rattle.bn_stages.specs.declared.name.Name.{Name}

@@ -10,7 +10,7 @@ use Rattle.bn_machine.specs.Run.{Follows}
 use Rattle.bn_machine.proofs.OutputLemmas.{output_exists}
 use Rattle.bn_machine.proofs.MachineStepLemmas.{final_stuck_or_goes}
 use Rattle.bn_quad.specs.Quadruples.{Rule, Configuration, Leads, Rooms}
-use Rattle.bn_stages.specs.In.{IsIn}
+use Rattle.bn_lists.specs.Lists.{IsIn}
 use Rattle.bn_stages.specs.List.{bennett, final_name, begins_copy, goes_right, copies_letter, turns_left, goes_left, passes_letter, ends_copy, shifts_back, writes_back, writes_ahead, shifts_ahead}
 use Rattle.bn_stages.proofs.ListLemmas.{has_writes_ahead, has_shifts_ahead, has_begins_copy, has_goes_right, has_copies_letter, has_turns_left, has_goes_left, has_passes_letter, has_ends_copy, has_shifts_back, has_writes_back}
 use Rattle.bn_stages.proofs.StageStepLemmas.{follows_once, no_first_read}
@@ -50,7 +50,7 @@ module _ (p : Program) (word : List ℕ) (standard : IsStandardMachine p) (lette
               absurd (none.none f.number f.leads.rule f.leads.stands f.leads.leads.applies)
           | inr goes ↦
               let by = goes.1.1 in
-              computes_within c goes.0 ns goes.1.0 by run (so (writes_ahead goes.1.0 by.quint) _ _ z (has_writes_ahead p goes.1.0 by.quint by.match.stands) (computes_leads goes.1.0 by.quint c ns blank_tape by.match.matches.from by.match.matches.reads (scanned-word [])) step)
+              computes_within c goes.0 ns goes.1.0 by run (so (writes_ahead goes.1.0 by.quint) _ _ z (has_writes_ahead p goes.1.0 by.quint by.match.stands) (computes_leads goes.1.0 by.quint c ns blank_tape by.match.holds.from by.match.holds.reads (scanned-word [])) step)
         ]
       ]
 
@@ -95,7 +95,7 @@ module _ (p : Program) (word : List ℕ) (standard : IsStandardMachine p) (lette
   stands_next x z (passing_letter c ns y k h within is) step = from_passing c ns y k z h within (subst (λ w. StepsOf p rooms w z) is step)
   stands_next x z (retraces h c hs ns y halted run is) step = from_retracing h c hs ns y z halted run (subst (λ w. StepsOf p rooms w z) is step)
   stands_next x z (retraces_within h c d hs ns y m by halted run is) step =
-      retraces h c hs ns y halted run (so (writes_back m by.quint) _ _ z (has_writes_back p m by.quint by.match.stands) (retraces_on_leads m by.quint c ns (word_tape y) by.match.matches.from by.match.matches.reads (scanned-word y)) (subst (λ w. StepsOf p rooms w z) is step))
+      retraces h c hs ns y halted run (so (writes_back m by.quint) _ _ z (has_writes_back p m by.quint by.match.stands) (retraces_on_leads m by.quint c ns (word_tape y) by.match.holds.from by.match.holds.reads (scanned-word y)) (subst (λ w. StepsOf p rooms w z) is step))
 
   stands_after : (n : ℕ) (x z : Configuration Name) → Stands p word x → Reaches (StepsOf p rooms) n x z → Stands p word z
   stands_after zero x z h run = subst (Stands p word) run h

@@ -2,14 +2,13 @@
 use Rattle.std.specs.Prelude.{◌≡◌, ℕ, List, [], ◌∷◌, length, Some}
 use Rattle.std.proofs.Common.{sym, ap, ◌∙◌, subst}
 use Rattle.std.proofs.lemmas.List.{length-map}
-use Rattle.bn_machine.specs.Machine.{nth}
+use Rattle.bn_lists.specs.Lists.{nth, IsIn}
 use Rattle.bn_theory.specs.Runs.{Reaches}
 use Rattle.bn_quad.specs.Quadruples.{Rule, Configuration, Rooms, initial_of, final_of}
 use Rattle.bn_quad.specs.Overlap.{HasNoClash}
 use Rattle.bn_quad.specs.declared.clash.Clash.TheVariants.{Domain, Range}
 use Rattle.bn_stages.specs.List.{bennett, initial_name, final_name}
 use Rattle.bn_stages.specs.Names.{states_in, IsUniformFrom}
-use Rattle.bn_stages.specs.In.{IsIn}
 use Rattle.bn_stages.specs.Steps.{Steps, Exit, EndsAt}
 use Rattle.bn_stages.specs.Renamed.{renamed, rename, in_state}
 use Rattle.bn_stages.proofs.RenamedLemmas.{to_in, nth_before, no_clash_before, uniform_before, run_renamed, run_before, ends_renamed, ends_before}

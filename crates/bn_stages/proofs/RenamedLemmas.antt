@@ -4,13 +4,12 @@ use Rattle.std.specs.Option.{option_map}
 use Rattle.std.proofs.Common.{refl, sym, ap, ◌∙◌, subst}
 use Rattle.std.proofs.lemmas.Option.{slice_get-map, slice_get-get_or}
 use Rattle.bn_theory.specs.Runs.{Reaches}
-use Rattle.bn_machine.specs.Machine.{nth}
+use Rattle.bn_lists.specs.Lists.{nth, IsIn}
 use Rattle.bn_machine.specs.declared.quint.Side.{Side}
 use Rattle.bn_quad.specs.Quadruples.{Rule, Configuration, AppliesTo, after, Leads, Follows, HasNoRule, Rooms, AreAllowed}
 use Rattle.bn_quad.specs.Overlap.{Clashes, HasNoClash, IsSilent}
 use Rattle.bn_quad.specs.declared.clash.Clash.{Clash}
 use Rattle.bn_quad.specs.declared.clash.Clash.TheVariants.{Domain, Range, Reads, Writes}
-use Rattle.bn_stages.specs.In.{IsIn}
 use Rattle.bn_stages.proofs.MembershipLemmas.{in_head, in_tail, in_map, from_map, in_flat_map}
 use Rattle.bn_stages.specs.Names.{states_in, IsUniformFrom}
 use Rattle.bn_stages.specs.Steps.{Steps, IsFirstOutside, HasNoFirstRead, Exit, EndsAt, finishes, stops, leaves, HasExit}

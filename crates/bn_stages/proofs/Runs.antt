@@ -10,7 +10,7 @@ use Rattle.bn_machine.specs.Machine.{Program, Moment, GoesBy, start, start_of, f
 use Rattle.bn_machine.specs.Run.{Follows}
 use Rattle.bn_quad.specs.Quadruples as quads
 use Rattle.bn_quad.specs.Quadruples.{Rule, Configuration, Leads, Rooms, AreAllowed}
-use Rattle.bn_stages.specs.In.{IsIn}
+use Rattle.bn_lists.specs.Lists.{IsIn}
 use Rattle.bn_stages.specs.List.{bennett, final_name, begins_copy, goes_right, copies_letter, turns_left, goes_left, passes_letter, ends_copy, shifts_back, writes_back, writes_ahead, shifts_ahead}
 use Rattle.bn_stages.proofs.ListLemmas.{has_writes_ahead, has_shifts_ahead, has_begins_copy, has_goes_right, has_copies_letter, has_turns_left, has_goes_left, has_passes_letter, has_ends_copy, has_shifts_back, has_writes_back}
 use Rattle.bn_stages.specs.Stages.{IsStandardMachine, history, computing, computing_within, retracing, retracing_within, copying, beginning, ending, StepsOf}
@@ -47,7 +47,7 @@ module _ (p : Program) (rooms : Rooms) where
   compute_first room m c d ns by one two three =
       let next : (pos 0 +ℤ pos (length ns + 1)) ≡ ((pos 0 +ℤ pos (length ns)) +ℤ pos 1) = omega (arith, ints) in
       step_by (writes_ahead m by.quint) _ _ (has_writes_ahead p m by.quint by.match.stands)
-      (computes_leads m by.quint c ns blank_tape by.match.matches.from by.match.matches.reads (scanned-word []))
+      (computes_leads m by.quint c ns blank_tape by.match.holds.from by.match.holds.reads (scanned-word []))
       (λ e. cc)
       (record { one = one; two = subst (Allows rooms.two) next two; three = three })
 
@@ -151,7 +151,7 @@ module _ (p : Program) (rooms : Rooms) where
   pub retrace_second : (room : Room) (m : ℕ) (c d : Moment) (ns y : List ℕ) (by : GoesBy room p m c d) → Allows rooms.one c.tape.head → Allows rooms.two (pos 0 +ℤ pos (length ns)) → Allows rooms.three (pos 0) → StepsOf p rooms (retracing_within c ns m by.quint (word_tape y)) (retracing c ns (word_tape y))
   retrace_second room m c d ns y by one two three =
       step_by (writes_back m by.quint) _ _ (has_writes_back p m by.quint by.match.stands)
-      (retraces_on_leads m by.quint c ns (word_tape y) by.match.matches.from by.match.matches.reads (scanned-word y))
+      (retraces_on_leads m by.quint c ns (word_tape y) by.match.holds.from by.match.holds.reads (scanned-word y))
       (λ e. cc)
       (record { one = one; two = two; three = three })
 

@@ -2,13 +2,13 @@
 use Rattle.std.specs.Prelude.{◌≡◌, ◌≢◌, ℕ, Some, Bool, true, false, cond, nat_eq}
 use Rattle.std.proofs.Common.{refl, sym, ap, ◌∙◌, inl, inr}
 use Rattle.std.proofs.lemmas.Bool.Decides.{eqb_tells}
-use Rattle.bn_machine.specs.Machine.{Program, nth, start_of, final_of}
+use Rattle.bn_machine.specs.Machine.{Program, start_of, final_of}
+use Rattle.bn_lists.specs.Lists.{nth, IsIn}
 use Rattle.bn_machine.specs.declared.quint.Quint.{Quint}
 use Rattle.bn_standard.specs.Standard.{IsStandard}
 use Rattle.bn_quad.specs.Quadruples.{Deed, Rewrite, Move, Rule}
 use Rattle.bn_quad.specs.Overlap.{IsAlike, HaveSameTapes, IsSilent, HasNoClash}
 use Rattle.bn_quad.specs.declared.clash.Clash.TheVariants.{Reads, Writes}
-use Rattle.bn_stages.specs.In.{IsIn}
 use Rattle.bn_stages.specs.Names.{IsUniformFrom}
 use Rattle.bn_stages.specs.List.{bennett, initial_name, final_name}
 use Rattle.bn_stages.proofs.ListLemmas.{each_rule}

@@ -4,14 +4,14 @@ use Rattle.bn_theory.specs.Runs.{Reaches}
 use Rattle.bn_machine.specs.Tape.{scanned, word_tape, blank_tape}
 use Rattle.bn_machine.specs.Window.{Room, anywhere, Allows}
 use Rattle.bn_machine.specs.declared.quint.Shift.TheVariants.{Left, Stay, Right}
-use Rattle.bn_machine.specs.Machine.{Program, program_of, Moment, GoesBy, IsFinal, IsMachine, start, nth}
+use Rattle.bn_machine.specs.Machine.{Program, program_of, Moment, GoesBy, IsFinal, IsMachine, start}
+use Rattle.bn_lists.specs.Lists.{nth, IsIn}
 use Rattle.bn_machine.specs.Run.{After, Follows, IsOutput}
 use Rattle.bn_machine.specs.Outcome.{Limits, Outcome, HasOutcome}
 use Rattle.bn_standard.specs.Standard.{IsStandard}
 use Rattle.bn_quad.specs.Quadruples.{Rewrite, Move, Rule, Configuration, Quadruples, Goes, Rooms, everywhere, deeds_of}
 use Rattle.bn_quad.specs.Quadruples.{AreDeedsInRange, initial_of, final_of}
 use Rattle.bn_quad.specs.Overlap.{IsDeterministic, IsReversible, IsUniform}
-use Rattle.bn_stages.specs.In.{IsIn}
 use Rattle.bn_stages.specs.List.{rule, bennett, initial_name, final_name, symbols_of}
 use Rattle.bn_stages.specs.Steps.{Exit, EndsAt}
 use Rattle.bn_stages.specs.Renamed.{rename, in_state, KeepsApart}

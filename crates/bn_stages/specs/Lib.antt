@@ -1,4 +1,3 @@
-pub mod In
 pub mod List
 pub mod Names
 pub mod Steps

@@ -1,12 +1,12 @@
 -- The states of a list of rules, and the names that stand in Bennett's list.
 use Rattle.std.specs.Prelude.{◌≡◌, ◌≢◌, ℕ, ◌<◌, ◌≤◌, ◌⊎◌, List, [], ◌∷◌, length, Some, slice_get, ⊤}
 use Rattle.std.specs.List.{flat_map}
-use Rattle.bn_machine.specs.Machine.{Program, nth}
+use Rattle.bn_machine.specs.Machine.{Program}
+use Rattle.bn_lists.specs.Lists.{nth, IsIn}
 use Rattle.bn_machine.specs.declared.quint.Quint.{Quint}
 use Rattle.bn_quad.specs.Quadruples.{Rule}
 use Rattle.bn_quad.specs.Overlap.{HasNoClash, IsSilent}
 use Rattle.bn_quad.specs.declared.clash.Clash.TheVariants.{Reads, Writes}
-use Rattle.bn_stages.specs.In.{IsIn}
 use Rattle.bn_stages.specs.declared.name.Name.{Name}
 use Rattle.bn_stages.specs.declared.name.Name.TheVariants.{Compute, ComputeWithin, GoRight, CopyLetter, GoLeft}
 use Rattle.bn_stages.specs.declared.name.Name.TheVariants.{PassLetter, Retrace, RetraceWithin}

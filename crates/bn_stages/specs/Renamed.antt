@@ -3,7 +3,7 @@
 use Rattle.std.specs.Prelude.{◌≡◌, ℕ, List, map}
 use Rattle.std.specs.List.{slice_index_or}
 use Rattle.bn_quad.specs.Quadruples.{Rule, Configuration}
-use Rattle.bn_stages.specs.In.{IsIn}
+use Rattle.bn_lists.specs.Lists.{IsIn}
 use Rattle.bn_stages.specs.Names.{states_in}
 
 -- a rule with other states

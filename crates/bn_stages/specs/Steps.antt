@@ -2,7 +2,7 @@
 use Rattle.std.specs.Prelude.{◌≡◌, ◌≢◌, ℕ, zero, suc, List, Some, ℤ}
 use Rattle.bn_theory.specs.Runs.{Reaches}
 use Rattle.bn_machine.specs.Window.{Room, anywhere, within, Allows, IsBeyond}
-use Rattle.bn_machine.specs.Machine.{nth}
+use Rattle.bn_lists.specs.Lists.{nth}
 use Rattle.bn_machine.specs.declared.quint.Side.{Side}
 use Rattle.bn_quad.specs.Quadruples.{Rule, Configuration, Admits, Follows, HasNoRule, Rooms, AreAllowed}
 

@@ -2,8 +2,9 @@
 use Rattle.std.specs.Prelude.{◌≡◌, ℕ, zero, suc, ◌<◌, ◌≤◌, List, length, Some, ◌⊎◌}
 use Rattle.std.proofs.Common.{subst, arith, inl, inr}
 use Rattle.std.proofs.lemmas.Bool.{cases_lt}
-use Rattle.bn_machine.specs.Machine.{nth, start_of, final_of}
-use Rattle.bn_machine.proofs.MachineLemmas.{nth_within, nth_once}
+use Rattle.bn_machine.specs.Machine.{start_of, final_of}
+use Rattle.bn_lists.specs.Lists.{nth}
+use Rattle.bn_lists.proofs.ListLemmas.{nth_within, nth_once}
 use Rattle.bn_machine.specs.declared.quint.Quint.{Quint}
 use Rattle.bn_standard.specs.Standard.{Clashes, Repeats, IsBeginning, BeginsWell, IsEnding, EndsWell, NamesStart, NamesFinal, IsUnambiguous, HasLoneStart, HasLoneFinal}
 use Rattle.bn_standard.specs.Verdict.{IsLeastRepeat, IsLeastStart, IsLeastFinal}
@@ -36,13 +37,13 @@ pub lone_start : (qs : List Quint) (n : ℕ) → length qs < n → NoneBefore (N
 lone_start qs n past before = record { none = λ i u. none_at_all (NamesStart (start_of qs)) qs n i u.quint past before u.stands u.names }
 
 pub least_start : (qs : List Quint) (n : ℕ) (q : Quint) → NoneBefore (NamesStart (start_of qs)) qs n → nth qs n ≡ Some q → NamesStart (start_of qs) n q → IsLeastStart qs n
-least_start qs n q before here names = record { uses = record { quint = q; stands = here; names = names }; least = λ m h u. before.none m u.quint h u.stands u.names }
+least_start qs n q before here names = record { holds = record { quint = q; stands = here; names = names }; least = λ m h u. before.none m u.quint h u.stands u.names }
 
 pub lone_final : (qs : List Quint) (n : ℕ) → length qs < n → NoneBefore (NamesFinal (final_of qs) (length qs)) qs n → HasLoneFinal qs
 lone_final qs n past before = record { none = λ i u. none_at_all (NamesFinal (final_of qs) (length qs)) qs n i u.quint past before u.stands u.names }
 
 pub least_final : (qs : List Quint) (n : ℕ) (q : Quint) → NoneBefore (NamesFinal (final_of qs) (length qs)) qs n → nth qs n ≡ Some q → NamesFinal (final_of qs) (length qs) n q → IsLeastFinal qs n
-least_final qs n q before here names = record { uses = record { quint = q; stands = here; names = names }; least = λ m h u. before.none m u.quint h u.stands u.names }
+least_final qs n q before here names = record { holds = record { quint = q; stands = here; names = names }; least = λ m h u. before.none m u.quint h u.stands u.names }
 
 pub begins_well : (qs : List Quint) (q : Quint) → nth qs 1 ≡ Some q → IsBeginning q → BeginsWell qs
 begins_well qs q here begins = record { quint = q; stands = here; begins = begins }
@@ -61,7 +62,7 @@ no_repeat qs i q n here past before = record { none = λ j r. none_at_all (Clash
 
 pub least_second : (qs : List Quint) (i : ℕ) (q : Quint) (j : ℕ) (r : Quint) → nth qs i ≡ Some q → NoneBefore (Clashes i q) qs j → nth qs j ≡ Some r → Clashes i q j r → IsLeastSecond qs i j
 least_second qs i q j r here before there clash = record {
-  repeats = record { first = q; second = r; first_stands = here; second_stands = there; clashes = clash };
+  holds = record { first = q; second = r; first_stands = here; second_stands = there; clashes = clash };
   least = λ n h s. before.none n s.second h s.second_stands (subst (λ f. Clashes i f n s.second) (nth_once qs i s.first q s.first_stands here) s.clashes);
 }
 
@@ -87,4 +88,4 @@ pub unambiguous : (qs : List Quint) (n : ℕ) → length qs < n → NoneRepeated
 unambiguous qs n past before = record { none = λ i j r. let known : i ≤ length qs = nth_within qs i r.first r.first_stands in before.none i j (omega arith) r }
 
 pub least_repeat : (qs : List Quint) (i j : ℕ) → NoneRepeated qs i → IsLeastSecond qs i j → IsLeastRepeat qs i j
-least_repeat qs i j before s = record { repeats = s.repeats; least_first = λ m n h r. before.none m n h r; least_second = s.least }
+least_repeat qs i j before s = record { repeats = s.holds; least_first = λ m n h r. before.none m n h r; least_second = s.least }

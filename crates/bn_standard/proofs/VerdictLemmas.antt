@@ -1,27 +1,18 @@
 -- One refusal at most fits, and none but want of memory fits quintuples in standard form.
-use Rattle.std.specs.Prelude.{◌≡◌, ℕ, ◌<◌, ◌≤◌, List, ◌⊎◌}
-use Rattle.std.proofs.Common.{refl, sym, subst, ap, arith, inl, inr}
-use Rattle.std.proofs.lemmas.Bool.{cases_lt}
+use Rattle.std.specs.Prelude.{◌≡◌, ℕ, List}
+use Rattle.std.proofs.Common.{refl, sym, subst, ap}
 use Rattle.bn_machine.specs.declared.quint.Quint.{Quint}
-use Rattle.bn_standard.specs.Standard.{Repeats}
+use Rattle.bn_standard.specs.Standard.{Repeats, UsesStart, UsesFinal}
 use Rattle.bn_standard.specs.Verdict.{IsLeastRepeat, IsLeastStart, IsLeastFinal}
 use Rattle.bn_standard.specs.declared.why.Why.TheVariants.{Repeat, First, StartUsed, Last, FinalUsed, NoMemory}
 use Rattle.bn_standard.specs.VerdictLaws.{VerdictsAreOne, StandardIsAccepted}
-
--- the least number with a property is one
-least_once : (i j : ℕ) → (i < j → ⊥) → (j < i → ⊥) → i ≡ j
-least_once i j low high = by_order (cases_lt i j) (cases_lt j i)
-  where
-    by_order : (i < j) ⊎ (j ≤ i) → (j < i) ⊎ (i ≤ j) → i ≡ j
-    by_order (inl h) k = absurd (low h)
-    by_order (inr h) (inl k) = absurd (high k)
-    by_order (inr h) (inr k) = omega arith
+use Rattle.bn_lists.proofs.LeastLemmas.{least_once, least_is_one}
 
 start_once : (qs : List Quint) (i j : ℕ) → IsLeastStart qs i → IsLeastStart qs j → i ≡ j
-start_once qs i j a b = least_once i j (λ h. b.least i h a.uses) (λ h. a.least j h b.uses)
+start_once qs i j a b = least_is_one (UsesStart qs) i j a b
 
 final_once : (qs : List Quint) (i j : ℕ) → IsLeastFinal qs i → IsLeastFinal qs j → i ≡ j
-final_once qs i j a b = least_once i j (λ h. b.least i h a.uses) (λ h. a.least j h b.uses)
+final_once qs i j a b = least_is_one (UsesFinal qs) i j a b
 
 repeat_once : (qs : List Quint) (i j m n : ℕ) → IsLeastRepeat qs i j → IsLeastRepeat qs m n → (i ≡ m) × (j ≡ n)
 repeat_once qs i j m n a b =
@@ -50,16 +41,16 @@ verdict_once qs First (FinalUsed m) p r h k = absurd (h.1 k.1)
 verdict_once qs (StartUsed i) (Repeat m n) p r h k = absurd (h.0.none m n k.repeats)
 verdict_once qs (StartUsed i) First p r h k = absurd (k.1 h.1)
 verdict_once qs (StartUsed i) (StartUsed m) p r h k = ap StartUsed (start_once qs i m h.2 k.2)
-verdict_once qs (StartUsed i) Last p r h k = absurd (k.2.none i h.2.uses)
-verdict_once qs (StartUsed i) (FinalUsed m) p r h k = absurd (k.2.none i h.2.uses)
+verdict_once qs (StartUsed i) Last p r h k = absurd (k.2.none i h.2.holds)
+verdict_once qs (StartUsed i) (FinalUsed m) p r h k = absurd (k.2.none i h.2.holds)
 verdict_once qs Last (Repeat m n) p r h k = absurd (h.0.none m n k.repeats)
 verdict_once qs Last First p r h k = absurd (k.1 h.1)
-verdict_once qs Last (StartUsed m) p r h k = absurd (h.2.none m k.2.uses)
+verdict_once qs Last (StartUsed m) p r h k = absurd (h.2.none m k.2.holds)
 verdict_once qs Last Last p r h k = refl
 verdict_once qs Last (FinalUsed m) p r h k = absurd (h.3 k.3)
 verdict_once qs (FinalUsed i) (Repeat m n) p r h k = absurd (h.0.none m n k.repeats)
 verdict_once qs (FinalUsed i) First p r h k = absurd (k.1 h.1)
-verdict_once qs (FinalUsed i) (StartUsed m) p r h k = absurd (h.2.none m k.2.uses)
+verdict_once qs (FinalUsed i) (StartUsed m) p r h k = absurd (h.2.none m k.2.holds)
 verdict_once qs (FinalUsed i) Last p r h k = absurd (k.3 h.3)
 verdict_once qs (FinalUsed i) (FinalUsed m) p r h k = ap FinalUsed (final_once qs i m h.4 k.4)
 
@@ -67,6 +58,6 @@ pub standard_accepted : StandardIsAccepted
 standard_accepted qs NoMemory s h = refl
 standard_accepted qs (Repeat i j) s h = absurd (s.unambiguous.none i j h.repeats)
 standard_accepted qs First s h = absurd (h.1 s.begins)
-standard_accepted qs (StartUsed i) s h = absurd (s.lone_start.none i h.2.uses)
+standard_accepted qs (StartUsed i) s h = absurd (s.lone_start.none i h.2.holds)
 standard_accepted qs Last s h = absurd (h.3 s.ends)
-standard_accepted qs (FinalUsed i) s h = absurd (s.lone_final.none i h.4.uses)
+standard_accepted qs (FinalUsed i) s h = absurd (s.lone_final.none i h.4.holds)

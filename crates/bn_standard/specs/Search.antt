@@ -1,6 +1,6 @@
 -- Searches for the first quintuple with a property.
 use Rattle.std.specs.Prelude.{◌≡◌, ℕ, ◌<◌, List, Some}
-use Rattle.bn_machine.specs.Machine.{nth}
+use Rattle.bn_lists.specs.Lists.{nth, IsLeast}
 use Rattle.bn_machine.specs.declared.quint.Quint.{Quint}
 use Rattle.bn_standard.specs.Standard.{Repeats}
 
@@ -13,6 +13,5 @@ pub record HasNoRepeat (qs : List Quint) (i : ℕ) : Type 0 where
   pub none : (j : ℕ) → Repeats qs i j → ⊥
 
 -- quintuple j repeats quintuple i, and none before j does
-pub record IsLeastSecond (qs : List Quint) (i j : ℕ) : Type 0 where
-  pub repeats : Repeats qs i j
-  pub least : (n : ℕ) → n < j → Repeats qs i n → ⊥
+abbrev pub IsLeastSecond : List Quint → ℕ → ℕ → Type 0
+IsLeastSecond qs i = IsLeast (Repeats qs i)

@@ -1,7 +1,8 @@
 -- Standard form of a machine, after Bennett 1973; the exact test is this project's own profile. All of it speaks of the
 -- list of quintuples, counted from 1, with symbol 0 as the blank.
 use Rattle.std.specs.Prelude.{◌≡◌, ◌≢◌, ℕ, ◌<◌, List, length, Some, ◌⊎◌}
-use Rattle.bn_machine.specs.Machine.{nth, start_of, final_of}
+use Rattle.bn_machine.specs.Machine.{start_of, final_of}
+use Rattle.bn_lists.specs.Lists.{nth}
 use Rattle.bn_machine.specs.declared.quint.Quint.{Quint}
 use Rattle.bn_machine.specs.declared.quint.Shift.TheVariants.{Stay, Right}
 

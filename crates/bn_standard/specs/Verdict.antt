@@ -5,6 +5,7 @@ use Rattle.bn_machine.specs.declared.quint.Quint.{Quint}
 use Rattle.bn_standard.specs.Standard.{Repeats, BeginsWell, UsesStart, EndsWell, UsesFinal, IsUnambiguous, HasLoneStart}
 use Rattle.bn_standard.specs.declared.why.Why.{Why}
 use Rattle.bn_standard.specs.declared.why.Why.TheVariants.{Repeat, First, StartUsed, Last, FinalUsed, NoMemory}
+use Rattle.bn_lists.specs.Lists.{IsLeast}
 
 -- i is the least quintuple that shares with a later one, and j the least later one with which it shares
 pub record IsLeastRepeat (qs : List Quint) (i j : ℕ) : Type 0 where
@@ -13,13 +14,11 @@ pub record IsLeastRepeat (qs : List Quint) (i j : ℕ) : Type 0 where
   pub least_second : (n : ℕ) → n < j → Repeats qs i n → ⊥
 
 -- i is the least quintuple that uses the start state, or the final state, where it may not stand
-pub record IsLeastStart (qs : List Quint) (i : ℕ) : Type 0 where
-  pub uses : UsesStart qs i
-  pub least : (m : ℕ) → m < i → UsesStart qs m → ⊥
+abbrev pub IsLeastStart : List Quint → ℕ → Type 0
+IsLeastStart qs = IsLeast (UsesStart qs)
 
-pub record IsLeastFinal (qs : List Quint) (i : ℕ) : Type 0 where
-  pub uses : UsesFinal qs i
-  pub least : (m : ℕ) → m < i → UsesFinal qs m → ⊥
+abbrev pub IsLeastFinal : List Quint → ℕ → Type 0
+IsLeastFinal qs = IsLeast (UsesFinal qs)
 
 -- when each refusal comes: all demands before its own are met. Want of memory is free.
 abbrev pub IsRefusal : List Quint → Why → Type 0

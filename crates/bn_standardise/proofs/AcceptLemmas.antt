@@ -1,8 +1,9 @@
 -- The search for a quintuple that leaves the halting state.
 use Rattle.std.specs.Prelude.{◌≡◌, ℕ, ◌<◌, ◌≤◌, List, length, Some}
 use Rattle.std.proofs.Common.{arith}
-use Rattle.bn_machine.specs.Machine.{nth, final_of}
-use Rattle.bn_machine.proofs.MachineLemmas.{nth_within}
+use Rattle.bn_machine.specs.Machine.{final_of}
+use Rattle.bn_lists.specs.Lists.{nth}
+use Rattle.bn_lists.proofs.ListLemmas.{nth_within}
 use Rattle.bn_machine.specs.declared.quint.Quint.{Quint}
 use Rattle.bn_standard.specs.Search.{NoneBefore}
 use Rattle.bn_standardise.specs.Standardised.{HasNoHalting}
@@ -19,6 +20,6 @@ no_halting qs n past before = record { none = λ i h. let known : i ≤ length q
 -- the search has come to one
 pub least_halting : (qs : List Quint) (n : ℕ) (q : Quint) → NoneBefore (Leaves qs) qs n → nth qs n ≡ Some q → q.state ≡ final_of qs → IsLeastHalting qs n
 least_halting qs n q before here leaves = record {
-  leaves = record { quint = q; stands = here; leaves = leaves };
+  holds = record { quint = q; stands = here; leaves = leaves };
   least = λ m low h. before.none m h.quint low h.stands h.leaves;
 }

@@ -11,17 +11,11 @@ use Rattle.bn_standardise.specs.Refusals.{IsAccepted, IsLeastHalting, IsLooseRef
 use Rattle.bn_standardise.specs.Laws.{RefusalsAreOne}
 use Rattle.bn_standardise.specs.declared.refusal.LooseRefusal.{LooseRefusal}
 use Rattle.bn_standardise.specs.declared.refusal.LooseRefusal.TheVariants.{Repeat, Halting, Many, NoMemory}
-
-least_once : (i j : ℕ) → (i < j → ⊥) → (j < i → ⊥) → i ≡ j
-least_once i j low high = by_order (cases_lt i j) (cases_lt j i)
-  where
-    by_order : (i < j) ⊎ (j ≤ i) → (j < i) ⊎ (i ≤ j) → i ≡ j
-    by_order (inl h) k = absurd (low h)
-    by_order (inr h) (inl k) = absurd (high k)
-    by_order (inr h) (inr k) = omega arith
+use Rattle.bn_lists.proofs.LeastLemmas.{least_is_one}
+use Rattle.bn_standardise.specs.Standardised.{LeavesHalting}
 
 halting_once : (qs : List Quint) (i j : ℕ) → IsLeastHalting qs i → IsLeastHalting qs j → i ≡ j
-halting_once qs i j a b = least_once i j (λ h. b.least i h a.leaves) (λ h. a.least j h b.leaves)
+halting_once qs i j a b = least_is_one (LeavesHalting qs) i j a b
 
 -- the verdict of standard form that says the same
 repeat_once : (qs : List Quint) (i j m n : ℕ) → IsLeastRepeat qs i j → IsLeastRepeat qs m n → (i ≡ m) × (j ≡ n)
@@ -39,15 +33,15 @@ refusal_once p (Repeat i j) (Halting m) x y h k = absurd (k.0.none i j h.repeats
 refusal_once p (Repeat i j) (Many c) x y h k = absurd (k.0.unambiguous.none i j h.repeats)
 refusal_once p (Halting i) (Repeat m n) x y h k = absurd (h.0.none m n k.repeats)
 refusal_once p (Halting i) (Halting m) x y h k = ap Halting (halting_once p.quints i m h.1 k.1)
-refusal_once p (Halting i) (Many c) x y h k = absurd (k.0.halts.none i h.1.leaves)
+refusal_once p (Halting i) (Many c) x y h k = absurd (k.0.halts.none i h.1.holds)
 refusal_once p (Many c) (Repeat m n) x y h k = absurd (h.0.unambiguous.none m n k.repeats)
-refusal_once p (Many c) (Halting m) x y h k = absurd (h.0.halts.none m k.1.leaves)
+refusal_once p (Many c) (Halting m) x y h k = absurd (h.0.halts.none m k.1.holds)
 refusal_once p (Many c) (Many d) x y h k = ap Many (h.1 ∙ sym k.1)
 
 accepted_not_refused : (p : Program) (a : LooseRefusal) → IsAccepted p → IsLooseRefusal p a → a ≡ NoMemory
 accepted_not_refused p NoMemory h k = refl
 accepted_not_refused p (Repeat i j) h k = absurd (h.loose.unambiguous.none i j k.repeats)
-accepted_not_refused p (Halting i) h k = absurd (h.loose.halts.none i k.1.leaves)
+accepted_not_refused p (Halting i) h k = absurd (h.loose.halts.none i k.1.holds)
 accepted_not_refused p (Many c) h k = absurd (omega (arith, h.few, k.1, k.2))
 
 pub refusals_once : RefusalsAreOne

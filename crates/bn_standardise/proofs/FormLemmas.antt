@@ -1,10 +1,10 @@
 -- The machine that is made is in standard form.
 use Rattle.std.specs.Prelude.{◌≡◌, ℕ, zero, suc, List, [], ◌∷◌, ◌++◌, length, map, Some, ◌⊎◌}
 use Rattle.std.proofs.Common.{refl, sym, subst, ◌∙◌, ap, arith, inl, inr}
-use Rattle.bn_machine.specs.Machine.{Program, nth, start_of, final_of}
+use Rattle.bn_machine.specs.Machine.{Program, start_of, final_of}
+use Rattle.bn_lists.specs.Lists.{nth, Has}
 use Rattle.bn_machine.specs.declared.quint.Quint.{Quint}
 use Rattle.bn_standard.specs.Standard.{IsStandard, NamesStart, NamesFinal}
-use Rattle.bn_standardise.specs.Lists.{IsIn}
 use Rattle.bn_standardise.specs.Rules.{entering, leaving, middle_of}
 use Rattle.bn_standardise.specs.declared.name.Name.{Name}
 use Rattle.bn_standardise.specs.declared.name.Name.TheVariants.{First, Own, Last}
@@ -22,7 +22,7 @@ pub final_state : (number : Name → ℕ) (p : Program) → final_of (standardis
 final_state number p = final_last (numbered number) (body_of p) (leaving (final_of p.quints))
 
 -- which states a quintuple has
-state_cases : (number : Name → ℕ) (p : Program) (q : Quint) → IsLoose p → IsIn (standardised_by number p).quints q → (q.state ≡ number First) ⊎ ((s : ℕ) × Occurs p.quints s × (q.state ≡ number (Own s)))
+state_cases : (number : Name → ℕ) (p : Program) (q : Quint) → IsLoose p → Has (standardised_by number p).quints q → (q.state ≡ number First) ⊎ ((s : ℕ) × Occurs p.quints s × (q.state ≡ number (Own s)))
 state_cases number p q loose (inl e) = inl (ap (λ (r : Quint). r.state) e)
 state_cases number p q loose (inr h) =
     let rule = in_map_cases (numbered number) (middle_of p ++ leaving (final_of p.quints) ∷ []) q h in
@@ -30,7 +30,7 @@ state_cases number p q loose (inr h) =
     inr (own.0, own.1, ap (λ (r : Quint). r.state) rule.2 ∙ ap number own.2)
 
 -- and which next states
-next_cases : (number : Name → ℕ) (p : Program) (q : Quint) → IsLoose p → IsIn (standardised_by number p).quints q → (q.next ≡ number Last) ⊎ ((s : ℕ) × Occurs p.quints s × (q.next ≡ number (Own s)))
+next_cases : (number : Name → ℕ) (p : Program) (q : Quint) → IsLoose p → Has (standardised_by number p).quints q → (q.next ≡ number Last) ⊎ ((s : ℕ) × Occurs p.quints s × (q.next ≡ number (Own s)))
 next_cases number p q loose h =
     let rule = in_map_cases (numbered number) (body_of p ++ leaving (final_of p.quints) ∷ []) q h in
     elim (in_append_cases (body_of p) (leaving (final_of p.quints) ∷ []) rule.0 rule.1) [

@@ -1,19 +1,19 @@
 -- Lemmas on lists of which every two elements are related, and on the quintuple that such a list finds.
 use Rattle.std.specs.Prelude.{◌≡◌, ℕ, zero, suc, ◌<◌, List, [], ◌∷◌, ◌++◌, length, map, Some, ⊤, ◌⊎◌}
 use Rattle.std.proofs.Common.{refl, sym, subst, ◌∙◌, ap, arith, inl, inr}
-use Rattle.bn_machine.specs.Machine.{nth, final_of, Matches, IsFirstMatch}
+use Rattle.bn_machine.specs.Machine.{final_of, Matches, IsFirstMatch}
+use Rattle.bn_lists.specs.Lists.{nth, Has}
 use Rattle.bn_machine.proofs.MachineStepLemmas.{first_match_or_none}
 use Rattle.bn_machine.specs.declared.quint.Quint.{Quint}
 use Rattle.bn_standard.specs.Standard.{Repeats, IsUnambiguous}
-use Rattle.bn_standardise.specs.Lists.{IsIn}
 
 -- every element has this relation to all that stand behind it
 abbrev pub Pairwise : {X : Type 0} → (X → X → Type 0) → List X → Type 0
 Pairwise R [] = ⊤
-Pairwise {X} R (x ∷ xs) = ((y : X) → IsIn xs y → R x y) × Pairwise R xs
+Pairwise {X} R (x ∷ xs) = ((y : X) → Has xs y → R x y) × Pairwise R xs
 
 -- what stands at a place is in the list
-pub nth_in : {X : Type 0} (xs : List X) (n : ℕ) (x : X) → nth xs n ≡ Some x → IsIn xs x
+pub nth_in : {X : Type 0} (xs : List X) (n : ℕ) (x : X) → nth xs n ≡ Some x → Has xs x
 nth_in [] zero x e = absurd (cc)
 nth_in [] (suc n) x e = absurd (cc)
 nth_in (y ∷ ys) zero x e = absurd (cc)
@@ -26,36 +26,36 @@ nth_later y xs zero x e = absurd (cc)
 nth_later y xs (suc n) x e = e
 
 -- what is in the list stands at a place
-pub in_nth : {X : Type 0} (xs : List X) (x : X) → IsIn xs x → (n : ℕ) × (nth xs n ≡ Some x)
+pub in_nth : {X : Type 0} (xs : List X) (x : X) → Has xs x → (n : ℕ) × (nth xs n ≡ Some x)
 in_nth [] x h = absurd h
 in_nth (y ∷ ys) x (inl e) = (1, ap Some (sym e))
 in_nth (y ∷ ys) x (inr h) = let there = in_nth ys x h in (suc there.0, nth_later y ys there.0 x there.1)
 
 -- parts of a list that is joined
-pub in_append_cases : {X : Type 0} (xs ys : List X) (x : X) → IsIn (xs ++ ys) x → IsIn xs x ⊎ IsIn ys x
+pub in_append_cases : {X : Type 0} (xs ys : List X) (x : X) → Has (xs ++ ys) x → Has xs x ⊎ Has ys x
 in_append_cases [] ys x h = inr h
 in_append_cases (y ∷ xs) ys x (inl e) = inl (inl e)
 in_append_cases (y ∷ xs) ys x (inr h) = elim (in_append_cases xs ys x h) [ inl a ↦ inl (inr a) | inr b ↦ inr b ]
 
 -- what is in the first part is in the joined list
-pub in_append_left : {X : Type 0} (xs ys : List X) (x : X) → IsIn xs x → IsIn (xs ++ ys) x
+pub in_append_left : {X : Type 0} (xs ys : List X) (x : X) → Has xs x → Has (xs ++ ys) x
 in_append_left [] ys x h = absurd h
 in_append_left (y ∷ xs) ys x (inl e) = inl e
 in_append_left (y ∷ xs) ys x (inr h) = inr (in_append_left xs ys x h)
 
 -- and so is what is in the second
-pub in_append_right : {X : Type 0} (xs ys : List X) (x : X) → IsIn ys x → IsIn (xs ++ ys) x
+pub in_append_right : {X : Type 0} (xs ys : List X) (x : X) → Has ys x → Has (xs ++ ys) x
 in_append_right [] ys x h = h
 in_append_right (y ∷ xs) ys x h = inr (in_append_right xs ys x h)
 
 -- elements of a list of images
-pub in_map_cases : {X Y : Type 0} (f : X → Y) (xs : List X) (y : Y) → IsIn (map f xs) y → (x : X) × IsIn xs x × (y ≡ f x)
+pub in_map_cases : {X Y : Type 0} (f : X → Y) (xs : List X) (y : Y) → Has (map f xs) y → (x : X) × Has xs x × (y ≡ f x)
 in_map_cases f [] y h = absurd h
 in_map_cases f (x ∷ xs) y (inl e) = (x, inl refl, e)
 in_map_cases f (x ∷ xs) y (inr h) = let rest = in_map_cases f xs y h in (rest.0, inr rest.1, rest.2)
 
 -- the image of an element is in the list of images
-pub in_map : {X Y : Type 0} (f : X → Y) (xs : List X) (x : X) → IsIn xs x → IsIn (map f xs) (f x)
+pub in_map : {X Y : Type 0} (f : X → Y) (xs : List X) (x : X) → Has xs x → Has (map f xs) (f x)
 in_map f [] x h = absurd h
 in_map f (y ∷ ys) x (inl e) = inl (ap f e)
 in_map f (y ∷ ys) x (inr h) = inr (in_map f ys x h)
@@ -63,7 +63,7 @@ in_map f (y ∷ ys) x (inr h) = inr (in_map f ys x h)
 -- ---- pairs
 
 -- two lists make one where every element of the first is related to every one of the second
-pub pairwise_append : {X : Type 0} (R : X → X → Type 0) (xs ys : List X) → Pairwise R xs → Pairwise R ys → ((x y : X) → IsIn xs x → IsIn ys y → R x y) → Pairwise R (xs ++ ys)
+pub pairwise_append : {X : Type 0} (R : X → X → Type 0) (xs ys : List X) → Pairwise R xs → Pairwise R ys → ((x y : X) → Has xs x → Has ys y → R x y) → Pairwise R (xs ++ ys)
 pairwise_append R [] ys a b across = b
 pairwise_append R (x ∷ xs) ys a b across = (
   λ y h. elim (in_append_cases xs ys y h) [ inl here ↦ a.0 y here | inr there ↦ across x y (inl refl) there ],
@@ -71,7 +71,7 @@ pairwise_append R (x ∷ xs) ys a b across = (
 )
 
 -- images are related where the elements are
-pub pairwise_map : {X Y : Type 0} (R : X → X → Type 0) (S : Y → Y → Type 0) (f : X → Y) (xs : List X) → ((x y : X) → IsIn xs x → IsIn xs y → R x y → S (f x) (f y)) → Pairwise R xs → Pairwise S (map f xs)
+pub pairwise_map : {X Y : Type 0} (R : X → X → Type 0) (S : Y → Y → Type 0) (f : X → Y) (xs : List X) → ((x y : X) → Has xs x → Has xs y → R x y → S (f x) (f y)) → Pairwise R xs → Pairwise S (map f xs)
 pairwise_map R S f [] keeps a = tt
 pairwise_map {Y = Y} R S f (x ∷ xs) keeps a = (
   λ y h. let from = in_map_cases f xs y h in subst (S (f x)) (sym from.2) (keeps x from.0 (inl refl) (inr from.1) (a.0 from.0 from.1)),
@@ -132,7 +132,7 @@ pairwise_unambiguous (q ∷ qs) a = let rest = pairwise_unambiguous qs a.1 in re
         rest.none (suc i) (suc j) (record { first = r; second = s; first_stands = e; second_stands = f; clashes = record { before = omega (arith, before); state = state; read = read } })
 
 -- two that share both are one
-pub apart_once : (qs : List Quint) (q r : Quint) → Pairwise Apart qs → IsIn qs q → IsIn qs r → q.state ≡ r.state → q.read ≡ r.read → q ≡ r
+pub apart_once : (qs : List Quint) (q r : Quint) → Pairwise Apart qs → Has qs q → Has qs r → q.state ≡ r.state → q.read ≡ r.read → q ≡ r
 apart_once [] q r a h k state read = absurd h
 apart_once (x ∷ xs) q r a (inl e) (inl f) state read = e ∙ sym f
 apart_once (x ∷ xs) q r a (inl e) (inr k) state read = absurd (a.0 r k (ap (λ (v : Quint). v.state) (sym e) ∙ state) (ap (λ (v : Quint). v.read) (sym e) ∙ read))
@@ -140,11 +140,11 @@ apart_once (x ∷ xs) q r a (inr h) (inl f) state read = absurd (a.0 q h (ap (λ
 apart_once (x ∷ xs) q r a (inr h) (inr k) state read = apart_once xs q r a.1 h k state read
 
 -- a quintuple of the list that matches is the first that matches
-pub match_found : (qs : List Quint) (q : Quint) (s a : ℕ) → Pairwise Apart qs → IsIn qs q → Matches q s a → (n : ℕ) × IsFirstMatch qs s a n q
+pub match_found : (qs : List Quint) (q : Quint) (s a : ℕ) → Pairwise Apart qs → Has qs q → Matches q s a → (n : ℕ) × IsFirstMatch qs s a n q
 match_found qs q s a apart h m = elim (first_match_or_none qs s a) [
   | inl found ↦
       let there = nth_in qs found.0 found.1 found.2.stands in
-      let same : found.1 ≡ q = apart_once qs found.1 q apart there h (sym found.2.matches.from ∙ m.from) (sym found.2.matches.reads ∙ m.reads) in
+      let same : found.1 ≡ q = apart_once qs found.1 q apart there h (sym found.2.holds.from ∙ m.from) (sym found.2.holds.reads ∙ m.reads) in
       (found.0, subst (λ r. IsFirstMatch qs s a found.0 r) same found.2)
   | inr none ↦ let there = in_nth qs q h in absurd (none.none there.0 q there.1 m)
 ]
@@ -158,7 +158,7 @@ last_stands f (y ∷ []) x = refl
 last_stands f (y ∷ z ∷ xs) x = last_stands f (z ∷ xs) x
 
 -- what stands before it is one of the other images
-pub early_in : {X Y : Type 0} (f : X → Y) (xs : List X) (x : X) (i : ℕ) (y : Y) → i < length (map f (xs ++ x ∷ [])) → nth (map f (xs ++ x ∷ [])) i ≡ Some y → IsIn (map f xs) y
+pub early_in : {X Y : Type 0} (f : X → Y) (xs : List X) (x : X) (i : ℕ) (y : Y) → i < length (map f (xs ++ x ∷ [])) → nth (map f (xs ++ x ∷ [])) i ≡ Some y → Has (map f xs) y
 early_in f xs x zero y h e = absurd (cc)
 early_in f [] x (suc i) y h e = absurd (omega arith)
 early_in f (z ∷ xs) x (suc zero) y h e = inl (cc)

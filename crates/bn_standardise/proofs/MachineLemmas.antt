@@ -3,7 +3,8 @@ use Rattle.std.proofs.Common.{◌≡◌, ◌∙◌, ◌<◌, ◌^◌, ℕ, zero,
 use Rattle.std.proofs.lemmas.List.{length-map}
 use Rattle.std.proofs.lemmas.List.Elements.{All-get_or}
 use Rattle.std.proofs.lemmas.Option.{get_or_from_slice_get, slice_get_within}
-use Rattle.bn_machine.specs.Machine.{Program, IsFirstFault, IsInRange, IsMachine, nth, program_of}
+use Rattle.bn_machine.specs.Machine.{Program, IsFirstFault, IsInRange, IsMachine, program_of}
+use Rattle.bn_lists.specs.Lists.{nth}
 use Rattle.bn_machine.specs.declared.quint.Quint.{Quint}
 use Rattle.bn_standardise.specs.Rules.{rules_of}
 use Rattle.bn_standardise.specs.Numbering.{number_of, states_of}

@@ -15,12 +15,12 @@ use Rattle.bn_entries.specs.Forms.{is_name_byte, is_state_name}
 use Rattle.bn_entries.specs.Numbering.{firsts, firsts_by}
 use Rattle.bn_entries.proofs.NumberingLemmas.{any-at, firsts-push}
 use Rattle.bn_machine.specs.Machine.{Program, IsInRange, IsMachine, final_of}
-use Rattle.bn_machine.proofs.MachineLemmas.{nth-get_or}
+use Rattle.bn_lists.proofs.ListLemmas.{nth-get_or}
 use Rattle.bn_machine.specs.declared.quint.Quint.{Quint}
 use Rattle.bn_table.specs.Rows.{FitsTable, IsTable, Named, blank, letters_in, names_in, rows_by, rows_of}
 use Rattle.bn_table.proofs.RowsLemmas.{blank_first}
 use Rattle.bn_table.proofs.MachineLemmas.{table_machine}
-use Rattle.bn_standardise.specs.Lists.{IsIn}
+use Rattle.bn_lists.specs.Lists.{Has}
 use Rattle.bn_standardise.specs.Rules.{back_over_all, leaving, middle_of, renamed, rules_of}
 use Rattle.bn_standardise.specs.Numbering.{distinct_names, is_same, names_of, number_of}
 use Rattle.bn_standardise.specs.Standardised.{Occurs, numbered, standardised}
@@ -48,11 +48,11 @@ own_small p n machine few own =
     let small : IsSmall (Own own.0) = omega arith in
     subst IsSmall (sym own.2) small
 
-state_small : (p : Program) (r : Rule) → IsMachine p → p.states ≤ 8000 → IsIn (rules_of p) r → IsSmall r.state
+state_small : (p : Program) (r : Rule) → IsMachine p → p.states ≤ 8000 → Has (rules_of p) r → IsSmall r.state
 state_small p r machine few (inl e) = subst (λ (s : Rule). IsSmall s.state) (sym e) tt
 state_small p r machine few (inr h) = own_small p r.state machine few (later_state p r machine.some h)
 
-next_small : (p : Program) (r : Rule) → IsMachine p → p.states ≤ 8000 → IsIn (rules_of p) r → IsSmall r.next
+next_small : (p : Program) (r : Rule) → IsMachine p → p.states ≤ 8000 → Has (rules_of p) r → IsSmall r.next
 next_small p r machine few (inl e) = own_small p r.next machine few (earlier_next p r machine.some (inl e))
 next_small p r machine few (inr h) = elim (in_append_cases (middle_of p) (leaving (final_of p.quints) ∷ []) r h) [
   | inl mid ↦ own_small p r.next machine few (earlier_next p r machine.some (inr mid))
@@ -60,7 +60,7 @@ next_small p r machine few (inr h) = elim (in_append_cases (middle_of p) (leavin
   | inr (inr none) ↦ absurd none
 ]
 
-pub writable : (t : Named) (r : Rule) → IsMachine t.machine → t.machine.states ≤ 8000 → IsIn (rules_of t.machine) r → IsWritable t r
+pub writable : (t : Named) (r : Rule) → IsMachine t.machine → t.machine.states ≤ 8000 → Has (rules_of t.machine) r → IsWritable t r
 writable t r machine few h =
     let knows = rule_knows t.machine r machine h in
     record { state = state_small t.machine r machine few h; read = knows.read; write = knows.write; next = next_small t.machine r machine few h }
@@ -126,20 +126,20 @@ text_same a b h k = elim (cases_Bool (is_same a b)) [
 -- ---- the names in their order
 
 -- what a test leaves of a list is of the list
-in_filter : {X : Type 0} (test : X → Bool) (xs : List X) (x : X) → IsIn (filter test xs) x → IsIn xs x
+in_filter : {X : Type 0} (test : X → Bool) (xs : List X) (x : X) → Has (filter test xs) x → Has xs x
 in_filter test [] x h = h
 in_filter test (y ∷ ys) x h = elim (cases_Bool (test y)) [
-  | inl kept ↦ let there : IsIn (y ∷ filter test ys) x = rw kept at h in elim there [ inl e ↦ inl e | inr rest ↦ inr (in_filter test ys x rest) ]
+  | inl kept ↦ let there : Has (y ∷ filter test ys) x = rw kept at h in elim there [ inl e ↦ inl e | inr rest ↦ inr (in_filter test ys x rest) ]
   | inr out ↦ inr (in_filter test ys x (rw out at h))
 ]
 
-in_firsts : (ns : List Name) (n : Name) → IsIn (firsts_by is_same ns) n → IsIn ns n
+in_firsts : (ns : List Name) (n : Name) → Has (firsts_by is_same ns) n → Has ns n
 unfolding firsts_by
 in_firsts [] n h = h
 in_firsts (m ∷ ms) n (inl e) = inl e
 in_firsts (m ∷ ms) n (inr h) = inr (in_firsts ms n (in_filter (λ l. not (is_same m l)) (firsts_by is_same ms) n h))
 
-filter_texts : (n : Name) (ns : List Name) → IsSmall n → ((m : Name) → IsIn ns m → IsSmall m) →
+filter_texts : (n : Name) (ns : List Name) → IsSmall n → ((m : Name) → Has ns m → IsSmall m) →
     filter (λ w. not (bytes_eq (name_text n) w)) (map name_text ns) ≡ map name_text (filter (λ m. not (is_same n m)) ns)
 filter_texts n [] h all = refl
 filter_texts n (m ∷ ms) h all =
@@ -151,14 +151,14 @@ filter_texts n (m ∷ ms) h all =
     ]
 
 -- the texts of names appear in the names' order
-firsts_texts : (ns : List Name) → ((n : Name) → IsIn ns n → IsSmall n) → firsts (map name_text ns) ≡ map name_text (firsts_by is_same ns)
+firsts_texts : (ns : List Name) → ((n : Name) → Has ns n → IsSmall n) → firsts (map name_text ns) ≡ map name_text (firsts_by is_same ns)
 unfolding firsts_by
 firsts_texts [] all = refl
 firsts_texts (n ∷ ns) all =
     ap (λ zs. name_text n ∷ filter (λ w. not (bytes_eq (name_text n) w)) zs) (firsts_texts ns (λ m k. all m (inr k)))
     ∙ ap (λ zs. name_text n ∷ zs) (filter_texts n (firsts_by is_same ns) (all n (inl refl)) (λ m k. all m (inr (in_firsts ns m k))))
 
-names_small : (t : Named) (rs : List Rule) → ((r : Rule) → IsIn rs r → IsWritable t r) → (n : Name) → IsIn (names_of rs) n → IsSmall n
+names_small : (t : Named) (rs : List Rule) → ((r : Rule) → Has rs r → IsWritable t r) → (n : Name) → Has (names_of rs) n → IsSmall n
 names_small t [] all n h = absurd h
 names_small t (r ∷ rs) all n (inl e) = subst IsSmall (sym e) (all r (inl refl)).state
 names_small t (r ∷ rs) all n (inr (inl e)) = subst IsSmall (sym e) (all r (inl refl)).next
@@ -168,14 +168,14 @@ names_written : (letters : List ℕ) (rs : List Rule) → names_in (map (rule_en
 names_written letters [] = refl
 names_written letters (r ∷ rs) = ap (λ ws. name_text r.state ∷ name_text r.next ∷ ws) (names_written letters rs)
 
-names_form : (ns : List Name) → ((n : Name) → IsIn ns n → IsSmall n) → list_all is_state_name (map name_text ns) ≡ true
+names_form : (ns : List Name) → ((n : Name) → Has ns n → IsSmall n) → list_all is_state_name (map name_text ns) ≡ true
 names_form [] all = refl
 names_form (n ∷ ns) all = rw (name_form n (all n (inl refl))) (names_form ns (λ m k. all m (inr k)))
 
 -- ---- the letters in their order
 
 -- what stood before changes nothing
-firsts_known : (xs ys : List ℕ) → ((y : ℕ) → IsIn ys y → list_any (nat_eq y) (firsts_by nat_eq xs) ≡ true) → firsts_by nat_eq (xs ++ ys) ≡ firsts_by nat_eq xs
+firsts_known : (xs ys : List ℕ) → ((y : ℕ) → Has ys y → list_any (nat_eq y) (firsts_by nat_eq xs) ≡ true) → firsts_by nat_eq (xs ++ ys) ≡ firsts_by nat_eq xs
 firsts_known xs [] h = ap (firsts_by nat_eq) (append-nil xs)
 firsts_known xs (y ∷ ys) h =
     let known : list_any (nat_eq y) (firsts_by nat_eq xs) ≡ true = h y (inl refl) in
@@ -208,8 +208,8 @@ own_letters names letters (q ∷ qs) = ap (λ ws. get_or letters q.read 0 ∷ ge
 letter_known : (letters : List ℕ) (k y : ℕ) → k < length letters → y ≡ get_or letters k 0 → list_any (nat_eq y) letters ≡ true
 letter_known letters k y inside e = any-at nat_eq Decides-eqb y letters k (slice_get-get_or letters k 0 inside ∙ ap Some (sym e))
 
-written_known : (t : Named) (rs : List Rule) → t.machine.symbols ≡ length t.letters → ((r : Rule) → IsIn rs r → IsWritable t r) → (y : ℕ) →
-    IsIn (letters_in (map (rule_entry t.letters) rs)) y → list_any (nat_eq y) t.letters ≡ true
+written_known : (t : Named) (rs : List Rule) → t.machine.symbols ≡ length t.letters → ((r : Rule) → Has rs r → IsWritable t r) → (y : ℕ) →
+    Has (letters_in (map (rule_entry t.letters) rs)) y → list_any (nat_eq y) t.letters ≡ true
 written_known t [] count all y h = absurd h
 written_known t (r ∷ rs) count all y (inl e) = letter_known t.letters r.read y (omega (arith, (all r (inl refl)).read, count)) e
 written_known t (r ∷ rs) count all y (inr (inl e)) = letter_known t.letters r.write y (omega (arith, (all r (inl refl)).write, count)) e
@@ -221,15 +221,15 @@ module _ (t : Named) (table : IsTable t) (fits : FitsTable t.machine) (few : cou
   machine : IsMachine t.machine
   machine = table_machine t table
 
-  all : (r : Rule) → IsIn (rules_of t.machine) r → IsWritable t r
+  all : (r : Rule) → Has (rules_of t.machine) r → IsWritable t r
   all r h = writable t r machine fits.states h
 
   -- the back rules and the last one
   abbrev tail_rules : List Rule
   tail_rules = back_over_all (final_of t.machine.quints) 1 (t.machine.symbols - 1) ++ leaving (final_of t.machine.quints) ∷ []
 
-  in_tail_rules : (r : Rule) → IsIn tail_rules r → IsIn (rules_of t.machine) r
-  in_tail_rules r h = inr (subst (λ l. IsIn l r) (sym (append_assoc (map renamed t.machine.quints) (back_over_all (final_of t.machine.quints) 1 (t.machine.symbols - 1)) (leaving (final_of t.machine.quints) ∷ [])))
+  in_tail_rules : (r : Rule) → Has tail_rules r → Has (rules_of t.machine) r
+  in_tail_rules r h = inr (subst (λ l. Has l r) (sym (append_assoc (map renamed t.machine.quints) (back_over_all (final_of t.machine.quints) 1 (t.machine.symbols - 1)) (leaving (final_of t.machine.quints) ∷ [])))
       (in_append_right (map renamed t.machine.quints) tail_rules r h))
 
   -- all letters that are written, behind the blank
@@ -258,13 +258,13 @@ module _ (t : Named) (table : IsTable t) (fits : FitsTable t.machine) (few : cou
   names = distinct_names (rules_of t.machine)
 
   -- the text of a name's number is that of the name
-  name_at : (n : Name) → IsIn (names_of (rules_of t.machine)) n → get_or (map name_text names) (number_of (rules_of t.machine) n) [] ≡ name_text n
+  name_at : (n : Name) → Has (names_of (rules_of t.machine)) n → get_or (map name_text names) (number_of (rules_of t.machine) n) [] ≡ name_text n
   name_at n h =
       let at : slice_get names (number_of (rules_of t.machine) n) ≡ Some n = place_stands names n (first_appears (names_of (rules_of t.machine)) n h) in
       get_or-map name_text names (number_of (rules_of t.machine) n) n [] (slice_get_within names (number_of (rules_of t.machine) n) n at)
       ∙ ap name_text (get_or_from_slice_get names (number_of (rules_of t.machine) n) n n at)
 
-  rows_written : (rs : List Rule) → ((r : Rule) → IsIn rs r → IsIn (rules_of t.machine) r) → rows_by (map name_text names) t.letters (map (numbered (number_of (rules_of t.machine))) rs) ≡ map (rule_entry t.letters) rs
+  rows_written : (rs : List Rule) → ((r : Rule) → Has rs r → Has (rules_of t.machine) r) → rows_by (map name_text names) t.letters (map (numbered (number_of (rules_of t.machine))) rs) ≡ map (rule_entry t.letters) rs
   rows_written [] within = refl
   rows_written (r ∷ rs) within =
       let two = names_of_rule (rules_of t.machine) r (within r (inl refl)) in

@@ -2,9 +2,9 @@
 use Rattle.std.specs.Prelude.{ℕ, suc, ◌+◌, ◌-◌, ◌^◌, ◌<◌, [], ◌∷◌, length, map, get_or}
 use Rattle.std.proofs.Common.{sym, subst, arith, inl, inr}
 use Rattle.bn_machine.specs.Machine.{Program, IsMachine, IsInRange, final_of}
-use Rattle.bn_machine.proofs.MachineLemmas.{nth-get_or}
+use Rattle.bn_lists.proofs.ListLemmas.{nth-get_or}
 use Rattle.bn_machine.specs.declared.quint.Quint.{Quint}
-use Rattle.bn_standardise.specs.Lists.{IsIn}
+use Rattle.bn_lists.specs.Lists.{Has}
 use Rattle.bn_standardise.specs.Rules.{renamed, back_over_all, leaving, middle_of, rules_of}
 use Rattle.bn_standardise.specs.declared.rule.Rule.{Rule}
 use Rattle.bn_standardise.specs.Standardised.{numbered, standardised, numbering_of}
@@ -19,7 +19,7 @@ pub record KnowsSymbols (symbols : ℕ) (r : Rule) : Type 0 where
   pub write : r.write < symbols
 
 -- every rule does
-pub rule_knows : (p : Program) (r : Rule) → IsMachine p → IsIn (rules_of p) r → KnowsSymbols p.symbols r
+pub rule_knows : (p : Program) (r : Rule) → IsMachine p → Has (rules_of p) r → KnowsSymbols p.symbols r
 rule_knows p r machine (inl e) = let some = some_symbol p machine in subst (KnowsSymbols p.symbols) (sym e) (record { read = some; write = some })
 rule_knows p r machine (inr h) = elim (in_append_cases (middle_of p) (leaving (final_of p.quints) ∷ []) r h) [
   | inl mid ↦ elim (in_append_cases (map renamed p.quints) (back_over_all (final_of p.quints) 1 (p.symbols - 1)) r mid) [
@@ -37,7 +37,7 @@ rule_knows p r machine (inr h) = elim (in_append_cases (middle_of p) (leaving (f
 ]
 
 -- every quintuple has its numbers in range
-quint_in_range : (p : Program) (q : Quint) → IsMachine p → IsIn (standardised p).quints q → IsInRange (standardised p).states p.symbols q
+quint_in_range : (p : Program) (q : Quint) → IsMachine p → Has (standardised p).quints q → IsInRange (standardised p).states p.symbols q
 quint_in_range p q machine h =
     let r = in_map_cases (numbered (numbering_of p)) (rules_of p) q h in
     let knows = rule_knows p r.0 machine r.1 in

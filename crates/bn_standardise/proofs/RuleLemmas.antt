@@ -5,7 +5,7 @@ use Rattle.std.proofs.lemmas.List.{length-map}
 use Rattle.bn_machine.specs.Machine.{Program, IsMachine, start_of, final_of}
 use Rattle.bn_machine.specs.declared.quint.Quint.{Quint}
 use Rattle.bn_machine.specs.declared.quint.Shift.TheVariants.{Stay}
-use Rattle.bn_standardise.specs.Lists.{IsIn}
+use Rattle.bn_lists.specs.Lists.{Has}
 use Rattle.bn_standardise.specs.Rules.{entering, renamed, back_over, back_over_all, leaving, middle_of, rules_of}
 use Rattle.bn_standardise.specs.declared.name.Name.{Name}
 use Rattle.bn_standardise.specs.declared.name.Name.TheVariants.{Own}
@@ -36,14 +36,14 @@ some_symbol p machine =
 -- ---- the rules back over the letters
 
 -- one of them is that of a letter from the first on
-pub back_over_cases : (halt first count : ℕ) (r : Rule) → IsIn (back_over_all halt first count) r → (x : ℕ) × (first ≤ x) × (r ≡ back_over halt x) × (x < first + count)
+pub back_over_cases : (halt first count : ℕ) (r : Rule) → Has (back_over_all halt first count) r → (x : ℕ) × (first ≤ x) × (r ≡ back_over halt x) × (x < first + count)
 unfolding back_over_all
 back_over_cases halt first zero r h = absurd h
 back_over_cases halt first (suc count) r (inl e) = (first, omega arith, e, omega arith)
 back_over_cases halt first (suc count) r (inr h) = let rest = back_over_cases halt (suc first) count r h in (rest.0, omega (arith, rest.1), rest.2, omega (arith, rest.3))
 
 -- and each such letter has one
-pub back_over_in : (halt first count k x : ℕ) → k < count → x ≡ first + k → IsIn (back_over_all halt first count) (back_over halt x)
+pub back_over_in : (halt first count k x : ℕ) → k < count → x ≡ first + k → Has (back_over_all halt first count) (back_over halt x)
 unfolding back_over_all
 back_over_in halt first zero k x h e = absurd (omega arith)
 back_over_in halt first (suc count) zero x h e = let same : x ≡ first = omega arith in inl (ap (back_over halt) same)
@@ -67,7 +67,7 @@ pub record IsOwn (qs : List Quint) (r : Rule) : Type 0 where
   pub next_is : r.next ≡ Own next
 
 -- each rule of the middle is such a one
-pub middle_own : (p : Program) (r : Rule) → 0 < length p.quints → IsIn (middle_of p) r → IsOwn p.quints r
+pub middle_own : (p : Program) (r : Rule) → 0 < length p.quints → Has (middle_of p) r → IsOwn p.quints r
 middle_own p r some h = elim (in_append_cases (map renamed p.quints) (back_over_all (final_of p.quints) 1 (p.symbols - 1)) r h) [
   | inl own ↦
       let q = in_map_cases renamed p.quints r own in
@@ -92,7 +92,7 @@ middle_own p r some h = elim (in_append_cases (map renamed p.quints) (back_over_
 ]
 
 -- all rules but the first leave one of the machine's own states
-pub later_state : (p : Program) (r : Rule) → 0 < length p.quints → IsIn (middle_of p ++ leaving (final_of p.quints) ∷ []) r → (s : ℕ) × Occurs p.quints s × (r.state ≡ Own s)
+pub later_state : (p : Program) (r : Rule) → 0 < length p.quints → Has (middle_of p ++ leaving (final_of p.quints) ∷ []) r → (s : ℕ) × Occurs p.quints s × (r.state ≡ Own s)
 later_state p r some h = elim (in_append_cases (middle_of p) (leaving (final_of p.quints) ∷ []) r h) [
   | inl mid ↦ let own = middle_own p r some mid in (own.state, own.state_occurs, own.state_is)
   | inr (inl e) ↦ (final_of p.quints, final_occurs p.quints some, ap (λ (s : Rule). s.state) e)
@@ -100,21 +100,21 @@ later_state p r some h = elim (in_append_cases (middle_of p) (leaving (final_of 
 ]
 
 -- all rules but the last lead to one of the machine's own states
-pub earlier_next : (p : Program) (r : Rule) → 0 < length p.quints → IsIn (entering (start_of p.quints) ∷ middle_of p) r → (s : ℕ) × Occurs p.quints s × (r.next ≡ Own s)
+pub earlier_next : (p : Program) (r : Rule) → 0 < length p.quints → Has (entering (start_of p.quints) ∷ middle_of p) r → (s : ℕ) × Occurs p.quints s × (r.next ≡ Own s)
 earlier_next p r some (inl e) = (start_of p.quints, start_occurs p.quints some, ap (λ (s : Rule). s.next) e)
 earlier_next p r some (inr mid) = let own = middle_own p r some mid in (own.next, own.next_occurs, own.next_is)
 
 -- which rules are among all
-pub renamed_in : (p : Program) (q : Quint) → IsIn p.quints q → IsIn (rules_of p) (renamed q)
+pub renamed_in : (p : Program) (q : Quint) → Has p.quints q → Has (rules_of p) (renamed q)
 renamed_in p q h = inr (in_append_left (middle_of p) _ (renamed q) (in_append_left (map renamed p.quints) _ (renamed q) (in_map renamed p.quints q h)))
 
 -- the rule back over a known letter is one of all
-pub back_over_here : (p : Program) (x : ℕ) → x ≢ 0 → x < p.symbols → IsIn (rules_of p) (back_over (final_of p.quints) x)
+pub back_over_here : (p : Program) (x : ℕ) → x ≢ 0 → x < p.symbols → Has (rules_of p) (back_over (final_of p.quints) x)
 back_over_here p x letter known = inr (in_append_left (middle_of p) _ (back_over (final_of p.quints) x) (in_append_right (map renamed p.quints) _ (back_over (final_of p.quints) x)
     (back_over_in (final_of p.quints) 1 (p.symbols - 1) (x - 1) x (omega arith) (omega arith))))
 
 -- the last rule is one of all
-pub leaving_in : (p : Program) → IsIn (rules_of p) (leaving (final_of p.quints))
+pub leaving_in : (p : Program) → Has (rules_of p) (leaving (final_of p.quints))
 leaving_in p = inr (in_append_right (middle_of p) _ (leaving (final_of p.quints)) (inl refl))
 
 -- ---- no two rules clash
@@ -136,21 +136,21 @@ back_over_apart number halt first (suc count) = (
 )
 
 -- a rule of the machine's own and one that leaves the halting state
-own_apart : (number : Name → ℕ) (p : Program) → IsLoose p → TellsApart number p → (q : Quint) (y : Rule) → IsIn p.quints q → y.state ≡ Own (final_of p.quints) → RulesApart number (renamed q) y
+own_apart : (number : Name → ℕ) (p : Program) → IsLoose p → TellsApart number p → (q : Quint) (y : Rule) → Has p.quints q → y.state ≡ Own (final_of p.quints) → RulesApart number (renamed q) y
 own_apart number p loose tells q y h e state read =
     let occurs : Occurs p.quints q.state = record { quint = q; stands = h; names = inl refl } in
     let there = in_nth p.quints q h in
     loose.halts.none there.0 (record { quint = q; stands = there.1; leaves = tells.states q.state (final_of p.quints) occurs (final_occurs p.quints loose.machine.some) (state ∙ ap number e) })
 
 -- two of the machine's own
-owns_apart : (number : Name → ℕ) (p : Program) → TellsApart number p → (q r : Quint) → IsIn p.quints q → IsIn p.quints r → Apart q r → RulesApart number (renamed q) (renamed r)
+owns_apart : (number : Name → ℕ) (p : Program) → TellsApart number p → (q r : Quint) → Has p.quints q → Has p.quints r → Apart q r → RulesApart number (renamed q) (renamed r)
 owns_apart number p tells q r h k apart state read =
     let occurs : Occurs p.quints q.state = record { quint = q; stands = h; names = inl refl } in
     let also : Occurs p.quints r.state = record { quint = r; stands = k; names = inl refl } in
     apart (tells.states q.state r.state occurs also state) read
 
 -- a rule of the middle and the last one
-last_apart : (number : Name → ℕ) (p : Program) → IsLoose p → TellsApart number p → (x : Rule) → IsIn (middle_of p) x → RulesApart number x (leaving (final_of p.quints))
+last_apart : (number : Name → ℕ) (p : Program) → IsLoose p → TellsApart number p → (x : Rule) → Has (middle_of p) x → RulesApart number x (leaving (final_of p.quints))
 last_apart number p loose tells x h state read = elim (in_append_cases (map renamed p.quints) (back_over_all (final_of p.quints) 1 (p.symbols - 1)) x h) [
   | inl own ↦
       let q = in_map_cases renamed p.quints x own in
@@ -175,12 +175,12 @@ middle_apart number p loose tells = pairwise_append (RulesApart number) (map ren
 pub rules_apart : (number : Name → ℕ) (p : Program) → IsLoose p → TellsApart number p → Pairwise (RulesApart number) (rules_of p)
 rules_apart number p loose tells = (first, pairwise_append (RulesApart number) (middle_of p) (leaving (final_of p.quints) ∷ []) (middle_apart number p loose tells) ((λ y h. absurd h), tt) across)
   where
-    first : (r : Rule) → IsIn (middle_of p ++ leaving (final_of p.quints) ∷ []) r → RulesApart number (entering (start_of p.quints)) r
+    first : (r : Rule) → Has (middle_of p ++ leaving (final_of p.quints) ∷ []) r → RulesApart number (entering (start_of p.quints)) r
     first r h state read =
         let own = later_state p r loose.machine.some h in
         tells.first own.0 own.1 (sym (ap number own.2) ∙ sym state)
 
-    across : (x y : Rule) → IsIn (middle_of p) x → IsIn (leaving (final_of p.quints) ∷ []) y → RulesApart number x y
+    across : (x y : Rule) → Has (middle_of p) x → Has (leaving (final_of p.quints) ∷ []) y → RulesApart number x y
     across x y h (inl e) = subst (RulesApart number x) (sym e) (last_apart number p loose tells x h)
     across x y h (inr none) = absurd none
 
@@ -189,7 +189,7 @@ pub quints_apart : (number : Name → ℕ) (p : Program) → IsLoose p → Tells
 quints_apart number p loose tells = pairwise_map (RulesApart number) Apart (numbered number) (rules_of p) (λ x y h k apart. apart) (rules_apart number p loose tells)
 
 -- a rule's quintuple is one of the machine
-pub quint_in : (number : Name → ℕ) (p : Program) (r : Rule) → IsIn (rules_of p) r → IsIn (standardised_by number p).quints (numbered number r)
+pub quint_in : (number : Name → ℕ) (p : Program) (r : Rule) → Has (rules_of p) r → Has (standardised_by number p).quints (numbered number r)
 quint_in number p r h = in_map (numbered number) (rules_of p) r h
 
 -- ---- how many there are

@@ -11,13 +11,13 @@ use Rattle.bn_theory.proofs.RunsLemmas.{runs_join}
 use Rattle.bn_machine.specs.Tape.{Tape, cell, scanned, write, shift, word_tape, letter_at}
 use Rattle.bn_machine.proofs.TapeLemmas.{cell-word, cell-write, write-scanned}
 use Rattle.bn_machine.specs.Window.{anywhere}
-use Rattle.bn_machine.specs.Machine.{Program, Moment, Matches, Goes, IsFinal, IsStuck, IsMachine, IsInRange, nth, start, start_of, final_of}
-use Rattle.bn_machine.proofs.MachineLemmas.{nth_within}
+use Rattle.bn_machine.specs.Machine.{Program, Moment, Matches, Goes, IsFinal, IsStuck, IsMachine, IsInRange, start, start_of, final_of}
+use Rattle.bn_lists.specs.Lists.{nth, Has}
+use Rattle.bn_lists.proofs.ListLemmas.{nth_within}
 use Rattle.bn_machine.specs.Run.{After}
 use Rattle.bn_machine.proofs.MachineStepLemmas.{same_moment, moment_after, applies_once, goes_once, final_stuck_or_goes, final_not_going, stuck_not_going}
 use Rattle.bn_machine.specs.declared.quint.Quint.{Quint}
 use Rattle.bn_machine.specs.declared.quint.Shift.TheVariants.{Left, Stay, Right}
-use Rattle.bn_standardise.specs.Lists.{IsIn}
 use Rattle.bn_standardise.specs.Rules.{entering, renamed, back_over, back_over_all, leaving, middle_of, rules_of}
 use Rattle.bn_standardise.specs.declared.name.Name.{Name}
 use Rattle.bn_standardise.specs.declared.name.Name.TheVariants.{Own, Last}
@@ -32,7 +32,7 @@ use Rattle.bn_standardise.proofs.TailLemmas.{tail_exists}
 -- ---- one step
 
 -- a quintuple of a machine without clashes that matches is applied
-pub goes_by_quint : (p : Program) (q : Quint) (c : Moment) → Pairwise Apart p.quints → IsIn p.quints q → Matches q c.state (scanned c.tape) → c.state ≢ final_of p.quints → Goes anywhere p c (moment_after q c)
+pub goes_by_quint : (p : Program) (q : Quint) (c : Moment) → Pairwise Apart p.quints → Has p.quints q → Matches q c.state (scanned c.tape) → c.state ≢ final_of p.quints → Goes anywhere p c (moment_after q c)
 goes_by_quint p q c apart h m going =
     let found = match_found p.quints q c.state (scanned c.tape) apart h m in
     (found.0, record { going = going; quint = q; match = found.1; applies = record { from = m.from; reads = m.reads; writes = refl; to = refl }; stays = tt })
@@ -58,7 +58,7 @@ cond_below true s r n h k = h
 cond_below false s r n h k = k
 
 -- a quintuple of a machine is in range
-pub in_range : (p : Program) (q : Quint) → IsMachine p → IsIn p.quints q → IsInRange p.states p.symbols q
+pub in_range : (p : Program) (q : Quint) → IsMachine p → Has p.quints q → IsInRange p.states p.symbols q
 in_range p q machine h = let there = in_nth p.quints q h in by_place there.0 there.1
   where
     by_place : (n : ℕ) → nth p.quints n ≡ Some q → IsInRange p.states p.symbols q
@@ -103,7 +103,7 @@ stand_in number c = record { state = number (Own c.state); tape = c.tape }
 
 module _ (number : Name → ℕ) (p : Program) (loose : IsLoose p) (tells : TellsApart number p) where
   -- a step of one of the rules
-  goes_by_rule : (r : Rule) (c : Moment) → IsIn (rules_of p) r → c.state ≡ number r.state → scanned c.tape ≡ r.read → number r.state ≢ number Last → Goes anywhere (standardised_by number p) c (moment_after (numbered number r) c)
+  goes_by_rule : (r : Rule) (c : Moment) → Has (rules_of p) r → c.state ≡ number r.state → scanned c.tape ≡ r.read → number r.state ≢ number Last → Goes anywhere (standardised_by number p) c (moment_after (numbered number r) c)
   goes_by_rule r c h state read going =
       goes_by_quint (standardised_by number p) (numbered number r) c (quints_apart number p loose tells) (quint_in number p r h) (record { from = state; reads = read })
       (λ e. going (sym state ∙ e ∙ final_state number p))
@@ -139,13 +139,13 @@ module _ (number : Name → ℕ) (p : Program) (loose : IsLoose p) (tells : Tell
       halting : (q : Quint) → q.state ≡ number (Own (final_of p.quints)) → Matches q (number (Own c.state)) (scanned c.tape) → ⊥
       halting q state m = stuck.going (tells.states c.state (final_of p.quints) occurs (final_occurs p.quints loose.machine.some) (m.from ∙ state))
 
-      own : (q : Quint) (r : Quint) → IsIn p.quints r → q ≡ numbered number (renamed r) → Matches q (number (Own c.state)) (scanned c.tape) → ⊥
+      own : (q : Quint) (r : Quint) → Has p.quints r → q ≡ numbered number (renamed r) → Matches q (number (Own c.state)) (scanned c.tape) → ⊥
       own q r h e m =
           let there = in_nth p.quints r h in
           let also : Occurs p.quints r.state = record { quint = r; stands = h; names = inl refl } in
           stuck.none.none there.0 r there.1 (record { from = tells.states c.state r.state occurs also (m.from ∙ ap (λ (v : Quint). v.state) e); reads = m.reads ∙ ap (λ (v : Quint). v.read) e })
 
-      rule : (q : Quint) (r : Rule) → q ≡ numbered number r → IsIn (middle_of p ++ leaving (final_of p.quints) ∷ []) r → Matches q (number (Own c.state)) (scanned c.tape) → ⊥
+      rule : (q : Quint) (r : Rule) → q ≡ numbered number r → Has (middle_of p ++ leaving (final_of p.quints) ∷ []) r → Matches q (number (Own c.state)) (scanned c.tape) → ⊥
       rule q r e h m = elim (in_append_cases (middle_of p) (leaving (final_of p.quints) ∷ []) r h) [
         | inl mid ↦ elim (in_append_cases (map renamed p.quints) (back_over_all (final_of p.quints) 1 (p.symbols - 1)) r mid) [
           | inl mine ↦ let from = in_map_cases renamed p.quints r mine in own q from.0 from.1 (e ∙ ap (numbered number) from.2) m
@@ -155,7 +155,7 @@ module _ (number : Name → ℕ) (p : Program) (loose : IsLoose p) (tells : Tell
         | inr (inr nothing) ↦ absurd nothing
       ]
 
-      none : (q : Quint) → IsIn (standardised_by number p).quints q → Matches q (number (Own c.state)) (scanned c.tape) → ⊥
+      none : (q : Quint) → Has (standardised_by number p).quints q → Matches q (number (Own c.state)) (scanned c.tape) → ⊥
       none q (inl e) m = tells.first c.state occurs (m.from ∙ ap (λ (v : Quint). v.state) e)
       none q (inr h) m =
           let r = in_map_cases (numbered number) (middle_of p ++ leaving (final_of p.quints) ∷ []) q h in

@@ -8,11 +8,11 @@ use Rattle.bn_standardise.specs.Limits.{most_quints}
 use Rattle.bn_standardise.specs.Standardised.{IsLoose, LeavesHalting}
 use Rattle.bn_standardise.specs.declared.refusal.LooseRefusal.{LooseRefusal}
 use Rattle.bn_standardise.specs.declared.refusal.LooseRefusal.TheVariants.{Repeat, Halting, Many, NoMemory}
+use Rattle.bn_lists.specs.Lists.{IsLeast}
 
 -- i is the least quintuple that leaves the halting state
-pub record IsLeastHalting (qs : List Quint) (i : ℕ) : Type 0 where
-  pub leaves : LeavesHalting qs i
-  pub least : (m : ℕ) → m < i → LeavesHalting qs m → ⊥
+abbrev pub IsLeastHalting : List Quint → ℕ → Type 0
+IsLeastHalting qs = IsLeast (LeavesHalting qs)
 
 -- how many quintuples the machine in standard form has: those of the machine, one for each symbol, and one more
 abbrev pub count_of : Program → ℕ

@@ -1,9 +1,9 @@
 -- The equivalent machine in standard form, and which machines have one.
 use Rattle.std.specs.Prelude.{◌≡◌, ◌≢◌, ℕ, List, map, Some, ◌⊎◌}
-use Rattle.bn_machine.specs.Machine.{Program, IsMachine, final_of, nth}
+use Rattle.bn_machine.specs.Machine.{Program, IsMachine, final_of}
+use Rattle.bn_lists.specs.Lists.{nth, Has}
 use Rattle.bn_machine.specs.declared.quint.Quint.{Quint}
 use Rattle.bn_standard.specs.Standard.{IsUnambiguous}
-use Rattle.bn_standardise.specs.Lists.{IsIn}
 use Rattle.bn_standardise.specs.Rules.{rules_of}
 use Rattle.bn_standardise.specs.Numbering.{number_of, states_of}
 use Rattle.bn_standardise.specs.declared.name.Name.{Name}
@@ -31,7 +31,7 @@ standardised p = standardised_by (numbering_of p) p
 -- the state stands in a quintuple
 pub record Occurs (qs : List Quint) (s : ℕ) : Type 0 where
   pub quint : Quint
-  pub stands : IsIn qs quint
+  pub stands : Has qs quint
   pub names : (quint.state ≡ s) ⊎ (quint.next ≡ s)
 
 -- the numbering tells apart the names that the rules have

@@ -5,7 +5,7 @@ use Rattle.std.proofs.lemmas.Bool.{cases_lt}
 use Rattle.std.proofs.lemmas.Bool.Decides.{eqb_tells}
 use Rattle.bn_theory.specs.declared.place.Place.{Place}
 use Rattle.bn_machine.specs.Machine.{Program, IsMachine, final_of}
-use Rattle.bn_machine.proofs.MachineLemmas.{nth-get_or}
+use Rattle.bn_lists.proofs.ListLemmas.{nth-get_or}
 use Rattle.bn_machine.specs.declared.quint.Quint.{Quint}
 use Rattle.bn_machine.specs.declared.quint.Shift.TheVariants.{Stay}
 use Rattle.bn_table.specs.Reading.{Reads}

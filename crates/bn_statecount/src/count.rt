@@ -1,6 +1,6 @@
 //! The count: each state at the first quadruple that shows it.
 ghost use Rattle.std.specs.Prelude.{◌≡◌, ◌<◌, ◌≤◌, ◌+◌, ◌*◌, ℕ, suc, length, List, Bool, true, false, Some, slice_get};
-ghost use Rattle.bn_machine.specs.Machine.{nth};
+ghost use Rattle.bn_lists.specs.Lists.{nth};
 ghost use Rattle.bn_quad.specs.Kept.{read_at, act_at};
 ghost use Rattle.bn_quad.specs.Quadruples.{IsQuadMachine};
 ghost use Rattle.bn_modules.specs.Controls.{ControlState, IsNumbering};

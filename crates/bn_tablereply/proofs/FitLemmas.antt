@@ -9,7 +9,8 @@ use Rattle.std.proofs.lemmas.Option.{slice_get_within, get_or_from_slice_get}
 use Rattle.bn_theory.specs.Runs.{Reaches}
 use Rattle.bn_machine.specs.Tape.{cell, letter_at}
 use Rattle.bn_machine.proofs.TapeLemmas.{cell-write, cell-word}
-use Rattle.bn_machine.specs.Machine.{Program, Moment, Goes, IsInRange, IsMachine, nth, start, start_of}
+use Rattle.bn_machine.specs.Machine.{Program, Moment, Goes, IsInRange, IsMachine, start, start_of}
+use Rattle.bn_lists.specs.Lists.{nth}
 use Rattle.bn_machine.specs.Run.{HasEnding, EndsAt}
 use Rattle.bn_machine.specs.Run as free
 use Rattle.bn_machine.specs.Window.{Room, anywhere}

@@ -17,7 +17,7 @@ use Rattle.bn_view.specs.Modules.{in_cell as in_cell_at}
 use Rattle.bn_view.specs.declared.layers.ModuleAt.TheVariants.{CellLine as AtLine, CellInside as AtInside}
 use Rattle.bn_modules.specs.Controls.{letters}
 use Rattle.bn_modules.specs.declared.cell_line.CellLine.{CellLine}
-use Rattle.bn_machine.specs.Machine.{nth}
+use Rattle.bn_lists.specs.Lists.{nth}
 use Rattle.bn_quad.specs.Quadruples.{Quadruples}
 use Rattle.std.proofs.lemmas.Option.{get_or_from_slice_get}
 use Rattle.bn_view.specs.Laws.{ModulesAreOne}

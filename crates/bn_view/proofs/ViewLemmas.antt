@@ -7,7 +7,8 @@ use Rattle.bn_theory.specs.Circuits.{Goes}
 use Rattle.bn_theory.specs.Stepping.{run}
 use Rattle.bn_theory.specs.declared.config.Config.{Config}
 use Rattle.bn_column.specs.Nets.{rotary_circuit}
-use Rattle.bn_machine.specs.Machine.{Program, nth}
+use Rattle.bn_machine.specs.Machine.{Program}
+use Rattle.bn_lists.specs.Lists.{nth}
 use Rattle.bn_machine.specs.Outcome.{Limits}
 use Rattle.bn_quad.specs.Quadruples.{IsQuadMachine, Quadruples, Rule, initial_of}
 use Rattle.bn_stages.specs.Renamed.{in_state}

@@ -1,7 +1,7 @@
 -- The machines of the two tables over the joint letters.
 use Rattle.std.proofs.Common.{◌≡◌, ◌∙◌, List, ℕ, ap, arith, length, subst, sym}
 use Rattle.bn_machine.specs.Machine.{Program}
-use Rattle.bn_stages.specs.In.{IsIn}
+use Rattle.bn_lists.specs.Lists.{IsIn}
 use Rattle.bn_erase.specs.Joint.{IsJoint}
 use Rattle.bn_erase.specs.Recoded.{recoded, widened}
 use Rattle.bn_erase.proofs.JoinedLemmas.{code_among, joined_is, joint_few, tables_joined}

@@ -1,5 +1,5 @@
 use Rattle.std.proofs.Common.{suc, arith}
-use Rattle.bn_machine.proofs.MachineLemmas.{all_from_before}
+use Rattle.bn_lists.proofs.ListLemmas.{all_from_before}
 use Rattle.bn_machine.proofs.machine.first_fault.Goals as goal
 
 pub returns-clause-none : goal.returns-clause-none

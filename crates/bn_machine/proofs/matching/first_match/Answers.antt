@@ -1,6 +1,7 @@
 use Rattle.std.proofs.Common.{suc, arith, refl, add-one}
 use Rattle.std.proofs.lemmas.Bool.{false≢true}
-use Rattle.bn_machine.proofs.MachineLemmas.{nth-get_or, all_before_more, first_match_at, no_match}
+use Rattle.bn_machine.proofs.MachineLemmas.{first_match_at, no_match}
+use Rattle.bn_lists.proofs.ListLemmas.{nth-get_or, all_before_more}
 use Rattle.bn_machine.proofs.matching.first_match.Goals as goal
 
 pub returns-then-is_match : goal.returns-then-is_match

@@ -1,5 +1,6 @@
 use Rattle.std.proofs.Common.{suc}
-use Rattle.bn_machine.specs.Machine.{Matches, AllBefore}
+use Rattle.bn_machine.specs.Machine.{Matches}
+use Rattle.bn_lists.specs.Lists.{AllBefore}
 use Rattle.bn_machine.proofs.matching.first_match.Given as goal
 
 abbrev pub invariant-loop-quint : goal.invariant-loop-quint

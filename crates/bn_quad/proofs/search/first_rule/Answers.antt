@@ -1,6 +1,6 @@
 use Rattle.std.proofs.Common.{suc, arith, add-one, refl}
 use Rattle.std.proofs.lemmas.Bool.{false≢true}
-use Rattle.bn_machine.proofs.MachineLemmas.{all_before_more}
+use Rattle.bn_lists.proofs.ListLemmas.{all_before_more}
 use Rattle.bn_quad.proofs.KeptLemmas.{nth-rules_of, length-rules_of}
 use Rattle.bn_quad.proofs.SearchLemmas.{first_rule_at, no_rule}
 use Rattle.bn_quad.proofs.search.first_rule.Goals as goal

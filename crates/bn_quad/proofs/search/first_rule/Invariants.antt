@@ -1,5 +1,5 @@
 use Rattle.std.proofs.Common.{suc}
-use Rattle.bn_machine.specs.Machine.{AllBefore}
+use Rattle.bn_lists.specs.Lists.{AllBefore}
 use Rattle.bn_quad.specs.Quadruples.{AppliesTo}
 use Rattle.bn_quad.specs.Calls.{configuration}
 use Rattle.bn_quad.specs.Kept.{rules_of}

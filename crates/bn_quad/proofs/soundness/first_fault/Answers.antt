@@ -1,6 +1,6 @@
 use Rattle.std.proofs.Common.{suc, arith, refl, add-one}
 use Rattle.std.proofs.lemmas.Bool.{false≢true}
-use Rattle.bn_machine.proofs.MachineLemmas.{nth-get_or, all_before_more, all_from_before}
+use Rattle.bn_lists.proofs.ListLemmas.{nth-get_or, all_before_more, all_from_before}
 use Rattle.bn_quad.proofs.KeptLemmas.{first_fault_at}
 use Rattle.bn_quad.proofs.soundness.first_fault.Goals as goal
 

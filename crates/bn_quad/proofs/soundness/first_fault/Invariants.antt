@@ -1,5 +1,5 @@
 use Rattle.std.proofs.Common.{suc}
-use Rattle.bn_machine.specs.Machine.{AllBefore}
+use Rattle.bn_lists.specs.Lists.{AllBefore}
 use Rattle.bn_quad.specs.Kept.{IsSound}
 use Rattle.bn_quad.proofs.soundness.first_fault.Given as goal
 

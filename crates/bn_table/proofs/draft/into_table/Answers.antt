@@ -2,7 +2,8 @@
 use Rattle.std.proofs.Common.{◌≡◌, arith, length, vec_len, Some, ℕ, zero, suc, List, All, subst}
 use Rattle.std.proofs.lemmas.Option.{get_or_from_slice_get, slice_get_within}
 use Rattle.std.proofs.lemmas.List.Elements.{All-get_or}
-use Rattle.bn_machine.specs.Machine.{IsFirstFault, IsInRange, nth}
+use Rattle.bn_machine.specs.Machine.{IsFirstFault, IsInRange}
+use Rattle.bn_lists.specs.Lists.{nth}
 use Rattle.bn_machine.specs.declared.quint.Quint.{Quint}
 use Rattle.bn_table.specs.Draft.{drafted}
 use Rattle.bn_table.proofs.Bounds.{few-letters}
