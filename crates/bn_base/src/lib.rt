@@ -9,4 +9,5 @@ mod tests;
 
 pub use limits::MOST_COUNT;
 pub use lines::{Lines, NextLine, one_cut};
-pub use numbers::{Digits, GREATEST, NoMemory, one_spelling, push_u64, read_u64};
+pub use numbers::{Digits, GREATEST, one_spelling, push_u64, read_u64};
+pub use bn_lists::NoMemory;

@@ -7,9 +7,8 @@ ghost use Rattle.std.specs.Str.Parse.{digits_value};
 ghost use Rattle.bn_base.specs.Number.{AreDigits, digits_at, HasLeadingZero, IsTooLarge, number_of, read_number};
 ghost use Rattle.bn_base.specs.Number.{greatest, WhatIsReadIsSpelled, WhatIsSpelledIsRead, SpellingsDiffer};
 
+use bn_lists::NoMemory;
 use itoa::Buffer;
-use std::alloc::AllocError;
-
 /// Why the bytes at a place are no number.
 #[derive(Clone, Copy, Debug, PartialEq, Eq)]
 pub enum Digits {
@@ -19,16 +18,6 @@ pub enum Digits {
     LeadingZero,
     /// The number is above 2^62.
     TooLarge,
-}
-
-/// Memory ran out.
-#[derive(Clone, Copy, Debug, PartialEq, Eq)]
-pub struct NoMemory;
-
-impl From<AllocError> for NoMemory {
-    fn from(_error: AllocError) -> NoMemory {
-        NoMemory
-    }
 }
 
 /// The greatest number that is read: 2^62.

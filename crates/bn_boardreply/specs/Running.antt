@@ -13,7 +13,7 @@ use Rattle.bn_headline.specs.Costs.{bound_of}
 use Rattle.bn_flat.specs.Flattened.{Flattened}
 use Rattle.bn_reply.specs.Replying.{IsReplied, IsUnfinished}
 use Rattle.bn_reply.specs.declared.reply.Reply.{Reply}
-use Rattle.bn_reply.specs.declared.reply.NoMemory.{NoMemory}
+use Rattle.bn_lists.specs.declared.memory.NoMemory.{NoMemory}
 use Rattle.bn_reply.specs.declared.status.Status.{Status}
 use Rattle.bn_boardanswers.specs.RunReply.{budget, reached, status_of}
 use Rattle.bn_boardanswers.specs.Laws.{found_text}

@@ -4,7 +4,7 @@ ghost use Rattle.bn_column.specs.Columns.{bar};
 ghost use Rattle.bn_theory.specs.Circuits.{IsConfig};
 
 use crate::cross::cross_in;
-use crate::refusal::NoMemory;
+use bn_lists::NoMemory;
 use bn_element::{EAST, HORIZONTAL, Rotary, VERTICAL, WEST};
 use bn_net::{Config, Net, Place, States};
 use std::alloc::Global;

@@ -4,7 +4,7 @@ ghost use Rattle.bn_column.specs.Wirings.{AreWiresOf, AreApart, AreFitting};
 ghost use Rattle.bn_column.specs.Columns.{IsInner};
 ghost use Rattle.bn_column.specs.Nets.{IsNetOf, wire_of};
 
-use crate::refusal::NoMemory;
+use bn_lists::NoMemory;
 use bn_element::{EAST, NORTH, Rotary, SOUTH, WEST};
 use bn_net::{Line, Net, NetRefusal, Wire};
 use std::alloc::Global;

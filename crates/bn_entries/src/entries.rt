@@ -5,13 +5,10 @@ ghost use Rattle.csv.specs.Records.{fields_of};
 ghost use Rattle.bn_entries.specs.Entries.{entries_of};
 ghost use Rattle.bn_entries.specs.Left.{left_of, IsReading};
 
+use bn_lists::NoMemory;
 use csv::{ByteRecord, ErrorKind, Reader, ReaderBuilder};
 use std::alloc::Global;
 use std::marker::Model;
-
-/// Memory ran out.
-#[derive(Clone, Copy, PartialEq, Eq, Debug)]
-pub struct NoMemory;
 
 /// One entry of a table: its fields, each a run of bytes. Contracts see it as the list of them.
 #[derive(Drop)]

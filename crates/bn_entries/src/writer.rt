@@ -4,7 +4,7 @@ ghost use Rattle.std.specs.Prelude.{◌≡◌, ◌++◌, [], true, map, OnOk, On
 ghost use Rattle.bn_entries.specs.Lines.{is_plain_entry, line_of};
 ghost use Rattle.bn_entries.specs.Written.{text_of, IsBetween};
 
-use crate::entries::NoMemory;
+use bn_lists::NoMemory;
 use csv::{Writer, WriterBuilder};
 use std::alloc::Global;
 use std::marker::Model;

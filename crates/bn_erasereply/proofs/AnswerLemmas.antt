@@ -22,7 +22,7 @@ use Rattle.bn_reply.specs.Lines.{why_line}
 use Rattle.bn_reply.specs.TableReply as table_reply
 use Rattle.bn_reply.specs.Words.{IsLetterSymbol}
 use Rattle.bn_reply.specs.declared.reply.Reply.{Reply}
-use Rattle.bn_reply.specs.declared.reply.NoMemory.{NoMemory as WantOfMemory}
+use Rattle.bn_lists.specs.declared.memory.NoMemory.{NoMemory as WantOfMemory}
 use Rattle.bn_reply.specs.declared.status.Status.{Status}
 use Rattle.bn_reply.proofs.TableLemmas.{reads_table, why_told}
 use Rattle.bn_erasereply.specs.EraseReply.{TellsErasing, lettered, outcome_text, status_of}

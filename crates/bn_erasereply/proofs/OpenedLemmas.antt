@@ -4,7 +4,7 @@ use Rattle.bn_table.specs.Reading.{Reads}
 use Rattle.bn_table.specs.Rows.{Named}
 use Rattle.bn_reply.specs.Cuts.{IsCut}
 use Rattle.bn_reply.specs.TableReply as table_reply
-use Rattle.bn_reply.specs.declared.reply.NoMemory.{NoMemory as WantOfMemory}
+use Rattle.bn_lists.specs.declared.memory.NoMemory.{NoMemory as WantOfMemory}
 use Rattle.bn_erasereply.specs.Opened.{AreOpened, IsOpenedPair, IsOpenedSecond}
 use Rattle.bn_erasereply.specs.Pairs as pairs
 use Rattle.bn_erasereply.specs.declared.pair.OpenedPair.{OpenedPair}

@@ -13,7 +13,7 @@ use Rattle.bn_gen.proofs.TableLemmas.{text_reads}
 use Rattle.bn_reply.specs.Answering.{IsSettled}
 use Rattle.bn_reply.specs.Replying.{IsReplied, IsUnfinished, untold, told_some}
 use Rattle.bn_reply.specs.Words.{IsLetterSymbol}
-use Rattle.bn_reply.specs.declared.reply.NoMemory.{NoMemory}
+use Rattle.bn_lists.specs.declared.memory.NoMemory.{NoMemory}
 use Rattle.bn_reply.specs.declared.reply.Reply.{Reply}
 use Rattle.bn_reply.specs.declared.status.Status.{Status}
 use Rattle.bn_boardanswers.specs.RunReply.{RunReplies}

@@ -5,19 +5,10 @@ ghost use Rattle.bn_io.specs.Faults.{HasCause};
 ghost use Rattle.bn_io.specs.Told.{Grows};
 ghost use Rattle.bn_io.specs.Memory.{MemoryOutput, OutputFails, accepted, output_failed, output_more};
 
+use bn_lists::NoMemory;
 use crate::sinks::{Sink, SinkFailed};
-use std::alloc::{AllocError, Global};
+use std::alloc::Global;
 use std::marker::Model;
-
-/// Memory ran out.
-#[derive(Clone, Copy, Debug, PartialEq, Eq)]
-pub struct NoMemory;
-
-impl From<AllocError> for NoMemory {
-    fn from(_error: AllocError) -> NoMemory {
-        NoMemory
-    }
-}
 
 /// A sink into memory, for tests and for output that is kept. It has room for so many bytes, takes
 /// at most so many a call, and fails in the calls that it was told to.

@@ -8,5 +8,6 @@ mod watch;
 
 pub use bn_theory::{CLOCK, Config, Line, Place, States, Wire};
 pub use net::{MOST_ELEMENTS, Net};
-pub use refusal::{NetRefusal, NoMemory};
+pub use refusal::NetRefusal;
+pub use bn_lists::NoMemory;
 pub use watch::{MemWatch, Quiet, Watch};

@@ -14,7 +14,8 @@ ghost use Rattle.bn_net.specs.Order.{AreInOrder};
 ghost use Rattle.bn_net.specs.Faults.{fault_of, checked, AreStates, AreFaultless, IsRefusal};
 ghost use Rattle.bn_theory.specs.declared.line.Line.{Line};
 
-use crate::refusal::{NetRefusal, NoMemory};
+use crate::refusal::NetRefusal;
+use bn_lists::NoMemory;
 use crate::row_map::RowMap;
 use bn_element::Element;
 use bn_theory::{CLOCK, Config, Line, Place, Wire};

@@ -4,7 +4,7 @@ ghost use Rattle.std.specs.Prelude.{◌≡◌, ℕ, false, ◌<◌, ◌≤◌, �
 ghost use Rattle.std.specs.Prelude.{nat_lt, if◌then◌else◌, vec_len};
 ghost use Rattle.std.specs.Vec.{vec_capacity};
 
-use crate::refusal::NoMemory;
+use bn_lists::NoMemory;
 use bn_theory::Place;
 use std::alloc::Global;
 use std::marker::Model;

@@ -21,5 +21,6 @@ pub use laws::{
 };
 pub use net_config::NetConfig;
 pub use read::read_config;
-pub use refusal::{NetlistRefusal, NoMemory};
+pub use refusal::NetlistRefusal;
+pub use bn_lists::NoMemory;
 pub use write::write_config;

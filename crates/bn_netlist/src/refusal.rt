@@ -1,11 +1,5 @@
 //! What the calls of this crate refuse.
 
-use std::alloc::AllocError;
-
-/// A call found no memory.
-#[derive(Clone, Copy, PartialEq, Eq, Debug)]
-pub struct NoMemory;
-
 /// Why a text is no configuration text: its first line with a fault, counted from 1, and that
 /// line's first fault.
 #[derive(Clone, Copy, PartialEq, Eq, Debug)]
@@ -55,14 +49,3 @@ pub enum NetlistRefusal {
     NoMemory,
 }
 
-impl From<AllocError> for NoMemory {
-    fn from(_error: AllocError) -> NoMemory {
-        NoMemory
-    }
-}
-
-impl From<bn_base::NoMemory> for NoMemory {
-    fn from(_want: bn_base::NoMemory) -> NoMemory {
-        NoMemory
-    }
-}

@@ -30,7 +30,7 @@ use Rattle.bn_reply.specs.Replying.{IsReplied, IsUnfinished, told_some}
 use Rattle.bn_netreply.specs.CircuitReply.{BackReplies, CircuitIsSettled, CircuitReplies, StepReplies, misspelled, walked, Walked, Misspelled, fault_text}
 use Rattle.bn_netreply.specs.Refused.{IsRefused}
 use Rattle.bn_reply.specs.declared.reply.Reply.{Reply}
-use Rattle.bn_reply.specs.declared.reply.NoMemory.{NoMemory as WantOfMemory}
+use Rattle.bn_lists.specs.declared.memory.NoMemory.{NoMemory as WantOfMemory}
 use Rattle.bn_reply.specs.declared.status.Status.TheVariants.{Done, Text}
 use Rattle.bn_reply.proofs.Walks.{hears-nothing}
 

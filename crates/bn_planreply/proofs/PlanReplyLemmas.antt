@@ -26,7 +26,7 @@ use Rattle.bn_netreply.specs.Refused.{IsRefused}
 use Rattle.bn_reply.specs.Answering.{HasAnswer, IsOneAnswer}
 use Rattle.bn_reply.specs.Codes.{IsReplyStatus}
 use Rattle.bn_reply.specs.declared.reply.Reply.{Reply}
-use Rattle.bn_reply.specs.declared.reply.NoMemory.{NoMemory as WantOfMemory}
+use Rattle.bn_lists.specs.declared.memory.NoMemory.{NoMemory as WantOfMemory}
 use Rattle.bn_reply.specs.declared.status.Status.{Status}
 use Rattle.bn_reply.specs.declared.status.Status.TheVariants.{Done, Text}
 use Rattle.bn_reply.proofs.SettledLemmas.{agree}

@@ -20,7 +20,8 @@ pub use laws::{
 pub use machine::QuadMachine;
 pub use names::QuadNames;
 pub use quad::{Act, Quad};
-pub use refusal::{NoMemory, NotUniform, QuadRefusal, UniformRefusal};
+pub use refusal::{NotUniform, QuadRefusal, UniformRefusal};
+pub use bn_lists::NoMemory;
 pub use tapes::{QuadTurn, Tapes};
 pub use uniform::Uniform;
 

@@ -3,7 +3,7 @@ ghost use Rattle.std.specs.Prelude.{◌≡◌, ℕ, ◌<◌, ◌≤◌, ◌-◌,
 ghost use Rattle.std.specs.Prelude.{OnOk, OnErr, Contains};
 ghost use Rattle.bn_quad.specs.Names.{AreApart};
 
-use crate::refusal::NoMemory;
+use bn_lists::NoMemory;
 use std::alloc::Global;
 use std::marker::Model;
 

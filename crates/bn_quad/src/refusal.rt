@@ -1,9 +1,5 @@
 //! Why quadruples make no machine, and why a machine isn't uniform.
 
-/// There was no memory.
-#[derive(Clone, Copy, PartialEq, Eq, Debug)]
-pub struct NoMemory;
-
 /// Why quadruples make no machine.
 #[derive(Clone, Copy, PartialEq, Eq, Debug)]
 pub enum QuadRefusal {

@@ -16,7 +16,8 @@ pub use laws::{
     own_wires_stay_inside,
 };
 pub use make::bank;
-pub use refusal::{BankRefusal, NoMemory};
+pub use refusal::BankRefusal;
+pub use bn_lists::NoMemory;
 pub use standing::Bank;
 pub use wires::bank_wires;
 

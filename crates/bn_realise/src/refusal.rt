@@ -1,8 +1,6 @@
 //! What the calls of this crate refuse.
 
-/// A call found no memory.
-#[derive(Clone, Copy, PartialEq, Eq, Debug)]
-pub struct NoMemory;
+use bn_lists::NoMemory;
 
 /// Why no bank was made.
 #[derive(Clone, Copy, PartialEq, Eq, Debug)]

@@ -6,7 +6,7 @@ ghost use Rattle.bn_realise.specs.Banks.{IsBankWire, column_at};
 ghost use Rattle.bn_realise.specs.BankWires.{IsEarlier, IsStage, IsHalf};
 ghost use Rattle.bn_realise.specs.BankNets.{HasRoom};
 
-use crate::refusal::NoMemory;
+use bn_lists::NoMemory;
 use bn_column::column_wires;
 use bn_element::{EAST, Element, WEST};
 use bn_net::{Line, Wire};

@@ -13,7 +13,7 @@ use Rattle.bn_reply.specs.TableReply.{JudgedReplies, fit, TableReplies, read, Wo
 use Rattle.bn_reply.specs.Words.{IsSpelledBy}
 use Rattle.bn_reply.proofs.Walks.{hears-nothing}
 use Rattle.bn_reply.specs.declared.reply.Reply.{Reply}
-use Rattle.bn_reply.specs.declared.reply.NoMemory.{NoMemory as WantOfMemory}
+use Rattle.bn_lists.specs.declared.memory.NoMemory.{NoMemory as WantOfMemory}
 use Rattle.bn_reply.specs.declared.status.Status.{Status}
 
 -- a reply that is written

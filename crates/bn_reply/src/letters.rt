@@ -4,7 +4,7 @@ ghost use Rattle.std.specs.Prelude.{◌≡◌, ◌<◌, ◌++◌, All, IfOk, IfE
 ghost use Rattle.bn_reply.specs.Letters.{IsSymbolOf, IsWordRefusal};
 ghost use Rattle.bn_reply.specs.Words.{IsLetterOf, IsSpelledBy, letters_of};
 
-use crate::reply::NoMemory;
+use bn_lists::NoMemory;
 use bn_table::Table;
 use std::alloc::Global;
 

@@ -18,6 +18,7 @@ pub use letters::push_letters;
 pub use limits::MOST_INPUT_BYTES;
 pub use lines::{empty_text, field_text, record_text, why_text};
 pub use opening::{Judged, OpenedTable, OpenedWord, judge_table, open_table, open_word};
-pub use reply::{NoMemory, Reply};
+pub use reply::Reply;
+pub use bn_lists::NoMemory;
 pub use status::Status;
 pub use writing::finish;

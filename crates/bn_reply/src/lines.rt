@@ -5,7 +5,7 @@ ghost use Rattle.bn_reply.specs.Lines.{empty_line, fault_line, field_line, recor
 ghost use Rattle.bn_table.specs.declared.refusal.TableRefusal.TheVariants as faults;
 ghost use Rattle.bn_standard.specs.declared.why.Why.TheVariants as whys;
 
-use crate::reply::NoMemory;
+use bn_lists::NoMemory;
 use bn_standard::Why;
 use bn_table::TableRefusal;
 use std::alloc::Global;

@@ -6,7 +6,8 @@ ghost use Rattle.bn_reply.specs.Opened.{IsJudged, IsOpenedTable, IsOpenedWord};
 
 use crate::letters::{WordRefusal, symbols_of};
 use crate::lines::{fault_text, why_text};
-use crate::reply::{NoMemory, Reply};
+use crate::reply::Reply;
+use bn_lists::NoMemory;
 use crate::status::Status;
 use bn_standard::{Standard, check};
 use bn_table::{Table, bytes_have_a_reading_or_a_fault, read_quints};

@@ -10,7 +10,8 @@ mod rsm_move;
 pub use laws::{
     costs_are_bounded, moves_are_sound_or_refused, refusals_are_one, sound_moves_are_taken,
 };
-pub use refusal::{NoMemory, RsmRefusal};
+pub use refusal::RsmRefusal;
+pub use bn_lists::NoMemory;
 pub use rsm::Rsm;
 pub use rsm_move::RsmMove;
 

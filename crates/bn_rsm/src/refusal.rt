@@ -1,8 +1,6 @@
 //! What the calls of this crate refuse.
 
-/// A call found no memory.
-#[derive(Clone, Copy, PartialEq, Eq, Debug)]
-pub struct NoMemory;
+use bn_lists::NoMemory;
 
 /// Why moves make no reversible machine. Moves are counted from 1. Move `j` is the first faulty one;
 /// it is tested first for `Range`, then for `SameDomain`, then for `SameRange`.

@@ -5,7 +5,8 @@ ghost use Rattle.bn_rsm.specs.Machines.{AreSound, AreSound-prop};
 ghost use Rattle.bn_rsm.specs.Faults.{turned};
 
 use crate::index::Index;
-use crate::refusal::{NoMemory, RsmRefusal};
+use crate::refusal::RsmRefusal;
+use bn_lists::NoMemory;
 use crate::rsm_move::RsmMove;
 use bn_element::Element;
 use std::alloc::{AllocError, Global};

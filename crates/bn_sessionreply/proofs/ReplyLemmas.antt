@@ -9,7 +9,7 @@ use Rattle.bn_bennett.specs.Translation.{Translation}
 use Rattle.bn_layout.specs.Flats.{Flat, flat_start}
 use Rattle.bn_flat.specs.Flattened.{Flattened}
 use Rattle.bn_reply.specs.declared.reply.Reply.{Reply}
-use Rattle.bn_reply.specs.declared.reply.NoMemory.{NoMemory as WantOfMemory}
+use Rattle.bn_lists.specs.declared.memory.NoMemory.{NoMemory as WantOfMemory}
 use Rattle.bn_reply.specs.declared.status.Status.TheVariants as statuses
 use Rattle.bn_boardanswers.specs.Windows.{BoardReplies, ComesTo, WindowReplies, board}
 use Rattle.bn_reply.specs.Cuts.{IsCut}

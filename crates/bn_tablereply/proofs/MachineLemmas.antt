@@ -8,7 +8,7 @@ use Rattle.bn_reply.specs.Answering.{HasAnswer, IsOneAnswer, IsSettled}
 use Rattle.bn_reply.specs.Codes.{IsReplyStatus}
 use Rattle.bn_reply.specs.TableReply.{WordReplies}
 use Rattle.bn_reply.specs.declared.reply.Reply.{Reply}
-use Rattle.bn_reply.specs.declared.reply.NoMemory.{NoMemory as WantOfMemory}
+use Rattle.bn_lists.specs.declared.memory.NoMemory.{NoMemory as WantOfMemory}
 use Rattle.bn_reply.proofs.SettledLemmas.{standard_settled, word_settled}
 use Rattle.bn_reply.proofs.TableLemmas.{reads_table}
 use Rattle.bn_tablereply.specs.MachineReply.{MachineIsSettled, TellsRun, ending_text, status_of}

@@ -16,7 +16,7 @@ use Rattle.bn_reply.specs.Answering.{IsSettled}
 use Rattle.bn_reply.specs.Replying.{IsReplied, IsUnfinished}
 use Rattle.bn_reply.specs.declared.reply.Reply.{Reply}
 use Rattle.bn_reply.specs.declared.status.Status.{Status}
-use Rattle.bn_reply.specs.declared.reply.NoMemory.{NoMemory as WantOfMemory}
+use Rattle.bn_lists.specs.declared.memory.NoMemory.{NoMemory as WantOfMemory}
 use Rattle.bn_reply.proofs.ReplyLemmas.{silent}
 use Rattle.bn_erasereply.specs.EraseReply.{EraseReplies, EraseRunReplies}
 use Rattle.bn_erasereply.proofs.SettledLemmas.{erase_settled, erase_run_settled}
