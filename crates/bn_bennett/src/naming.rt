@@ -52,14 +52,10 @@ pub fn name_text(alloc: Global, name: Name) -> Result<Vec<u8>, NoMemory>
 {
     let print = print_of(name);
     let mut text = Vec::new(alloc);
-    if text.push(print.letter).is_err() {
-        return Err(NoMemory);
-    }
-    if push_u64(&mut text, print.number).is_err() {
-        return Err(NoMemory);
-    }
-    if print.primed && text.push(b'\'').is_err() {
-        return Err(NoMemory);
+    text.push(print.letter)?;
+    push_u64(&mut text, print.number)?;
+    if print.primed {
+        text.push(b'\'')?;
     }
     Ok(text)
 }

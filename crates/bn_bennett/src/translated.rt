@@ -156,9 +156,7 @@ fn with_machine(alloc: Global, draft: Draft, standard: &Standard) -> Result<Tran
         ≡ 4 * length standard.now.quints + 2 * standard.now.symbols + 3) }
 {
     let Draft { names, quads } = draft;
-    let Ok(names) = Vec::from_slice(alloc, names.as_slice()) else {
-        return Err(NoMemory);
-    };
+    let names = Vec::from_slice(alloc, names.as_slice())?;
     let machine = uniform_of(names.as_slice(), quads, standard);
     Ok(Translated {
         names,

@@ -118,9 +118,7 @@ fn board_text(alloc: Global, board: &Board) -> Result<Vec<u8>, NoMemory>
 {
     // What every board keeps.
     let _elements = board.len();
-    let Ok(parts) = board.net_config(alloc) else {
-        return Err(NoMemory);
-    };
+    let parts = board.net_config(alloc)?;
     let spelled = NetConfig {
         net: parts.net,
         config: parts.config,

@@ -112,9 +112,7 @@ impl Column {
 fn resting(alloc: Global, rows: u32, marked: bool) -> Result<Vec<u32>, NoMemory>
     ensures { IfOk result (λ v. v.items ≡ replicate rows 1 ++ bar marked ∷ []) }
 {
-    let Ok(mut states) = vec![in alloc; VERTICAL; rows as usize] else {
-        return Err(NoMemory);
-    };
+    let mut states = vec![in alloc; VERTICAL; rows as usize]?;
     match states.push(if marked { HORIZONTAL } else { VERTICAL }) {
         Ok(()) => Ok(states),
         Err(_) => Err(NoMemory),

@@ -197,9 +197,7 @@ fn add_first(names: &mut Vec<ErasingName>, states: &[Name]) -> Result<(), NoMemo
     ensures { OnOk result (names.new.items ≡ names.old.items ++ map kind.First states.now) }
 {
     for name in states {
-        if names.push(ErasingName::First(*name)).is_err() {
-            return Err(NoMemory);
-        }
+        names.push(ErasingName::First(*name))?;
     }
     Ok(())
 }
@@ -209,9 +207,7 @@ fn add_second(names: &mut Vec<ErasingName>, states: &[Name]) -> Result<(), NoMem
     ensures { OnOk result (names.new.items ≡ names.old.items ++ map kind.Second states.now) }
 {
     for name in states {
-        if names.push(ErasingName::Second(*name)).is_err() {
-            return Err(NoMemory);
-        }
+        names.push(ErasingName::Second(*name))?;
     }
     Ok(())
 }
@@ -250,9 +246,7 @@ fn add_backward(quads: &mut Vec<Quad>, others: &[Quad], meeting: Meeting) -> Res
     ensures { OnOk result (quads.new.items ≡ quads.old.items ++ map (backward_quad meeting) others.now) }
 {
     for quad in others {
-        if quads.push(backward_quad(quad, meeting)).is_err() {
-            return Err(NoMemory);
-        }
+        quads.push(backward_quad(quad, meeting))?;
     }
     Ok(())
 }

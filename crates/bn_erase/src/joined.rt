@@ -132,9 +132,7 @@ fn widened(alloc: Global, machine: &Machine, symbols: u32) -> Result<Machine, No
     requires { machine.now.symbols ≤ symbols }
     ensures { IfOk result (λ m. m ≡ widened symbols machine.now) }
 {
-    let Ok(quints) = Vec::from_slice(alloc, machine.quints()) else {
-        return Err(NoMemory);
-    };
+    let quints = Vec::from_slice(alloc, machine.quints())?;
     match Machine::try_new(quints, machine.states(), symbols) {
         Ok(machine) => Ok(machine),
         Err(_) => unreachable!(),
@@ -170,9 +168,7 @@ fn recoded_quints(
 {
     let mut made = Vec::new(alloc);
     for quint in quints {
-        if made.push(recoded_quint(table, letters, quint)).is_err() {
-            return Err(NoMemory);
-        }
+        made.push(recoded_quint(table, letters, quint))?;
     }
     Ok(made)
 }

@@ -79,9 +79,7 @@ fn marked_text(alloc: Global, letter: u8, name: Name) -> Result<Vec<u8>, NoMemor
 {
     let own = name_text(alloc, name)?;
     let mut text = Vec::new(alloc);
-    if text.push(letter).is_err() {
-        return Err(NoMemory);
-    }
+    text.push(letter)?;
     match text.extend_from_slice(own.as_slice()) {
         Ok(()) => Ok(text),
         Err(_) => Err(NoMemory),

@@ -121,9 +121,7 @@ fn word_on(alloc: Global, tape: &Tape) -> Result<Vec<u32>, NoMemory>
     let mut word = Vec::new(alloc);
     let mut position = 1;
     while let Some(symbol) = letter_at(tape, position) {
-        if word.push(symbol).is_err() {
-            return Err(NoMemory);
-        }
+        word.push(symbol)?;
         position += 1;
     }
     Ok(word)

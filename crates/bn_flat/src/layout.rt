@@ -91,12 +91,8 @@ impl Layout {
     pub(crate) fn copy(&self, alloc: Global) -> Result<Layout, NoMemory>
         ensures { IfOk result (λ b. b ≡ self.now) }
     {
-        let Ok(firsts) = self.firsts.as_slice().to_vec(alloc) else {
-            return Err(NoMemory);
-        };
-        let Ok(awaited) = self.awaited.as_slice().to_vec(alloc) else {
-            return Err(NoMemory);
-        };
+        let firsts = self.firsts.as_slice().to_vec(alloc)?;
+        let awaited = self.awaited.as_slice().to_vec(alloc)?;
         Ok(Layout {
             windows: self.windows,
             symbols: self.symbols,

@@ -26,9 +26,7 @@ pub fn reply_generate<W: Watch>(alloc: Global, k: u32, watch: &mut W) -> Result<
     ensures replied { IfOk result (λ r. IsReplied (GenerateReplies k) r (W.told watch.old) (W.told watch.new)) }
     ensures interrupted { OnErr result (IsUnfinished (GenerateReplies k) (W.told watch.old) (W.told watch.new)) }
 {
-    let Ok(table) = increments_text(alloc, k) else {
-        return Err(NoMemory);
-    };
+    let table = increments_text(alloc, k)?;
     match title_of(alloc, k) {
         Ok(first_line) => run_behind(alloc, first_line, k, table.as_slice(), watch),
         Err(_) => Err(NoMemory),

@@ -136,7 +136,7 @@ impl Bars {
     pub(crate) fn copy(&self, alloc: Global) -> Result<Bars, NoMemory>
         ensures { IfOk result (λ b. b ≡ self.now) }
     {
-        let words = self.words.as_slice().to_vec(alloc).map_err(|_| NoMemory)?;
+        let words = self.words.as_slice().to_vec(alloc)?;
         Ok(Bars {
             count: self.count,
             words,

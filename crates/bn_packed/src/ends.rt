@@ -37,9 +37,7 @@ impl<C: Cell> Ends<C> {
         ensures ends { IfOk result (λ m. m.ends ≡ []) }
     {
         let lines = LINES as usize * elements as usize;
-        let Ok(cells) = Vec::with_capacity(alloc, lines) else {
-            return Err(NoMemory);
-        };
+        let cells = Vec::with_capacity(alloc, lines)?;
         Ok(Ends { elements, cells })
     }
 
@@ -81,13 +79,9 @@ impl<C: Cell> Ends<C> {
     pub(crate) fn copy(&self, alloc: Global) -> Result<Ends<C>, NoMemory>
         ensures { IfOk result (λ m. m ≡ self.now) }
     {
-        let Ok(mut cells) = Vec::with_capacity(alloc, self.cells.len()) else {
-            return Err(NoMemory);
-        };
+        let mut cells = Vec::with_capacity(alloc, self.cells.len())?;
         for cell in &self.cells {
-            if cells.push(*cell).is_err() {
-                return Err(NoMemory);
-            }
+            cells.push(*cell)?;
         }
         Ok(Ends {
             elements: self.elements,

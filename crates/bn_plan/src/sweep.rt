@@ -46,9 +46,7 @@ impl Sweep {
         ensures positions { IfOk result (λ s. length s.ending ≡ positions) }
         ensures swept { IfOk result (λ s. (ws : List Wire) → IsSwept ws 0 s) }
     {
-        let Ok(ending) = vec![in alloc; None; positions as usize] else {
-            return Err(NoMemory);
-        };
+        let ending = vec![in alloc; None; positions as usize]?;
         Ok(Sweep {
             wires: Vec::new(alloc),
             free: FreeTracks::new(alloc),

@@ -8,7 +8,7 @@ use Rattle.bn_lists.specs.Lists.{nth}
 use Rattle.bn_lists.proofs.ListLemmas.{nth_once}
 use Rattle.bn_machine.proofs.OutcomeLemmas.{beyond_one_side, not_inside_and_beyond}
 use Rattle.bn_quad.specs.Quadruples.{Deed, Rewrite, Move, Rule, deeds_of, Configuration, after, Quadruples, IsFirstRule, GoesBy, AreAllowed, IsStuck}
-use Rattle.bn_quad.specs.Overlap.{IsClash, HasNoClash, IsLeastClash, IsFlawed, HasNoFlaw, IsFirstFlaw}
+use Rattle.bn_quad.specs.Overlap.{IsClash, HasNoClash, IsLeastClash, IsFlawed, HasNoFlaw, IsFirstFlaw, initial_flaw, final_flaw}
 use Rattle.bn_quad.specs.Kept.{IsFirstFault, IsQuadInRange}
 use Rattle.bn_quad.specs.Calls.{configuration, windows_of, rooms_of, DeedLeaves, DeedStays, LeavesAt, IsLeaving, AreSameWindows, IsQuadRefusal, IsNotUniform, IsUniformRefusal}
 use Rattle.bn_quad.proofs.QuadStepLemmas.{first_rule_once}
@@ -17,6 +17,7 @@ use Rattle.bn_machine.specs.declared.quint.Side.{Side}
 use Rattle.bn_quad.specs.declared.clash.Clash.{Clash}
 use Rattle.bn_quad.specs.declared.clash.Flaw.{Flaw}
 use Rattle.bn_quad.specs.declared.quad.Quad.{Quad}
+use Rattle.bn_quad.specs.declared.clash.Flaw.TheVariants as flaws
 use Rattle.bn_quad.specs.declared.refusal.QuadRefusal.{QuadRefusal}
 use Rattle.bn_quad.specs.declared.refusal.QuadRefusal.TheVariants as refusal
 use Rattle.bn_quad.specs.declared.refusal.NotUniform.{NotUniform}
@@ -62,8 +63,8 @@ no_least {i = i} {j = j} none least = none.none i j least.holds
 flaw_once : (flaw : Flaw) (rs : List (Rule ℕ)) (i j : ℕ) → IsFirstFlaw flaw rs i → IsFirstFlaw flaw rs j → i ≡ j
 flaw_once flaw rs i j a b = (first_once (IsFlawed flaw) rs i j a.0 b.0 a.1 b.1).0
 
-no_first : {flaw : Flaw} {rs : List (Rule ℕ)} {i : ℕ} → HasNoFlaw flaw rs → IsFirstFlaw flaw rs i → ⊥
-no_first {i = i} none first = none.none i first.0 first.1.stands first.1.holds
+no_first : (flaw : Flaw) (rs : List (Rule ℕ)) (i : ℕ) → HasNoFlaw flaw rs → IsFirstFlaw flaw rs i → ⊥
+no_first flaw rs i none first = none.none i first.0 first.1.stands first.1.holds
 
 uneven_once : (rs : List (Rule ℕ)) (a b : NotUniform) → IsNotUniform rs a → IsNotUniform rs b → a ≡ b
 uneven_once rs (uneven.ReadMask i j) (uneven.ReadMask m n) h k = let e = clash_once _ rs i j m n h k in λ t. uneven.ReadMask (e.0 t) (e.1 t)
@@ -78,19 +79,19 @@ uneven_once rs (uneven.WriteMask i j) (uneven.InitialEntered m) h k = absurd (no
 uneven_once rs (uneven.WriteMask i j) (uneven.FinalLeft m) h k = absurd (no_least k.1 h.1)
 uneven_once rs (uneven.Silent i) (uneven.ReadMask m n) h k = absurd (no_least h.0 k)
 uneven_once rs (uneven.Silent i) (uneven.WriteMask m n) h k = absurd (no_least h.1 k.1)
-uneven_once rs (uneven.Silent i) (uneven.Silent m) h k = ap uneven.Silent (flaw_once _ rs i m h.2 k.2)
-uneven_once rs (uneven.Silent i) (uneven.InitialEntered m) h k = absurd (no_first k.2 h.2)
-uneven_once rs (uneven.Silent i) (uneven.FinalLeft m) h k = absurd (no_first k.2 h.2)
+uneven_once rs (uneven.Silent i) (uneven.Silent m) h k = ap uneven.Silent (flaw_once flaws.Silent rs i m h.2 k.2)
+uneven_once rs (uneven.Silent i) (uneven.InitialEntered m) h k = absurd (no_first flaws.Silent rs i k.2 h.2)
+uneven_once rs (uneven.Silent i) (uneven.FinalLeft m) h k = absurd (no_first flaws.Silent rs i k.2 h.2)
 uneven_once rs (uneven.InitialEntered i) (uneven.ReadMask m n) h k = absurd (no_least h.0 k)
 uneven_once rs (uneven.InitialEntered i) (uneven.WriteMask m n) h k = absurd (no_least h.1 k.1)
-uneven_once rs (uneven.InitialEntered i) (uneven.Silent m) h k = absurd (no_first h.2 k.2)
-uneven_once rs (uneven.InitialEntered i) (uneven.InitialEntered m) h k = ap uneven.InitialEntered (flaw_once _ rs i m h.3 k.3)
-uneven_once rs (uneven.InitialEntered i) (uneven.FinalLeft m) h k = absurd (no_first k.3 h.3)
+uneven_once rs (uneven.InitialEntered i) (uneven.Silent m) h k = absurd (no_first flaws.Silent rs m h.2 k.2)
+uneven_once rs (uneven.InitialEntered i) (uneven.InitialEntered m) h k = ap uneven.InitialEntered (flaw_once (initial_flaw rs) rs i m h.3 k.3)
+uneven_once rs (uneven.InitialEntered i) (uneven.FinalLeft m) h k = absurd (no_first (initial_flaw rs) rs i k.3 h.3)
 uneven_once rs (uneven.FinalLeft i) (uneven.ReadMask m n) h k = absurd (no_least h.0 k)
 uneven_once rs (uneven.FinalLeft i) (uneven.WriteMask m n) h k = absurd (no_least h.1 k.1)
-uneven_once rs (uneven.FinalLeft i) (uneven.Silent m) h k = absurd (no_first h.2 k.2)
-uneven_once rs (uneven.FinalLeft i) (uneven.InitialEntered m) h k = absurd (no_first h.3 k.3)
-uneven_once rs (uneven.FinalLeft i) (uneven.FinalLeft m) h k = ap uneven.FinalLeft (flaw_once _ rs i m h.4 k.4)
+uneven_once rs (uneven.FinalLeft i) (uneven.Silent m) h k = absurd (no_first flaws.Silent rs m h.2 k.2)
+uneven_once rs (uneven.FinalLeft i) (uneven.InitialEntered m) h k = absurd (no_first (initial_flaw rs) rs m h.3 k.3)
+uneven_once rs (uneven.FinalLeft i) (uneven.FinalLeft m) h k = ap uneven.FinalLeft (flaw_once (final_flaw rs) rs i m h.4 k.4)
 
 uniform_refusal_once : (rs : List (Rule ℕ)) (a b : UniformRefusal) → IsUniformRefusal rs a → IsUniformRefusal rs b → a ≡ b
 uniform_refusal_once rs (uniform.Domain i j) (uniform.Domain m n) h k = let e = clash_once _ rs i j m n h k in λ t. uniform.Domain (e.0 t) (e.1 t)

@@ -106,9 +106,7 @@ fn resting(alloc: Global, states: u32, lines: u32, state: u32) -> Result<Vec<u32
     ensures { IfOk result (λ v. v.items ≡ slice_set (replicate (states * (lines + 1)) 1) (bottom_at 0 lines state) 0) }
 {
     let rows = lines as usize + 1;
-    let Ok(mut bars) = vec![in alloc; VERTICAL; states as usize * rows] else {
-        return Err(NoMemory);
-    };
+    let mut bars = vec![in alloc; VERTICAL; states as usize * rows]?;
     bars[state as usize * rows + lines as usize] = HORIZONTAL;
     Ok(bars)
 }

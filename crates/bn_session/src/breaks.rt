@@ -42,9 +42,7 @@ impl Breaks {
     pub(crate) fn new(alloc: Global, elements: u32) -> Result<Breaks, NoMemory>
         ensures { IfOk result (λ breaks. breaks ≡ []) }
     {
-        let Ok(marks) = vec![in alloc; false; elements as usize] else {
-            return Err(NoMemory);
-        };
+        let marks = vec![in alloc; false; elements as usize]?;
         Ok(Breaks {
             alloc,
             conditions: Slab::new(alloc),

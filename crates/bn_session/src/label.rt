@@ -35,9 +35,7 @@ impl Label {
         requires { forms.is_label bytes.now ≡ true }
         ensures { IfOk result (λ label. label ≡ bytes.now) }
     {
-        let Ok(bytes) = Vec::from_slice(alloc, bytes) else {
-            return Err(NoMemory);
-        };
+        let bytes = Vec::from_slice(alloc, bytes)?;
         Ok(Label { bytes })
     }
 

@@ -23,9 +23,7 @@ fn own_text(alloc: Global, state: u32) -> Result<Vec<u8>, NoMemory>
     ensures { IfOk result (λ text. text.items ≡ name_text (Name.Own state)) }
 {
     let mut text = Vec::new(alloc);
-    if text.push(b'Q').is_err() {
-        return Err(NoMemory);
-    }
+    text.push(b'Q')?;
     match push_u64(&mut text, u64::from(state) + 1) {
         Ok(()) => Ok(text),
         Err(_) => Err(NoMemory),

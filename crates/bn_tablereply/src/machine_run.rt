@@ -105,9 +105,7 @@ fn output_of(alloc: Global, tape: &Tape) -> Result<Vec<u32>, NoMemory>
     let mut output = Vec::new(alloc);
     let mut position = tape.head() + 1;
     while let Some(symbol) = letter_at(tape, position) {
-        if output.push(symbol).is_err() {
-            return Err(NoMemory);
-        }
+        output.push(symbol)?;
         position += 1;
     }
     Ok(output)
