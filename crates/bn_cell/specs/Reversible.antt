@@ -20,16 +20,7 @@ pub whole : {A : Type 0} (o : Option A) (P : A → Type 0) (x : A) → Whole o P
 whole o P x w e = let f : Option _ → Type 0 = λ v. Whole v P in subst f e w
 
 pub forth : (q : CellState) (i : CellLine) → Whole (cell_go q i) (λ m. cell_back m.0 m.1 ≡ Some (q, i))
-forth (Plain t) Read = refl
-forth (Plain t) (Write u) = refl
-forth (Plain t) ShiftRight = refl
-forth (Plain t) ShiftLeft = refl
-forth (Plain t) TakeRight = refl
-forth (Plain t) (Answer u) = refl
-forth (Plain t) DoneWrite = refl
-forth (Plain t) DoneRight = refl
-forth (Plain t) DoneLeft = refl
-forth (Plain t) TakeLeft = refl
+forth (Plain t) _ = refl
 forth (Head t) Read = refl
 forth (Head zero) (Write u) = refl
 forth (Head (suc t)) (Write u) = tt
@@ -38,16 +29,7 @@ forth (Head t) ShiftLeft = refl
 forth (Head t) _ = tt
 
 pub back : (q : CellState) (i : CellLine) → Whole (cell_back q i) (λ m. cell_go m.0 m.1 ≡ Some (q, i))
-back (Plain t) Read = refl
-back (Plain t) (Write u) = refl
-back (Plain t) ShiftRight = refl
-back (Plain t) ShiftLeft = refl
-back (Plain t) TakeRight = refl
-back (Plain t) (Answer u) = refl
-back (Plain t) DoneWrite = refl
-back (Plain t) DoneRight = refl
-back (Plain t) DoneLeft = refl
-back (Plain t) TakeLeft = refl
+back (Plain t) _ = refl
 back (Head zero) (Answer u) = refl
 back (Head (suc t)) (Answer u) = tt
 back (Head t) DoneWrite = refl
@@ -64,14 +46,8 @@ states z (Head t) lt = grind (arith, nat_tests)
 pub lines : (z : ℕ) (l : CellLine) → IsLineOf z l → line_of z (line_number z l) ≡ l
 lines z Read lt = refl
 lines z (Write u) lt = grind (arith, nat_tests)
-lines z ShiftRight lt = grind (arith, nat_tests)
-lines z ShiftLeft lt = grind (arith, nat_tests)
-lines z TakeRight lt = grind (arith, nat_tests)
 lines z (Answer u) lt = grind (arith, nat_tests)
-lines z DoneWrite lt = grind (arith, nat_tests)
-lines z DoneRight lt = grind (arith, nat_tests)
-lines z DoneLeft lt = grind (arith, nat_tests)
-lines z TakeLeft lt = grind (arith, nat_tests)
+lines z _ lt = grind (arith, nat_tests)
 
 pub line_within : (z : ℕ) (l : CellLine) → IsLineOf z l → line_number z l < lines_of z
 line_within z Read lt = omega arith
@@ -99,16 +75,9 @@ pub valid_line : (z n : ℕ) → n < lines_of z → IsLineOf z (line_of z n)
 valid_line z n lt = go (line_of z n) (numbers z n lt) refl
   where
     go : (l : CellLine) → line_number z l ≡ n → line_of z n ≡ l → IsLineOf z l
-    go Read e f = tt
     go (Write u) e f = grind (arith, nat_tests)
-    go ShiftRight e f = tt
-    go ShiftLeft e f = tt
-    go TakeRight e f = tt
     go (Answer u) e f = grind (arith, nat_tests)
-    go DoneWrite e f = tt
-    go DoneRight e f = tt
-    go DoneLeft e f = tt
-    go TakeLeft e f = tt
+    go _ e f = tt
 
 firsts : (v w : ℕ × ℕ) → Some v ≡ Some w → v.0 ≡ w.0
 firsts v w e = let same : v ≡ w = cc in ap (λ (k : ℕ × ℕ). k.0) same
@@ -174,16 +143,9 @@ module _ (z : ℕ) (go back_go : CellState → CellLine → Option (CellState ×
 
 keeps_go : (z : ℕ) (q : CellState) (l : CellLine) → 0 < z → IsStateOf z q → IsLineOf z l
     → Whole (cell_go q l) (λ m. IsStateOf z m.0 × IsLineOf z m.1)
-keeps_go z (Plain t) Read some is line = (is, line)
-keeps_go z (Plain t) (Write u) some is line = (is, line)
-keeps_go z (Plain t) ShiftRight some is line = (is, line)
-keeps_go z (Plain t) ShiftLeft some is line = (is, line)
 keeps_go z (Plain t) TakeRight some is line = (is, tt)
-keeps_go z (Plain t) (Answer u) some is line = (is, line)
-keeps_go z (Plain t) DoneWrite some is line = (is, line)
-keeps_go z (Plain t) DoneRight some is line = (is, line)
-keeps_go z (Plain t) DoneLeft some is line = (is, line)
 keeps_go z (Plain t) TakeLeft some is line = (is, tt)
+keeps_go z (Plain t) _ some is line = (is, line)
 keeps_go z (Head t) Read some is line = (some, is)
 keeps_go z (Head zero) (Write u) some is line = (line, tt)
 keeps_go z (Head (suc t)) (Write u) some is line = tt
@@ -193,16 +155,9 @@ keeps_go z (Head t) _ some is line = tt
 
 keeps_back : (z : ℕ) (q : CellState) (l : CellLine) → 0 < z → IsStateOf z q → IsLineOf z l
     → Whole (cell_back q l) (λ m. IsStateOf z m.0 × IsLineOf z m.1)
-keeps_back z (Plain t) Read some is line = (is, line)
-keeps_back z (Plain t) (Write u) some is line = (is, line)
-keeps_back z (Plain t) ShiftRight some is line = (is, line)
-keeps_back z (Plain t) ShiftLeft some is line = (is, line)
 keeps_back z (Plain t) TakeRight some is line = (is, tt)
-keeps_back z (Plain t) (Answer u) some is line = (is, line)
-keeps_back z (Plain t) DoneWrite some is line = (is, line)
-keeps_back z (Plain t) DoneRight some is line = (is, line)
-keeps_back z (Plain t) DoneLeft some is line = (is, line)
 keeps_back z (Plain t) TakeLeft some is line = (is, tt)
+keeps_back z (Plain t) _ some is line = (is, line)
 keeps_back z (Head zero) (Answer u) some is line = (line, tt)
 keeps_back z (Head (suc t)) (Answer u) some is line = tt
 keeps_back z (Head t) DoneWrite some is line = (some, is)
