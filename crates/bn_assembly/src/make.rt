@@ -1,16 +1,12 @@
 //! Networks are assembled here.
 ghost use Rattle.std.specs.Prelude.{◌≡◌, ℕ, ◌*◌, ◌^◌, ◌<◌, ◌≤◌, List, IfOk, IfErr, length, map};
-ghost use Rattle.bn_theory.specs.Circuits.{IsCircuit, target};
 ghost use Rattle.bn_theory.specs.declared.line.Line.{Line};
-ghost use Rattle.bn_net.specs.Faults.{AreFaultless};
-ghost use Rattle.bn_net.specs.Parts.{circuit};
 ghost use Rattle.bn_quad.specs.Quadruples.{IsQuadMachine};
 ghost use Rattle.bn_quad.specs.Calls.{IsUniformMachine};
 ghost use Rattle.bn_modules.specs.Controls.{ControlState, IsNumbering};
 ghost use Rattle.bn_modules.specs.Networks.{bank_size, cell_size, elements_by};
 ghost use Rattle.bn_control.specs.Controlled.{IsControlOf, IsWithinLimits};
 ghost use Rattle.bn_assembly.specs.Assembled.{AreSmall, IsAssembled, IsRefusal, IsWordOf, limits_of};
-ghost use Rattle.bn_assembly.specs.Modules.{module_table};
 
 use crate::assembly::Assembly;
 use crate::module::Module;
@@ -22,7 +18,7 @@ use crate::wires::network_wires;
 use bn_cell::MOST_SYMBOLS;
 use bn_control::{Control, NoMemory, control};
 use bn_element::Element;
-use bn_net::{Config, MOST_ELEMENTS, Net, NetRefusal, Place, States, Wire};
+use bn_net::{Config, MOST_ELEMENTS, Net, Place, States};
 use bn_quad::{QuadMachine, Uniform};
 use bn_statecount::state_count;
 use std::alloc::Global;
@@ -134,7 +130,7 @@ fn join(
     let wires = network_wires(alloc, machine, windows)?;
     let states = start_states(alloc, machine, windows, word)?;
     let modules = network_modules(alloc, control, machine, windows)?;
-    let net = net_of(alloc, modules, wires.as_slice())?;
+    let net = Net::new(alloc, modules, wires.as_slice())?;
     let config = Config {
         states: States::new(states),
         place: Place::Enter {
@@ -144,28 +140,6 @@ fn join(
         steps: 0,
     };
     Ok(Assembly::of(net, config, *windows))
-}
-
-// The net of these modules and wires.
-fn net_of(alloc: Global, modules: Vec<Module>, wires: &[Wire]) -> Result<Net<Module>, NoMemory>
-    requires few_modules { length modules.items < 2 ^ 32 }
-    requires few_wires { length wires.now < 2 ^ 32 }
-    requires faultless { AreFaultless (map module_table modules.items) wires.now }
-    ensures elements { IfOk result (λ net. net.elements ≡ modules.items) }
-    ensures targets { IfOk result (λ net. (from : Line) → target net.wires from ≡ target wires.now from) }
-    ensures circuit { IfOk result (λ net. IsCircuit (circuit module_table net)) }
-{
-    match Net::try_new(alloc, modules, wires) {
-        Ok(net) => Ok(net),
-        Err(refusal) => Err(want_of_memory(refusal)),
-    }
-}
-
-// The one refusal that wires without a fault meet.
-fn want_of_memory(_refusal: NetRefusal) -> NoMemory
-    requires { _refusal ≡ NetRefusal.NoMemory }
-{
-    NoMemory
 }
 
 // The elements of a bank of so many states and lines.

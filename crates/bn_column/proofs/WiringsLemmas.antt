@@ -1,17 +1,13 @@
 -- Lists of wires that are one to one, and what relation of lines they make.
-use Rattle.std.specs.Prelude.{◌≡◌, ◌≢◌, ℕ, ◌<◌, ◌-◌, true, false, nat_lt, List, [], ◌∷◌, ◌++◌, replicate, take, Option, Some, None, slice_get, refl, ◌⊎◌}
+use Rattle.std.specs.Prelude.{◌≡◌, ◌≢◌, ℕ, ◌<◌, true, false, nat_lt, List, [], ◌∷◌, ◌++◌, replicate, take, Option, Some, None, slice_get, refl, ◌⊎◌}
 use Rattle.std.proofs.Common.{zero, suc, arith, sym, ap, subst, ◌∙◌, inl, inr}
 use Rattle.std.proofs.lemmas.Bool.Decides.{eqb_tells, nat_tests}
-use Rattle.bn_theory.specs.Tables.{Table}
 use Rattle.bn_theory.specs.Circuits.{same_line, target, source, IsOneToOne, inputs_of, outputs_of}
 use Rattle.bn_theory.proofs.StepLemmas.{same_lines}
 use Rattle.bn_theory.specs.declared.line.Line.{Line}
 use Rattle.bn_theory.specs.declared.line.Wire.{Wire}
 use Rattle.bn_element.specs.Rotary.{rotary}
-use Rattle.std.proofs.lemmas.Option.{slice_get_within}
-use Rattle.bn_net.specs.Faults.{WireFault, AreFaultless, IsFirstFault, out_of_range, second_target, second_source, IsRefusal}
-use Rattle.bn_net.specs.declared.refusal.NetRefusal.{NetRefusal}
-use Rattle.bn_net.specs.declared.refusal.NetRefusal.TheVariants.{Range, TwoTargets, TwoSources, NoMemory}
+use Rattle.bn_net.specs.Faults.{AreFaultless}
 use Rattle.bn_column.specs.Wirings.{AreApart, AreWiresOf, AreFitting}
 
 -- two lines are one, or they are not
@@ -226,15 +222,3 @@ apart-AreFaultless count ws apart fitting n below w h =
   where
     below_four : (x : ℕ) → x < 4 → nat_lt x 4 ≡ true
     below_four x h = grind (arith, nat_tests)
-
-not_at_fault : (tables : List Table) (ws : List Wire) (i : ℕ) (fault : WireFault) → AreFaultless tables ws → IsFirstFault tables ws i fault → ⊥
-not_at_fault tables ws i fault faultless first =
-    let none = faultless (i - 1) (slice_get_within ws (i - 1) first.wire first.has_wire) first.wire first.has_wire in
-    let here = first.here in
-    cc
-
-pub faultless-refusal : (tables : List Table) (ws : List Wire) (refusal : NetRefusal) → AreFaultless tables ws → IsRefusal tables ws refusal → refusal ≡ NoMemory
-faultless-refusal tables ws NoMemory faultless is = refl
-faultless-refusal tables ws (Range i) faultless is = absurd (not_at_fault tables ws i out_of_range faultless is)
-faultless-refusal tables ws (TwoTargets i) faultless is = absurd (not_at_fault tables ws i second_target faultless is)
-faultless-refusal tables ws (TwoSources i) faultless is = absurd (not_at_fault tables ws i second_source faultless is)

@@ -6,7 +6,7 @@ ghost use Rattle.bn_column.specs.Nets.{IsNetOf, wire_of};
 
 use bn_lists::NoMemory;
 use bn_element::{EAST, NORTH, Rotary, SOUTH, WEST};
-use bn_net::{Line, Net, NetRefusal, Wire};
+use bn_net::{Line, Net, Wire};
 use std::alloc::Global;
 
 /// The inner wires of a column of `rows` rows whose top row is element `first`.
@@ -36,13 +36,8 @@ pub fn rotary_net(alloc: Global, count: u32, wires: &[Wire]) -> Result<Net<Rotar
     requires fitting { AreFitting count wires.now }
     ensures { IfOk result (λ net. IsNetOf net count wires.now) }
 {
-    let Ok(elements) = vec![in alloc; Rotary; count as usize] else {
-        return Err(NoMemory);
-    };
-    match Net::try_new(alloc, elements, wires) {
-        Ok(net) => Ok(net),
-        Err(refusal) => Err(want_of_memory(refusal)),
-    }
+    let elements = vec![in alloc; Rotary; count as usize]?;
+    Net::new(alloc, elements, wires)
 }
 
 // The wires between this row and the next element, down and up.
@@ -74,15 +69,6 @@ fn wire(from: u32, from_line: u32, to: u32, to_line: u32) -> Wire
 fn push(wires: &mut Vec<Wire>, wire: Wire) -> Result<(), NoMemory>
     ensures { OnOk result (wires.new.items ≡ wires.old.items ++ wire ∷ []) }
 {
-    match wires.push(wire) {
-        Ok(()) => Ok(()),
-        Err(_) => Err(NoMemory),
-    }
-}
-
-// The one refusal that wires meet which are apart and fit.
-fn want_of_memory(_refusal: NetRefusal) -> NoMemory
-    requires { _refusal ≡ NetRefusal.NoMemory }
-{
-    NoMemory
+    wires.push(wire)?;
+    Ok(())
 }

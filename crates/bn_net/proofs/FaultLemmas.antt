@@ -8,7 +8,7 @@ use Rattle.bn_theory.specs.Tables.{Table}
 use Rattle.bn_theory.specs.Circuits.{target, source, same_line}
 use Rattle.bn_theory.specs.declared.line.Line.{Line}
 use Rattle.bn_theory.specs.declared.line.Wire.{Wire}
-use Rattle.bn_net.specs.Faults.{WireFault, out_of_range, second_target, second_source, fault_of, checked, IsFaultless, IsFirstFault, IsRefusal}
+use Rattle.bn_net.specs.Faults.{WireFault, out_of_range, second_target, second_source, fault_of, checked, IsFaultless, AreFaultless, IsFirstFault, IsRefusal}
 use Rattle.bn_net.specs.declared.refusal.NetRefusal.{NetRefusal}
 use Rattle.bn_net.specs.declared.refusal.NetRefusal.TheVariants.{Range, TwoTargets, TwoSources}
 use Rattle.bn_net.proofs.WireListLemmas.{target-push, source-push}
@@ -33,6 +33,10 @@ checked-Ok None i u h = refl
 checked-Ok (Some out_of_range) i u h = absurd (cc)
 checked-Ok (Some second_target) i u h = absurd (cc)
 checked-Ok (Some second_source) i u h = absurd (cc)
+
+-- the next wire of a list without a fault has none against the net
+pub next_faultless : (tables : List Table) (wires built : List Wire) (n : ℕ) (w : Wire) → IsBuilt tables wires built n → n < length wires → slice_get wires n ≡ Some w → AreFaultless tables wires → fault_of tables built w ≡ None
+next_faultless tables wires built n w is within has all = fault-built tables wires built n w is ∙ all n within w has
 
 -- one wire more
 pub more_built : (tables : List Table) (wires built after : List Wire) (n : ℕ) (w : Wire) → IsBuilt tables wires built n → n < length wires → slice_get wires n ≡ Some w → fault_of tables built w ≡ None → ((from : Line) → target after from ≡ (if same_line w.from from then Some w.to else target built from)) → ((to : Line) → source after to ≡ (if same_line w.to to then Some w.from else source built to)) → IsBuilt tables wires after (n + 1)

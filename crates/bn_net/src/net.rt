@@ -71,6 +71,24 @@ impl<E: Element> Net<E> {
         Ok(net)
     }
 
+    /// The net of these elements and wires, where no wire has a fault: no wire is tested again, and the call fails for
+    /// want of memory alone.
+    pub fn new(alloc: Global, elements: Vec<E>, wires: &[Wire]) -> Result<Net<E>, NoMemory>
+        requires few_elements { length elements.items < 2 ^ 32 }
+        requires faultless { AreFaultless (map E.table elements.items) wires.now }
+        ensures elements { IfOk result (λ net. net.elements ≡ elements.items) }
+        ensures targets { IfOk result (λ net. (from : Line) → target net.wires from ≡ target wires.now from) }
+        ensures sources { IfOk result (λ net. (to : Line) → source net.wires to ≡ source wires.now to) }
+        ensures circuit { IfOk result (λ net. IsCircuit (circuit E.table net)) }
+    {
+        let mut net = Net::unwired(alloc, elements)?;
+        for index in 0..wires.len() {
+            net.connect(wires[index]);
+        }
+        let _ = &net.elements;
+        Ok(net)
+    }
+
     /// The number of elements. Its contract also tells what every net keeps.
     pub fn len(&self) -> u32
         ensures number { result ≡ length self.now.elements }

@@ -1,9 +1,9 @@
 -- What a whole text without a fault spells: a circuit's net can be made of its wires, and the text is that of the net.
-use Rattle.std.specs.Prelude.{◌≡◌, ◌≢◌, ℕ, ◌+◌, ◌-◌, ◌*◌, ◌^◌, ◌<◌, ◌≤◌, nat_lt, nat_le, Bool, true, false, List, [], ◌∷◌, ◌++◌, length, map, take, replicate, Option, Some, None, slice_get, if◌then◌else◌, refl}
+use Rattle.std.specs.Prelude.{◌≡◌, ◌≢◌, ℕ, ◌+◌, ◌<◌, ◌≤◌, nat_lt, nat_le, Bool, true, false, List, [], ◌∷◌, ◌++◌, length, map, take, replicate, Option, Some, None, slice_get, if◌then◌else◌, refl}
 use Rattle.std.proofs.Common.{zero, suc, arith, sym, ap, subst, ◌∙◌, inl, inr, ◌⊎◌}
 use Rattle.std.proofs.lemmas.Bool.Decides.{nat_tests}
-use Rattle.std.proofs.lemmas.List.{append_assoc, append-nil, length-append}
-use Rattle.std.proofs.lemmas.Option.{same_Some}
+use Rattle.std.proofs.lemmas.List.{append_assoc, append-nil}
+use Rattle.std.proofs.lemmas.Option.{same_Some, slice_get_within}
 use Rattle.bn_theory.specs.Tables.{Table}
 use Rattle.bn_theory.specs.Circuits.{same_line, target, source, states_of, IsCircuit, IsPlace}
 use Rattle.bn_theory.specs.declared.line.Line.{Line}
@@ -12,8 +12,6 @@ use Rattle.bn_theory.specs.declared.place.Place.{Place}
 use Rattle.bn_theory.specs.declared.place.Place.TheVariants.{Enter, Left}
 use Rattle.bn_net.specs.Faults as net
 use Rattle.bn_net.specs.Parts.{Parts, circuit}
-use Rattle.bn_net.specs.declared.refusal.NetRefusal.{NetRefusal}
-use Rattle.bn_net.specs.declared.refusal.NetRefusal.TheVariants.{Range, TwoTargets, TwoSources, NoMemory}
 use Rattle.bn_element.specs.Rotary.{rotary}
 use Rattle.bn_netlist.specs.Sentences.{Sentence, Title, Count, Start, End, Steps, At, Element, IsSayable, lines_text}
 use Rattle.bn_netlist.specs.Spelling.{Spelling, Admits, targets_of, element_sentences, text_of}
@@ -56,25 +54,6 @@ faultless-net h elements ws count fit j below w has =
     let here = fit-net h [] ws fit j w has in
     let tables : map (λ _. rotary) elements ≡ replicate h.count rotary = map-replicate rotary elements ∙ ap (λ n. replicate n rotary) count in
     subst (λ ts. net.fault_of ts (take j ws) w ≡ None) (sym tables) here
-
-slice_get-below : {X : Type 0} (xs : List X) (j : ℕ) (x : X) → slice_get xs j ≡ Some x → j < length xs
-slice_get-below [] j x has = absurd (cc)
-slice_get-below (y ∷ xs) zero x has = omega arith
-slice_get-below (y ∷ xs) (suc j) x has = let rest = slice_get-below xs j x has in omega arith
-
-no_first_fault : (ts : List Table) (ws : List Wire) (i : ℕ) (f : net.WireFault) → net.AreFaultless ts ws → net.IsFirstFault ts ws i f → ⊥
-no_first_fault ts ws i f none first =
-    let here = none (i - 1) (slice_get-below ws (i - 1) first.wire first.has_wire) first.wire first.has_wire in
-    apart (sym here ∙ first.here)
-  where
-    apart : ◌≡◌ {A = Option net.WireFault} None (Some f) → ⊥
-    apart e = cc
-
-pub never_refused : {X : Type 0} (h : Header) (elements : List X) (ws : List Wire) (r : NetRefusal) → length elements ≡ h.count → AllFit h [] ws → net.IsRefusal (map (λ _. rotary) elements) ws r → r ≡ NoMemory
-never_refused h elements ws (Range i) count fit is = absurd (no_first_fault (map (λ _. rotary) elements) ws i net.out_of_range (faultless-net h elements ws count fit) is)
-never_refused h elements ws (TwoTargets i) count fit is = absurd (no_first_fault (map (λ _. rotary) elements) ws i net.second_target (faultless-net h elements ws count fit) is)
-never_refused h elements ws (TwoSources i) count fit is = absurd (no_first_fault (map (λ _. rotary) elements) ws i net.second_source (faultless-net h elements ws count fit) is)
-never_refused h elements ws NoMemory count fit is = refl
 
 -- what holds of each wire that fits
 pub all-each : (h : Header) (P : Wire → Type 0) → ((earlier : List Wire) (w : Wire) → Fits h earlier w → P w) → (earlier ws : List Wire) → AllFit h earlier ws → Each P ws
@@ -259,7 +238,7 @@ whole-admitted h rows ws whole targets sources circuit =
     let place_there = named-there (element_at h.place) h.count _ after_place.1 in
     let made : length (states_in rows) ≡ h.count = length-states h [] rows rows_fine ∙ whole.count in
     let range : (e q : ℕ) → slice_get (states_in rows) e ≡ Some q → q < states_of (replicate h.count rotary) e =
-    λ e q has. (let low = states_low h [] rows rows_fine e q has in let below = slice_get-below (states_in rows) e q has in let two = rotary_states h.count e (omega arith) in omega arith)
+    λ e q has. (let low = states_low h [] rows rows_fine e q has in let below = slice_get_within (states_in rows) e q has in let two = rotary_states h.count e (omega arith) in omega arith)
     in
     let left : (from : Line) → is_left_by h.place from ≡ true → target ws from ≡ None =
     λ from is. targets from ∙ target-none (wires_in rows) from (all-each h (λ w. w.from ≢ from) (λ earlier w fits same. not_both (is_left_by h.place from) is (subst (λ (l : Line). is_left_by h.place l ≡ false) same fits.not_left)) [] (wires_in rows) fit)
@@ -292,28 +271,6 @@ wires_of_four e o [] = omega arith
 wires_of_four e o (None ∷ xs) = let rest = wires_of_four e (suc o) xs in omega arith
 wires_of_four e o (Some to ∷ xs) = let rest = wires_of_four e (suc o) xs in omega arith
 
-few_wires : (h : Header) (done rows : List Sentence) → AreFaultlessAfter (header_then h done) rows → length (wires_in rows) ≤ 4 * length rows
-few_wires h done [] f = omega arith
-few_wires h done (Title ∷ rows) f = absurd (let k = no_header_line h done Title f.0 in omega arith)
-few_wires h done (Count c ∷ rows) f = absurd (let k = no_header_line h done (Count c) f.0 in omega arith)
-few_wires h done (Start l ∷ rows) f = absurd (let k = no_header_line h done (Start l) f.0 in omega arith)
-few_wires h done (End l ∷ rows) f = absurd (let k = no_header_line h done (End l) f.0 in omega arith)
-few_wires h done (Steps t ∷ rows) f = absurd (let k = no_header_line h done (Steps t) f.0 in omega arith)
-few_wires h done (At p ∷ rows) f = absurd (let k = no_header_line h done (At p) f.0 in omega arith)
-few_wires h done (Element n q xs ∷ rows) f =
-    let row = row_of_faultless h done n q xs f.0 f.1 in
-    let four : length xs ≡ 4 = row.four in
-    let here = wires_of_four n 0 xs in
-    let rest = few_wires h (done ++ Element n q xs ∷ []) rows f.2 in
-    omega (arith, length-append (wires_from n 0 xs) (wires_in rows))
-
-pub whole-few_wires : (h : Header) (rows : List Sentence) → IsWhole h rows → length (wires_in rows) < 2 ^ 32
-whole-few_wires h rows whole =
-    let few = few_wires h [] rows whole.faultless.2.2.2.2.2.2 in
-    let count : length rows ≡ h.count = whole.count in
-    let bound : h.count ≤ MOST_ELEMENTS = counted-few h.count MOST_ELEMENTS _ whole.faultless.2.1 in
-    omega arith
-
 -- a net with these elements and wires is what the text spells
 pub made-spelled : (h : Header) (rows : List Sentence) (states : List ℕ) (old ws : List Wire) (n : ℕ) → IsWhole h rows → Holds rows states old → n ≡ h.count → ((from : Line) → target ws from ≡ target old from) → ((to : Line) → source ws to ≡ source old to) → IsCircuit (record { tables = replicate n rotary; wires = ws })
     → Admits (record { elements = n; wires = ws; config = record { states = states; place = h.place; steps = h.steps }; start = h.start; end = h.end })
@@ -332,25 +289,7 @@ made-spelled h rows states old ws n whole holds count targets sources circuit =
 pub net-circuit : {X : Type 0} (net : Parts X) → IsCircuit (circuit (λ _. rotary) net) → IsCircuit (record { tables = replicate (length net.elements) rotary; wires = net.wires })
 net-circuit net c = subst (λ (ts : List Table). IsCircuit (record { tables = ts; wires = net.wires })) (map-replicate rotary net.elements) c
 
--- so the net is refused only for memory
-pub refused_memory : {X : Type 0} (h : Header) (rows : List Sentence) (states : List ℕ) (elements : List X) (ws old : List Wire) (r : NetRefusal) → IsWhole h rows → Holds rows states old → ws ≡ old → length elements ≡ h.count → net.IsRefusal (map (λ _. rotary) elements) ws r → r ≡ NoMemory
-refused_memory h rows states elements ws old r whole holds same count is =
-    never_refused h elements ws r count (subst (λ (vs : List Wire). AllFit h [] vs) (sym (same ∙ holds.wires_are)) (whole-fit h rows whole)) is
-
-pub no_range : (r : NetRefusal) (i : ℕ) → r ≡ NoMemory → r ≡ Range i → ⊥
-no_range r i h k = clash (sym h ∙ k)
-  where
-    clash : NoMemory ≡ Range i → ⊥
-    clash e = cc
-
-pub no_two_targets : (r : NetRefusal) (i : ℕ) → r ≡ NoMemory → r ≡ TwoTargets i → ⊥
-no_two_targets r i h k = clash (sym h ∙ k)
-  where
-    clash : NoMemory ≡ TwoTargets i → ⊥
-    clash e = cc
-
-pub no_two_sources : (r : NetRefusal) (i : ℕ) → r ≡ NoMemory → r ≡ TwoSources i → ⊥
-no_two_sources r i h k = clash (sym h ∙ k)
-  where
-    clash : NoMemory ≡ TwoSources i → ⊥
-    clash e = cc
+-- no wire of a whole text has a fault
+pub whole-faultless : {X : Type 0} (h : Header) (rows : List Sentence) (states : List ℕ) (elements : List X) (ws old : List Wire) → IsWhole h rows → Holds rows states old → ws ≡ old → length elements ≡ h.count → net.AreFaultless (map (λ _. rotary) elements) ws
+whole-faultless h rows states elements ws old whole holds same count =
+    faultless-net h elements ws count (subst (λ (vs : List Wire). AllFit h [] vs) (sym (same ∙ holds.wires_are)) (whole-fit h rows whole))

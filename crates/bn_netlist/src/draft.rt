@@ -20,7 +20,7 @@ use crate::refusal::NetlistRefusal;
 use crate::whole_line::whole_line;
 use bn_base::Lines;
 use bn_element::Rotary;
-use bn_net::{Net, NetRefusal};
+use bn_net::Net;
 use bn_theory::{Config, Line, Place, States, Wire};
 use std::alloc::Global;
 
@@ -74,12 +74,8 @@ impl Draft {
         let Ok(elements) = vec![in alloc; Rotary; header.count as usize] else {
             return Err(NetlistRefusal::NoMemory);
         };
-        let net = match Net::try_new(alloc, elements, &wires) {
-            Ok(net) => net,
-            Err(NetRefusal::NoMemory) => return Err(NetlistRefusal::NoMemory),
-            Err(NetRefusal::Range { .. }) => unreachable!(),
-            Err(NetRefusal::TwoTargets { .. }) => unreachable!(),
-            Err(NetRefusal::TwoSources { .. }) => unreachable!(),
+        let Ok(net) = Net::new(alloc, elements, &wires) else {
+            return Err(NetlistRefusal::NoMemory);
         };
         Ok(NetConfig {
             net,

@@ -1,5 +1,5 @@
 -- The lines of the list, one after another.
-use Rattle.std.proofs.Common.{◌≡◌, ◌∙◌, ◌≤◌, ◌<◌, ◌+◌, ◌++◌, ◌∷◌, ◌&&◌, ℕ, Bool, true, List, [], length, map, take, get_or, refl, sym, ap}
+use Rattle.std.proofs.Common.{◌≡◌, ◌∙◌, ◌≤◌, ◌<◌, ◌+◌, ◌++◌, ◌∷◌, ℕ, List, [], length, map, take, get_or, sym, ap}
 use Rattle.std.proofs.lemmas.List.{map-append, take_all, take_more}
 use Rattle.bn_entries.specs.Lines.{line_of, lines_of}
 use Rattle.bn_entries.proofs.LinesLemmas.{lines_of-push}

@@ -17,21 +17,8 @@ use Rattle.bn_assembly.proofs.SymbolLemmas.{some_letters}
 use Rattle.bn_assembly.proofs.WireLemmas.{network_wires-are}
 use Rattle.bn_assembly.proofs.make.join.Goals as goal
 
-tape : (t : ℕ) → 0 < t → t ≤ 3 → IsTape t
-tape t low high = record { low = low; high = high }
-
-pub net_of-requires-clause-few_wires : goal.net_of-requires-clause-few_wires
-net_of-requires-clause-few_wires c =
-    let m = c.args.machine.now in
-    let l = limits_of c.args.windows.now in
-    let some = some_letters m c.requires.valid.tapes c.requires.machine in
-    let most = network_count m l c.args.control.machine.states (some 1 (tape 1 (omega arith) (omega arith))) (some 2 (tape 2 (omega arith) (omega arith))) (some 3 (tape 3 (omega arith) (omega arith))) in
-    let few = c.requires.few in
-    let same : length c.as_slice.result.now ≡ length (network_wires m l) = ap (λ xs. length xs) (c.as_slice.ensures.value ∙ c.in_ok-wires.ensures) in
-    omega (arith, most, few, same)
-
-pub net_of-requires-clause-faultless : goal.net_of-requires-clause-faultless
-net_of-requires-clause-faultless c =
+pub new-requires-clause-faultless : goal.new-requires-clause-faultless
+new-requires-clause-faultless c =
     let m = c.args.machine.now in
     let l = limits_of c.args.windows.now in
     let tables = tables_are m l c.args.control c.in_ok-modules.modules.items c.in_ok-modules.ensures in
