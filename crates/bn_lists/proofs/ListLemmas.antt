@@ -3,7 +3,7 @@ use Rattle.std.specs.Prelude.{◌≡◌, ℕ, zero, suc, ◌<◌, ◌≤◌, Lis
 use Rattle.std.proofs.Common.{refl, sym, ap, subst, arith, get_or, inl, inr, ◌⊎◌}
 use Rattle.std.proofs.lemmas.Option.{slice_get_within, slice_get-get_or}
 use Rattle.std.proofs.lemmas.Bool.{cases_lt}
-use Rattle.bn_lists.specs.Lists.{nth, AllBefore, IsFirst, HasNone, IsIn, Has}
+use Rattle.bn_lists.specs.Lists.{nth, AllBefore, IsFirstWith, HasNone, IsIn, Has}
 use Rattle.bn_lists.proofs.LeastLemmas.{least_once}
 
 pub nth_within : {X : Type 0} (xs : List X) (n : ℕ) (x : X) → nth xs n ≡ Some x → n ≤ length xs
@@ -63,7 +63,7 @@ all_from_before P xs n past all = λ k d h. all.each (suc k) (get_or xs k d) (om
 
 -- a search that has come to an entry with the property, and one that has come to the end
 pub first_at : {X : Type 0} (P : X → Type 0) (xs : List X) (n : ℕ) (x : X) → AllBefore (λ y. P y → ⊥) xs n
-    → nth xs n ≡ Some x → P x → IsFirst P xs n x
+    → nth xs n ≡ Some x → P x → IsFirstWith P xs n x
 first_at P xs n x before here holds = record { stands = here; holds = holds; first = before.each }
 
 pub none_to_end : {X : Type 0} (P : X → Type 0) (xs : List X) (n : ℕ) → length xs < n
@@ -73,7 +73,7 @@ none_to_end P xs n past before = record {
 }
 
 -- the first entry with a property is one
-pub first_once : {X : Type 0} (P : X → Type 0) (xs : List X) (m n : ℕ) (x y : X) → IsFirst P xs m x → IsFirst P xs n y
+pub first_once : {X : Type 0} (P : X → Type 0) (xs : List X) (m n : ℕ) (x y : X) → IsFirstWith P xs m x → IsFirstWith P xs n y
     → (m ≡ n) × (x ≡ y)
 first_once P xs m n x y a b =
     let same : m ≡ n = least_once m n (λ h. b.first m x h a.stands a.holds) (λ h. a.first n y h b.stands b.holds) in
@@ -81,7 +81,7 @@ first_once P xs m n x y a b =
 
 -- where each entry has the property or hasn't, there is a first that has it, or none has it
 pub first_or_none : {X : Type 0} (P : X → Type 0) → ((x : X) → P x ⊎ (P x → ⊥)) → (xs : List X)
-    → ((n : ℕ) × (x : X) × IsFirst P xs n x) ⊎ HasNone P xs
+    → ((n : ℕ) × (x : X) × IsFirstWith P xs n x) ⊎ HasNone P xs
 first_or_none P decides [] = inr (record { none = λ n x e. nothing n x e })
   where
     nothing : (n : ℕ) (x : _) → nth [] n ≡ Some x → P x → ⊥
@@ -93,7 +93,7 @@ first_or_none {X} P decides (y ∷ ys) = by_head (decides y) (first_or_none P de
     at_one holds zero z h e = absurd (cc)
     at_one holds (suc m) z h e = absurd (omega arith)
 
-    behind : (P y → ⊥) → (n : ℕ) (x : X) → IsFirst P ys n x → (m : ℕ) (z : X) → m < suc n
+    behind : (P y → ⊥) → (n : ℕ) (x : X) → IsFirstWith P ys n x → (m : ℕ) (z : X) → m < suc n
         → nth (y ∷ ys) m ≡ Some z → P z → ⊥
     behind lacks n x f zero z h e = absurd (cc)
     behind lacks n x f (suc zero) z h e = let same : z ≡ y = cc in λ holds. lacks (subst P same holds)
@@ -108,8 +108,8 @@ first_or_none {X} P decides (y ∷ ys) = by_head (decides y) (first_or_none P de
     none_behind lacks none (suc zero) x e = let same : x ≡ y = cc in λ holds. lacks (subst P same holds)
     none_behind lacks none (suc (suc n)) x e = none.none (suc n) x e
 
-    by_rest : (P y → ⊥) → ((n : ℕ) × (x : X) × IsFirst P ys n x) ⊎ HasNone P ys
-        → ((n : ℕ) × (x : X) × IsFirst P (y ∷ ys) n x) ⊎ HasNone P (y ∷ ys)
+    by_rest : (P y → ⊥) → ((n : ℕ) × (x : X) × IsFirstWith P ys n x) ⊎ HasNone P ys
+        → ((n : ℕ) × (x : X) × IsFirstWith P (y ∷ ys) n x) ⊎ HasNone P (y ∷ ys)
     by_rest lacks (inl (n, x, f)) = inl (suc n, x, record {
       stands = stands_behind n x f.stands;
       holds = f.holds;
@@ -117,7 +117,7 @@ first_or_none {X} P decides (y ∷ ys) = by_head (decides y) (first_or_none P de
     })
     by_rest lacks (inr none) = inr (record { none = none_behind lacks none })
 
-    by_head : P y ⊎ (P y → ⊥) → ((n : ℕ) × (x : X) × IsFirst P ys n x) ⊎ HasNone P ys
-        → ((n : ℕ) × (x : X) × IsFirst P (y ∷ ys) n x) ⊎ HasNone P (y ∷ ys)
+    by_head : P y ⊎ (P y → ⊥) → ((n : ℕ) × (x : X) × IsFirstWith P ys n x) ⊎ HasNone P ys
+        → ((n : ℕ) × (x : X) × IsFirstWith P (y ∷ ys) n x) ⊎ HasNone P (y ∷ ys)
     by_head (inl holds) rest = inl (1, y, record { stands = refl; holds = holds; first = at_one holds })
     by_head (inr lacks) rest = by_rest lacks rest

@@ -21,7 +21,7 @@ pub record AllBefore {X : Type 0} (P : X → Type 0) (xs : List X) (n : ℕ) : T
   pub each : (m : ℕ) (x : X) → m < n → nth xs m ≡ Some x → P x
 
 -- the n-th entry is x, and it is the first that has the property
-pub record IsFirst {X : Type 0} (P : X → Type 0) (xs : List X) (n : ℕ) (x : X) : Type 0 where
+pub record IsFirstWith {X : Type 0} (P : X → Type 0) (xs : List X) (n : ℕ) (x : X) : Type 0 where
   pub stands : nth xs n ≡ Some x
   pub holds : P x
   pub first : (m : ℕ) (y : X) → m < n → nth xs m ≡ Some y → P y → ⊥

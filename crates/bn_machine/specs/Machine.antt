@@ -5,7 +5,7 @@ use Rattle.bn_machine.specs.Tape.{Tape, scanned, write, shift, word_tape}
 use Rattle.bn_machine.specs.Window.{Room, Allows, Windowed, Leaves}
 use Rattle.bn_machine.specs.declared.quint.Quint.{Quint}
 use Rattle.bn_machine.specs.declared.quint.Side.{Side}
-use Rattle.bn_lists.specs.Lists.{nth, HasNone, IsFirst}
+use Rattle.bn_lists.specs.Lists.{nth, HasNone, IsFirstWith}
 
 -- a machine: its quintuples in order, and how many states and symbols it has
 pub record Program : Type 0 where
@@ -56,7 +56,7 @@ pub record Matches (q : Quint) (state symbol : ℕ) : Type 0 where
 
 -- quintuple n, counted from 1, is the first of the list that has this state and reads this symbol
 abbrev pub IsFirstMatch : List Quint → ℕ → ℕ → ℕ → Quint → Type 0
-IsFirstMatch qs state symbol n q = IsFirst (λ r. Matches r state symbol) qs n q
+IsFirstMatch qs state symbol n q = IsFirstWith (λ r. Matches r state symbol) qs n q
 
 -- no quintuple has this state and reads this symbol
 abbrev pub HasNoMatch : List Quint → ℕ → ℕ → Type 0

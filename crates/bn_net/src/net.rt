@@ -82,7 +82,8 @@ impl<E: Element> Net<E> {
         ensures circuit { IfOk result (λ net. IsCircuit (circuit E.table net)) }
     {
         let mut net = Net::unwired(alloc, elements)?;
-        for index in 0..wires.len() {
+        let count = wires.len();
+        for index in 0..count {
             net.connect(wires[index]);
         }
         let _ = &net.elements;

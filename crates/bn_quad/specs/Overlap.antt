@@ -1,7 +1,7 @@
 -- The local tests on quadruples: overlap in domain and in range (Bennett 1973), and uniform tapes by state (this
 -- project's own profile).
 use Rattle.std.specs.Prelude.{◌≡◌, ℕ, ◌<◌, List, [], ◌∷◌, Some, ⊤}
-use Rattle.bn_lists.specs.Lists.{nth, HasNone, IsFirst}
+use Rattle.bn_lists.specs.Lists.{nth, HasNone, IsFirstWith}
 use Rattle.bn_quad.specs.declared.clash.Clash.{Clash}
 use Rattle.bn_quad.specs.declared.clash.Clash.TheVariants.{Domain, Range, Reads, Writes}
 use Rattle.bn_quad.specs.declared.clash.Flaw.{Flaw}
@@ -124,7 +124,7 @@ HasNoFlaw flaw rs = HasNone (IsFlawed flaw) rs
 
 -- quadruple i, counted from 1, is the first that has the flaw
 abbrev pub IsFirstFlaw : Flaw → List (Rule ℕ) → ℕ → Type 0
-IsFirstFlaw flaw rs i = (r : Rule ℕ) × IsFirst (IsFlawed flaw) rs i r
+IsFirstFlaw flaw rs i = (r : Rule ℕ) × IsFirstWith (IsFlawed flaw) rs i r
 
 -- the flaws that concern the initial and the final state of the list
 abbrev pub initial_flaw : List (Rule ℕ) → Flaw

@@ -4,7 +4,7 @@
 use Rattle.std.specs.Prelude.{◌≡◌, ◌≢◌, ℕ, ◌<◌, ◌^◌, List, [], ◌∷◌, length, map, reverse, Some, ⊤, All}
 use Rattle.bn_machine.specs.Tape.{Tape, scanned, write, shift, opposite}
 use Rattle.bn_machine.specs.Window.{Room, anywhere, Allows}
-use Rattle.bn_lists.specs.Lists.{nth, HasNone, IsFirst}
+use Rattle.bn_lists.specs.Lists.{nth, HasNone, IsFirstWith}
 use Rattle.bn_machine.specs.declared.quint.Shift.{Shift}
 
 -- what a quadruple does on one tape: read this symbol and write that one, or shift the head by this much
@@ -151,7 +151,7 @@ inverse_of p = record { rules = turned_list p.rules; states = p.states; symbols 
 
 -- quadruple n is the first of the list that applies
 abbrev pub IsFirstRule : List (Rule ℕ) → Configuration ℕ → ℕ → Rule ℕ → Type 0
-IsFirstRule rs c n r = IsFirst (λ s. AppliesTo s c) rs n r
+IsFirstRule rs c n r = IsFirstWith (λ s. AppliesTo s c) rs n r
 
 -- no quadruple applies
 abbrev pub HasNoRule : {Q : Type 0} → List (Rule Q) → Configuration Q → Type 0
