@@ -1,12 +1,14 @@
 //! Nets of elements with wires, run forward and backward by one signal.
 #![tactic(auto)]
 
+mod laws;
 mod net;
 mod refusal;
 mod row_map;
 mod watch;
 
 pub use bn_theory::{CLOCK, Config, Line, Place, States, Wire};
+pub use laws::{watches_tell_within_room, wires_stand_once};
 pub use net::Net;
 pub use refusal::{NetRefusal, NoMemory};
 pub use watch::{MemWatch, Quiet, Watch};
