@@ -3,7 +3,6 @@ use Rattle.std.specs.Prelude.{◌≡◌, ℕ, ◌<◌, List, [], ◌∷◌, Some
 use Rattle.bn_theory.specs.Circuits.{target, source}
 use Rattle.bn_theory.specs.declared.line.Line.{Line}
 use Rattle.bn_theory.specs.declared.line.Wire.{Wire}
-use Rattle.bn_element.specs.Rotary.{rotary}
 
 -- no wire leaves an output line that a later one leaves, and none ends at an input line where a later one ends
 abbrev pub AreApart : List Wire → Type 0
