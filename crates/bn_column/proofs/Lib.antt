@@ -5,3 +5,4 @@ pub mod Rungs
 pub mod WiringsLemmas
 pub mod CrossLemmas
 pub mod RestLemmas
+pub mod ExitLemmas

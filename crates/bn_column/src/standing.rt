@@ -31,7 +31,8 @@ impl Model for Column {
 }
 
 impl Column {
-    ghost use Rattle.bn_column.specs.Columns.{IsEntering, CanCross, IsCrossing};
+    ghost use Rattle.bn_theory.specs.declared.place.Place.TheVariants.{Left};
+    ghost use Rattle.bn_column.specs.Columns.{IsEntering, CanCross, IsCrossing, exit_side};
     ghost use Rattle.bn_column.specs.Nets.{rotary_circuit, IsColumnNet, IsStanding, start_at};
 
     // The column that this net is.
@@ -76,12 +77,15 @@ impl Column {
     }
 
     /// Crosses the column, at rest and marked or not, from the row that the signal enters, and answers
-    /// the number of element steps made. It takes no memory.
+    /// the number of element steps made. The signal has left then: by the east of its row, or by the west
+    /// where the column was marked. It takes no memory.
     pub fn cross(&self, config: &mut Config) -> u64
         requires good { IsConfig (rotary_circuit self.now.net) config.old }
         requires entering { CanCross 0 self.now.rows config.old }
         ensures crossed { (i : ℕ) (marked from_east : Bool) → IsEntering 0 self.now.rows i marked from_east config.old
             → IsCrossing (rotary_circuit self.now.net) 0 self.now.rows i marked from_east result config.old config.new }
+        ensures left { (i : ℕ) (marked from_east : Bool) → IsEntering 0 self.now.rows i marked from_east config.old
+            → config.new.place ≡ Left i (exit_side marked) }
         ensures good { IsConfig (rotary_circuit self.now.net) config.new }
     {
         cross_in(&self.net, config, 0, self.rows)

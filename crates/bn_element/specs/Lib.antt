@@ -1,1 +1,2 @@
 pub mod Rotary
+pub mod Inverse

@@ -68,6 +68,7 @@ impl Source for MemSource {
         requires { 0 < length into.old }
         ensures fails { IsErr result ↔ InputFails self.old }
         ensures failed { OnErr result (self.new ≡ input_failed self.old) }
+        ensures untouched { OnErr result (into.new ≡ into.old) }
         ensures amount { IfOk result (λ c. c ≡ given self.old (length into.old)) }
         ensures gives { IfOk result (λ c. into.new ≡ take c self.old.left ++ drop c into.old) }
         ensures rest { IfOk result (λ c. self.new ≡ input_less self.old c) }

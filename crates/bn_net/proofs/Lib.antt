@@ -5,3 +5,4 @@ pub mod NetSteps
 pub mod FaultLemmas
 pub mod OrderLemmas
 pub mod WalkLemmas
+pub mod HeardLemmas

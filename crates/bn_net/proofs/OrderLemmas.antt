@@ -1,13 +1,13 @@
 -- Wires in order: those of rows are, and two such lists with the same targets are one list.
-use Rattle.std.specs.Prelude.{◌≡◌, ℕ, ◌<◌, List, [], ◌∷◌, ◌++◌, Option, Some, None, ◌⊎◌, refl}
-use Rattle.std.proofs.Common.{suc, arith, sym, ap, subst, ◌∙◌, inl, inr}
+use Rattle.std.specs.Prelude.{◌≡◌, ℕ, ◌<◌, List, [], ◌∷◌, ◌++◌, Option, Some, None, slice_get, ◌⊎◌, refl}
+use Rattle.std.proofs.Common.{zero, suc, arith, sym, ap, subst, ◌∙◌, inl, inr}
 use Rattle.std.proofs.lemmas.Bool.Decides.{nat_tests}
 use Rattle.bn_theory.specs.Circuits.{target}
 use Rattle.bn_theory.proofs.StepLemmas.{same_lines}
 use Rattle.bn_theory.specs.declared.line.Line.{Line}
 use Rattle.bn_theory.specs.declared.line.Wire.{Wire}
 use Rattle.bn_net.specs.Rows.{Rows, wires_of_row, wires_of}
-use Rattle.bn_net.specs.Order.{ComesBefore, ComesFirst, AreInOrder}
+use Rattle.bn_net.specs.Order.{ComesBefore, ComesFirst, AreInOrder, WiresStandOnce}
 use Rattle.bn_net.specs.Parts.{Parts}
 use Rattle.bn_net.proofs.WireListLemmas.{line_tells}
 
@@ -141,3 +141,22 @@ rows_in_order e (row ∷ rows) =
 pub view-AreInOrder : {E : Type 0} (elements : List E) (targets : Rows) (now : Parts E) → record { elements = elements; wires = wires_of 0 targets } ≡ now
     → AreInOrder now.wires
 view-AreInOrder {E} elements targets now is = subst (λ (n : Parts E). AreInOrder n.wires) is (rows_in_order 0 targets)
+
+-- ---- no two wires leave one line
+
+later_comes : (a : Line) (ws : List Wire) (j : ℕ) (w : Wire) → ComesFirst a ws → slice_get ws j ≡ Some w → ComesBefore a w.from
+later_comes a [] j w first there = absurd (cc)
+later_comes a (v ∷ ws) zero w first there = let same : v ≡ w = cc in subst (λ (x : Wire). ComesBefore a x.from) same first.0
+later_comes a (v ∷ ws) (suc j) w first there = later_comes a ws j w first.1 there
+
+apart_from_later : (u : Wire) (ws : List Wire) (j : ℕ) (v w : Wire) → ComesFirst u.from ws → u ≡ v → slice_get ws j ≡ Some w → v.from ≡ w.from → ⊥
+apart_from_later u ws j v w first here there lines =
+    let one : w.from ≡ u.from = sym lines ∙ ap (λ (x : Wire). x.from) (sym here) in
+    before_itself u.from (subst (ComesBefore u.from) one (later_comes u.from ws j w first there))
+
+pub wires-once : WiresStandOnce
+wires-once [] i j v w order here there lines = absurd (cc)
+wires-once (u ∷ ws) zero zero v w order here there lines = refl
+wires-once (u ∷ ws) zero (suc j) v w order here there lines = absurd (apart_from_later u ws j v w order.0 (let e = here in cc) there lines)
+wires-once (u ∷ ws) (suc i) zero v w order here there lines = absurd (apart_from_later u ws i w v order.0 (let e = there in cc) here (sym lines))
+wires-once (u ∷ ws) (suc i) (suc j) v w order here there lines = ap suc (wires-once ws i j v w order.1 here there lines)

@@ -1,5 +1,5 @@
 -- Wires kept in rows both ways are the wires of a circuit.
-use Rattle.std.specs.Prelude.{◌≡◌, ◌≢◌, ℕ, ◌+◌, ◌^◌, ◌<◌, ◌↔◌, Bool, true, false, cond, if◌then◌else◌, List, [], ◌∷◌, ◌++◌, length, map, replicate, Option, Some, None, is_some, slice_get, slice_set, option_and_then, refl, ◌⊎◌}
+use Rattle.std.specs.Prelude.{◌≡◌, ℕ, ◌+◌, ◌^◌, ◌<◌, ◌↔◌, Bool, true, false, cond, if◌then◌else◌, List, [], ◌∷◌, ◌++◌, length, map, replicate, Option, Some, None, is_some, slice_get, slice_set, option_and_then, refl}
 use Rattle.std.specs.Option.{option_map_or}
 use Rattle.std.proofs.Common.{zero, suc, arith, sym, ap, subst, ◌∙◌, inl, inr, length-set}
 use Rattle.std.proofs.lemmas.Bool.Decides.{eqb_tells, nat_tests}
@@ -12,7 +12,7 @@ use Rattle.bn_theory.specs.declared.line.Line.{Line}
 use Rattle.bn_theory.specs.declared.line.Wire.{Wire}
 use Rattle.bn_net.specs.Rows.{Rows, entry, width, put, wires_of_row, wires_of, IsWired}
 use Rattle.bn_net.specs.Parts.{Parts, circuit}
-use Rattle.bn_net.proofs.WireListLemmas.{line_tells, target-push, source-push}
+use Rattle.bn_net.proofs.WireListLemmas.{line_tells}
 use Rattle.bn_net.specs.Faults.{out_of_range, second_target, second_source, fault_of, is_within}
 
 -- ---- the wires of rows, read as targets

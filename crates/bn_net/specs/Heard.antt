@@ -1,5 +1,6 @@
 -- What a watch in memory has heard: the first places, at most as many as it has room for, and whether some were lost.
-use Rattle.std.specs.Prelude.{ℕ, Bool, true, List, [], ◌∷◌, ◌++◌, length, nat_lt, Option, Some, None, if◌then◌else◌}
+use Rattle.std.specs.Prelude.{◌≡◌, ℕ, ◌<◌, ◌≤◌, Bool, true, false, List, [], ◌∷◌, ◌++◌, length, nat_lt, Option, Some}
+use Rattle.std.specs.Prelude.{None, if◌then◌else◌}
 use Rattle.bn_theory.specs.declared.place.Place.{Place}
 
 pub record Heard : Type 0 where
@@ -17,3 +18,22 @@ hears_next h place =
     if nat_lt (length h.places) h.room
     then record { places = h.places ++ place ∷ []; room = h.room; lost = h.lost }
     else record { places = h.places; room = h.room; lost = true }
+
+-- a watch that was told nothing yet, with room for so many places
+abbrev pub fresh : ℕ → Heard
+fresh room = record { places = []; room = room; lost = false }
+
+-- what it has heard after these places, one after another
+abbrev pub hears_all : Heard → List Place → Heard
+hears_all h [] = h
+hears_all h (place ∷ places) = hears_all (hears_next h place) places
+
+-- A watch that was told nothing yet tells all that it is told after that, as long as this is at most its room, and no
+-- list
+-- beyond.
+pub record TellsWithinRoom (room : ℕ) (places : List Place) : Type 0 where
+  pub told : length places ≤ room → told_by (hears_all (fresh room) places) ≡ Some places
+  pub lost : room < length places → told_by (hears_all (fresh room) places) ≡ None
+
+abbrev pub WatchesTellWithinRoom : Type 0
+WatchesTellWithinRoom = (room : ℕ) (places : List Place) → TellsWithinRoom room places

@@ -1,5 +1,5 @@
 -- The order of wires: by the element that they leave, then by the output line.
-use Rattle.std.specs.Prelude.{◌≡◌, ◌<◌, ◌⊎◌, List, [], ◌∷◌}
+use Rattle.std.specs.Prelude.{◌≡◌, ℕ, ◌<◌, ◌⊎◌, List, [], ◌∷◌, Some, slice_get}
 use Rattle.bn_theory.specs.declared.line.Line.{Line}
 use Rattle.bn_theory.specs.declared.line.Wire.{Wire}
 
@@ -16,3 +16,10 @@ ComesFirst line (w ∷ ws) = ComesBefore line w.from × ComesFirst line ws
 abbrev pub AreInOrder : List Wire → Type 0
 AreInOrder [] = Unit {0}
 AreInOrder (w ∷ ws) = ComesFirst w.from ws × AreInOrder ws
+
+-- of wires in order no two leave one line, so that none stands twice
+abbrev pub WiresStandOnce : Type 0
+WiresStandOnce =
+    (wires : List Wire) (i j : ℕ) (v w : Wire) → AreInOrder wires → slice_get wires i ≡ Some v
+        → slice_get wires j ≡ Some w
+    → v.from ≡ w.from → i ≡ j

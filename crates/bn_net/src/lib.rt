@@ -1,13 +1,15 @@
 //! Nets of elements with wires, run forward and backward by one signal.
 #![tactic(auto)]
 
+mod laws;
 mod net;
 mod refusal;
 mod row_map;
 mod watch;
 
 pub use bn_theory::{CLOCK, Config, Line, Place, States, Wire};
+pub use bn_lists::NoMemory;
+pub use laws::{watches_tell_within_room, wires_stand_once};
 pub use net::{MOST_ELEMENTS, Net};
 pub use refusal::NetRefusal;
-pub use bn_lists::NoMemory;
 pub use watch::{MemWatch, Quiet, Watch};

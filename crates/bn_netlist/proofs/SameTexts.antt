@@ -1,6 +1,6 @@
 -- Spellings that agree where texts look have one text.
 use Rattle.std.specs.Prelude.{◌≡◌, ℕ, List, [], ◌∷◌, refl}
-use Rattle.std.proofs.Common.{suc, ap, ◌∙◌}
+use Rattle.std.proofs.Common.{suc, sym, ap, ◌∙◌}
 use Rattle.bn_theory.specs.Circuits.{target}
 use Rattle.bn_theory.specs.declared.line.Line.{Line}
 use Rattle.bn_theory.specs.declared.line.Wire.{Wire}
@@ -8,7 +8,7 @@ use Rattle.bn_theory.specs.declared.config.Config.{Config}
 use Rattle.bn_element.specs.Rotary.{north, east, south, west}
 use Rattle.bn_netlist.specs.Sentences.{Sentence, Title, Count, Start, End, At, Element, lines_text}
 use Rattle.bn_netlist.specs.Sentences as sentences
-use Rattle.bn_netlist.specs.Spelling.{Spelling, text_of, targets_of, element_sentences}
+use Rattle.bn_netlist.specs.Spelling.{Spelling, text_of, targets_of, element_sentences, SameHaveOneText}
 
 targets-alike : (ws vs : List Wire) → ((from : Line) → target ws from ≡ target vs from) → (e : ℕ) → targets_of ws e ≡ targets_of vs e
 targets-alike ws vs same e =
@@ -32,3 +32,7 @@ same_text s t elements targets config start end =
     ∙ ap (λ b. build t.elements t.start b s.config (element_sentences s.wires 0 s.config.states)) end
     ∙ ap (λ c. build t.elements t.start t.end c (element_sentences s.wires 0 c.states)) config
     ∙ ap (build t.elements t.start t.end t.config) (rows-alike s.wires t.wires targets 0 t.config.states)
+
+pub same-one_text : SameHaveOneText
+same-one_text s t first second same here there =
+    here.written ∙ same_text s t same.elements same.targets same.config same.start same.end ∙ sym there.written

@@ -80,6 +80,11 @@ pub record AreSame (s t : Spelling) : Type 0 where
 abbrev pub TextsAgree : Type 0
 TextsAgree = (s : Spelling) (first second : List ℕ) → Spelled s first → Spelled s second → first ≡ second
 
+-- The same configuration has one text, in whatever order its wires are listed.
+abbrev pub SameHaveOneText : Type 0
+SameHaveOneText =
+    (s t : Spelling) (first second : List ℕ) → AreSame s t → Spelled s first → Spelled t second → first ≡ second
+
 -- Each text has one configuration.
 abbrev pub SpellingsAgree : Type 0
 SpellingsAgree = (s t : Spelling) (text : List ℕ) → Spelled s text → Spelled t text → AreSame s t

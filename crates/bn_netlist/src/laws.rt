@@ -1,7 +1,7 @@
 //! Laws over the definitions alone. None of these functions does anything: what each ensures is a
 //! theorem on every configuration text.
 
-ghost use Rattle.bn_netlist.specs.Spelling.{TextsAgree, SpellingsAgree, TextsEnd, SpellingsMove};
+ghost use Rattle.bn_netlist.specs.Spelling.{TextsAgree, SameHaveOneText, SpellingsAgree, TextsEnd, SpellingsMove};
 ghost use Rattle.bn_netlist.specs.Faults.{FaultyTextsSpellNothing};
 ghost use Rattle.bn_netlist.specs.FaultLaws.{FaultsAgree};
 ghost use Rattle.bn_netlist.specs.FaultsOrSpelling.{TextsSpellOrFault};
@@ -10,6 +10,12 @@ ghost use Rattle.bn_netlist.specs.NetText.{CircuitsAgree};
 /// Each configuration has one text.
 pub fn one_text_a_configuration()
     ensures { TextsAgree }
+{}
+
+/// Any two spellings of one configuration, with the same elements, bars, place, steps, start, end and
+/// ends of wires, have one text, in whatever order their wires are listed.
+pub fn one_text_for_all_orders()
+    ensures { SameHaveOneText }
 {}
 
 /// Each text has one configuration: two that it spells differ at most in the order in which their

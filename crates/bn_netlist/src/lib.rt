@@ -17,7 +17,8 @@ mod write;
 
 pub use laws::{
     circuits_agree, each_text_spells_or_has_a_fault, faulty_texts_spell_nothing,
-    one_configuration_a_text, one_first_fault, one_text_a_configuration, spellings_move, texts_end,
+    one_configuration_a_text, one_first_fault, one_text_a_configuration, one_text_for_all_orders,
+    spellings_move, texts_end,
 };
 pub use net_config::NetConfig;
 pub use read::read_config;

@@ -20,11 +20,12 @@ use Rattle.bn_column.specs.Columns.{line_at, bar}
 use Rattle.bn_column.proofs.CrossingLemmas.{Reaches-steps}
 use Rattle.bn_column.specs.Nets.{rotary_circuit}
 use Rattle.bn_column.proofs.NetLemmas.{bars-IsConfig, rotary-table_at, ran}
-use Rattle.bn_rsm.specs.Costs.{cost_by, table_cost}
+use Rattle.bn_rsm.specs.Costs.{cost_by, loose_cost, move_cost, table_cost}
+use Rattle.bn_rsm.specs.Laws.{CostsAreBounded}
 use Rattle.bn_realise.specs.Banks.{column_at, bottom_at, IsBankWire, across, turning_line, IsResting, IsBank, IsBankEntering, exit_after, moved}
 use Rattle.bn_realise.proofs.BankCrossingLemmas.{later_column, other_column, bank_crosses}
 use Rattle.bn_realise.proofs.BankWiresLemmas.{column_once, output-no_wire, turning-wire}
-use Rattle.bn_realise.specs.BankNets.{CanMove, IsMove, IsBankNet, Banked, IsBankOf, CanMoveBank}
+use Rattle.bn_realise.specs.BankNets.{CanMove, IsMove, IsBankNet, Banked, IsBankOf, IsSomeBank, CanMoveBank, IsReadyBank, HasLeft}
 
 abbrev pub resting : ℕ → ℕ → ℕ → List ℕ
 resting n k q = slice_set (replicate (n * (k + 1)) vertical) (bottom_at 0 k q) horizontal
@@ -125,6 +126,18 @@ none_of (Some to) h = absurd (h to refl)
 pub stuck_outside : (k : Circuit) (d : Config) (e l : ℕ) → d.place ≡ Left e l → IsStuck k d
 stuck_outside k d e l left x goes = (let enters = goes.enters in cc)
 
+-- no wire of a bank by itself leaves where the signal comes out
+exit-loose : (net : Parts Rotary) (t : Table) (q i : ℕ) (c : Config) → IsReversible t → t.outputs ≡ t.inputs → IsBankNet net t → IsBankEntering 0 t q i c → target net.wires (exit_after 0 t q i (t.go q i)) ≡ None
+exit-loose net t q i c reversible square is entering =
+    let exit = exit_after 0 t q i (t.go q i) in
+    none_of (target net.wires exit) (λ to h. no_wire (t.go q i) refl to (is.no_others exit to h))
+  where
+    no_wire : (m : Option (ℕ × ℕ)) → t.go q i ≡ m → (to : Line) → IsBankWire 0 t (exit_after 0 t q i m) to → ⊥
+    no_wire None goes to own = (let turned = turning-wire 0 t reversible square q i to entering.line own in let some = turned.goes in absurd (cc))
+    no_wire (Some m) goes to own =
+        let arrives = reversible.arrives q i m.0 m.1 goes in
+        output-no_wire 0 t reversible square m.1 to (subst (λ n. m.1 < n) square arrives.1) own
+
 pub bank_ran : (net : Parts Rotary) (t : Table) (q i made : ℕ) (c end : Config) → IsReversible t → t.outputs ≡ t.inputs → IsBankNet net t → IsBankEntering 0 t q i c → c.steps + table_cost t q i ≤ clock → end ≡ run (rotary_circuit net) c clock → Reaches (Goes (rotary_circuit net)) made c end → IsMove (rotary_circuit net) 0 t q i made c end
 bank_ran net t q i made c end reversible square is entering in_time went counted =
     let k = rotary_circuit net in
@@ -132,19 +145,20 @@ bank_ran net t q i made c end reversible square is entering in_time went counted
     let d = moved k 0 t q i c in
     let path = passes_run (Goes k) (λ _. true) cost c d (bank_crosses k 0 t q i c (λ _. true) reversible square is.bank entering in_time (λ x within. refl)) in
     let exit = exit_after 0 t q i (t.go q i) in
-    let loose : target net.wires exit ≡ None = none_of (target net.wires exit) (λ to h. no_wire (t.go q i) refl to (is.no_others exit to h)) in
+    let loose = exit-loose net t q i c reversible square is entering in
     let left : d.place ≡ Left exit.element exit.line = rw loose refl in
     let stops = run_stops k cost clock c d path (omega arith) (λ _. stuck_outside k d exit.element exit.line left) in
     let ends : end ≡ d = went ∙ stops in
     let steps : end.steps ≡ c.steps + cost = ap (λ (v : Config). v.steps) ends in
     let by_count = Reaches-steps k made c end counted in
     move_made k 0 t q i made c end reversible square is.bank entering in_time ends (omega arith) counted
-  where
-    no_wire : (m : Option (ℕ × ℕ)) → t.go q i ≡ m → (to : Line) → IsBankWire 0 t (exit_after 0 t q i m) to → ⊥
-    no_wire None goes to own = (let turned = turning-wire 0 t reversible square q i to entering.line own in let some = turned.goes in absurd (cc))
-    no_wire (Some m) goes to own =
-        let arrives = reversible.arrives q i m.0 m.1 goes in
-        output-no_wire 0 t reversible square m.1 to (subst (λ n. m.1 < n) square arrives.1) own
+
+-- so the signal has left by that line when the move is made
+pub move-left : (net : Parts Rotary) (t : Table) (q i made : ℕ) (c end : Config) → IsReversible t → t.outputs ≡ t.inputs → IsBankNet net t → IsBankEntering 0 t q i c → IsMove (rotary_circuit net) 0 t q i made c end → HasLeft end.place (exit_after 0 t q i (t.go q i))
+move-left net t q i made c end reversible square is entering move =
+    let loose = exit-loose net t q i c reversible square is entering in
+    let there : end.place ≡ (moved (rotary_circuit net) 0 t q i c).place = ap (λ (v : Config). v.place) move.ends in
+    there ∙ rw loose refl
 
 -- ---- a net is the bank of one table
 
@@ -208,6 +222,94 @@ bank_moved v t q i made c end can went counted reversible square is entering =
     let moves = same_moves v.net t u reversible can.reversible square can.square is.net can.is_bank.net lines q i in
     let costs : table_cost u can.can.state can.can.line ≡ table_cost t q i = rw (← same.0, ← same.1, states, lines, moves) refl in
     bank_ran v.net t q i made c end reversible square is.net entering (subst (λ n. c.steps + n ≤ clock) costs can.can.in_time) went counted
+
+-- a bank that is ready can make a move of its table
+pub ready-can : (v : Banked) (c : Config) → IsSomeBank v → IsReadyBank v c → CanMoveBank v c
+ready-can v c some ready =
+    let t = some.table in
+    let states : v.states ≡ t.states = some.is_bank.states in
+    let lines : v.lines ≡ t.inputs = some.is_bank.lines in
+    let resting = subst (λ k. IsResting c.states 0 t.states k (Some ready.state)) lines
+    (subst (λ n. IsResting c.states 0 n v.lines (Some ready.state)) states ready.resting) in
+    let first : ready.line ≡ 0 + ready.line = omega arith in
+    let entering : IsBankEntering 0 t ready.state ready.line c = record {
+      state = subst (λ n. ready.state < n) states ready.some_state;
+      line = subst (λ n. ready.line < n) lines ready.some_line;
+      resting = resting;
+      enters = ready.enters ∙ ap (λ e. Enter e west) first;
+    } in
+    let can : CanMove 0 t c = record {
+      state = ready.state;
+      line = ready.line;
+      entering = entering;
+      in_time = ready.in_time t some.reversible some.square some.is_bank;
+    } in
+    record { table = t; reversible = some.reversible; square = some.square; is_bank = some.is_bank; can = can }
+
+-- and one that can make a move of a table is ready: what a caller has to show didn't grow
+pub can-ready : (v : Banked) (c : Config) → CanMoveBank v c → IsReadyBank v c
+can-ready v c can =
+    let u = can.table in
+    let entering = can.can.entering in
+    let states : u.states ≡ v.states = sym can.is_bank.states in
+    let lines : u.inputs ≡ v.lines = sym can.is_bank.lines in
+    record {
+      state = can.can.state;
+      line = can.can.line;
+      some_state = subst (λ n. can.can.state < n) states entering.state;
+      some_line = subst (λ n. can.can.line < n) lines entering.line;
+      resting = subst (λ k. IsResting c.states 0 v.states k (Some can.can.state)) lines
+          (subst (λ n. IsResting c.states 0 n u.inputs (Some can.can.state)) states entering.resting);
+      enters = let e : 0 + can.can.line ≡ can.can.line = omega arith in entering.enters ∙ ap (λ x. Enter x west) e;
+      in_time = λ t reversible square is. costs t reversible square is;
+    }
+  where
+    costs : (t : Table) → IsReversible t → t.outputs ≡ t.inputs → IsBankOf v t → c.steps + table_cost t can.can.state can.can.line ≤ clock
+    costs t reversible square is =
+        let u = can.table in
+        let states : u.states ≡ t.states = sym can.is_bank.states ∙ is.states in
+        let lines : u.inputs ≡ t.inputs = sym can.is_bank.lines ∙ is.lines in
+        let moves = same_moves v.net t u reversible can.reversible square can.square is.net can.is_bank.net lines can.can.state can.can.line in
+        let same : table_cost u can.can.state can.can.line ≡ table_cost t can.can.state can.can.line = rw (states, lines, moves) refl in
+        subst (λ n. c.steps + n ≤ clock) same can.can.in_time
+
+-- a bank at its start is ready, since no move costs more than the clock has
+pub start-ready : CostsAreBounded → (v : Banked) (q i : ℕ) (s : List ℕ) → v.states * (v.lines + 1) ≤ 1048576 → q < v.states → i < v.lines
+    → s ≡ resting v.states v.lines q → IsReadyBank v (record { states = s; place = Enter i west; steps = 0 })
+start-ready bounded v q i s few state line bars =
+    record {
+      state = q;
+      line = i;
+      some_state = state;
+      some_line = line;
+      resting = subst (λ xs. IsResting xs 0 v.states v.lines (Some q)) (sym bars) (resting-IsResting v.states v.lines q state);
+      enters = refl;
+      in_time = λ t reversible square is. let low = cost t reversible square is (t.go q i) refl in omega (arith, low);
+    }
+  where
+    all : (t : Table) → IsBankOf v t → 4 * (t.states * (t.inputs + 1)) ≤ 4194304
+    all t is =
+        let at_states : t.states * (v.lines + 1) ≤ 1048576 = subst (λ n. n * (v.lines + 1) ≤ 1048576) is.states few in
+        let at_both : t.states * (t.inputs + 1) ≤ 1048576 = subst (λ k. t.states * (k + 1) ≤ 1048576) is.lines at_states in
+        omega arith
+
+    cost : (t : Table) → IsReversible t → t.outputs ≡ t.inputs → IsBankOf v t → (m : Option (ℕ × ℕ)) → t.go q i ≡ m → table_cost t q i ≤ 4194304
+    cost t reversible square is None goes =
+        let q_low : q < t.states = subst (λ n. q < n) is.states state in
+        let i_low : i < t.inputs = subst (λ n. i < n) is.lines line in
+        let low = (bounded t.states t.inputs q i q i q_low i_low q_low i_low).1 in
+        let most = all t is in
+        let by_loose : table_cost t q i ≡ loose_cost t.inputs q i = ap (cost_by t.states t.inputs q i) goes in
+        omega (arith, low, most, by_loose)
+    cost t reversible square is (Some m) goes =
+        let q_low : q < t.states = subst (λ n. q < n) is.states state in
+        let i_low : i < t.inputs = subst (λ n. i < n) is.lines line in
+        let arrives = reversible.arrives q i m.0 m.1 goes in
+        let out : m.1 < t.inputs = subst (λ n. m.1 < n) square arrives.1 in
+        let low = (bounded t.states t.inputs q i m.0 m.1 q_low i_low arrives.0 out).0 in
+        let most = all t is in
+        let by_move : table_cost t q i ≡ move_cost t.states t.inputs q i m.0 m.1 = ap (cost_by t.states t.inputs q i) goes in
+        omega (arith, low, most, by_move)
 
 -- ---- a bank in a net
 

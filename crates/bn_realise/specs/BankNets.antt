@@ -4,7 +4,8 @@ use Rattle.bn_theory.specs.Runs.{Reaches, Passes}
 use Rattle.bn_theory.specs.Tables.{Table, IsReversible}
 use Rattle.bn_theory.specs.Circuits.{Circuit, clock, target, Goes}
 use Rattle.bn_theory.specs.declared.line.Line.{Line}
-use Rattle.bn_theory.specs.declared.place.Place.TheVariants.{Enter}
+use Rattle.bn_theory.specs.declared.place.Place.{Place}
+use Rattle.bn_theory.specs.declared.place.Place.TheVariants.{Enter, Left}
 use Rattle.bn_theory.specs.declared.config.Config.{Config}
 use Rattle.bn_element.specs.Rotary.{horizontal, vertical, west}
 use Rattle.bn_element.specs.declared.rotary.Rotary.{Rotary}
@@ -12,7 +13,8 @@ use Rattle.bn_net.specs.Parts.{Parts}
 use Rattle.bn_column.specs.Nets.{rotary_circuit}
 use Rattle.bn_rsm.specs.Machines.{Machine}
 use Rattle.bn_rsm.specs.Costs.{table_cost}
-use Rattle.bn_realise.specs.Banks.{column_at, bottom_at, IsBank, IsBankWire, IsBankEntering, IsWithinBank, moved}
+use Rattle.bn_realise.specs.Banks.{column_at, bottom_at, IsBank, IsBankWire, IsBankEntering, IsResting, IsWithinBank}
+use Rattle.bn_realise.specs.Banks.{moved}
 use Rattle.bn_realise.specs.declared.refusal.BankRefusal.{BankRefusal}
 use Rattle.bn_realise.specs.declared.refusal.BankRefusal.TheVariants.{Elements, NoMemory}
 
@@ -60,6 +62,13 @@ pub record IsBankOf (v : Banked) (t : Table) : Type 0 where
   pub lines : v.lines ≡ t.inputs
   pub net : IsBankNet v.net t
 
+-- it is the bank of some table
+pub record IsSomeBank (v : Banked) : Type 0 where
+  pub table : Table
+  pub reversible : IsReversible table
+  pub square : table.outputs ≡ table.inputs
+  pub is_bank : IsBankOf v table
+
 -- it can make a move of some table whose bank it is
 pub record CanMoveBank (v : Banked) (c : Config) : Type 0 where
   pub table : Table
@@ -67,6 +76,23 @@ pub record CanMoveBank (v : Banked) (c : Config) : Type 0 where
   pub square : table.outputs ≡ table.inputs
   pub is_bank : IsBankOf v table
   pub can : CanMove 0 table c
+
+-- The bank is at rest in a state, the signal enters an input line, and the clock has room for the cost, whichever table
+-- it
+-- is the bank of.
+pub record IsReadyBank (v : Banked) (c : Config) : Type 0 where
+  pub state : ℕ
+  pub line : ℕ
+  pub some_state : state < v.states
+  pub some_line : line < v.lines
+  pub resting : IsResting c.states 0 v.states v.lines (Some state)
+  pub enters : c.place ≡ Enter line west
+  pub in_time : (t : Table) → IsReversible t → t.outputs ≡ t.inputs → IsBankOf v t
+      → c.steps + table_cost t state line ≤ clock
+
+-- the signal has left by this line
+abbrev pub HasLeft : Place → Line → Type 0
+HasLeft place exit = place ≡ Left exit.element exit.line
 
 -- the elements of a machine's bank
 abbrev pub elements_of : Machine → ℕ

@@ -8,6 +8,7 @@ ghost use Rattle.bn_column.specs.Nets.{rotary_circuit};
 use bn_lists::NoMemory;
 use bn_element::{HORIZONTAL, Rotary, VERTICAL, WEST};
 use bn_net::{CLOCK, Config, MOST_ELEMENTS, Net, Place, States};
+use bn_rsm::costs_are_bounded;
 use std::alloc::Global;
 use std::marker::Model;
 
@@ -21,32 +22,36 @@ pub struct Bank {
 
 impl Model for Bank {
     ghost use Rattle.std.specs.Prelude.{◌≡◌, ◌+◌, ◌*◌, ◌≤◌, length};
-    ghost use Rattle.bn_realise.specs.BankNets.{Banked};
+    ghost use Rattle.bn_realise.specs.BankNets.{Banked, IsSomeBank};
 
     ghost Value = { Banked };
 
     ghost view = { λ v. record { net = v.net; states = v.states; lines = v.lines } };
 
     ghost invariant = { λ v. (length v.net.elements ≡ v.states * (v.lines + 1))
-        × (v.states * (v.lines + 1) ≤ MOST_ELEMENTS) };
+        × (v.states * (v.lines + 1) ≤ MOST_ELEMENTS)
+        × IsSomeBank (record { net = v.net; states = v.states; lines = v.lines }) };
 }
 
 impl Bank {
-    ghost use Rattle.bn_realise.specs.Banks.{IsBankEntering};
-    ghost use Rattle.bn_realise.specs.BankNets.{Banked, IsBankOf, CanMoveBank, IsMove, start_at};
+    ghost use Rattle.bn_realise.specs.Banks.{IsBankEntering, exit_after};
+    ghost use Rattle.bn_realise.specs.BankNets.{Banked, IsBankOf, IsSomeBank, IsReadyBank, IsMove, HasLeft, start_at};
 
     // The bank with this net and these numbers of states and lines.
     pub(crate) fn of(net: Net<Rotary>, states: u32, lines: u32) -> Bank
         requires elements { length net.elements ≡ states * (lines + 1) }
         requires few { states * (lines + 1) ≤ MOST_ELEMENTS }
+        requires some_bank { IsSomeBank (record { net = net; states = states; lines = lines }) }
         ensures { result ≡ record { net = net; states = states; lines = lines } }
     {
         Bank { net, states, lines }
     }
 
-    /// The bank's net: the columns one after another from element 0 on, each with its bottom last.
+    /// The bank's net: the columns one after another from element 0 on, each with its bottom last. It is
+    /// the bank of some table.
     pub fn net(&self) -> &Net<Rotary>
-        ensures { result.now ≡ self.now.net }
+        ensures net { result.now ≡ self.now.net }
+        ensures some_bank { IsSomeBank self.now }
     {
         &self.net
     }
@@ -64,14 +69,16 @@ impl Bank {
     }
 
     /// The bank at rest in this state, with the signal about to enter this input line; both are counted
-    /// from 0. No step is made yet.
+    /// from 0. No step is made yet, and the move can be made.
     pub fn start(&self, alloc: Global, state: u32, line: u32) -> Result<Config, NoMemory>
         requires state { state < self.now.states }
         requires line { line < self.now.lines }
         ensures start { IfOk result (λ c. c ≡ start_at self.now.states self.now.lines state line) }
         ensures good { IfOk result (IsConfig (rotary_circuit self.now.net)) }
         ensures entering { IfOk result (λ c. (t : Table) → IsBankOf self.now t → IsBankEntering 0 t state line c) }
+        ensures ready { IfOk result (IsReadyBank self.now) }
     {
+        costs_are_bounded();
         let states = resting(alloc, self.states, self.lines, state)?;
         let _ = &self.net;
         Ok(Config {
@@ -86,13 +93,15 @@ impl Bank {
 
     /// Makes the bank's move from its state and the input line that the signal enters, and answers the
     /// number of element steps made: to the output line, or to the loose line where the pair has no
-    /// move. It takes no memory.
+    /// move, by which the signal has left. It takes no memory.
     pub fn cross(&self, config: &mut Config) -> u64
         requires good { IsConfig (rotary_circuit self.now.net) config.old }
-        requires entering { CanMoveBank self.now config.old }
+        requires entering { IsReadyBank self.now config.old }
         ensures moved { (t : Table) (q i : ℕ) → IsReversible t → t.outputs ≡ t.inputs → IsBankOf self.now t
             → IsBankEntering 0 t q i config.old
             → IsMove (rotary_circuit self.now.net) 0 t q i result config.old config.new }
+        ensures left { (t : Table) (q i : ℕ) → IsReversible t → t.outputs ≡ t.inputs → IsBankOf self.now t
+            → IsBankEntering 0 t q i config.old → HasLeft config.new.place (exit_after 0 t q i (t.go q i)) }
         ensures good { IsConfig (rotary_circuit self.now.net) config.new }
     {
         self.net.run(config, CLOCK)

@@ -16,7 +16,7 @@ pub enum Status {
     Machine,
     /// The word has a letter that is none of the machine's.
     Word,
-    /// The input, the word or the circuit is too large.
+    /// The input, the word, the circuit, or the machine to be made, in quintuples or quadruples, is too large.
     Size,
     /// The source failed.
     ReadFault,

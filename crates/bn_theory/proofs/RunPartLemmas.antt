@@ -1,13 +1,16 @@
 -- Cuts of runs, claims read off a path, and the places on the way.
-use Rattle.std.specs.Prelude.{◌≡◌, ℕ, ◌+◌, ◌<◌, ◌≤◌, Bool, true, ◌∷◌, length, Some, slice_get, refl}
+use Rattle.std.specs.Prelude.{◌≡◌, ℕ, ◌+◌, ◌<◌, ◌≤◌, Bool, true, ◌∷◌, length, Option, Some, None, slice_get, refl}
 use Rattle.std.proofs.Common.{zero, suc, arith, sym, ap, subst, ◌∙◌}
 use Rattle.bn_theory.specs.Runs.{Reaches, Passes}
-use Rattle.bn_theory.proofs.RunsLemmas.{before_by, before_gives}
-use Rattle.bn_theory.specs.Circuits.{Circuit, Goes, IsStuck}
-use Rattle.bn_theory.specs.Stepping.{run, places}
+use Rattle.bn_theory.proofs.RunsLemmas.{before_by, before_gives, runs_more}
+use Rattle.bn_theory.specs.Circuits.{Circuit, Goes, IsCircuit, IsConfig, IsStuck, IsFirst}
+use Rattle.bn_theory.specs.Stepping.{run, back, previous, places, places_back}
+use Rattle.bn_theory.proofs.StepLemmas.{previous-Goes, previous-IsConfig, Goes-previous}
 use Rattle.bn_theory.proofs.RunLemmas.{Reaches-run, Reaches-back, run-first, run-zero, run_makes, places-Goes, places-stuck, places-zero}
+use Rattle.bn_theory.proofs.RunLemmas.{back-zero, back_composes, back-first, places_back-zero, places_back-Goes, places_back-first}
 use Rattle.bn_theory.specs.declared.config.Config.{Config}
 use Rattle.bn_theory.specs.RunParts.{RunsUndoInPart, PathsPassBetween, PlacesAreThoseOfRuns}
+use Rattle.bn_theory.specs.RunParts.{ArePlacesOfRunBack, PlacesAreThoseOfRunsBack}
 
 pub runs_split : {S : Type 0} (step : S → S → Type 0) (r s p : ℕ) (x z : S) → p ≡ r + s → Reaches step p x z → (y : S) × Reaches step r x y × Reaches step s y z
 runs_split step zero s p x z sum path = let e : p ≡ s = omega arith in (x, refl, subst (λ n. Reaches step n x z) e path)
@@ -85,3 +88,65 @@ places-of_runs k t c =
     let made = run_makes k c t in
     let told = places_reach k made.made t c (run k c t) made.reaches made.within made.ended in
     record { count = made.made; all = told.0; within = made.within; reaches = made.reaches; ended = made.ended; each = told.1 }
+
+-- the first step of a run back
+back-begins : (k : Circuit) (circuit : IsCircuit k) (c d : Config) (t : ℕ) → Goes k c d → back k d (suc t) ≡ back k c t
+back-begins k circuit c d t g =
+    let sum : suc t ≡ 1 + t = omega arith in
+    let once : back k d 1 ≡ c = Reaches-back k circuit 1 c d (d, g, refl) in
+    back_composes k d 1 t (suc t) sum ∙ ap (λ x. back k x t) once
+
+-- the places told of a run back from where a step led, and from where none did
+module _ (k : Circuit) (circuit : IsCircuit k) where
+  back_from_step : (t : ℕ) (c d : Config) → Goes k c d → ArePlacesOfRunBack k t c → ArePlacesOfRunBack k (suc t) d
+  back_from_step t c d g rest =
+      let told = places_back-Goes k circuit c d t g in
+      let there = back-begins k circuit c d t g in
+      record {
+        count = rest.count + 1;
+        all = ap length told ∙ ap suc rest.all ∙ (omega arith);
+        within = let w = rest.within in omega arith;
+        reaches = subst (λ x. Reaches (Goes k) (rest.count + 1) x d) (sym there) (runs_more (Goes k) rest.count (back k c t) c d rest.reaches g);
+        ended = λ fewer. subst (IsFirst k) (sym there) (rest.ended (omega arith));
+        each = λ i low. ap (λ ps. slice_get ps i) told ∙ at i low;
+      }
+    where
+      at : (i : ℕ) → i < rest.count + 1 → slice_get (c.place ∷ places_back k t c) i ≡ Some (back k d (i + 1)).place
+      at zero low = ap (λ (x : Config). Some x.place) (sym (back-begins k circuit c d 0 g ∙ back-zero k c))
+      at (suc j) low =
+          let count : suc (j + 1) ≡ suc j + 1 = omega arith in
+          rest.each j (omega arith) ∙ ap (λ (x : Config). Some x.place) (sym (back-begins k circuit c d (j + 1) g))
+          ∙ ap (λ n. Some (back k d n).place) count
+
+  back_from_start : (t : ℕ) (d : Config) → IsConfig k d → IsFirst k d → ArePlacesOfRunBack k t d
+  back_from_start t d config first =
+      let there = back-first k circuit d config first t in
+      record {
+        count = 0;
+        all = ap length (places_back-first k circuit d t config first);
+        within = omega arith;
+        reaches = there;
+        ended = λ _. subst (IsFirst k) (sym there) first;
+        each = λ i low. absurd (omega arith);
+      }
+
+  back_told : (t : ℕ) (d : Config) → IsConfig k d → ArePlacesOfRunBack k t d
+  back_told zero d config =
+      record {
+        count = 0;
+        all = ap length (places_back-zero k d);
+        within = omega arith;
+        reaches = back-zero k d;
+        ended = λ fewer. absurd (omega arith);
+        each = λ i low. absurd (omega arith);
+      }
+  back_told (suc t) d config = by_step (previous k d) refl (λ c of_circuit. back_told t c of_circuit)
+    where
+      by_step : (o : Option Config) → previous k d ≡ o → ((c : Config) → IsConfig k c → ArePlacesOfRunBack k t c) → ArePlacesOfRunBack k (suc t) d
+      by_step None none rest = back_from_start (suc t) d config (λ c g. let some = Goes-previous k circuit c d g in let no = none in cc)
+      by_step (Some c) some rest =
+          let g : Goes k c d = previous-Goes k circuit c d config some in
+          back_from_step t c d g (rest c (previous-IsConfig k circuit c d config g))
+
+pub places-of_runs_back : PlacesAreThoseOfRunsBack
+places-of_runs_back k circuit t d config = back_told k circuit t d config

@@ -2,8 +2,8 @@
 -- on the way.
 use Rattle.std.specs.Prelude.{◌≡◌, ℕ, ◌+◌, ◌<◌, ◌≤◌, Bool, true, length, Some, slice_get}
 use Rattle.bn_theory.specs.Runs.{Reaches, Passes}
-use Rattle.bn_theory.specs.Circuits.{Circuit, Goes, IsCircuit, IsStuck}
-use Rattle.bn_theory.specs.Stepping.{run, back, places}
+use Rattle.bn_theory.specs.Circuits.{Circuit, Goes, IsCircuit, IsConfig, IsStuck, IsFirst}
+use Rattle.bn_theory.specs.Stepping.{run, back, places, places_back}
 use Rattle.bn_theory.specs.declared.config.Config.{Config}
 
 -- a run taken back in part is a shorter run
@@ -30,3 +30,18 @@ pub record ArePlacesOfRun (k : Circuit) (t : ℕ) (c : Config) : Type 0 where
 
 abbrev pub PlacesAreThoseOfRuns : Type 0
 PlacesAreThoseOfRuns = (k : Circuit) (t : ℕ) (c : Config) → ArePlacesOfRun k t c
+
+-- Likewise the places told of a run back: the place with number i, from 0, is that after i + 1 steps back; and there
+-- are
+-- as many as steps back can be made, at most as many as are asked for.
+pub record ArePlacesOfRunBack (k : Circuit) (t : ℕ) (d : Config) : Type 0 where
+  pub count : ℕ
+  pub all : length (places_back k t d) ≡ count
+  pub within : count ≤ t
+  pub reaches : Reaches (Goes k) count (back k d t) d
+  pub ended : count < t → IsFirst k (back k d t)
+  pub each : (i : ℕ) → i < count → slice_get (places_back k t d) i ≡ Some (back k d (i + 1)).place
+
+abbrev pub PlacesAreThoseOfRunsBack : Type 0
+PlacesAreThoseOfRunsBack =
+    (k : Circuit) → IsCircuit k → (t : ℕ) (d : Config) → IsConfig k d → ArePlacesOfRunBack k t d

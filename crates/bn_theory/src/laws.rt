@@ -8,6 +8,7 @@ ghost use Rattle.bn_theory.specs.Stepping.{next, previous, run, back};
 ghost use Rattle.bn_theory.specs.RunLaws.{Makes};
 ghost use Rattle.bn_theory.specs.declared.config.Config.{Config};
 ghost use Rattle.bn_theory.specs.RunParts.{RunsUndoInPart, PathsPassBetween, PlacesAreThoseOfRuns};
+ghost use Rattle.bn_theory.specs.RunParts.{PlacesAreThoseOfRunsBack};
 ghost use Rattle.bn_theory.specs.Situations.{StepsAreCounted, PathsAreCounted};
 ghost use Rattle.bn_theory.specs.Counting.{TalliesAdd};
 ghost use Rattle.bn_theory.specs.Alike.{AlikeRunAlike, TablesAreOne, ConsistentMovesAreReversible};
@@ -69,6 +70,11 @@ pub fn paths_pass_between()
 /// The places told of a run are the places of its configurations, as many as steps can be made.
 pub fn places_are_those_of_runs()
     ensures { PlacesAreThoseOfRuns }
+{}
+
+/// The places told of a run back are the places of its configurations, as many as steps back can be made.
+pub fn places_are_those_of_runs_back()
+    ensures { PlacesAreThoseOfRunsBack }
 {}
 
 /// A counted step is a step within the clock.

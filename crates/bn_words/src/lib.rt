@@ -9,5 +9,5 @@ mod value;
 
 pub use form::Form;
 pub use kind::Kind;
-pub use laws::words_have_one_reading;
+pub use laws::{words_have_a_form_or_none, words_have_one_reading};
 pub use request::{Request, read_words};
