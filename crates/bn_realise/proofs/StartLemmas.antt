@@ -26,6 +26,7 @@ use Rattle.bn_realise.specs.Banks.{column_at, bottom_at, IsBankWire, across, tur
 use Rattle.bn_realise.proofs.BankCrossingLemmas.{later_column, other_column, bank_crosses}
 use Rattle.bn_realise.proofs.BankWiresLemmas.{column_once, output-no_wire, turning-wire}
 use Rattle.bn_realise.specs.BankNets.{CanMove, IsMove, IsBankNet, Banked, IsBankOf, IsSomeBank, CanMoveBank, IsReadyBank, HasLeft}
+use Rattle.bn_net.specs.declared.net.TheConstants.{MOST_ELEMENTS}
 
 abbrev pub resting : ℕ → ℕ → ℕ → List ℕ
 resting n k q = slice_set (replicate (n * (k + 1)) vertical) (bottom_at 0 k q) horizontal
@@ -274,7 +275,7 @@ can-ready v c can =
         subst (λ n. c.steps + n ≤ clock) same can.can.in_time
 
 -- a bank at its start is ready, since no move costs more than the clock has
-pub start-ready : CostsAreBounded → (v : Banked) (q i : ℕ) (s : List ℕ) → v.states * (v.lines + 1) ≤ 1048576 → q < v.states → i < v.lines
+pub start-ready : CostsAreBounded → (v : Banked) (q i : ℕ) (s : List ℕ) → v.states * (v.lines + 1) ≤ MOST_ELEMENTS → q < v.states → i < v.lines
     → s ≡ resting v.states v.lines q → IsReadyBank v (record { states = s; place = Enter i west; steps = 0 })
 start-ready bounded v q i s few state line bars =
     record {
@@ -289,8 +290,8 @@ start-ready bounded v q i s few state line bars =
   where
     all : (t : Table) → IsBankOf v t → 4 * (t.states * (t.inputs + 1)) ≤ 4194304
     all t is =
-        let at_states : t.states * (v.lines + 1) ≤ 1048576 = subst (λ n. n * (v.lines + 1) ≤ 1048576) is.states few in
-        let at_both : t.states * (t.inputs + 1) ≤ 1048576 = subst (λ k. t.states * (k + 1) ≤ 1048576) is.lines at_states in
+        let at_states : t.states * (v.lines + 1) ≤ MOST_ELEMENTS = subst (λ n. n * (v.lines + 1) ≤ MOST_ELEMENTS) is.states few in
+        let at_both : t.states * (t.inputs + 1) ≤ MOST_ELEMENTS = subst (λ k. t.states * (k + 1) ≤ MOST_ELEMENTS) is.lines at_states in
         omega arith
 
     cost : (t : Table) → IsReversible t → t.outputs ≡ t.inputs → IsBankOf v t → (m : Option (ℕ × ℕ)) → t.go q i ≡ m → table_cost t q i ≤ 4194304
