@@ -37,7 +37,7 @@ ascending (Move way.Right ∷ xs) t b p l r e =
     omega arith
 
 -- what was read is not nothing
-some_symbols : (l : List (ℕ × ℕ)) (p : ℕ × ℕ) → symbols_in (l ++ (p ∷ [])) ≢ []
+pub some_symbols : (l : List (ℕ × ℕ)) (p : ℕ × ℕ) → symbols_in (l ++ (p ∷ [])) ≢ []
 some_symbols [] p e = cc
 some_symbols (b ∷ l) p e = cc
 

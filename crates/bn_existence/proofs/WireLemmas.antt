@@ -8,7 +8,8 @@ use Rattle.bn_theory.specs.declared.line.Line.{Line}
 use Rattle.bn_theory.specs.declared.line.Wire.{Wire}
 use Rattle.bn_column.specs.Wirings.{AreApart, AreWiresOf}
 use Rattle.bn_column.proofs.WiringsLemmas.{apart-IsOneToOne}
-use Rattle.bn_controllaws.proofs.ListedLemmas.{IsMember, Listing}
+use Rattle.bn_theory.proofs.MemberLemmas.{IsMember}
+use Rattle.bn_controllaws.proofs.ListedLemmas.{Listing}
 
 -- each output line leads to one input line at most, and each input line comes from one output line at most
 pub record IsBothWays (R : Line → Line → Type 0) : Type 0 where

@@ -1,50 +1,17 @@
 -- Where a command is no state's first, and the states that occur.
-use Rattle.std.specs.Prelude.{◌≡◌, ℕ, ◌<◌, ◌≤◌, List, [], ◌∷◌, ◌++◌, Some, refl}
-use Rattle.std.proofs.Common.{suc, arith, ap, ◌∙◌}
+use Rattle.std.specs.Prelude.{◌≡◌, ℕ, List, [], ◌∷◌, ◌++◌, Some, refl}
+use Rattle.std.proofs.Common.{arith, ap, ◌∙◌}
 use Rattle.bn_machine.specs.Machine.{nth}
 use Rattle.bn_machine.specs.declared.quint.Shift.TheVariants as way
 use Rattle.bn_machine.specs.declared.quint.Side.{Side}
 use Rattle.bn_machine.specs.declared.quint.Side.TheVariants as side
-use Rattle.bn_quad.specs.Quadruples.{Deed, Rewrite, Move, Rule, deeds_of, Quadruples}
-use Rattle.bn_modules.specs.Controls.{ControlState, ControlMove, Reads, Shifts, Writes, IsEntry, finishes, leaves, waits, IsFirstOf, Occurs, is_end, is_open, is_read, is_shift, is_write, reads_of, shifts_of, writes_of, shifts, symbols_in, to_reads, to_shifts, to_writes}
+use Rattle.bn_quad.specs.Quadruples.{Rule, deeds_of, Quadruples}
+use Rattle.bn_modules.specs.Controls.{ControlState, ControlMove, Reads, Shifts, Writes, IsEntry, finishes, leaves, waits, IsFirstOf, Occurs, is_end, is_open, is_read, is_shift, is_write, reads_of, shifts_of, writes_of, symbols_in, to_reads, to_shifts, to_writes}
+use Rattle.bn_controllaws.proofs.OrderLemmas.{ascending, some_symbols}
 
 -- no state's first command waits in this state
 abbrev pub IsMiddle : Quadruples → ControlState → Type 0
 IsMiddle m q = (a : ℕ) (k : ControlMove) → IsEntry m a k → k.0 ≡ q → ⊥
-
--- the shifted tapes rise
-above : (ds : List Deed) (t : ℕ) (l r : List (ℕ × Side)) (p : ℕ × Side) → shifts t ds ≡ l ++ (p ∷ r) → t ≤ p.0
-above [] t [] r p e = absurd cc
-above [] t (b ∷ l) r p e = absurd cc
-above (Rewrite a w ∷ ds) t l r p e = let more = above ds (suc t) l r p e in omega arith
-above (Move way.Stay ∷ ds) t l r p e = let more = above ds (suc t) l r p e in omega arith
-above (Move way.Left ∷ ds) t [] r p e = let same : (t, side.Left) ≡ p = cc in let first = ap (λ (q : ℕ × Side). q.0) same in omega arith
-above (Move way.Left ∷ ds) t (b ∷ l) r p e = let rest : shifts (suc t) ds ≡ l ++ (p ∷ r) = cc in let more = above ds (suc t) l r p rest in omega arith
-above (Move way.Right ∷ ds) t [] r p e = let same : (t, side.Right) ≡ p = cc in let first = ap (λ (q : ℕ × Side). q.0) same in omega arith
-above (Move way.Right ∷ ds) t (b ∷ l) r p e = let rest : shifts (suc t) ds ≡ l ++ (p ∷ r) = cc in let more = above ds (suc t) l r p rest in omega arith
-
--- an earlier shift is of a lower tape
-ascending : (ds : List Deed) (t : ℕ) (b p : ℕ × Side) (l r : List (ℕ × Side)) → shifts t ds ≡ b ∷ (l ++ (p ∷ r)) → b.0 < p.0
-ascending [] t b p l r e = absurd cc
-ascending (Rewrite a w ∷ ds) t b p l r e = ascending ds (suc t) b p l r e
-ascending (Move way.Stay ∷ ds) t b p l r e = ascending ds (suc t) b p l r e
-ascending (Move way.Left ∷ ds) t b p l r e =
-    let same : (t, side.Left) ≡ b = cc in
-    let first = ap (λ (q : ℕ × Side). q.0) same in
-    let rest : shifts (suc t) ds ≡ l ++ (p ∷ r) = cc in
-    let more = above ds (suc t) l r p rest in
-    omega arith
-ascending (Move way.Right ∷ ds) t b p l r e =
-    let same : (t, side.Right) ≡ b = cc in
-    let first = ap (λ (q : ℕ × Side). q.0) same in
-    let rest : shifts (suc t) ds ≡ l ++ (p ∷ r) = cc in
-    let more = above ds (suc t) l r p rest in
-    omega arith
-
--- a list with one more is not empty
-some_symbols : (l : List (ℕ × ℕ)) (p : ℕ × ℕ) → symbols_in (l ++ (p ∷ [])) ≡ [] → ⊥
-some_symbols [] p e = cc
-some_symbols (b ∷ l) p e = cc
 
 -- what is commanded occurs
 module _ (m : Quadruples) (n : ℕ) (r : Rule ℕ) (stands : nth m.rules n ≡ Some r) (e : ControlMove) (there : Occurs m e.0) where
