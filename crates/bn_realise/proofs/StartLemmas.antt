@@ -26,10 +26,11 @@ use Rattle.bn_realise.proofs.BankCrossingLemmas.{later_column, other_column, ban
 use Rattle.bn_realise.proofs.BankWiresLemmas.{column_once, output-no_wire, turning-wire}
 use Rattle.bn_realise.specs.BankNets.{CanMove, IsMove, IsBankNet, Banked, IsBankOf, CanMoveBank}
 
+-- the bars of one bank at rest
 abbrev pub resting : ℕ → ℕ → ℕ → List ℕ
 resting n k q = slice_set (replicate (n * (k + 1)) vertical) (bottom_at 0 k q) horizontal
 
-replicate-get : (n v e : ℕ) → e < n → slice_get (replicate n v) e ≡ Some v
+pub replicate-get : (n v e : ℕ) → e < n → slice_get (replicate n v) e ≡ Some v
 replicate-get zero v e within = absurd (omega arith)
 replicate-get (suc n) v zero within = refl
 replicate-get (suc n) v (suc e) within = replicate-get n v e (omega arith)
@@ -54,6 +55,7 @@ resting-bars n k q e v has =
           omega arith)
     ]
 
+-- they rest in the state
 pub resting-IsResting : (n k q : ℕ) → q < n → IsResting (resting n k q) 0 n k (Some q)
 resting-IsResting n k q state = record { columns = λ j there. record { rows = rows j there; bottom = bottom j there } }
   where
