@@ -13,7 +13,7 @@ pub use laws::{columns_are_crossed, crossed_columns_rest, crossings_stay_within}
 pub use make::column;
 pub use refusal::{ColumnRefusal, NoMemory};
 pub use standing::Column;
-pub use wires::{column_wires, rotary_net};
+pub use wires::{column_wires, rotary_net, wire};
 
 #[cfg(test)]
 mod tests;
