@@ -24,12 +24,6 @@ replicated zero i x y h = absurd (cc)
 replicated (suc n) zero x y h = cc
 replicated (suc n) (suc i) x y h = replicated n i x y h
 
--- and it holds it at each of its places
-pub get_replicate : {X : Type 0} (n i : ℕ) (x : X) → i < n → slice_get (replicate n x) i ≡ Some x
-get_replicate zero i x low = absurd (omega arith)
-get_replicate (suc n) zero x low = refl
-get_replicate (suc n) (suc i) x low = get_replicate n i x (omega arith)
-
 -- two lines are one, or they are not
 pub lines_tell : (a b : Line) → ((same_line a b ≡ true) × (a ≡ b)) ⊎ ((same_line a b ≡ false) × (a ≢ b))
 lines_tell a b =

@@ -30,7 +30,7 @@ use Rattle.bn_realise.specs.BankNets.{CanMove, IsMove, IsBankNet, Banked, IsBank
 abbrev pub resting : ℕ → ℕ → ℕ → List ℕ
 resting n k q = slice_set (replicate (n * (k + 1)) vertical) (bottom_at 0 k q) horizontal
 
-pub replicate-get : (n v e : ℕ) → e < n → slice_get (replicate n v) e ≡ Some v
+replicate-get : (n v e : ℕ) → e < n → slice_get (replicate n v) e ≡ Some v
 replicate-get zero v e within = absurd (omega arith)
 replicate-get (suc n) v zero within = refl
 replicate-get (suc n) v (suc e) within = replicate-get n v e (omega arith)
