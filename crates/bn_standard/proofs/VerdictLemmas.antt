@@ -9,7 +9,7 @@ use Rattle.bn_standard.specs.declared.why.Why.TheVariants.{Repeat, First, StartU
 use Rattle.bn_standard.specs.VerdictLaws.{VerdictsAreOne, StandardIsAccepted}
 
 -- the least number with a property is one
-least_once : (i j : ℕ) → (i < j → ⊥) → (j < i → ⊥) → i ≡ j
+pub least_once : (i j : ℕ) → (i < j → ⊥) → (j < i → ⊥) → i ≡ j
 least_once i j low high = by_order (cases_lt i j) (cases_lt j i)
   where
     by_order : (i < j) ⊎ (j ≤ i) → (j < i) ⊎ (i ≤ j) → i ≡ j

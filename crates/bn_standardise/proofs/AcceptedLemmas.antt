@@ -1,24 +1,15 @@
 -- One refusal fits a machine, and none but want of memory fits one that is accepted.
-use Rattle.std.specs.Prelude.{◌≡◌, ◌≢◌, ℕ, ◌<◌, ◌≤◌, List, ◌⊎◌}
-use Rattle.std.proofs.Common.{refl, sym, ◌∙◌, ap, arith, inl, inr}
-use Rattle.std.proofs.lemmas.Bool.{cases_lt}
+use Rattle.std.specs.Prelude.{◌≡◌, ◌≢◌, ℕ, List}
+use Rattle.std.proofs.Common.{refl, sym, ◌∙◌, ap, arith}
 use Rattle.bn_machine.specs.Machine.{Program}
 use Rattle.bn_machine.specs.declared.quint.Quint.{Quint}
 use Rattle.bn_standard.specs.Verdict.{IsLeastRepeat}
-use Rattle.bn_standard.proofs.VerdictLemmas.{verdict_once}
+use Rattle.bn_standard.proofs.VerdictLemmas.{least_once, verdict_once}
 use Rattle.bn_standard.specs.declared.why.Why.TheVariants as whys
 use Rattle.bn_standardise.specs.Refusals.{IsAccepted, IsLeastHalting, IsLooseRefusal}
 use Rattle.bn_standardise.specs.Laws.{RefusalsAreOne}
 use Rattle.bn_standardise.specs.declared.refusal.LooseRefusal.{LooseRefusal}
 use Rattle.bn_standardise.specs.declared.refusal.LooseRefusal.TheVariants.{Repeat, Halting, Many, NoMemory}
-
-least_once : (i j : ℕ) → (i < j → ⊥) → (j < i → ⊥) → i ≡ j
-least_once i j low high = by_order (cases_lt i j) (cases_lt j i)
-  where
-    by_order : (i < j) ⊎ (j ≤ i) → (j < i) ⊎ (i ≤ j) → i ≡ j
-    by_order (inl h) k = absurd (low h)
-    by_order (inr h) (inl k) = absurd (high k)
-    by_order (inr h) (inr k) = omega arith
 
 halting_once : (qs : List Quint) (i j : ℕ) → IsLeastHalting qs i → IsLeastHalting qs j → i ≡ j
 halting_once qs i j a b = least_once i j (λ h. b.least i h a.leaves) (λ h. a.least j h b.leaves)
