@@ -6,19 +6,12 @@ use Rattle.bn_cell.specs.Sizes.{IsCellSize}
 use Rattle.bn_control.specs.Controlled.{Controlled, IsWithinLimits}
 use Rattle.std.proofs.Common.{zero, suc, arith, sym, ap, subst, ◌∙◌}
 use Rattle.bn_quad.specs.Quadruples.{Quadruples}
-use Rattle.bn_machine.specs.Outcome.{Limits}
 use Rattle.bn_modules.specs.Controls.{ControlState, letters}
-use Rattle.bn_modules.specs.Networks.{IsTape, cells_in, first_cell}
+use Rattle.bn_modules.specs.Networks.{IsTape, first_cell}
 use Rattle.bn_cell.specs.declared.table.CellTable.{CellTable}
+use Rattle.bn_layout.proofs.AgreedLemmas.{some_cells}
 use Rattle.bn_assembly.specs.Assembled.{Assembled, IsAssembled}
 use Rattle.bn_assembly.specs.declared.module.Module.TheVariants.{Control, Cell}
-
-some_cells : (l : Limits) (t : ℕ) → IsTape t → 0 < cells_in l t
-some_cells l zero tape = absurd (let low = tape.low in omega arith)
-some_cells l (suc zero) tape = omega arith
-some_cells l (suc (suc zero)) tape = omega arith
-some_cells l (suc (suc (suc zero))) tape = omega arith
-some_cells l (suc (suc (suc (suc t)))) tape = absurd (let high = tape.high in omega arith)
 
 -- the first cell of a tape has the tape's symbols
 pub first_symbols : (a : Assembled) (t e : ℕ) (c : CellTable) → IsTape t → e ≡ first_cell a.limits t → slice_get a.net.elements e ≡ Some (Cell c)

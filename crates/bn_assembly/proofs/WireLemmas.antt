@@ -13,6 +13,7 @@ use Rattle.bn_modules.specs.declared.cell_line.CellLine.TheVariants.{Read, Write
 use Rattle.bn_modules.specs.Cells.{IsLineOf, line_number}
 use Rattle.bn_modules.specs.Controls.{Tape as to_tape, letters, lines_before, in_number, out_number, command_offset, answer_offset}
 use Rattle.bn_modules.specs.Networks.{IsTape, IsCommand, IsReply, GoesRight, GoesLeft, IsNetWire, commands, replies, rightward, leftward, cells_in, first_cell, line_at}
+use Rattle.bn_layout.proofs.AgreedLemmas.{some_cells}
 use Rattle.bn_assembly.specs.WireLists.{wire, bundle, joint, joints, tape_wires, wires_of_tape, network_wires}
 
 -- ---- bundles
@@ -337,13 +338,6 @@ module _ (m : Quadruples) (l : Limits) (t : ℕ) (tape : IsTape t) where
       let past = left_past z c kind valid in
       let next : f + (p + 1) ≡ f + p + 1 = omega arith in
       inr (record { at = p; low = omega arith; joint = inr (record { at = past.rest; low = past.few; leaves = leaves ∙ (λ i. line_at (next i) (past.is i)); ends = ends ∙ ap (line_at (f + p)) past.is }) })
-
-some_cells : (l : Limits) (t : ℕ) → IsTape t → 0 < cells_in l t
-some_cells l zero tape = absurd (let low = tape.low in omega arith)
-some_cells l (suc zero) tape = omega arith
-some_cells l (suc (suc zero)) tape = omega arith
-some_cells l (suc (suc (suc zero))) tape = omega arith
-some_cells l (suc (suc (suc (suc t)))) tape = absurd (let high = tape.high in omega arith)
 
 module _ (m : Quadruples) (l : Limits) (three : length m.symbols ≡ 3) where
   abbrev OfTape : ℕ → Line → Line → Type 0

@@ -1,16 +1,15 @@
 -- The machine of a translation makes the runs of Bennett's list.
-use Rattle.std.proofs.Common.{◌≡◌, ◌<◌, ◌+◌, ◌*◌, ◌∷◌, ◌∙◌, ℕ, suc, zero, List, [], length, Some, sym, ap, subst, arith}
-use Rattle.std.proofs.lemmas.Option.{get_or_from_slice_get, slice_get_within}
+use Rattle.std.proofs.Common.{◌≡◌, ◌<◌, ◌+◌, ◌*◌, ◌∙◌, ℕ, suc, zero, List, length, sym, ap, subst, arith}
 use Rattle.bn_theory.specs.Runs.{Reaches}
 use Rattle.bn_machine.specs.Machine.{Program}
-use Rattle.bn_lists.specs.Lists.{nth, IsIn}
-use Rattle.bn_quad.specs.Quadruples.{Admits, Configuration, Goes, Quadruples, everywhere, IsRuleInRange, Rooms, Rule, final_of, initial_of}
+use Rattle.bn_quad.specs.Quadruples.{Admits, Configuration, Goes, Quadruples, everywhere, Rooms, Rule, final_of, initial_of}
 use Rattle.bn_quad.proofs.QuadStepLemmas.{goes_leads}
 use Rattle.bn_machine.specs.Tape.{blank_tape, scanned, word_tape}
 use Rattle.bn_machine.specs.Outcome as outcome
 use Rattle.bn_machine.specs.Outcome.{HasOutcome, Limits, Outcome}
 use Rattle.std.specs.Prelude.{◌↔◌}
-use Rattle.bn_stages.proofs.MembershipLemmas.{each_of_two, from_flat_map, in_head, in_tail}
+use Rattle.bn_lists.specs.Lists.{IsIn}
+use Rattle.bn_stages.proofs.InsideLemmas.{begins_in, ends_in, state_below}
 use Rattle.bn_stages.specs.Laws.{BennettsTheorem, BoundedRunsAgree, HaltsAfter, NumbersPassTests, NumbersRunAlike}
 use Rattle.bn_stages.specs.List.{bennett, initial_name, final_name}
 use Rattle.bn_stages.specs.Names.{states_in}
@@ -45,37 +44,17 @@ first_read_named f rs keeps c here none = record {
 -- ---- the machine of a translation
 
 module _ (p : Program) (t : Translation) (h : IsTranslation p t) where
-  -- a state of the machine's quadruples is one of its states
-  state_below : (k : ℕ) → IsIn (states_in t.machine.rules) k → k < length t.names
-  state_below k there =
-      let found = from_flat_map (λ (r : Rule ℕ). r.from ∷ r.to ∷ []) t.machine.rules k there in
-      let range = in_range found.1.place found.0 found.1.stands in
-      let low : k < t.machine.states = each_of_two (λ s. s < t.machine.states) found.0.from found.0.to range.from range.to k found.2 in
-      omega (arith, h.states)
-    where
-      in_range : (n : ℕ) (r : Rule ℕ) → nth t.machine.rules n ≡ Some r → IsRuleInRange t.machine.states t.machine.symbols r
-      in_range zero r e = absurd (cc)
-      in_range (suc k) r e =
-          let P : Rule ℕ → Type 0 = IsRuleInRange t.machine.states t.machine.symbols in
-          subst P (get_or_from_slice_get t.machine.rules k r r e) (h.machine.in_range k r (slice_get_within t.machine.rules k r e))
-
   pub names_apart : KeepsApart (name_of t) t.machine.rules
-  names_apart = names_kept_apart GoRight t.names t.machine.rules (numbers_states (bennett p) t.names h.names).apart state_below
+  names_apart = names_kept_apart GoRight t.names t.machine.rules (numbers_states (bennett p) t.names h.names).apart below
+    where
+      below : (k : ℕ) → IsIn (states_in t.machine.rules) k → k < length t.names
+      below k there = let low = state_below t.machine h.machine k there in omega (arith, h.states)
 
   pub begins_inside : IsIn (states_in t.machine.rules) (initial_of t.machine.rules)
-  begins_inside = first_inside t.machine.rules h.machine.some
-    where
-      first_inside : (rs : List (Rule ℕ)) → 0 < length rs → IsIn (states_in rs) (initial_of rs)
-      first_inside [] some = absurd (omega arith)
-      first_inside (r ∷ rs) some = in_head r.from _
+  begins_inside = begins_in t.machine h.machine
 
   ends_inside : IsIn (states_in t.machine.rules) (final_of t.machine.rules)
-  ends_inside = last_inside t.machine.rules h.machine.some
-    where
-      last_inside : (rs : List (Rule ℕ)) → 0 < length rs → IsIn (states_in rs) (final_of rs)
-      last_inside [] some = absurd (omega arith)
-      last_inside (r ∷ []) some = in_tail r.from r.to _ (in_head r.to [])
-      last_inside (r ∷ s ∷ rs) some = in_tail r.from _ _ (in_tail r.to _ _ (last_inside (s ∷ rs) (omega arith)))
+  ends_inside = ends_in t.machine h.machine
 
   module _ (standard : IsStandardMachine p) (tests : NumbersPassTests) where
     pub begins_named : name_of t (initial_of t.machine.rules) ≡ initial_name p

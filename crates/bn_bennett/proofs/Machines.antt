@@ -10,7 +10,6 @@ use Rattle.bn_machine.specs.Machine.{Program, IsMachine, final_of}
 use Rattle.bn_lists.specs.Lists.{nth, IsIn}
 use Rattle.bn_lists.proofs.ListLemmas.{nth-get_or, nth_once}
 use Rattle.bn_quad.specs.Quadruples.{Deed, Rewrite, Move, Rule, Quadruples, IsQuadMachine, IsDeedInRange, AreDeedsInRange, deeds_of}
-use Rattle.bn_quad.specs.Overlap.{IsDeterministic, IsReversible, IsUniform}
 use Rattle.bn_quad.specs.Kept.{IsActInRange, IsReadInRange, IsSound, IsFirstFault, Agree, act_of, quad_of, read_of, rule_of, rules_of}
 use Rattle.bn_quad.proofs.KeptLemmas.{nth-rules_of, quads-apart}
 use Rattle.bn_quad.specs.Calls.{IsMadeOf, IsUniformMachine, IsQuadRefusal}
@@ -44,7 +43,7 @@ agree : (d : Deed) → Agree (read_of d) (act_of d)
 agree (Rewrite r w) = tt
 agree (Move s) = tt
 
-sound_kept : (states a b c : ℕ) (r : Rule ℕ) → IsBelow states (quad_of r) → AreDeedsInRange (a ∷ b ∷ c ∷ []) (deeds_of r) → IsSound states (a ∷ b ∷ c ∷ []) (quad_of r)
+pub sound_kept : (states a b c : ℕ) (r : Rule ℕ) → IsBelow states (quad_of r) → AreDeedsInRange (a ∷ b ∷ c ∷ []) (deeds_of r) → IsSound states (a ∷ b ∷ c ∷ []) (quad_of r)
 sound_kept states a b c r below deeds = record {
   reads = refl;
   acts = refl;

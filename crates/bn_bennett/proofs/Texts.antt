@@ -95,6 +95,21 @@ not_among_front f xs i d inside apart (k, low, here) =
     let inside_front : k < length (take i xs) = omega (arith, length-take-le i xs (omega arith)) in
     apart k below (ap f (sym (get_or-take i xs k d below)) ∙ sym (get_or-map f (take i xs) k d (f (get_or xs i d)) inside_front) ∙ here)
 
+-- a text after those before it, each of another entry, is new
+module _ {X : Type 0} (f : X → List ℕ) (xs : List X) (i : ℕ) (d : X) (old : Naming) (text : List ℕ) (inside : i < length xs) (before : old ≡ with_states (map f (take i xs))) (is : text ≡ f (get_or xs i d)) where
+  pub text_new : ((j k : ℕ) (a b : X) → slice_get xs j ≡ Some a → slice_get xs k ≡ Some b → f a ≡ f b → j ≡ k) → Contains old.states text → ⊥
+  text_new apart there =
+      let P : Naming → Type 0 = λ n. Contains n.states text in
+      let Q : List ℕ → Type 0 = λ t. Contains (map f (take i xs)) t in
+      not_among_front f xs i d inside (λ j low e.
+      let equal : j ≡ i = apart j i (get_or xs j d) (get_or xs i d) (slice_get-get_or xs j d (omega arith)) (slice_get-get_or xs i d inside) e in
+      omega arith) (subst Q is (subst P before there))
+
+  pub text_room : length xs < 2 ^ 32 → length old.states < 2 ^ 32 - 1
+  text_room few =
+      let long : length old.states ≡ i = ap (λ (n : Naming). length n.states) before ∙ length-map (take i xs) f ∙ length-take-le i xs (omega arith) in
+      omega (arith, few)
+
 -- ---- one name more
 
 -- a state's name after those before it
@@ -126,20 +141,10 @@ on_tape_none n (suc (suc (suc tape))) h e = λ i. naming_of n.states n.one n.two
 
 module _ (names : List Name) (all : ArePrintable names) (i : ℕ) (d : Name) (old : Naming) (text : List ℕ) (inside : i < length names) (before : old ≡ with_states (map state_text (take i names))) (is : text ≡ state_text (get_or names i d)) where
   pub state_new : Contains old.states text → ⊥
-  state_new there =
-      let P : Naming → Type 0 = λ n. Contains n.states text in
-      let Q : List ℕ → Type 0 = λ t. Contains (map state_text (take i names)) t in
-      not_among_front state_text names i d inside (λ j low e.
-      let at_j = slice_get-get_or names j d (omega arith) in
-      let at_i = slice_get-get_or names i d inside in
-      let same : get_or names j d ≡ get_or names i d = state_text-once (get_or names j d) (get_or names i d) (all.small j _ at_j) (all.small i _ at_i) e in
-      let equal : j ≡ i = all.apart j i (get_or names i d) (at_j ∙ ap Some same) at_i in
-      omega arith) (subst Q is (subst P before there))
+  state_new = text_new state_text names i d old text inside before is (λ j k a b at_a at_b e. all.apart j k b (at_a ∙ ap Some (state_text-once a b (all.small j a at_a) (all.small k b at_b) e)) at_b)
 
   pub state_room : length old.states < 2 ^ 32 - 1
-  state_room =
-      let long : length old.states ≡ i = ap (λ (n : Naming). length n.states) before ∙ length-map (take i names) state_text ∙ length-take-le i names (omega arith) in
-      omega (arith, all.few)
+  state_room = text_room state_text names i d old text inside before is all.few
 
 -- ---- the symbols of a tape
 

@@ -1,10 +1,6 @@
 -- The laws on the answers with the laws below them put in, for the crates above that cite them as they are.
-use Rattle.std.specs.Prelude.{◌≡◌, ℕ, ◌+◌, ◌-◌, ◌*◌, ◌≤◌}
-use Rattle.std.proofs.Common.{arith, subst}
-use Rattle.std.proofs.Math.Nat.{mul-le-mul}
+use Rattle.std.specs.Prelude.{◌-◌}
 use Rattle.bn_machine.proofs.OutcomeLemmas.{outcome_exists, outcome_once}
-use Rattle.bn_rsm.specs.Costs.{loose_cost, move_cost, pass_cost}
-use Rattle.bn_rsm.specs.Laws.{CostsAreBounded}
 use Rattle.bn_table.proofs.MachineLemmas.{tables_machines}
 use Rattle.bn_stages.specs.Renamed.{in_state}
 use Rattle.bn_stages.specs.Stages.{rooms_of}
@@ -27,6 +23,7 @@ use Rattle.bn_network.proofs.FirstLemmas.{first-moment}
 use Rattle.bn_network.proofs.HeadLemmas.{heads-stay}
 use Rattle.bn_network.proofs.LastLemmas.{last-moment}
 use Rattle.bn_network.proofs.NextLemmas.{next-moment}
+use Rattle.bn_rsm.proofs.CostLemmas.{costs-bounded}
 use Rattle.bn_boards.proofs.ListedLemmas.{boards-there}
 use Rattle.bn_layout.specs.Laws.{BoardsRead, FlatsAreOne}
 use Rattle.bn_layout.proofs.ExitLemmas.{exits-one}
@@ -46,32 +43,6 @@ use Rattle.bn_boardanswers.proofs.HeadlineLemmas.{answers-tell_headline}
 use Rattle.bn_boardanswers.proofs.RunLemmas.{exits-named, moments-counted}
 use Rattle.bn_boardanswers.proofs.SpelledLemmas.{boards-spelled}
 use Rattle.bn_boardanswers.proofs.TellingLemmas as telling
-
--- ---- the costs of a bank's moves
-
--- some of m columns are passed at p each, and some of them at s each
-in_all : (m k a b p s : ℕ) → a ≤ m → b ≤ m → p ≤ 2 * k + 2 → s ≤ 2 * k + 2 → a * p + 2 * (k + 2) + b * s ≤ 4 * ((m + 1) * (k + 1))
-in_all m k a b p s before after first second =
-    let left : a * p ≤ m * (2 * k + 2) = mul-le-mul before first in
-    let right : b * s ≤ m * (2 * k + 2) = mul-le-mul after second in
-    omega arith
-
-to_loose : (m k a p : ℕ) → a ≤ m → p ≤ 2 * k + 2 → a * p + (k + 2) ≤ 4 * ((m + 1) * (k + 1))
-to_loose m k a p before first =
-    let left : a * p ≤ m * (2 * k + 2) = mul-le-mul before first in
-    omega arith
-
-pub costs : CostsAreBounded
-costs n k q i r o state line next out =
-    let one_more : (n - 1) + 1 ≡ n = omega arith in
-    let first : pass_cost k i ≤ 2 * k + 2 = omega arith in
-    let second : pass_cost k o ≤ 2 * k + 2 = omega arith in
-    let before : q ≤ n - 1 = omega arith in
-    let after : n - (r + 1) ≤ n - 1 = omega arith in (
-      subst (λ x. move_cost n k q i r o ≤ 4 * (x * (k + 1))) one_more (in_all (n - 1) k q (n - (r + 1)) (pass_cost k i)
-          (pass_cost k o) before after first second),
-      subst (λ x. loose_cost k q i ≤ 4 * (x * (k + 1))) one_more (to_loose (n - 1) k q (pass_cost k i) before first),
-    )
 
 -- ---- the machine and its translation
 
@@ -104,14 +75,14 @@ pub read_off : BoardsRead
 read_off = boards-read uniform have-entries
 
 pub run_to_exit : BoardsRunToTheirExit
-run_to_exit = boards-run alike uniform stand (first-moment costs have-entries) (next-moment costs (commands-walk costs) have-entries)
-    (last-moment costs (commands-walk costs) have-entries) read_off
+run_to_exit = boards-run alike uniform stand (first-moment costs-bounded have-entries) (next-moment costs-bounded (commands-walk costs-bounded) have-entries)
+    (last-moment costs-bounded (commands-walk costs-bounded) have-entries) read_off
 
 pub have_moments : BoardsHaveMoments
 have_moments =
-    boards-moments uniform have-entries alike stand (outcome_exists, outcome_once) (first-moment costs have-entries)
-    (next-moment costs (commands-walk costs) have-entries)
-    (last-moment costs (commands-walk costs) have-entries) heads-stay
+    boards-moments uniform have-entries alike stand (outcome_exists, outcome_once) (first-moment costs-bounded have-entries)
+    (next-moment costs-bounded (commands-walk costs-bounded) have-entries)
+    (last-moment costs-bounded (commands-walk costs-bounded) have-entries) heads-stay
 
 pub flats_one : FlatsAreOne
 flats_one = flats-one translations_are_one uniform controls have-entries

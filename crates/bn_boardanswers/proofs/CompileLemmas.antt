@@ -34,18 +34,18 @@ use Rattle.bn_boardanswers.proofs.WindowLemmas.{given_accepted, standard_machine
 -- ---- what was compiled
 
 -- a board, and its text
-record IsCompiled (bytes word : List ℕ) (l : Limits) (text : List ℕ) : Type 0 where
-  table : Named
-  symbols : List ℕ
-  reads : ReadsStandard bytes table
-  spells : IsSpelledBy table word symbols
-  flat : Flat
-  comes : ComesTo table.machine l symbols flat
-  tells : Spelling
-  board_is : IsFlatSpelling flat tells
-  is_text : Spelled tells text
+pub record IsCompiled (bytes word : List ℕ) (l : Limits) (text : List ℕ) : Type 0 where
+  pub table : Named
+  pub symbols : List ℕ
+  pub reads : ReadsStandard bytes table
+  pub spells : IsSpelledBy table word symbols
+  pub flat : Flat
+  pub comes : ComesTo table.machine l symbols flat
+  pub tells : Spelling
+  pub board_is : IsFlatSpelling flat tells
+  pub is_text : Spelled tells text
 
-compiled : (bytes word : List ℕ) (l : Limits) (text : List ℕ) (told : List Place) → CompileReplies word l bytes Done text told → IsCompiled bytes word l text
+pub compiled : (bytes word : List ℕ) (l : Limits) (text : List ℕ) (told : List Place) → CompileReplies word l bytes Done text told → IsCompiled bytes word l text
 compiled bytes word l text told (faulty h e n) = absurd (cc)
 compiled bytes word l text told (read t reads answer) = by_machine answer
   where

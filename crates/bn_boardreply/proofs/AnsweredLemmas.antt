@@ -7,7 +7,7 @@ use Rattle.bn_reply.specs.Replying.{IsUnfinished, untold, told_some}
 use Rattle.bn_reply.specs.declared.reply.Reply.{Reply}
 use Rattle.bn_lists.specs.declared.memory.NoMemory.{NoMemory}
 use Rattle.bn_reply.specs.declared.status.Status.{Status}
-use Rattle.bn_reply.proofs.Walks.{hears-nothing}
+use Rattle.bn_net.proofs.WalkLemmas.{hears-nothing}
 use Rattle.bn_boardreply.specs.Running.{IsAnswered}
 
 module _ (R : Status → List ℕ → List Place → Type 0) where

@@ -17,7 +17,8 @@ use Rattle.bn_realise.proofs.BankWiresLemmas.{bank_wire-IsWithinLines, bank_wire
 use Rattle.bn_boards.specs.Boards.{AreModules, IsBoard, IsBoardWire, own, between, base, size, size_of}
 use Rattle.bn_boards.specs.Laws.{BoardsAreThere}
 use Rattle.bn_boards.proofs.MovedLemmas.{in_bank}
-use Rattle.bn_boards.proofs.ModuleLemmas.{found, replicated, lines_tell, bank_within, one_table, banks_apart, output_table, wired_output, wired_input, output_once, input_once}
+use Rattle.bn_net.proofs.WireListLemmas.{line_tells}
+use Rattle.bn_boards.proofs.ModuleLemmas.{found, replicated, bank_within, one_table, banks_apart, output_table, wired_output, wired_input, output_once, input_once}
 
 -- the line is where one of the list's wires begins
 abbrev pub IsSource : List Wire → Line → Type 0
@@ -28,7 +29,7 @@ IsSource (v ∷ vs) out = (v.from ≡ out) ⊎ IsSource vs out
 source_tells : (vs : List Wire) (out : Line) → IsSource vs out ⊎ (IsSource vs out → ⊥)
 source_tells [] out = inr (λ h. h)
 source_tells (v ∷ vs) out =
-    elim (lines_tell v.from out) [
+    elim (line_tells v.from out) [
       | inl here ↦ inl (inl here.1)
       | inr there ↦
           (elim (source_tells vs out) [
@@ -41,7 +42,7 @@ source_tells (v ∷ vs) out =
 pub leads-IsSource : (vs : List Wire) (from to : Line) → target vs from ≡ Some to → IsSource vs from
 leads-IsSource [] from to h = absurd (cc)
 leads-IsSource (v ∷ vs) from to h =
-    elim (lines_tell v.from from) [
+    elim (line_tells v.from from) [
       | inl here ↦ inl here.1
       | inr there ↦ inr (leads-IsSource vs from to (rw there.0 at h))
     ]

@@ -1,10 +1,10 @@
 -- Where the banks of a network's modules lie on its board, and the lines between them.
-use Rattle.std.specs.Prelude.{◌≡◌, ◌≢◌, ℕ, ◌+◌, ◌-◌, ◌<◌, ◌≤◌, true, false, List, [], ◌∷◌, length, replicate, Option, Some, None, slice_get, refl, ◌⊎◌}
+use Rattle.std.specs.Prelude.{◌≡◌, ◌≢◌, ℕ, ◌+◌, ◌-◌, ◌<◌, ◌≤◌, List, [], ◌∷◌, length, replicate, Option, Some, None, slice_get, refl}
 use Rattle.std.specs.Option.{option_map_or}
 use Rattle.std.proofs.Common.{zero, suc, arith, ap, subst, inl, inr}
 use Rattle.std.proofs.lemmas.Bool.Decides.{eqb_tells}
 use Rattle.bn_theory.specs.Tables.{Table}
-use Rattle.bn_theory.specs.Circuits.{Circuit, target, same_line, inputs_of, outputs_of}
+use Rattle.bn_theory.specs.Circuits.{Circuit, target, inputs_of, outputs_of}
 use Rattle.bn_theory.proofs.StepLemmas.{same_lines}
 use Rattle.bn_theory.specs.declared.line.Line.{Line}
 use Rattle.bn_realise.specs.Banks.{column_at, input_line, output_line}
@@ -23,24 +23,6 @@ pub replicated : {X : Type 0} (n i : ℕ) (x y : X) → slice_get (replicate n x
 replicated zero i x y h = absurd (cc)
 replicated (suc n) zero x y h = cc
 replicated (suc n) (suc i) x y h = replicated n i x y h
-
--- and it holds it at each of its places
-pub get_replicate : {X : Type 0} (n i : ℕ) (x : X) → i < n → slice_get (replicate n x) i ≡ Some x
-get_replicate zero i x low = absurd (omega arith)
-get_replicate (suc n) zero x low = refl
-get_replicate (suc n) (suc i) x low = get_replicate n i x (omega arith)
-
--- two lines are one, or they are not
-pub lines_tell : (a b : Line) → ((same_line a b ≡ true) × (a ≡ b)) ⊎ ((same_line a b ≡ false) × (a ≢ b))
-lines_tell a b =
-    elim (eqb_tells a.element b.element) [
-      | inl first ↦
-          (elim (eqb_tells a.line b.line) [
-            | inl second ↦ inl (rw (first.0, second.0) refl, same_lines a b first.1 second.1)
-            | inr second ↦ inr (rw (first.0, second.0) refl, λ e. second.1 (ap (λ (l : Line). l.line) e))
-          ])
-      | inr first ↦ inr (rw first.0 refl, λ e. first.1 (ap (λ (l : Line). l.element) e))
-    ]
 
 -- a line of an element is one of a table
 pub input_table : (ts : List Table) (e i : ℕ) → i < inputs_of ts e → (t : Table) × (slice_get ts e ≡ Some t) × (i < t.inputs)

@@ -4,7 +4,7 @@ use Rattle.std.proofs.lemmas.Option.{some_pair_parts}
 use Rattle.bn_theory.specs.Tables.{Table, IsReversible, go_by, back_by, AreOneToOne, AreWithin, pair_tells}
 use Rattle.bn_rsm.specs.Machines.{move_of, AreSound}
 use Rattle.bn_rsm.specs.declared.rsm_move.RsmMove.{RsmMove}
-use Rattle.bn_cell.proofs.MemberLemmas.{IsMember, of_two}
+use Rattle.bn_theory.proofs.MemberLemmas.{IsMember, of_two}
 
 -- the moves leave different pairs
 abbrev pub LeaveApart : RsmMove → RsmMove → Type 0

@@ -4,7 +4,7 @@ use Rattle.std.proofs.lemmas.Bool.{cases_lt}
 use Rattle.bn_theory.specs.Tables.{Table, IsReversible}
 use Rattle.bn_rsm.specs.declared.rsm_move.RsmMove.{RsmMove}
 use Rattle.bn_cell.specs.Rows.{move_at, row, rows}
-use Rattle.bn_cell.proofs.MemberLemmas.{IsMember, in_front, behind, of_two}
+use Rattle.bn_theory.proofs.MemberLemmas.{IsMember, in_front, behind, of_two}
 use Rattle.bn_cell.proofs.ListingLemmas.{AreApart, apart_joined, AreMovesOf}
 
 pub row_more : (t : Table) (q n : ℕ) → row t q (n + 1) ≡ row t q n ++ move_at q n (t.go q n)

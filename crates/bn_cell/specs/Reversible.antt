@@ -1,8 +1,9 @@
 -- That a cell's table is reversible, which each element hands to the trait: its moves by names are one to one, and so
 -- are its numbers.
-use Rattle.std.proofs.Common.{◌≡◌, inl, inr, ℕ, zero, suc, ◌*◌, ◌<◌, nat_lt, Option, Some, None, refl, ap, subst, arith}
+use Rattle.std.proofs.Common.{◌≡◌, inl, inr, ℕ, zero, suc, ◌*◌, ◌<◌, nat_lt, Option, Some, None, refl, subst, arith}
 use Rattle.std.proofs.lemmas.Bool.{cases_Bool, lt-ltb, ltb-true, ltb-false}
 use Rattle.std.proofs.lemmas.Bool.Decides.{nat_tests}
+use Rattle.std.proofs.lemmas.Option.{some_pair_parts}
 use Rattle.bn_modules.specs.declared.cell_line.CellLine.{CellLine}
 use Rattle.bn_modules.specs.declared.cell_line.CellLine.TheVariants.{Read, Write, ShiftRight, ShiftLeft, TakeRight}
 use Rattle.bn_modules.specs.declared.cell_line.CellLine.TheVariants.{Answer, DoneWrite, DoneRight, DoneLeft, TakeLeft}
@@ -79,12 +80,6 @@ valid_line z n lt = go (line_of z n) (numbers z n lt) refl
     go (Answer u) e f = grind (arith, nat_tests)
     go _ e f = tt
 
-firsts : (v w : ℕ × ℕ) → Some v ≡ Some w → v.0 ≡ w.0
-firsts v w e = let same : v ≡ w = cc in ap (λ (k : ℕ × ℕ). k.0) same
-
-seconds : (v w : ℕ × ℕ) → Some v ≡ Some w → v.1 ≡ w.1
-seconds v w e = let same : v ≡ w = cc in ap (λ (k : ℕ × ℕ). k.1) same
-
 -- moves by names, one to one, on the states and lines of z symbols, make moves by numbers that are so
 module _ (z : ℕ) (go back_go : CellState → CellLine → Option (CellState × CellLine))
     (turns : (q : CellState) (i : CellLine) → Whole (go q i) (λ m. back_go m.0 m.1 ≡ Some (q, i)))
@@ -116,8 +111,7 @@ module _ (z : ℕ) (go back_go : CellState → CellLine → Option (CellState ×
       found (Some m) f g qn inn =
           let valid = whole (go (state_of z q) (line_of z i)) (λ m. IsStateOf z m.0 × IsLineOf z m.1) m
           (keeps (state_of z q) (line_of z i) (omega arith) (valid_state z q qn) (valid_line z i inn)) f in
-          let first = firsts (state_number z m.0, line_number z m.1) (r, o) g in
-          let second = seconds (state_number z m.0, line_number z m.1) (r, o) g in
+          let parts = some_pair_parts (state_number z m.0) r (line_number z m.1) o g in
           let there = whole (go (state_of z q) (line_of z i))
           (λ m. back_go m.0 m.1 ≡ Some (state_of z q, line_of z i)) m
           (turns (state_of z q) (line_of z i)) f in
@@ -126,11 +120,11 @@ module _ (z : ℕ) (go back_go : CellState → CellLine → Option (CellState ×
           record {
             state = qn;
             line = inn;
-            next = rw (← first) rn;
-            out = rw (← second) on;
+            next = rw (← parts.0) rn;
+            out = rw (← parts.1) on;
             turned = rw (
-              ← first,
-              ← second,
+              ← parts.0,
+              ← parts.1,
               lt-ltb (state_number z m.0) (2 * z) rn,
               lt-ltb (line_number z m.1) (lines_of z) on,
               states z m.0 valid.0,

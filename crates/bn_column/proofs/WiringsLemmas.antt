@@ -1,26 +1,18 @@
 -- Lists of wires that are one to one, and what relation of lines they make.
-use Rattle.std.specs.Prelude.{◌≡◌, ◌≢◌, ℕ, ◌<◌, true, false, nat_lt, List, [], ◌∷◌, ◌++◌, replicate, take, Option, Some, None, slice_get, refl, ◌⊎◌}
-use Rattle.std.proofs.Common.{zero, suc, arith, sym, ap, subst, ◌∙◌, inl, inr}
-use Rattle.std.proofs.lemmas.Bool.Decides.{eqb_tells, nat_tests}
-use Rattle.bn_theory.specs.Circuits.{same_line, target, source, IsOneToOne, inputs_of, outputs_of}
-use Rattle.bn_theory.proofs.StepLemmas.{same_lines}
+use Rattle.std.specs.Prelude.{◌≡◌, ◌≢◌, ℕ, ◌<◌, ◌-◌, true, nat_lt, List, [], ◌∷◌, ◌++◌, replicate, take, Option, Some, None, slice_get, refl, ◌⊎◌}
+use Rattle.std.proofs.Common.{zero, suc, arith, sym, subst, ◌∙◌, inl, inr}
+use Rattle.std.proofs.lemmas.Bool.Decides.{nat_tests}
+use Rattle.bn_theory.specs.Tables.{Table}
+use Rattle.bn_theory.specs.Circuits.{target, source, IsOneToOne, inputs_of, outputs_of}
 use Rattle.bn_theory.specs.declared.line.Line.{Line}
 use Rattle.bn_theory.specs.declared.line.Wire.{Wire}
 use Rattle.bn_element.specs.Rotary.{rotary}
-use Rattle.bn_net.specs.Faults.{AreFaultless}
+use Rattle.std.proofs.lemmas.Option.{slice_get_within}
+use Rattle.bn_net.specs.Faults.{WireFault, AreFaultless, IsFirstFault, out_of_range, second_target, second_source, IsRefusal}
+use Rattle.bn_net.specs.declared.refusal.NetRefusal.{NetRefusal}
+use Rattle.bn_net.specs.declared.refusal.NetRefusal.TheVariants.{Range, TwoTargets, TwoSources, NoMemory}
+use Rattle.bn_net.proofs.WireListLemmas.{line_tells}
 use Rattle.bn_column.specs.Wirings.{AreApart, AreWiresOf, AreFitting}
-
--- two lines are one, or they are not
-pub line_tells : (a b : Line) → ((same_line a b ≡ true) × (a ≡ b)) ⊎ ((same_line a b ≡ false) × (a ≢ b))
-line_tells a b =
-    elim (eqb_tells a.element b.element) [
-      | inl first ↦
-          (elim (eqb_tells a.line b.line) [
-            | inl second ↦ inl (rw (first.0, second.0) refl, same_lines a b first.1 second.1)
-            | inr second ↦ inr (rw (first.0, second.0) refl, λ e. second.1 (ap (λ (l : Line). l.line) e))
-          ])
-      | inr first ↦ inr (rw first.0 refl, λ e. first.1 (ap (λ (l : Line). l.element) e))
-    ]
 
 -- what the first wire of a list leads to, and where it comes from, among others
 target-here : (w : Wire) (ws : List Wire) (from to : Line) → target (w ∷ ws) from ≡ Some to → ((w.from ≡ from) × (w.to ≡ to)) ⊎ ((w.from ≢ from) × (target ws from ≡ Some to))

@@ -14,7 +14,7 @@ pub use make::column;
 pub use refusal::ColumnRefusal;
 pub use bn_lists::NoMemory;
 pub use standing::Column;
-pub use wires::{column_wires, rotary_net};
+pub use wires::{column_wires, rotary_net, wire};
 
 #[cfg(test)]
 mod tests;

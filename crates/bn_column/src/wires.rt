@@ -51,7 +51,8 @@ fn push_rung(wires: &mut Vec<Wire>, row: u32) -> Result<(), NoMemory>
     Ok(())
 }
 
-fn wire(from: u32, from_line: u32, to: u32, to_line: u32) -> Wire
+/// The wire from this output line of element `from` to that input line of element `to`.
+pub fn wire(from: u32, from_line: u32, to: u32, to_line: u32) -> Wire
     ensures { result ≡ wire_of from from_line to to_line }
 {
     Wire {

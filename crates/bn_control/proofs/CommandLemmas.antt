@@ -9,7 +9,7 @@ use Rattle.bn_quad.specs.Quadruples.{Deed, Rewrite, Move, Rule, Quadruples}
 use Rattle.bn_quad.specs.Kept.{act_of}
 use Rattle.bn_modules.specs.declared.cell_line.CellLine.TheVariants.{Answer, DoneWrite}
 use Rattle.bn_modules.specs.Controls.{ControlMove, Reads, Shifts, Writes, Tape, IsEntry, ControlGoes, reads_on, shifts_on, writes_on, reads, shifts, reads_of, shifts_of, writes_of, symbols_in, to_shift, to_reads, to_shifts, to_writes, done_line}
-use Rattle.bn_cell.proofs.MemberLemmas.{IsMember}
+use Rattle.bn_theory.proofs.MemberLemmas.{IsMember}
 use Rattle.bn_control.specs.declared.command.Command.{Command}
 use Rattle.bn_control.specs.declared.line.Sending.{Sending}
 use Rattle.bn_control.specs.Commands.{line_of, sending_of, commands_by, read_commands, shift_commands, shift_command, write_commands, moves_by}

@@ -2,7 +2,7 @@
 use Rattle.std.proofs.Common.{◌≡◌, inl, inr, get_or, ℕ, ◌+◌, ◌<◌, List, [], ◌∷◌, ◌++◌, length, take, refl, sym, subst}
 use Rattle.std.proofs.lemmas.List.{take_more}
 use Rattle.bn_quad.specs.Quadruples.{Quadruples}
-use Rattle.bn_cell.proofs.MemberLemmas.{IsMember, in_front, behind, of_two}
+use Rattle.bn_theory.proofs.MemberLemmas.{IsMember, in_front, behind, of_two}
 use Rattle.bn_control.specs.declared.named.NamedMove.{NamedMove}
 use Rattle.bn_control.specs.declared.numbered.Move.{Move}
 use Rattle.bn_control.specs.declared.state.State.{State}

@@ -13,7 +13,7 @@ use Rattle.bn_controllaws.proofs.ExistingLemmas.{some_entry}
 use Rattle.bn_controllaws.proofs.GoingLemmas.{sound, end_entry}
 use Rattle.bn_controllaws.proofs.KeyLemmas.{by_key, ties_one}
 use Rattle.bn_controllaws.proofs.RangeLemmas.{rule_in_range, initial_in_range}
-use Rattle.bn_cell.proofs.MemberLemmas.{IsMember, place_of, member_at, in_front, behind, of_two}
+use Rattle.bn_theory.proofs.MemberLemmas.{IsMember, place_of, member_at, in_front, behind, of_two}
 use Rattle.bn_control.specs.declared.line.Sending.{Sending}
 use Rattle.bn_control.specs.declared.named.NamedMove.{NamedMove}
 use Rattle.bn_control.specs.declared.state.State.{State}

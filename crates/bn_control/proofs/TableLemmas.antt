@@ -18,7 +18,7 @@ use Rattle.bn_modules.specs.Controls.{ControlState, NumberedGoes, IsControlTable
 use Rattle.bn_controllaws.proofs.KeyLemmas.{by_key, keys_ordered}
 use Rattle.bn_controllaws.proofs.SortedLemmas.{one_place}
 use Rattle.bn_controllaws.proofs.TabledLemmas.{table_there}
-use Rattle.bn_cell.proofs.MemberLemmas.{IsMember, place_of, member_at}
+use Rattle.bn_theory.proofs.MemberLemmas.{IsMember, place_of, member_at}
 use Rattle.bn_cell.proofs.ListingLemmas.{LeaveApart, AreApart, AreMovesOf, moves_sound, moves_go}
 use Rattle.bn_control.specs.contracts.numbered.MoveOrd.TheImpl as impl
 use Rattle.bn_control.specs.contracts.numbered.MoveOrd.TheImpl.Laws.{total-law}

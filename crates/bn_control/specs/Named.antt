@@ -2,7 +2,7 @@
 use Rattle.std.specs.Prelude.{◌≡◌, List}
 use Rattle.bn_quad.specs.Quadruples.{Quadruples}
 use Rattle.bn_modules.specs.Controls.{ControlState, ControlLine, ControlMove, ControlGoes}
-use Rattle.bn_cell.proofs.MemberLemmas.{IsMember}
+use Rattle.bn_theory.proofs.MemberLemmas.{IsMember}
 use Rattle.bn_control.specs.declared.named.NamedMove.{NamedMove}
 use Rattle.bn_control.specs.States.{name_of, IsProper}
 use Rattle.bn_control.specs.Commands.{line_of, sending_of}

@@ -4,7 +4,7 @@ use Rattle.bn_rsm.specs.declared.rsm_move.RsmMove.{RsmMove}
 use Rattle.bn_quad.specs.Quadruples.{Quadruples}
 use Rattle.bn_modules.specs.Cells.{IsLineOf}
 use Rattle.bn_modules.specs.Controls.{in_number, out_number}
-use Rattle.bn_cell.proofs.MemberLemmas.{IsMember}
+use Rattle.bn_theory.proofs.MemberLemmas.{IsMember}
 use Rattle.bn_control.specs.declared.line.Line.{Line}
 use Rattle.bn_control.specs.declared.line.Line.TheVariants.{Outside, Tape}
 use Rattle.bn_control.specs.declared.named.NamedMove.{NamedMove}

@@ -2,7 +2,7 @@
 use Rattle.std.specs.Prelude.{◌≡◌, ℕ, List, map, Some, slice_get}
 use Rattle.bn_quad.specs.Quadruples.{Quadruples}
 use Rattle.bn_modules.specs.Controls.{ControlState, Occurs, IsNumbering}
-use Rattle.bn_cell.proofs.MemberLemmas.{IsMember}
+use Rattle.bn_theory.proofs.MemberLemmas.{IsMember}
 use Rattle.bn_control.specs.declared.state.State.{State}
 use Rattle.bn_control.specs.States.{name_of, IsProper}
 

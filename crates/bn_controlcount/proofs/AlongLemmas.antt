@@ -6,7 +6,7 @@ use Rattle.std.proofs.lemmas.List.{reverse-append}
 use Rattle.bn_machine.specs.declared.quint.Quint.{Quint}
 use Rattle.bn_quad.specs.Quadruples.{Deed, Rule, deeds_of}
 use Rattle.bn_stages.specs.Renamed.{rename}
-use Rattle.bn_cell.proofs.MemberLemmas.{IsMember, in_front, behind, of_two}
+use Rattle.bn_theory.proofs.MemberLemmas.{IsMember, in_front, behind, of_two}
 use Rattle.bn_controlcount.proofs.ApartLemmas.{IsApart, joined}
 
 abbrev pub along : {Q A : Type 0} → (ℕ → Rule Q → List A) → ℕ → List (Rule Q) → List A

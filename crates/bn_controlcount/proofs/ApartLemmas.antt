@@ -2,7 +2,7 @@
 use Rattle.std.proofs.Common.{◌≡◌, inl, inr, Bool, true, false, cond, slice_get, ℕ, zero, suc, ◌+◌, ◌<◌, ◌≤◌, List, [], ◌∷◌, ◌++◌, length, map, Some, refl, sym, ap, subst, ◌∙◌, arith, length-append}
 use Rattle.std.specs.List.{filter, range_with_len}
 use Rattle.std.proofs.lemmas.Bool.Decides.{eqb_tells}
-use Rattle.bn_cell.proofs.MemberLemmas.{IsMember, place_of, in_front, behind, of_two}
+use Rattle.bn_theory.proofs.MemberLemmas.{IsMember, place_of, in_front, behind, of_two}
 
 -- no element stands twice
 abbrev pub IsApart : {A : Type 0} → List A → Type 0

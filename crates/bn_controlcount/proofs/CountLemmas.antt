@@ -2,7 +2,7 @@
 use Rattle.std.proofs.Common.{◌≡◌, inl, inr, Bool, true, false, cond, ◌==◌, ◌||◌, not, slice_get, ℕ, suc, ◌+◌, ◌<◌, List, [], ◌∷◌, ◌++◌, length, map, Some, refl, sym, ap, subst, ◌∙◌, arith, eq-eqb}
 use Rattle.std.specs.List.{filter, range_with_len}
 use Rattle.std.proofs.lemmas.Bool.{eqb-true}
-use Rattle.bn_cell.proofs.MemberLemmas.{IsMember}
+use Rattle.bn_theory.proofs.MemberLemmas.{IsMember}
 use Rattle.bn_controlcount.proofs.ApartLemmas.{same_length, filtered, from_filtered, apart_filtered, range_member, range_apart}
 
 -- how many pass

@@ -16,7 +16,7 @@ use Rattle.bn_stages.proofs.Counts.{list_has_names}
 use Rattle.bn_stages.proofs.Halted.{quint_in_range}
 use Rattle.bn_table.specs.Rows.{FitsTable}
 use Rattle.bn_bennett.proofs.Counting.{each_mentioned}
-use Rattle.bn_cell.proofs.MemberLemmas.{IsMember, place_of, member_at, in_front, behind, of_two}
+use Rattle.bn_theory.proofs.MemberLemmas.{IsMember, place_of, member_at, in_front, behind, of_two}
 use Rattle.bn_controlcount.specs.Laws.{is_left, is_entered, never_left, never_entered}
 use Rattle.bn_controlcount.proofs.Told.{is_reader, is_written}
 use Rattle.bn_controlcount.proofs.ApartLemmas.{IsApart, IsWithin, same_length, joined, mapped, from_mapped, apart_mapped, filtered, from_filtered, apart_filtered, apart_places, range_member, from_range, range_apart}

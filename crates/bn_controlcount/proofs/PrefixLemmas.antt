@@ -1,7 +1,7 @@
 -- The proper prefixes of a list, and its parts from a place on.
 use Rattle.std.proofs.Common.{◌≡◌, inl, inr, suc, ◌-◌, ◌<◌, List, [], ◌∷◌, ◌++◌, length, map, refl, sym, ap, subst, ◌∙◌, arith}
 use Rattle.std.proofs.lemmas.List.{length-map}
-use Rattle.bn_cell.proofs.MemberLemmas.{IsMember}
+use Rattle.bn_theory.proofs.MemberLemmas.{IsMember}
 use Rattle.bn_controlcount.proofs.ApartLemmas.{IsApart, mapped, from_mapped, apart_mapped}
 
 -- the proper prefixes, by length

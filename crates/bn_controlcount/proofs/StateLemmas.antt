@@ -18,7 +18,8 @@ use Rattle.bn_controllaws.proofs.ExistingLemmas.{left_or_not}
 use Rattle.bn_controllaws.proofs.ListLemmas.{same_length as same_symbols}
 use Rattle.bn_controllaws.proofs.RangeLemmas.{rule_in_range}
 use Rattle.bn_controllaws.proofs.UniformLemmas.{same_domain, same_range}
-use Rattle.bn_cell.proofs.MemberLemmas.{IsMember, in_front, behind, of_two}
+use Rattle.bn_theory.proofs.MemberLemmas.{IsMember, in_front, behind, of_two}
+use Rattle.bn_lists.specs.Lists.{IsIn}
 use Rattle.bn_stages.specs.List.{bennett, goes_right, goes_left, writes_ahead, shifts_ahead, begins_copy, turns_left, ends_copy, shifts_back, writes_back}
 use Rattle.bn_stages.proofs.ListLemmas.{has_goes_right, has_goes_left, has_writes_ahead, has_shifts_ahead, has_begins_copy, has_turns_left, has_ends_copy, has_shifts_back, has_writes_back}
 use Rattle.bn_stages.proofs.Counts.{list_has_names}

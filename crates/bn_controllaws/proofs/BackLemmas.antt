@@ -100,9 +100,9 @@ module _ (machine : Quadruples) where
   no_shift : (s : ℕ) (n : ℕ) (x : Rule ℕ) (a r : List (ℕ × Side)) (p : ℕ × Side) (q : ControlState) (i : ControlLine) → nth machine.rules n ≡ Some x
       → shifts_of x ≡ a ++ (p ∷ r)
       → BeforeShift n x a q i → IsEntry machine s (to_shift n p) → ⊥
-  no_shift s n x a r p q i isx split (a_read e w) is = not_empty w.before w.p [] (sym w.split ∙ (first_shift machine s n x p isx is).0)
+  no_shift s n x a r p q i isx split (a_read e w) is = not_empty w.before w.p [] (sym w.split ∙ (first_shift machine n x p.0 isx s (to_shift n p) is refl).0)
   no_shift s n x a r p q i isx split (a_shift b v e state line) is =
-      let first = (first_shift machine s n x p isx is).1 in
+      let first = (first_shift machine n x p.0 isx s (to_shift n p) is refl).1 in
       let one = alone (deeds_of x) 1 a [] r first.1 p first.0 split first.2 (sym first.3) in
       not_empty b v [] (sym e ∙ one.0)
 
@@ -143,19 +143,19 @@ module _ (machine : Quadruples) where
     origin : (q r : ControlState) (i j : ControlLine) (m : ControlMove) → Came q i m → Came r j m → (q ≡ r) × (i ≡ j)
     origin q r i j m (from_begin isq isi entry) (from_begin isq2 isi2 entry2) = (cc, cc)
     origin q r i j m (from_begin isq isi entry) (to_entry n x isx entry2 b) = absurd (u.uniform.initial.none n x isx (one_state machine u x.to (initial_of machine.rules) m entry2 entry))
-    origin q r i j m (from_begin isq isi entry) (at_read n x isx a s p v e is state line) = absurd (no_read machine (initial_of machine.rules) x.from a p v (rw is at entry))
+    origin q r i j m (from_begin isq isi entry) (at_read n x isx a s p v e is state line) = absurd (no_read machine x.from a p (initial_of machine.rules) (to_read x.from (a ++ (p ∷ [])) v) (rw is at entry) refl)
     origin q r i j m (from_begin isq isi entry) (at_shift n x isx a s p e is b) = absurd (no_shift (initial_of machine.rules) n x a s p r j isx e b (rw is at entry))
-    origin q r i j m (from_begin isq isi entry) (at_write n x isx a s p e is b) = absurd (no_write machine (initial_of machine.rules) x.to p s (rw is at entry))
+    origin q r i j m (from_begin isq isi entry) (at_write n x isx a s p e is b) = absurd (no_write machine x.to p.0 (symbols_in s) (initial_of machine.rules) (to_write x.to p s) (rw is at entry) refl)
     origin q r i j m (to_entry n x isx entry b) (from_begin isq isi entry2) = absurd (u.uniform.initial.none n x isx (one_state machine u x.to (initial_of machine.rules) m entry entry2))
     origin q r i j m (to_entry n x isx entry b) (to_entry k y isy entry2 d) =
         let next = one_state machine u x.to y.to m entry entry2 in
         one_write n k x y (writes_of x) (writes_of y) [] [] q r i j isx isy next (sym (append-nil (writes_of x))) (sym (append-nil (writes_of y)))
         (same_writes x y (write_mask machine u n k x y isx isy next)) refl b d
-    origin q r i j m (to_entry n x isx entry b) (at_read k y isy a s p v e is state line) = absurd (no_read machine x.to y.from a p v (rw is at entry))
+    origin q r i j m (to_entry n x isx entry b) (at_read k y isy a s p v e is state line) = absurd (no_read machine y.from a p x.to (to_read y.from (a ++ (p ∷ [])) v) (rw is at entry) refl)
     origin q r i j m (to_entry n x isx entry b) (at_shift k y isy a s p e is d) = absurd (no_shift x.to k y a s p r j isy e d (rw is at entry))
-    origin q r i j m (to_entry n x isx entry b) (at_write k y isy a s p e is d) = absurd (no_write machine x.to y.to p s (rw is at entry))
-    origin q r i j m (at_read n x isx a s p v e is state line) (from_begin isq isi entry) = absurd (no_read machine (initial_of machine.rules) x.from a p v (rw is at entry))
-    origin q r i j m (at_read n x isx a s p v e is state line) (to_entry k y isy entry d) = absurd (no_read machine y.to x.from a p v (rw is at entry))
+    origin q r i j m (to_entry n x isx entry b) (at_write k y isy a s p e is d) = absurd (no_write machine y.to p.0 (symbols_in s) x.to (to_write y.to p s) (rw is at entry) refl)
+    origin q r i j m (at_read n x isx a s p v e is state line) (from_begin isq isi entry) = absurd (no_read machine x.from a p (initial_of machine.rules) (to_read x.from (a ++ (p ∷ [])) v) (rw is at entry) refl)
+    origin q r i j m (at_read n x isx a s p v e is state line) (to_entry k y isy entry d) = absurd (no_read machine x.from a p y.to (to_read x.from (a ++ (p ∷ [])) v) (rw is at entry) refl)
     origin q r i j m (at_read n x isx a s p v e is state line) (at_read k y isy c t w z f is2 state2 line2) =
         let both : to_read x.from (a ++ (p ∷ [])) v ≡ to_read y.from (c ++ (w ∷ [])) z = sym is ∙ is2 in
         let states = ap (λ (k : ControlMove). k.0) both in
@@ -187,8 +187,8 @@ module _ (machine : Quadruples) where
         let front = sym one in
         one_shift n x a q r i j b (rw (back, quad, front) at d)
     origin q r i j m (at_shift n x isx a s p e is b) (at_write k y isy c t w f is2 d) = let both = ap (λ (k : ControlMove). k.0) (sym is ∙ is2) in cc
-    origin q r i j m (at_write n x isx a s p e is b) (from_begin isq isi entry) = absurd (no_write machine (initial_of machine.rules) x.to p s (rw is at entry))
-    origin q r i j m (at_write n x isx a s p e is b) (to_entry k y isy entry d) = absurd (no_write machine y.to x.to p s (rw is at entry))
+    origin q r i j m (at_write n x isx a s p e is b) (from_begin isq isi entry) = absurd (no_write machine x.to p.0 (symbols_in s) (initial_of machine.rules) (to_write x.to p s) (rw is at entry) refl)
+    origin q r i j m (at_write n x isx a s p e is b) (to_entry k y isy entry d) = absurd (no_write machine x.to p.0 (symbols_in s) y.to (to_write x.to p s) (rw is at entry) refl)
     origin q r i j m (at_write n x isx a s p e is b) (at_read k y isy c t w z f is2 state line) = let both = ap (λ (k : ControlMove). k.0) (sym is ∙ is2) in cc
     origin q r i j m (at_write n x isx a s p e is b) (at_shift k y isy c t w f is2 d) = let both = ap (λ (k : ControlMove). k.0) (sym is ∙ is2) in cc
     origin q r i j m (at_write n x isx a s p e is b) (at_write k y isy c t w f is2 d) =

@@ -9,7 +9,8 @@ use Rattle.std.proofs.lemmas.Cmp.{on_total, nat_list_cmp_total}
 use Rattle.std.proofs.lemmas.Map.Lookups.{exact_bytes}
 use Rattle.bn_quad.specs.Quadruples.{Quadruples, Rule, deeds_of}
 use Rattle.bn_modules.specs.Controls.{ControlState, Begin, End, Reads, Shifts, Writes, Occurs, is_begin, is_end, is_open, is_read, is_shift, is_write, key_of, writes_of, rising}
-use Rattle.bn_controllaws.proofs.ListedLemmas.{IsMember, member_split, member_turned}
+use Rattle.bn_theory.proofs.MemberLemmas.{IsMember}
+use Rattle.bn_controllaws.proofs.ListedLemmas.{member_split, member_turned}
 use Rattle.bn_controllaws.proofs.RangeLemmas.{rising_low}
 
 -- states by their keys

@@ -2,24 +2,8 @@
 use Rattle.std.proofs.Common.{◌≡◌, ◌⊎◌, inl, inr, slice_get, ℕ, zero, suc, ◌<◌, List, [], ◌∷◌, ◌++◌, reverse, Some, refl, sym, ap, subst, arith}
 use Rattle.std.proofs.lemmas.Bool.{cases_lt}
 use mathlib.Core.List.{reverse_aux}
+use Rattle.bn_theory.proofs.MemberLemmas.{IsMember, in_front, behind, of_two}
 use Rattle.bn_lists.specs.Lists.{nth}
-
--- an element of a list
-abbrev pub IsMember : {A : Type 0} → A → List A → Type 0
-IsMember x [] = ⊥
-IsMember x (y ∷ l) = (x ≡ y) ⊎ IsMember x l
-
--- an element has a place
-pub place_of : {A : Type 0} (l : List A) (x : A) → IsMember x l → (n : ℕ) × (slice_get l n ≡ Some x)
-place_of [] x h = absurd h
-place_of (y ∷ l) x (inl e) = (0, ap (λ z. Some z) (sym e))
-place_of (y ∷ l) x (inr h) = let more = place_of l x h in (suc more.0, more.1)
-
--- what has a place is an element
-pub member_at : {A : Type 0} (l : List A) (n : ℕ) (x : A) → slice_get l n ≡ Some x → IsMember x l
-member_at [] n x e = absurd (cc)
-member_at (y ∷ l) zero x e = let same : y ≡ x = cc in inl (sym same)
-member_at (y ∷ l) (suc n) x e = inr (member_at l n x e)
 
 -- what a list is split at is an element
 pub member_split : {A : Type 0} (l before rest : List A) (p : A) → l ≡ before ++ (p ∷ rest) → IsMember p l
@@ -54,23 +38,6 @@ alone P a has one = record { items = a ∷ []; each = λ x h. inl (one x h); onl
     only : (x : _) → IsMember x (a ∷ []) → P x
     only x (inl e) = subst P (sym e) has
     only x (inr h) = absurd h
-
--- an element of the first part
-in_front : {A : Type 0} (l k : List A) (x : A) → IsMember x l → IsMember x (l ++ k)
-in_front [] k x h = absurd h
-in_front (y ∷ l) k x (inl e) = inl e
-in_front (y ∷ l) k x (inr h) = inr (in_front l k x h)
-
--- an element of the second part
-behind : {A : Type 0} (l k : List A) (x : A) → IsMember x k → IsMember x (l ++ k)
-behind [] k x h = h
-behind (y ∷ l) k x h = inr (behind l k x h)
-
--- an element is of one of the parts
-of_two : {A : Type 0} (l k : List A) (x : A) → IsMember x (l ++ k) → IsMember x l ⊎ IsMember x k
-of_two [] k x h = inr h
-of_two (y ∷ l) k x (inl e) = inl (inl e)
-of_two (y ∷ l) k x (inr h) = elim (of_two l k x h) [ inl here ↦ inl (inr here) | inr there ↦ inr there ]
 
 -- one of two properties
 pub either : {A : Type 0} (P Q : A → Type 0) → Listing P → Listing Q → Listing (λ x. P x ⊎ Q x)

@@ -1,11 +1,11 @@
 -- Where a command is no state's first.
-use Rattle.std.proofs.Common.{◌≡◌, ◌≢◌, ℕ, suc, ◌<◌, ◌≤◌, List, [], ◌∷◌, ◌++◌, Some, refl, ap, arith}
+use Rattle.std.proofs.Common.{◌≡◌, ◌≢◌, ℕ, suc, ◌<◌, ◌≤◌, List, [], ◌∷◌, ◌++◌, Some, refl, ap, ◌∙◌, arith}
 use Rattle.bn_lists.specs.Lists.{nth}
 use Rattle.bn_machine.specs.declared.quint.Shift.TheVariants as way
 use Rattle.bn_machine.specs.declared.quint.Side.{Side}
 use Rattle.bn_machine.specs.declared.quint.Side.TheVariants as side
 use Rattle.bn_quad.specs.Quadruples.{Deed, Rewrite, Move, Quadruples, Rule}
-use Rattle.bn_modules.specs.Controls.{ControlMove, IsEntry, IsFirstOf, finishes, leaves, waits, symbols_in, to_read, to_shift, to_write, shifts, reads_of, shifts_of}
+use Rattle.bn_modules.specs.Controls.{ControlMove, IsEntry, IsFirstOf, finishes, leaves, waits, symbols_in, Reads, Shifts, Writes, ControlState, shifts, reads_of, shifts_of}
 
 -- no shifted tape of the list is before its first tape
 pub above : (xs : List Deed) (t : ℕ) (l r : List (ℕ × Side)) (p : ℕ × Side) → shifts t xs ≡ l ++ (p ∷ r) → t ≤ p.0
@@ -41,47 +41,51 @@ some_symbols : (l : List (ℕ × ℕ)) (p : ℕ × ℕ) → symbols_in (l ++ (p 
 some_symbols [] p e = cc
 some_symbols (b ∷ l) p e = cc
 
-module _ (machine : Quadruples) where
-  -- a read after others is no first command
-  pub no_read : (a b : ℕ) (l : List (ℕ × ℕ)) (p r : ℕ × ℕ) → IsEntry machine a (to_read b (l ++ (p ∷ [])) r) → ⊥
-  no_read a b l p r (finishes isa is) = let e = ap (λ (m : ControlMove). m.0) is in cc
-  no_read a b l p r (leaves n x isx from first) = go (reads_of x) (shifts_of x) first
-    where
-      go : (rs : List (ℕ × ℕ)) (ss : List (ℕ × Side)) → IsFirstOf n x rs ss (to_read b (l ++ (p ∷ [])) r) → ⊥
-      go [] [] h = h
-      go [] (s ∷ ss) h = let e = ap (λ (m : ControlMove). m.0) h in cc
-      go (s ∷ rs) ss h = let e = ap (λ (m : ControlMove). m.0) h in let none : symbols_in (l ++ (p ∷ [])) ≡ [] = cc in some_symbols l p none
-  no_read a b l p r (waits other low_none none is) = let e = ap (λ (m : ControlMove). m.0) is in let empty : symbols_in (l ++ (p ∷ [])) ≡ [] = cc in some_symbols l p empty
+-- no state's first command waits in this state
+abbrev pub IsMiddle : Quadruples → ControlState → Type 0
+IsMiddle m q = (a : ℕ) (k : ControlMove) → IsEntry m a k → k.0 ≡ q → ⊥
 
-  -- a write is no first command
-  pub no_write : (a b : ℕ) (p : ℕ × ℕ) (l : List (ℕ × ℕ)) → IsEntry machine a (to_write b p l) → ⊥
-  no_write a b p l (finishes isa is) = let e = ap (λ (m : ControlMove). m.0) is in cc
-  no_write a b p l (leaves n x isx from first) = go (reads_of x) (shifts_of x) first
+module _ (m : Quadruples) where
+  -- a read after others is no state's first
+  pub no_read : (b : ℕ) (l : List (ℕ × ℕ)) (p : ℕ × ℕ) → IsMiddle m (Reads b (symbols_in (l ++ (p ∷ []))))
+  no_read b l p a k (finishes final is) e = let f = ap (λ (x : ControlMove). x.0) is in cc
+  no_read b l p a k (leaves n r stands from first) e = go (reads_of r) (shifts_of r) first
     where
-      go : (rs : List (ℕ × ℕ)) (ss : List (ℕ × Side)) → IsFirstOf n x rs ss (to_write b p l) → ⊥
+      go : (rs : List (ℕ × ℕ)) (ss : List (ℕ × Side)) → IsFirstOf n r rs ss k → ⊥
       go [] [] h = h
-      go [] (s ∷ ss) h = let e = ap (λ (m : ControlMove). m.0) h in cc
-      go (s ∷ rs) ss h = let e = ap (λ (m : ControlMove). m.0) h in cc
-  no_write a b p l (waits other low_none none is) = let e = ap (λ (m : ControlMove). m.0) is in cc
+      go [] (s ∷ ss) h = let f = ap (λ (x : ControlMove). x.0) h in cc
+      go (s ∷ rs) ss h = let f = ap (λ (x : ControlMove). x.0) h in let none : symbols_in (l ++ (p ∷ [])) ≡ [] = cc in some_symbols l p none
+  no_read b l p a k (waits other low none is) e = let f = ap (λ (x : ControlMove). x.0) is in let empty : symbols_in (l ++ (p ∷ [])) ≡ [] = cc in some_symbols l p empty
 
-  -- a shift that is the first of a state is of a quadruple without reads, and is its first
-  pub first_shift : (a n : ℕ) (x : Rule ℕ) (p : ℕ × Side) → nth machine.rules n ≡ Some x → IsEntry machine a (to_shift n p)
-      → (reads_of x ≡ []) × ((q : ℕ × Side) × (rest : List (ℕ × Side)) × (shifts_of x ≡ q ∷ rest) × (q.0 ≡ p.0))
-  first_shift a n x p isx (finishes isa is) = let e = ap (λ (m : ControlMove). m.0) is in cc
-  first_shift a n x p isx (leaves j y isy from first) = go (reads_of y) (shifts_of y) refl refl first
+  -- a write is no state's first
+  pub no_write : (b t : ℕ) (u : List ℕ) → IsMiddle m (Writes b t u)
+  no_write b t u a k (finishes final is) e = let f = ap (λ (x : ControlMove). x.0) is in cc
+  no_write b t u a k (leaves n r stands from first) e = go (reads_of r) (shifts_of r) first
     where
-      go : (rs : List (ℕ × ℕ)) (ss : List (ℕ × Side)) → reads_of y ≡ rs → shifts_of y ≡ ss → IsFirstOf j y rs ss (to_shift n p)
-          → (reads_of x ≡ []) × ((q : ℕ × Side) × (rest : List (ℕ × Side)) × (shifts_of x ≡ q ∷ rest) × (q.0 ≡ p.0))
+      go : (rs : List (ℕ × ℕ)) (ss : List (ℕ × Side)) → IsFirstOf n r rs ss k → ⊥
+      go [] [] h = h
+      go [] (s ∷ ss) h = let f = ap (λ (x : ControlMove). x.0) h in cc
+      go (s ∷ rs) ss h = let f = ap (λ (x : ControlMove). x.0) h in cc
+  no_write b t u a k (waits other low none is) e = let f = ap (λ (x : ControlMove). x.0) is in cc
+
+  -- a shift that is some state's first is of a quadruple that reads nothing, and is its first
+  pub first_shift : (n : ℕ) (r : Rule ℕ) (t : ℕ) → nth m.rules n ≡ Some r → (a : ℕ) (k : ControlMove) → IsEntry m a k → k.0 ≡ Shifts n t
+      → (reads_of r ≡ []) × ((q : ℕ × Side) × (rest : List (ℕ × Side)) × (shifts_of r ≡ q ∷ rest) × (q.0 ≡ t))
+  first_shift n r t stands a k (finishes final is) e = absurd (let f = ap (λ (x : ControlMove). x.0) is in cc)
+  first_shift n r t stands a k (leaves j y isy from first) e = go (reads_of y) (shifts_of y) refl refl first
+    where
+      go : (rs : List (ℕ × ℕ)) (ss : List (ℕ × Side)) → reads_of y ≡ rs → shifts_of y ≡ ss → IsFirstOf j y rs ss k
+          → (reads_of r ≡ []) × ((q : ℕ × Side) × (rest : List (ℕ × Side)) × (shifts_of r ≡ q ∷ rest) × (q.0 ≡ t))
       go [] [] er es h = absurd h
       go [] (s ∷ ss) er es h =
-          let e = ap (λ (m : ControlMove). m.0) h in
+          let f = ap (λ (x : ControlMove). x.0) h in
           let number : n ≡ j = cc in
-          let there : Some x ≡ Some y = cc in
-          let same : x ≡ y = cc in
-          let tape : s.0 ≡ p.0 = cc in
-          (rw same er, (s, ss, rw same es, tape))
-      go (s ∷ rs) ss er es h = let e = ap (λ (m : ControlMove). m.0) h in cc
-  first_shift a n x p isx (waits other low_none none is) = let e = ap (λ (m : ControlMove). m.0) is in cc
+          let there : Some r ≡ Some y = cc in
+          let same : r ≡ y = cc in
+          let tape : s.0 ≡ t = cc in
+          (ap reads_of same ∙ er, (s, ss, ap shifts_of same ∙ es, tape))
+      go (s ∷ rs) ss er es h = absurd (let f = ap (λ (x : ControlMove). x.0) h in cc)
+  first_shift n r t stands a k (waits other low none is) e = absurd (let f = ap (λ (x : ControlMove). x.0) is in cc)
 
 -- a shift of a quadruple is known by its tape
 pub alone : (xs : List Deed) (t : ℕ) (a b r s : List (ℕ × Side)) (p q : ℕ × Side) → shifts t xs ≡ a ++ (p ∷ r) → shifts t xs ≡ b ++ (q ∷ s) → p.0 ≡ q.0

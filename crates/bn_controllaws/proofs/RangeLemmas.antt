@@ -6,7 +6,7 @@ use Rattle.bn_machine.specs.declared.quint.Shift.TheVariants as way
 use Rattle.bn_machine.specs.declared.quint.Side.{Side}
 use Rattle.bn_quad.specs.Quadruples.{Deed, Rewrite, Move, Rule, Quadruples, initial_of, AreDeedsInRange, IsRuleInRange, IsQuadMachine}
 use Rattle.bn_modules.specs.Controls.{reads, rising, shifts}
-use Rattle.bn_controllaws.proofs.ListedLemmas.{IsMember}
+use Rattle.bn_theory.proofs.MemberLemmas.{IsMember}
 
 -- the place of a tape and, among these numbers of symbols, its symbol
 abbrev pub IsIn : List ℕ → ℕ → (ℕ × ℕ) → Type 0

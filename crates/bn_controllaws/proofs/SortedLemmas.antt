@@ -5,7 +5,8 @@ use Rattle.std.specs.Ordering.{ordering_reverse}
 use Rattle.std.specs.declared.cmp.Ordering.{Ordering}
 use Rattle.std.specs.declared.cmp.Ordering.TheVariants.{Less, Equal, Greater}
 use Rattle.std.proofs.lemmas.Cmp.{tied_itself}
-use Rattle.bn_controllaws.proofs.ListedLemmas.{IsMember, Listing, member_at}
+use Rattle.bn_theory.proofs.MemberLemmas.{IsMember, member_at}
+use Rattle.bn_controllaws.proofs.ListedLemmas.{Listing}
 use Rattle.bn_controllaws.proofs.NumberLemmas.{by_order}
 
 module _ {A : Type 0} (cmp : A → A → Ordering) (order : IsTotalOrder cmp) where

@@ -1,8 +1,7 @@
 -- The table of a control: there is one, and only one.
-use Rattle.std.proofs.Common.{◌≡◌, ◌⊎◌, inl, inr, slice_get, ℕ, ◌<◌, ◌==◌, ◌&&◌, true, false, List, [], ◌∷◌, length, Option, Some, None, refl, sym, ap, subst, ◌∙◌}
-use Rattle.std.proofs.lemmas.Bool.Decides.{eqb_tells}
+use Rattle.std.proofs.Common.{◌≡◌, inl, inr, slice_get, ℕ, ◌<◌, List, [], ◌∷◌, length, Option, Some, None, refl, sym, ap, subst, ◌∙◌}
 use Rattle.std.proofs.lemmas.Option.{some_pair_parts, slice_get_within}
-use Rattle.bn_theory.specs.Tables.{Table, Move, go_by, table_by, AreWithin}
+use Rattle.bn_theory.specs.Tables.{Table, Move, go_by, pair_tells, table_by, AreWithin}
 use Rattle.bn_quad.specs.Quadruples.{Quadruples, IsQuadMachine}
 use Rattle.bn_quad.specs.Calls.{IsUniformMachine}
 use Rattle.bn_theory.specs.Alike.{AreConsistent}
@@ -10,25 +9,14 @@ use Rattle.bn_theory.proofs.TableLemmas.{tables-one, consistent-reversible}
 use Rattle.bn_modules.specs.Controls.{ControlState, ControlMove, ControlGoes, IsNumbering, NumberedGoes, IsControlTable, control_lines, in_number, out_number}
 use Rattle.bn_controllaws.proofs.ForthLemmas.{forth}
 use Rattle.bn_controllaws.proofs.BackLemmas.{back}
-use Rattle.bn_controllaws.proofs.ListedLemmas.{IsMember, member_at, Listing, alone, same, for_each}
+use Rattle.bn_theory.proofs.MemberLemmas.{IsMember, member_at}
+use Rattle.bn_controllaws.proofs.ListedLemmas.{Listing, alone, same, for_each}
 use Rattle.bn_controllaws.proofs.SortedLemmas.{one_place}
 use Rattle.bn_controllaws.proofs.KeyLemmas.{by_key, keys_ordered}
 use Rattle.bn_controllaws.proofs.LineLemmas.{in_low, in_one, out_low, out_one}
 use Rattle.bn_controllaws.proofs.GoingLemmas.{Going, sound, going}
 
 -- ---- lists of moves
-
--- whether two pairs of numbers are equal
-pair_tells : (a b c d : ℕ) → (((a == c && b == d) ≡ true) × (a ≡ c) × (b ≡ d)) ⊎ (((a == c && b == d) ≡ false) × ((a ≡ c) → (b ≡ d) → ⊥))
-pair_tells a b c d =
-    elim (eqb_tells a c) [
-      | inl first ↦
-          (elim (eqb_tells b d) [
-            | inl second ↦ inl (rw (first.0, second.0) refl, first.1, second.1)
-            | inr second ↦ inr (rw (first.0, second.0) refl, λ _ e. second.1 e)
-          ])
-      | inr first ↦ inr (rw first.0 refl, λ e _. first.1 e)
-    ]
 
 -- what is found is a move of the list
 found : (ms : List Move) (q i r o : ℕ) → go_by ms q i ≡ Some (r, o) → IsMember (record { state = q; input = i; next = r; output = o }) ms

@@ -1,13 +1,12 @@
 -- The erasing machine over numbers makes the runs of its list over names.
-use Rattle.std.specs.Prelude.{◌≡◌, ℕ, zero, suc, ◌+◌, ◌*◌, ◌<◌, List, [], ◌∷◌, length, Some}
+use Rattle.std.specs.Prelude.{◌≡◌, ℕ, ◌+◌, ◌*◌, ◌<◌, List, length}
 use Rattle.std.proofs.Common.{sym, ap, ◌∙◌, subst, arith}
-use Rattle.std.proofs.lemmas.Option.{get_or_from_slice_get, slice_get_within}
 use Rattle.bn_theory.specs.Runs.{Reaches}
 use Rattle.bn_machine.specs.Machine.{Program}
-use Rattle.bn_lists.specs.Lists.{nth, IsIn}
 use Rattle.bn_machine.specs.Tape.{blank_tape, word_tape}
-use Rattle.bn_quad.specs.Quadruples.{Configuration, Goes, IsRuleInRange, Rule, everywhere, final_of, initial_of}
-use Rattle.bn_stages.proofs.MembershipLemmas.{each_of_two, from_flat_map, in_head, in_tail}
+use Rattle.bn_quad.specs.Quadruples.{Configuration, Goes, everywhere, final_of, initial_of}
+use Rattle.bn_lists.specs.Lists.{IsIn}
+use Rattle.bn_stages.proofs.InsideLemmas.{begins_in, ends_in, state_below}
 use Rattle.bn_stages.specs.Laws.{HaltsAfter}
 use Rattle.bn_stages.specs.Names.{states_in}
 use Rattle.bn_stages.specs.Renamed.{KeepsApart, in_state}
@@ -22,37 +21,17 @@ use Rattle.bn_erase.specs.Made.{Erasure, IsErasing, name_of}
 use Rattle.bn_erase.specs.Laws.{end_of, start_of}
 
 module _ (p q : Program) (e : Erasure) (h : IsErasing p q e) where
-  -- a state of the machine's quadruples is one of its states
-  state_below : (k : ℕ) → IsIn (states_in e.machine.rules) k → k < length e.names
-  state_below k there =
-      let found = from_flat_map (λ (r : Rule ℕ). r.from ∷ r.to ∷ []) e.machine.rules k there in
-      let range = in_range found.1.place found.0 found.1.stands in
-      let low : k < e.machine.states = each_of_two (λ s. s < e.machine.states) found.0.from found.0.to range.from range.to k found.2 in
-      omega (arith, h.states)
-    where
-      in_range : (n : ℕ) (r : Rule ℕ) → nth e.machine.rules n ≡ Some r → IsRuleInRange e.machine.states e.machine.symbols r
-      in_range zero r is = absurd (cc)
-      in_range (suc k) r is =
-          let P : Rule ℕ → Type 0 = IsRuleInRange e.machine.states e.machine.symbols in
-          subst P (get_or_from_slice_get e.machine.rules k r r is) (h.machine.in_range k r (slice_get_within e.machine.rules k r is))
-
   pub names_apart : KeepsApart (name_of e) e.machine.rules
-  names_apart = names_kept_apart (First GoRight) e.names e.machine.rules h.numbered.apart state_below
+  names_apart = names_kept_apart (First GoRight) e.names e.machine.rules h.numbered.apart below
+    where
+      below : (k : ℕ) → IsIn (states_in e.machine.rules) k → k < length e.names
+      below k there = let low = state_below e.machine h.machine k there in omega (arith, h.states)
 
   begins_inside : IsIn (states_in e.machine.rules) (initial_of e.machine.rules)
-  begins_inside = first_inside e.machine.rules h.machine.some
-    where
-      first_inside : (rs : List (Rule ℕ)) → 0 < length rs → IsIn (states_in rs) (initial_of rs)
-      first_inside [] some = absurd (omega arith)
-      first_inside (r ∷ rs) some = in_head r.from _
+  begins_inside = begins_in e.machine h.machine
 
   ends_inside : IsIn (states_in e.machine.rules) (final_of e.machine.rules)
-  ends_inside = last_inside e.machine.rules h.machine.some
-    where
-      last_inside : (rs : List (Rule ℕ)) → 0 < length rs → IsIn (states_in rs) (final_of rs)
-      last_inside [] some = absurd (omega arith)
-      last_inside (r ∷ []) some = in_tail r.from r.to _ (in_head r.to [])
-      last_inside (r ∷ s ∷ rs) some = in_tail r.from _ _ (in_tail r.to _ _ (last_inside (s ∷ rs) (omega arith)))
+  ends_inside = ends_in e.machine h.machine
 
   module _ (left : IsStandardMachine p) (right : IsStandardMachine q) (tests : ErasingNumbersPassTests) where
     pub begins_named : name_of e (initial_of e.machine.rules) ≡ erasing_initial p

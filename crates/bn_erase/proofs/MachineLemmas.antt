@@ -1,15 +1,15 @@
 -- The machine of quadruples that are the erasing machine's list: they are sound, and they are deterministic, reversible and uniform.
-use Rattle.std.specs.Prelude.{◌≡◌, ℕ, suc, ◌+◌, ◌*◌, ◌<◌, ◌^◌, List, [], ◌∷◌, length, All, Some}
+use Rattle.std.specs.Prelude.{◌≡◌, ℕ, suc, ◌+◌, ◌*◌, ◌<◌, ◌^◌, List, length, All, Some}
 use Rattle.std.specs.Option.{option_map}
-use Rattle.std.proofs.Common.{refl, sym, ap, ◌∙◌, subst, arith, get_or}
+use Rattle.std.proofs.Common.{sym, ap, ◌∙◌, subst, arith, get_or}
 use Rattle.std.proofs.lemmas.List.{length-map}
 use Rattle.std.proofs.lemmas.Option.{slice_get-map}
 use Rattle.bn_machine.specs.Machine.{IsMachine, Program}
 use Rattle.bn_lists.specs.Lists.{nth, IsIn}
 use Rattle.bn_lists.proofs.ListLemmas.{nth-get_or, nth_once}
 use Rattle.bn_quad.specs.Calls.{IsMadeOf, IsQuadRefusal, IsUniformMachine}
-use Rattle.bn_quad.specs.Kept.{Agree, IsActInRange, IsReadInRange, IsSound, act_of, quad_of, read_of, rule_of, rules_of}
-use Rattle.bn_quad.specs.Quadruples.{AreDeedsInRange, Deed, IsDeedInRange, IsQuadMachine, Move, Quadruples, Rewrite, Rule, deeds_of}
+use Rattle.bn_quad.specs.Kept.{IsSound, quad_of, rule_of, rules_of}
+use Rattle.bn_quad.specs.Quadruples.{AreDeedsInRange, IsQuadMachine, Quadruples, deeds_of}
 use Rattle.bn_quad.proofs.KeptLemmas.{nth-rules_of, quads-apart}
 use Rattle.bn_quad.specs.declared.quad.Quad.{Quad}
 use Rattle.bn_quad.specs.declared.refusal.QuadRefusal.{QuadRefusal}
@@ -19,41 +19,13 @@ use Rattle.bn_stages.specs.Stages.{IsStandardMachine}
 use Rattle.bn_stages.specs.declared.name.Name.TheVariants.{GoRight}
 use Rattle.bn_table.specs.Rows.{FitsTable}
 use Rattle.bn_bennett.specs.Draft.{IsBelow}
-use Rattle.bn_bennett.proofs.Machines.{no_quad_refusal, some_symbols}
+use Rattle.bn_bennett.proofs.Machines.{no_quad_refusal, some_symbols, sound_kept}
 use Rattle.bn_erasing.specs.Erasing.{erasing, erasing_symbols}
 use Rattle.bn_erasing.specs.Laws.{ErasingHasLength, ErasingIsInRange, ErasingNumbersPassTests}
 use Rattle.bn_erasing.specs.declared.name.ErasingName.{ErasingName}
 use Rattle.bn_erasing.specs.declared.name.ErasingName.TheVariants.{First}
 use Rattle.bn_erase.specs.Made.{IsErasing, erasure_of}
 use Rattle.bn_erase.specs.Numbered.{AreErasing}
-
--- ---- a kept rule in range is sound
-
-read_in : (z : ℕ) (d : Deed) → IsDeedInRange z d → IsReadInRange z (read_of d)
-read_in z (Rewrite r w) h = h.0
-read_in z (Move s) h = tt
-
-act_in : (z : ℕ) (d : Deed) → IsDeedInRange z d → IsActInRange z (act_of d)
-act_in z (Rewrite r w) h = h.1
-act_in z (Move s) h = tt
-
-agree : (d : Deed) → Agree (read_of d) (act_of d)
-agree (Rewrite r w) = tt
-agree (Move s) = tt
-
-sound_kept : (states a b c : ℕ) (r : Rule ℕ) → IsBelow states (quad_of r) → AreDeedsInRange (a ∷ b ∷ c ∷ []) (deeds_of r) → IsSound states (a ∷ b ∷ c ∷ []) (quad_of r)
-sound_kept states a b c r below deeds = record {
-  reads = refl;
-  acts = refl;
-  in_range = record {
-    state = below.state;
-    one = record { read = read_in a r.one deeds.0; act = act_in a r.one deeds.0 };
-    two = record { read = read_in b r.two deeds.1.0; act = act_in b r.two deeds.1.0 };
-    three = record { read = read_in c r.three deeds.1.1.0; act = act_in c r.three deeds.1.1.0 };
-    next = below.next;
-  };
-  unmixed = record { one = agree r.one; two = agree r.two; three = agree r.three };
-}
 
 -- ---- how many quadruples
 

@@ -5,7 +5,7 @@ use Rattle.std.proofs.Common.{refl, sym, ap, ◌∙◌, subst, arith, get_or, le
 use Rattle.std.proofs.lemmas.Bool.{and_from, and_parts}
 use Rattle.std.proofs.lemmas.Bool.Decides.{nat_tests}
 use Rattle.std.proofs.lemmas.Fmt.{length-decimal-le}
-use Rattle.std.proofs.lemmas.List.{length-map, length-take-le, map-append, take_more}
+use Rattle.std.proofs.lemmas.List.{length-map, map-append, take_more}
 use Rattle.std.proofs.lemmas.Option.{get_or_from_slice_get, same_Some, slice_get-get_or}
 use Rattle.bn_entries.specs.Forms.{is_name_byte, is_state_name, is_symbol}
 use Rattle.bn_entries.proofs.FormsLemmas.{all-at}
@@ -19,7 +19,7 @@ use Rattle.bn_bennett.specs.Printed.{mark, one_byte, print_of, state_text, with_
 use Rattle.bn_bennett.proofs.Counting.{each_mentioned}
 use Rattle.bn_bennett.proofs.Forms.{letters_form, numbers_form, states_form}
 use Rattle.bn_bennett.proofs.Printable.{number_bound}
-use Rattle.bn_bennett.proofs.Texts.{length-number_names, not_among_front, state_text-once}
+use Rattle.bn_bennett.proofs.Texts.{length-number_names, not_among_front, state_text-once, text_new, text_room}
 use Rattle.bn_erasing.specs.Erasing.{IsErasingName}
 use Rattle.bn_erasing.specs.Laws.{ErasingCountsNames, ErasingHasNames}
 use Rattle.bn_erasing.specs.declared.name.ErasingName.{ErasingName}
@@ -42,20 +42,10 @@ erasing_text-once (Second x) (Second y) low high e = let rest : state_text x ≡
 
 module _ (names : List ErasingName) (all : ArePrintable names) (i : ℕ) (d : ErasingName) (old : Naming) (text : List ℕ) (inside : i < length names) (before : old ≡ with_states (map erasing_text (take i names))) (is : text ≡ erasing_text (get_or names i d)) where
   pub state_new : Contains old.states text → ⊥
-  state_new there =
-      let P : Naming → Type 0 = λ n. Contains n.states text in
-      let Q : List ℕ → Type 0 = λ t. Contains (map erasing_text (take i names)) t in
-      not_among_front erasing_text names i d inside (λ j low e.
-      let at_j = slice_get-get_or names j d (omega arith) in
-      let at_i = slice_get-get_or names i d inside in
-      let same : get_or names j d ≡ get_or names i d = erasing_text-once (get_or names j d) (get_or names i d) (all.small j _ at_j) (all.small i _ at_i) e in
-      let equal : j ≡ i = all.apart j i (get_or names i d) (at_j ∙ ap Some same) at_i in
-      omega arith) (subst Q is (subst P before there))
+  state_new = text_new erasing_text names i d old text inside before is (λ j k a b at_a at_b e. all.apart j k b (at_a ∙ ap Some (erasing_text-once a b (all.small j a at_a) (all.small k b at_b) e)) at_b)
 
   pub state_room : length old.states < 2 ^ 32 - 1
-  state_room =
-      let long : length old.states ≡ i = ap (λ (n : Naming). length n.states) before ∙ length-map (take i names) erasing_text ∙ length-take-le i names (omega arith) in
-      omega (arith, all.few)
+  state_room = text_room erasing_text names i d old text inside before is all.few
 
 -- ---- the next letter is new
 

@@ -20,7 +20,8 @@ use Rattle.bn_erasing.specs.Erasing.{second_name, first_half, backward, second_h
 use Rattle.bn_erasing.specs.Laws.{ErasingHasNames, ErasingCountsNames}
 use Rattle.bn_erasing.proofs.ErasingLemmas.{from_first, from_second, second_final, second_own, final_in, in_backward}
 use Rattle.bn_erasing.proofs.DecidedLemmas.{same_name}
-use Rattle.bn_erasing.proofs.DistinctLemmas.{Distinct, distinct, distinct_numbers, numbers_apart, numbers_in, in_numbers, same_long}
+use Rattle.bn_stages.proofs.RepeatLemmas.{same_long}
+use Rattle.bn_erasing.proofs.DistinctLemmas.{Distinct, distinct, distinct_numbers, numbers_apart, numbers_in, in_numbers}
 
 -- the state of a list is one before or after a rule of it
 pub data IsStateOf {Q : Type 0} (rs : List (Rule Q)) (q : Q) : Type 0 where

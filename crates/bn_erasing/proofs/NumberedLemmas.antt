@@ -16,6 +16,7 @@ use Rattle.bn_stages.specs.Renamed.{renamed, rename, in_state}
 use Rattle.bn_stages.proofs.RenamedLemmas.{to_in, nth_before, no_clash_before, uniform_before, run_renamed, run_before, ends_renamed, ends_before}
 use Rattle.bn_stages.specs.Stages.{IsStandardMachine}
 use Rattle.bn_stages.specs.Steps.{Steps, Exit, EndsAt}
+use Rattle.bn_stages.proofs.Numbering.{first_state, last_state}
 use Rattle.bn_stages.proofs.Counts.{list_has_ends}
 use Rattle.bn_erasing.specs.declared.name.ErasingName.{ErasingName}
 use Rattle.bn_erasing.specs.declared.name.ErasingName.TheVariants.{First}
@@ -76,15 +77,6 @@ module _ (p q : Program) (left : IsStandardMachine p) (right : IsStandardMachine
       (last.0, nth_right (first_half p) (second_half p q) (length (bennett q)) (length (erasing p q)) last.0 count some_quadruple last.1, last.2)
 
 -- ---- any list over numbers
-
-first_state : (rs : List (Rule ℕ)) (r : Rule ℕ) → nth rs 1 ≡ Some r → r.from ≡ initial_of rs
-first_state [] r e = absurd (cc)
-first_state (s ∷ rs) r e = let same : s ≡ r = cc in ap (λ (x : Rule ℕ). x.from) (sym same)
-
-last_state : (rs : List (Rule ℕ)) (r : Rule ℕ) → nth rs (length rs) ≡ Some r → r.to ≡ final_of rs
-last_state [] r e = absurd (cc)
-last_state (s ∷ []) r e = let same : s ≡ r = cc in ap (λ (x : Rule ℕ). x.to) (sym same)
-last_state (s ∷ t ∷ rs) r e = last_state (t ∷ rs) r e
 
 module _ {Q : Type 0} (name : ℕ → Q) (rs : List (Rule ℕ)) (list : List (Rule Q)) (same : rename name rs ≡ list) where
   -- the first rule, before renaming, and the last

@@ -1,31 +1,19 @@
 -- A relation of lines that is one to one both ways and can be listed has a list of wires.
-use Rattle.std.specs.Prelude.{◌≡◌, ◌≢◌, true, false, List, [], ◌∷◌, Option, Some, None, refl, ◌⊎◌}
+use Rattle.std.specs.Prelude.{◌≡◌, ◌≢◌, List, [], ◌∷◌, Option, Some, None, refl}
 use Rattle.std.proofs.Common.{sym, ap, subst, ◌∙◌, inl, inr}
-use Rattle.std.proofs.lemmas.Bool.Decides.{eqb_tells}
-use Rattle.bn_theory.specs.Circuits.{same_line, target, source}
-use Rattle.bn_theory.proofs.StepLemmas.{same_lines}
+use Rattle.bn_theory.specs.Circuits.{target, source}
 use Rattle.bn_theory.specs.declared.line.Line.{Line}
 use Rattle.bn_theory.specs.declared.line.Wire.{Wire}
+use Rattle.bn_net.proofs.WireListLemmas.{line_tells}
 use Rattle.bn_column.specs.Wirings.{AreApart, AreWiresOf}
 use Rattle.bn_column.proofs.WiringsLemmas.{apart-IsOneToOne}
-use Rattle.bn_controllaws.proofs.ListedLemmas.{IsMember, Listing}
+use Rattle.bn_theory.proofs.MemberLemmas.{IsMember}
+use Rattle.bn_controllaws.proofs.ListedLemmas.{Listing}
 
 -- each output line leads to one input line at most, and each input line comes from one output line at most
 pub record IsBothWays (R : Line → Line → Type 0) : Type 0 where
   pub ahead : (from to other : Line) → R from to → R from other → to ≡ other
   pub behind : (from other to : Line) → R from to → R other to → from ≡ other
-
--- two lines are one, or they are not
-line_tells : (a b : Line) → ((same_line a b ≡ true) × (a ≡ b)) ⊎ ((same_line a b ≡ false) × (a ≢ b))
-line_tells a b =
-    elim (eqb_tells a.element b.element) [
-      | inl first ↦
-          (elim (eqb_tells a.line b.line) [
-            | inl second ↦ inl (rw (first.0, second.0) refl, same_lines a b first.1 second.1)
-            | inr second ↦ inr (rw (first.0, second.0) refl, λ e. second.1 (ap (λ (l : Line). l.line) e))
-          ])
-      | inr first ↦ inr (rw first.0 refl, λ e. first.1 (ap (λ (l : Line). l.element) e))
-    ]
 
 -- where the first wire leads
 first_target : (w : Wire) (ws : List Wire) → target (w ∷ ws) w.from ≡ Some w.to

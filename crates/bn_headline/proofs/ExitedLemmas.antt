@@ -13,7 +13,7 @@ use Rattle.bn_element.specs.Rotary.{west}
 use Rattle.bn_machine.specs.Tape.{scanned}
 use Rattle.bn_machine.specs.Machine.{Program}
 use Rattle.bn_machine.specs.Outcome as outcome
-use Rattle.bn_machine.specs.Outcome.{Limits, Outcome, HasOutcome}
+use Rattle.bn_machine.specs.Outcome.{Outcome}
 use Rattle.bn_machine.specs.declared.quint.Side.TheVariants as side
 use Rattle.bn_quad.specs.Quadruples.{Configuration, Goes as QuadGoes}
 use Rattle.bn_stages.specs.Stages.{rooms_of}
@@ -31,12 +31,13 @@ use Rattle.bn_rsm.specs.RunCosts.{run_cost}
 use Rattle.bn_theory.specs.Counting.{tally, one_if}
 use Rattle.bn_modules.specs.Cells.{line_number}
 use Rattle.bn_modules.specs.Controls.{End, letters, lines_before}
-use Rattle.bn_modules.specs.Networks.{IsTape, cells_in, first_cell, IsControlAt, ShowsTapes}
+use Rattle.bn_modules.specs.Networks.{cells_in, first_cell, IsControlAt, ShowsTapes}
 use Rattle.bn_network.specs.Ends.{EndsBy, by_end, by_stop, by_right, by_left, IsStoppedAt, tape_of}
 use Rattle.bn_network.specs.Laws.{FirstMoment, NextMoment, LastMoment}
 use Rattle.bn_boards.specs.Boards.{StandsFor, IsLoose}
 use Rattle.bn_layout.specs.Layouts.{IsExit, named, ends, stuck, right, left, cell_output, is_moment, letters_at, spelled_by, spelled_config, lines_at}
 use Rattle.bn_layout.specs.Flats.{Flat, machine_of, IsFlatOf, IsAccepted, situation_at_start, flat_start}
+use Rattle.bn_layout.proofs.AgreedLemmas.{some_cells}
 use Rattle.bn_headline.specs.Costs.{bound_of}
 use Rattle.bn_headline.specs.Headline.{IsExitFor, EndsWith, RunsToExit, SpellsRestored}
 use Rattle.bn_layout.specs.Readings.{elements_in, BoardReads}
@@ -60,13 +61,6 @@ quad_run f test (suc n) s t c d path = (path.0.1, path.1.goes, quad_run f test n
 
 stuck_at : (k : Circuit) (d : Config) (e l : ℕ) → d.place ≡ Left e l → IsStuck k d
 stuck_at k d e l h = λ x g. let both : Left e l ≡ Enter g.element g.input = sym h ∙ g.enters in cc
-
-some_cells : (l : Limits) (t : ℕ) → IsTape t → 0 < cells_in l t
-some_cells l zero tape = absurd (let low = tape.low in omega arith)
-some_cells l (suc zero) tape = omega arith
-some_cells l (suc (suc zero)) tape = omega arith
-some_cells l (suc (suc (suc zero))) tape = omega arith
-some_cells l (suc (suc (suc (suc t)))) tape = absurd (let high = tape.high in omega arith)
 
 -- ---- numbers
 

@@ -77,7 +77,7 @@ no_enter ts e o None a b h = absurd (cc)
 no_enter ts e o (Some t) a b h = absurd (cc)
 
 -- each tape has a cell
-some_cells : (l : Limits) (t : ℕ) → IsTape t → 0 < cells_in l t
+pub some_cells : (l : Limits) (t : ℕ) → IsTape t → 0 < cells_in l t
 some_cells l zero tape = absurd (let low = tape.low in omega arith)
 some_cells l (suc zero) tape = omega arith
 some_cells l (suc (suc zero)) tape = omega arith

@@ -24,7 +24,8 @@ use Rattle.bn_controllaws.specs.Laws.{ControlsAreOne, StatesHaveEntries}
 use Rattle.bn_layout.specs.Laws.{WordsDifferInCells, WordsShareBoards}
 use Rattle.bn_boards.proofs.ModuleLemmas.{one_table}
 use Rattle.bn_layout.proofs.LetterLemmas.{letters_are}
-use Rattle.bn_layout.proofs.StartedLemmas.{resting, resting-length, get_left, get_right}
+use Rattle.bn_realise.proofs.StartLemmas.{resting}
+use Rattle.bn_layout.proofs.StartedLemmas.{resting-length, get_left, get_right}
 use Rattle.bn_layout.proofs.StartingLemmas.{start_length}
 use Rattle.bn_layout.proofs.ReadingLemmas.{Readings, flat-Readings, own_flat, own_accepted}
 

@@ -18,7 +18,8 @@ use Rattle.bn_netlist.proofs.SameTexts.{same_text}
 use Rattle.bn_reply.specs.Answering.{HasAnswer, IsOneAnswer, IsSettled}
 use Rattle.bn_reply.specs.Codes.{IsReplyStatus}
 use Rattle.bn_reply.specs.declared.status.Status.{Status}
-use Rattle.bn_reply.proofs.SameRuns.{AreAlike, run-alike, back-alike, places-alike, places_back-alike}
+use Rattle.bn_theory.specs.Alike.{AreAlike}
+use Rattle.bn_theory.proofs.AlikeLemmas.{run-alike, back-alike, places-alike, places_back-alike}
 use Rattle.bn_reply.proofs.SettledLemmas.{agree}
 use Rattle.bn_netlist.specs.NetText.{spelling_of, IsTextRefusal}
 use Rattle.bn_netlist.proofs.NetLemmas.{circuits-agree, spellings-move}
@@ -32,7 +33,7 @@ use Rattle.bn_netreply.specs.Refused.{IsRefused}
 use Rattle.bn_reply.specs.declared.reply.Reply.{Reply}
 use Rattle.bn_lists.specs.declared.memory.NoMemory.{NoMemory as WantOfMemory}
 use Rattle.bn_reply.specs.declared.status.Status.TheVariants.{Done, Text}
-use Rattle.bn_reply.proofs.Walks.{hears-nothing}
+use Rattle.bn_net.proofs.WalkLemmas.{hears-nothing}
 
 -- ---- what the code replies
 

@@ -1,8 +1,10 @@
 -- What a cell's move does with the head, by numbers.
 use Rattle.std.specs.Prelude.{◌≡◌, ℕ, ◌+◌, ◌*◌, ◌<◌, ◌≤◌, nat_lt, Option, Some, None, refl, ◌⊎◌}
-use Rattle.std.proofs.Common.{zero, suc, arith, ap, subst, inl, inr}
-use Rattle.std.proofs.lemmas.Bool.{cases_Bool, ltb-true, ltb-false}
-use Rattle.std.proofs.lemmas.Bool.Decides.{nat_tests}
+use Rattle.std.proofs.Common.{zero, suc, arith, subst, inl, inr}
+use Rattle.std.proofs.lemmas.Bool.{cases_Bool, ltb-true}
+use Rattle.std.proofs.lemmas.Option.{some_pair_parts}
+use Rattle.bn_cell.specs.Laws.{IsStateOf}
+use Rattle.bn_cell.specs.Reversible.{Whole, whole, numbers, state_numbers, valid_state, valid_line}
 use Rattle.bn_modules.specs.declared.cell_line.CellLine.{CellLine}
 use Rattle.bn_modules.specs.declared.cell_line.CellLine.TheVariants.{Read, Write, ShiftRight, ShiftLeft, TakeRight, Answer, DoneWrite, DoneRight, DoneLeft, TakeLeft}
 use Rattle.bn_modules.specs.Cells.{CellState, Plain, Head, cell_go, IsLineOf, cell_table, numbered, line_number, line_of, lines_of, state_number, state_of}
@@ -21,22 +23,8 @@ pub data CellMove (z q i r o : ℕ) : Type 0 where
   takes : IsTake z i → q < z → IsNoTake z o → CellMove z q i r o
   gives : z ≤ q → r < z → CellMove z q i r o
 
--- a named state's symbol is one of z
-abbrev IsState : ℕ → CellState → Type 0
-IsState z (Plain t) = t < z
-IsState z (Head t) = t < z
-
--- what holds of a move, if there is one
-abbrev Whole : {A : Type 0} → Option A → (A → Type 0) → Type 0
-Whole None P = Unit {0}
-Whole (Some x) P = P x
-
--- so it holds of the move that there is
-whole : {A : Type 0} (o : Option A) (P : A → Type 0) (x : A) → Whole o P → o ≡ Some x → P x
-whole o P x w e = let f : Option _ → Type 0 = λ v. Whole v P in subst f e w
-
 -- a cell's move by names
-by_names : (z : ℕ) (q : CellState) (l : CellLine) → IsState z q → IsLineOf z l
+by_names : (z : ℕ) (q : CellState) (l : CellLine) → IsStateOf z q → IsLineOf z l
     → Whole (cell_go q l) (λ m. CellMove z (state_number z q) (line_number z l) (state_number z m.0) (line_number z m.1))
 by_names z (Plain t) Read is line = keeps (λ h. h) (λ e. omega arith, λ e. omega arith)
 by_names z (Plain t) (Write u) is line = keeps (λ h. h) (λ e. omega arith, λ e. omega arith)
@@ -55,48 +43,9 @@ by_names z (Head t) ShiftRight is line = gives (omega arith) is
 by_names z (Head t) ShiftLeft is line = gives (omega arith) is
 by_names z (Head t) _ is line = tt
 
--- a line's number is its name's
-numbers : (z n : ℕ) → n < lines_of z → line_number z (line_of z n) ≡ n
-numbers z n lt = grind (arith, nat_tests)
-
--- a state's number is its name's
-state_numbers : (z n : ℕ) → n < 2 * z → state_number z (state_of z n) ≡ n
-state_numbers z n lt = grind (arith, nat_tests)
-
--- a state in range has a name in range
-valid_state : (z n : ℕ) → n < 2 * z → IsState z (state_of z n)
-valid_state z n lt = elim (cases_Bool (nat_lt n z)) [
-  | inl less ↦ rw less (ltb-true n z less)
-  | inr more ↦ let ge = ltb-false n z more in rw more (omega arith)
-]
-
--- a line in range has a name in range
-valid_line : (z n : ℕ) → n < lines_of z → IsLineOf z (line_of z n)
-valid_line z n lt = go (line_of z n) (numbers z n lt) refl
-  where
-    go : (l : CellLine) → line_number z l ≡ n → line_of z n ≡ l → IsLineOf z l
-    go Read e f = tt
-    go (Write u) e f = grind (arith, nat_tests)
-    go ShiftRight e f = tt
-    go ShiftLeft e f = tt
-    go TakeRight e f = tt
-    go (Answer u) e f = grind (arith, nat_tests)
-    go DoneWrite e f = tt
-    go DoneRight e f = tt
-    go DoneLeft e f = tt
-    go TakeLeft e f = tt
-
 -- equal numbers, the same move
 same_move : (z q q' i i' r r' o o' : ℕ) → q ≡ q' → i ≡ i' → r ≡ r' → o ≡ o' → CellMove z q i r o → CellMove z q' i' r' o'
 same_move z q q' i i' r r' o o' eq ei er eo h = subst (λ w. CellMove z q' i' r' w) eo (subst (λ w. CellMove z q' i' w o) er (subst (λ w. CellMove z q' w r o) ei (subst (λ w. CellMove z w i r o) eq h)))
-
--- pairs that are equal in a Some have equal first parts
-firsts : (v w : ℕ × ℕ) → Some v ≡ Some w → v.0 ≡ w.0
-firsts v w e = let same : v ≡ w = cc in ap (λ (k : ℕ × ℕ). k.0) same
-
--- and equal second parts
-seconds : (v w : ℕ × ℕ) → Some v ≡ Some w → v.1 ≡ w.1
-seconds v w e = let same : v ≡ w = cc in ap (λ (k : ℕ × ℕ). k.1) same
 
 -- a cell's move by numbers
 pub cell_moves : (z q i r o : ℕ) → (cell_table z).go q i ≡ Some (r, o) → CellMove z q i r o
@@ -116,5 +65,5 @@ cell_moves z q i r o e = elim (cases_Bool (nat_lt q (2 * z))) [
     found None f g qn inn = absurd (cc)
     found (Some m) f g qn inn =
         let move = whole (cell_go (state_of z q) (line_of z i)) (λ m. CellMove z (state_number z (state_of z q)) (line_number z (line_of z i)) (state_number z m.0) (line_number z m.1)) m (by_names z (state_of z q) (line_of z i) (valid_state z q qn) (valid_line z i inn)) f in
-        same_move z (state_number z (state_of z q)) q (line_number z (line_of z i)) i (state_number z m.0) r (line_number z m.1) o (state_numbers z q qn) (numbers z i inn)
-        (firsts (state_number z m.0, line_number z m.1) (r, o) g) (seconds (state_number z m.0, line_number z m.1) (r, o) g) move
+        let parts = some_pair_parts (state_number z m.0) r (line_number z m.1) o g in
+        same_move z (state_number z (state_of z q)) q (line_number z (line_of z i)) i (state_number z m.0) r (line_number z m.1) o (state_numbers z q qn) (numbers z i inn) parts.0 parts.1 move

@@ -23,7 +23,7 @@ use Rattle.bn_modules.specs.Moments.{Travels, TellsMoments}
 use Rattle.bn_tapes.specs.Commands.{Does, does_read, does_write, does_right, does_left, Commands, Parted, tape_elements, right_of, way_to}
 use Rattle.bn_network.proofs.PathLemmas.{stays, steps, travels_join}
 use Rattle.bn_network.proofs.PlaceLemmas.{after_control, command_place, cells_calm, taken_calm, middle_calm}
-use Rattle.bn_network.proofs.OrderLemmas.{IsMiddle}
+use Rattle.bn_controllaws.proofs.OrderLemmas.{IsMiddle}
 use Rattle.bn_network.specs.Ends.{tape_of}
 use Rattle.bn_network.proofs.ShownLemmas.{with_tape, shown_at, shown_with, shown_beside}
 

@@ -13,7 +13,7 @@ use Rattle.bn_modules.specs.declared.cell_line.CellLine.TheVariants.{Read, Answe
 use Rattle.bn_modules.specs.Controls.{ControlMove, Reads, Shifts, Tape as to_tape, shifts, reads_of, shifts_of, writes_of, symbols_in, shift_line, done_line}
 use Rattle.bn_modules.specs.Networks.{IsTape, left_of}
 use Rattle.bn_tapes.specs.Commands.{right_of, way_to}
-use Rattle.bn_network.proofs.OrderLemmas.{IsMiddle}
+use Rattle.bn_controllaws.proofs.OrderLemmas.{IsMiddle}
 use Rattle.bn_network.specs.Ends.{tape_of}
 use Rattle.bn_network.proofs.ShownLemmas.{with_tape}
 use Rattle.bn_network.proofs.ChainLemmas.{Stop, lead, AreStops, AllDo}

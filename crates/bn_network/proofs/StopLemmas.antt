@@ -7,7 +7,8 @@ use Rattle.bn_quad.specs.Quadruples.{Rule, Quadruples}
 use Rattle.bn_modules.specs.declared.cell_line.CellLine.{CellLine}
 use Rattle.bn_modules.specs.declared.cell_line.CellLine.TheVariants.{Read, Write, Answer, DoneWrite}
 use Rattle.bn_modules.specs.Controls.{ControlState, ControlMove, Reads, Shifts, Writes, IsEntry, Occurs, reads_on, shifts_on, writes_on, reads_of, shifts_of, writes_of, symbols_in, shift_line, done_line, to_reads, to_shifts, to_writes}
-use Rattle.bn_network.proofs.OrderLemmas.{no_read, no_write, no_shift, first_shift, occurs_entry, occurs_reads, occurs_shifts, occurs_writes}
+use Rattle.bn_controllaws.proofs.OrderLemmas.{first_shift, no_read, no_write}
+use Rattle.bn_network.proofs.OrderLemmas.{no_shift, occurs_entry, occurs_reads, occurs_shifts, occurs_writes}
 use Rattle.bn_network.proofs.ChainLemmas.{Stop, lead, IsLater, AreStops}
 
 -- a command with the state that awaits its answer

@@ -28,6 +28,7 @@ use Rattle.bn_realise.proofs.BankWiresLemmas.{column_once, output-no_wire, turni
 use Rattle.bn_realise.specs.BankNets.{CanMove, IsMove, IsBankNet, Banked, IsBankOf, IsSomeBank, CanMoveBank, IsReadyBank, HasLeft}
 use Rattle.bn_net.specs.declared.net.TheConstants.{MOST_ELEMENTS}
 
+-- the bars of one bank at rest
 abbrev pub resting : ℕ → ℕ → ℕ → List ℕ
 resting n k q = slice_set (replicate (n * (k + 1)) vertical) (bottom_at 0 k q) horizontal
 
@@ -56,6 +57,7 @@ resting-bars n k q e v has =
           omega arith)
     ]
 
+-- they rest in the state
 pub resting-IsResting : (n k q : ℕ) → q < n → IsResting (resting n k q) 0 n k (Some q)
 resting-IsResting n k q state = record { columns = λ j there. record { rows = rows j there; bottom = bottom j there } }
   where

@@ -1,15 +1,14 @@
 //! The wires of a bank.
 ghost use Rattle.std.specs.Prelude.{◌≡◌, ◌+◌, ◌*◌, ◌^◌, ◌<◌, ◌≤◌, ◌++◌, ◌∷◌, [], length, IfOk, OnOk};
 ghost use Rattle.bn_column.specs.Wirings.{AreWiresOf};
-ghost use Rattle.bn_column.specs.Nets.{wire_of};
 ghost use Rattle.bn_realise.specs.Banks.{IsBankWire, column_at};
 ghost use Rattle.bn_realise.specs.BankWires.{IsEarlier, IsStage, IsHalf};
 ghost use Rattle.bn_realise.specs.BankNets.{HasRoom};
 
 use bn_lists::NoMemory;
-use bn_column::column_wires;
+use bn_column::{column_wires, wire};
 use bn_element::{EAST, Element, WEST};
-use bn_net::{Line, Wire};
+use bn_net::Wire;
 use std::alloc::Global;
 
 /// The wires inside the bank of `machine` whose first element is `first`.
@@ -113,21 +112,6 @@ fn element_at(first: u32, rows: u32, column: u32, row: u32) -> u32
 {
     let before = u64::from(column) * (u64::from(rows) + 1);
     (u64::from(first) + before + u64::from(row)) as u32
-}
-
-fn wire(from: u32, from_line: u32, to: u32, to_line: u32) -> Wire
-    ensures { result ≡ wire_of from from_line to to_line }
-{
-    Wire {
-        from: Line {
-            element: from,
-            line: from_line,
-        },
-        to: Line {
-            element: to,
-            line: to_line,
-        },
-    }
 }
 
 fn push(wires: &mut Vec<Wire>, wire: Wire) -> Result<(), NoMemory>

@@ -3,8 +3,6 @@ pub mod WordLemmas
 pub mod StandardOrNot
 pub mod TableLemmas
 pub mod SettledLemmas
-pub mod Walks
-pub mod SameRuns
 pub mod ReplyLemmas
 pub mod CutLemmas
 pub mod CutOrNot

@@ -11,7 +11,7 @@ use Rattle.bn_table.specs.Rows.{Named}
 use Rattle.bn_standard.specs.Standard.{IsStandard}
 use Rattle.bn_reply.specs.TableReply.{JudgedReplies, fit, TableReplies, read, WordReplies, spelled}
 use Rattle.bn_reply.specs.Words.{IsSpelledBy}
-use Rattle.bn_reply.proofs.Walks.{hears-nothing}
+use Rattle.bn_net.proofs.WalkLemmas.{hears-nothing}
 use Rattle.bn_reply.specs.declared.reply.Reply.{Reply}
 use Rattle.bn_lists.specs.declared.memory.NoMemory.{NoMemory as WantOfMemory}
 use Rattle.bn_reply.specs.declared.status.Status.{Status}

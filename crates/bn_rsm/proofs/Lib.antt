@@ -1,3 +1,4 @@
 pub mod NumberLemmas
 pub mod SoundLemmas
 pub mod RunCostLemmas
+pub mod CostLemmas

@@ -11,14 +11,16 @@ use Rattle.bn_machine.proofs.MachineLemmas.{final_of-last}
 use Rattle.bn_lists.proofs.ListLemmas.{nth_within, nth-get_or}
 use Rattle.bn_machine.specs.declared.quint.Quint.{Quint}
 use Rattle.bn_quad.specs.Quadruples.{Rule, deeds_of, AreDeedsInRange}
-use Rattle.bn_stages.proofs.MembershipLemmas.{in_head, in_tail, in_cases, not_in_empty, in_left, in_right, in_append, in_flat_map, from_flat_map, each_of_two}
+use Rattle.bn_lists.specs.Lists.{IsIn}
+use Rattle.bn_stages.proofs.MembershipLemmas.{in_head, in_tail, in_left, in_right, in_append, in_flat_map, from_flat_map, each_of_two}
 use Rattle.bn_stages.specs.List.{bennett, initial_name, final_name, symbols_of, writes_ahead, shifts_ahead, begins_copy, goes_right, copies_letter, turns_left, goes_left, passes_letter, ends_copy, shifts_back, writes_back, numbered, letters, retrace_pair, compute_rules, copy_rules, retrace_rules}
 use Rattle.bn_stages.proofs.ListLemmas.{each_rule, has_writes_ahead, has_shifts_ahead, has_goes_right, has_goes_left, has_shifts_back, has_writes_back, in_range, from_range}
 use Rattle.bn_stages.specs.Names.{states_in, Mentions, IsNameOf}
 use Rattle.bn_stages.proofs.RenamedLemmas.{from_in, to_in}
 use Rattle.bn_stages.specs.Laws.{ListHasEnds, ListHasLength, ListIsInRange, ListHasNames, ListCountsNames}
 use Rattle.bn_stages.proofs.Halted.{quint_in_range, some_symbol}
-use Rattle.bn_stages.proofs.Apart.{Apart, apart_append, apart_two, apart_pairs, length-pairs, apart_from_places, range_apart}
+use Rattle.bn_stages.proofs.RepeatLemmas.{apart_by_places, same_long}
+use Rattle.bn_stages.proofs.Apart.{Apart, apart_append, apart_two, apart_pairs, length-pairs, range_apart}
 use Rattle.bn_stages.specs.declared.name.Name.{Name}
 use Rattle.bn_stages.specs.declared.name.Name.TheVariants.{Compute, ComputeWithin, GoRight, CopyLetter, GoLeft, PassLetter, Retrace, RetraceWithin}
 
@@ -174,30 +176,6 @@ list_has_names p some name = (forth, named p name)
 
 -- ---- how many
 
--- a list without repeats, all of whose entries stand in another list, isn't longer
-split_at : {X : Type 0} (xs : List X) (x : X) → IsIn xs x → (before : List X) × (after : List X) × (xs ≡ before ++ x ∷ after)
-split_at [] x h = absurd (not_in_empty x h)
-split_at (y ∷ xs) x h =
-    elim (in_cases y x xs h) [
-      | inl same ↦ ([], xs, ap (λ z. z ∷ xs) same)
-      | inr further ↦ let rest = split_at xs x further in (y ∷ rest.0, rest.1, ap (λ zs. y ∷ zs) rest.2)
-    ]
-
-fewer_in : {X : Type 0} (xs ys : List X) → Apart (λ x y. x ≢ y) xs → ((x : X) → IsIn xs x → IsIn ys x) → length xs ≤ length ys
-fewer_in [] ys apart within = omega arith
-fewer_in (x ∷ xs) ys apart within =
-    let parts = split_at ys x (within x (in_head x xs)) in
-    let rest = fewer_in xs (parts.0 ++ parts.1) apart.1 (λ y h. beside x y parts.0 parts.1 (apart.0 y h) (subst (λ zs. IsIn zs y) parts.2 (within y (in_tail x y xs h)))) in
-    let long : length ys ≡ length parts.0 + suc (length parts.1) = ap length parts.2 ∙ length-append parts.0 (x ∷ parts.1) in
-    omega (arith, length-append parts.0 parts.1)
-  where
-    beside : {X : Type 0} (x y : X) (before after : List X) → x ≢ y → IsIn (before ++ x ∷ after) y → IsIn (before ++ after) y
-    beside x y before after other h =
-        elim (in_append before (x ∷ after) y h) [
-          | inl left ↦ in_left before after y left
-          | inr right ↦ elim (in_cases x y after right) [ inl same ↦ absurd (other same) | inr further ↦ in_right before after y further ]
-        ]
-
 -- the names of f states and n quintuples, each once
 abbrev all_names : ℕ → ℕ → List Name
 all_names f n = flat_map (λ j. Compute j ∷ Retrace j ∷ []) (range_with_len 0 f) ++ flat_map (λ m. ComputeWithin m ∷ RetraceWithin m ∷ []) (range_with_len 1 n) ++ (GoRight ∷ CopyLetter ∷ []) ++ (GoLeft ∷ PassLetter ∷ [])
@@ -345,9 +323,6 @@ counted_named p all PassLetter h = tt
 counted_named p all (Retrace j) h = all j h
 counted_named p all (RetraceWithin m) h = h
 
-same_count : (m n : ℕ) → m ≤ n → n ≤ m → m ≡ n
-same_count m n h k = omega arith
-
 pub list_counts_names : ListCountsNames
 list_counts_names p machine all order numbers =
     let f : ℕ = p.states in
@@ -357,16 +332,8 @@ list_counts_names p machine all order numbers =
     counted_in f n name (named_counted p machine name ((names name).0 (stands_in name h.place h.stands))) in
     let back : (name : Name) → IsIn (all_names f n) name → IsIn order name = λ name h.
     let found = numbers.each name ((names name).1 (counted_named p all name (in_counted f n name h))) in record { place = suc found.0; stands = found.1 } in
-    same_count (length order) (length (all_names f n)) (fewer_in order (all_names f n) order_apart forth) (fewer_in (all_names f n) order (all_names_apart f n) back) ∙ length-all_names f n
+    same_long order (all_names f n) (apart_by_places order numbers.apart) (all_names_apart f n) forth back ∙ length-all_names f n
   where
     stands_in : (name : Name) (k : ℕ) → nth order k ≡ Some name → IsIn (states_in (bennett p)) name
     stands_in name zero e = absurd (cc)
     stands_in name (suc i) e = numbers.only i name e
-
-    order_apart : Apart Different order
-    order_apart = apart_from_places Different order (λ i j v w low h k same. absurd (by_places i j v w low h k same))
-      where
-        by_places : (i j : ℕ) (v w : Name) → i < j → nth order i ≡ Some v → nth order j ≡ Some w → v ≡ w → ⊥
-        by_places zero j v w low h k same = cc
-        by_places (suc i) zero v w low h k same = absurd (omega arith)
-        by_places (suc i) (suc j) v w low h k same = let equal : i ≡ j = numbers.apart i j w (h ∙ ap Some same) k in absurd (omega arith)

@@ -10,6 +10,8 @@ pub mod Halted
 pub mod Apart
 pub mod Tests
 pub mod Uniform
+pub mod RepeatLemmas
+pub mod InsideLemmas
 pub mod Counts
 pub mod Numbering
 pub mod Theorem

@@ -22,11 +22,13 @@ use Rattle.bn_stages.specs.declared.name.Name.{Name}
 pub list_passes_tests : ListPassesTests
 list_passes_tests p standard = (list_deterministic p standard, list_reversible p standard, list_uniform p standard)
 
-first_state : (rs : List (Rule ℕ)) (r : Rule ℕ) → nth rs 1 ≡ Some r → r.from ≡ initial_of rs
+-- the first rule leaves the state that its list begins in
+pub first_state : (rs : List (Rule ℕ)) (r : Rule ℕ) → nth rs 1 ≡ Some r → r.from ≡ initial_of rs
 first_state [] r e = absurd (cc)
 first_state (s ∷ rs) r e = let same : s ≡ r = cc in ap (λ (x : Rule ℕ). x.from) (sym same)
 
-last_state : (rs : List (Rule ℕ)) (r : Rule ℕ) → nth rs (length rs) ≡ Some r → r.to ≡ final_of rs
+-- and the last one leads to the state that its list ends in
+pub last_state : (rs : List (Rule ℕ)) (r : Rule ℕ) → nth rs (length rs) ≡ Some r → r.to ≡ final_of rs
 last_state [] r e = absurd (cc)
 last_state (s ∷ []) r e = let same : s ≡ r = cc in ap (λ (x : Rule ℕ). x.to) (sym same)
 last_state (s ∷ t ∷ rs) r e = last_state (t ∷ rs) r e

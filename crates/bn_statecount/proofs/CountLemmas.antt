@@ -3,7 +3,7 @@ use Rattle.std.proofs.Common.{◌≡◌, ◌⊎◌, inl, inr, slice_get, ℕ, ze
 use Rattle.std.proofs.lemmas.Bool.Decides.{eqb_tells}
 use Rattle.bn_quad.specs.Quadruples.{Quadruples}
 use Rattle.bn_modules.specs.Controls.{ControlState, Begin, End, Reads, Shifts, Writes, Occurs, IsNumbering}
-use Rattle.bn_cell.proofs.MemberLemmas.{IsMember, place_of, member_at, in_front, behind, of_two}
+use Rattle.bn_theory.proofs.MemberLemmas.{IsMember, place_of, member_at, in_front, behind, of_two}
 use Rattle.bn_controllaws.proofs.KeyLemmas.{by_key, keys_ordered}
 use Rattle.bn_controllaws.proofs.SortedLemmas.{one_place}
 use Rattle.bn_controlcount.proofs.ApartLemmas.{IsApart, same_length, joined, apart_places}

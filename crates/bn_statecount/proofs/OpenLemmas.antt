@@ -10,7 +10,7 @@ use Rattle.bn_quad.specs.Quadruples.{Deed, Rewrite, Move, Rule, Quadruples, fina
 use Rattle.bn_quad.specs.Kept.{quad_of, act_of}
 use Rattle.bn_quad.specs.declared.quad.Quad.{Quad}
 use Rattle.bn_modules.specs.Controls.{ControlState, Begin, End, Reads, Shifts, Writes, Occurs, is_begin, is_end, is_open, is_read, is_shift, is_write, IsNotLeft, IsNumbering, shifts, reads_of, shifts_of, writes_of, symbols_in}
-use Rattle.bn_cell.proofs.MemberLemmas.{IsMember, behind}
+use Rattle.bn_theory.proofs.MemberLemmas.{IsMember, behind}
 use Rattle.bn_controlcount.proofs.ApartLemmas.{split_at}
 use Rattle.bn_statecount.specs.Shown.{IsCount, IsShiftState, ShowsRead, ShowsShift, ShowsWrite, Shows, IsShownBefore, IsOpenBelow, IsLeftBy}
 use Rattle.bn_statecount.proofs.ShownLemmas.{only_read, read_from, not_zero}

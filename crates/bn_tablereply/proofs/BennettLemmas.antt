@@ -4,13 +4,14 @@ use Rattle.std.proofs.Common.{ap, subst, ◌∙◌}
 use Rattle.std.proofs.lemmas.List.{get_or-map}
 use Rattle.std.proofs.lemmas.List.Elements.{All-head, All-tail}
 use Rattle.bn_entries.specs.Lines.{lines_of}
+use Rattle.bn_quad.specs.Names.{Naming}
 use Rattle.bn_quad.specs.Quadruples.{Rule, IsRuleInRange}
 use Rattle.bn_qtable.specs.Entry.{entry_of}
 use Rattle.bn_qtable.specs.Rows.{rows_by, said_deed, said_of}
 use Rattle.bn_stages.specs.Renamed.{rename, renamed}
 use Rattle.bn_stages.specs.declared.name.Name.TheVariants.{GoRight}
 use Rattle.bn_table.specs.Rows.{Named}
-use Rattle.bn_bennett.specs.Printed.{names_of, number_names, one_byte, state_text}
+use Rattle.bn_bennett.specs.Printed.{names_of, state_text}
 use Rattle.bn_bennett.specs.Translation.{IsTranslation, Translation, name_of}
 use Rattle.bn_tablereply.specs.BennettReply.{BennettIsSettled, bennett_text, printed_entry}
 use Rattle.bn_reply.specs.Answering.{IsDone}
@@ -20,33 +21,45 @@ use Rattle.bn_reply.proofs.SettledLemmas.{done_settled, standard_settled}
 state_at : (tr : Translation) (n : ℕ) → n < length tr.names → slice_index_or (map state_text tr.names) n [] ≡ state_text (name_of tr n)
 state_at tr n inside = get_or-map state_text tr.names n GoRight [] inside
 
-row_at : (t : Named) (tr : Translation) (r : Rule ℕ) → r.from < length tr.names → r.to < length tr.names →
-    entry_of (said_of (names_of t tr) r) ≡ printed_entry t (renamed (name_of tr) r)
-row_at t tr r from to =
-    let first = state_at tr r.from from in
-    let last = state_at tr r.to to in
-    λ i. entry_of (record {
-      state = first i;
-      one = said_deed (map one_byte t.letters) r.one;
-      two = said_deed (number_names (length t.machine.quints)) r.two;
-      three = said_deed (map one_byte t.letters) r.three;
-      next = last i;
-    })
+-- quadruples whose states have names are told by those names
+module _ {N : Type 0} (names : Naming) (name : ℕ → N) (text : N → List ℕ) (states : ℕ)
+    (told : (n : ℕ) → n < states → slice_index_or names.states n [] ≡ text (name n)) where
+  -- the entry of a quadruple, by the names of its states
+  abbrev entry_by : Rule N → List (List ℕ)
+  entry_by r = entry_of (record {
+    state = text r.from;
+    one = said_deed names.one r.one;
+    two = said_deed names.two r.two;
+    three = said_deed names.three r.three;
+    next = text r.to;
+  })
 
-rows_at : (t : Named) (tr : Translation) (states : ℕ) (symbols : List ℕ) → states ≡ length tr.names → (rules : List (Rule ℕ)) →
-    All (IsRuleInRange states symbols) rules → rows_by (names_of t tr) rules ≡ map (printed_entry t) (rename (name_of tr) rules)
-rows_at t tr states symbols count [] h = refl
-rows_at t tr states symbols count (r ∷ rs) h =
-    let InRange : Rule ℕ → Type 0 = IsRuleInRange states symbols in
-    let here = All-head InRange r rs h in
-    let first = row_at t tr r (subst (λ n. r.from < n) count here.from) (subst (λ n. r.to < n) count here.to) in
-    let later = rows_at t tr states symbols count rs (All-tail InRange r rs h) in
-    λ i. first i ∷ later i
+  row_named : (r : Rule ℕ) → r.from < states → r.to < states → entry_of (said_of names r) ≡ entry_by (renamed name r)
+  row_named r from to =
+      let first = told r.from from in
+      let last = told r.to to in
+      λ i. entry_of (record {
+        state = first i;
+        one = said_deed names.one r.one;
+        two = said_deed names.two r.two;
+        three = said_deed names.three r.three;
+        next = last i;
+      })
+
+  pub rows_named : (symbols : List ℕ) (rules : List (Rule ℕ)) → All (IsRuleInRange states symbols) rules → rows_by names rules ≡ map entry_by (rename name rules)
+  rows_named symbols [] h = refl
+  rows_named symbols (r ∷ rs) h =
+      let InRange : Rule ℕ → Type 0 = IsRuleInRange states symbols in
+      let here = All-head InRange r rs h in
+      let first = row_named r here.from here.to in
+      let later = rows_named symbols rs (All-tail InRange r rs h) in
+      λ i. first i ∷ later i
 
 -- the text of a translation is that of Bennett's list
 pub translated_text : (t : Named) (tr : Translation) → IsTranslation t.machine tr → lines_of (rows_by (names_of t tr) tr.machine.rules) ≡ bennett_text t
 translated_text t tr h =
-    ap lines_of (rows_at t tr tr.machine.states tr.machine.symbols h.states tr.machine.rules h.machine.in_range ∙ ap (map (printed_entry t)) h.rules)
+    let told : (n : ℕ) → n < tr.machine.states → slice_index_or (map state_text tr.names) n [] ≡ state_text (name_of tr n) = λ n inside. state_at tr n (subst (λ m. n < m) h.states inside) in
+    ap lines_of (rows_named (names_of t tr) (name_of tr) state_text tr.machine.states told tr.machine.symbols tr.machine.rules h.machine.in_range ∙ ap (map (printed_entry t)) h.rules)
 
 pub bennett_settled : BennettIsSettled
 bennett_settled bytes = standard_settled (λ t. IsDone (bennett_text t)) bytes (λ t reads. done_settled (bennett_text t))

@@ -15,7 +15,9 @@ use Rattle.bn_theory.specs.Situations.{Situation, situation}
 use Rattle.bn_rsm.specs.RunCosts.{step_cost}
 use Rattle.bn_modules.specs.Cells.{CellState, Plain, Head, cell_go, IsLineOf, cell_table, line_number, lines_of, state_number}
 use Rattle.bn_modules.specs.Networks.{line_at, cell_size, GoesRight, GoesLeft, IsReply}
-use Rattle.bn_tapes.proofs.NumberLemmas.{IsState, table_goes, line_within, state_within}
+use Rattle.bn_cell.specs.Laws.{IsStateOf}
+use Rattle.bn_cell.specs.Reversible.{line_within, state_within}
+use Rattle.bn_tapes.proofs.NumberLemmas.{table_goes}
 use Rattle.bn_tapes.proofs.WalkLemmas.{Walk, stays, steps, joins}
 
 -- from element b on, the circuit has n cells for z symbols, in a row; `reply` says by which line of element 0 replies go in
@@ -67,7 +69,7 @@ module _ (bounded : CostsAreBounded) (k : Circuit) (test : Situation → Bool) (
   each = 4 * cell_size z
 
   -- one move of a cell
-  pub moves : (states : List ℕ) (p : ℕ) (q r : CellState) (c o : CellLine) → p < n → IsState z q → IsState z r → IsLineOf z c → IsLineOf z o
+  pub moves : (states : List ℕ) (p : ℕ) (q r : CellState) (c o : CellLine) → p < n → IsStateOf z q → IsStateOf z r → IsLineOf z c → IsLineOf z o
       → slice_get states (b + p) ≡ Some (state_number z q) → cell_go q c ≡ Some (r, o)
       → Walk k test each 1 (into b z states p c) (out k b z (slice_set states (b + p) (state_number z r)) p o)
   moves states p q r c o lt state next line line2 is move =
@@ -136,7 +138,7 @@ module _ (bounded : CostsAreBounded) (k : Circuit) (test : Situation → Bool) (
 
   module _ (states : List ℕ) (h : ℕ) (symbols : ℕ → ℕ) (holds : Holds states b n z h symbols) where
     -- in at the first cell, through the cells before the head, and through the head's cell
-    at_head : (c o : CellLine) (r : CellState) → GoesRight c → IsLineOf z c → IsPassed c → IsState z r → IsLineOf z o
+    at_head : (c o : CellLine) (r : CellState) → GoesRight c → IsLineOf z c → IsPassed c → IsStateOf z r → IsLineOf z o
         → cell_go (Head (symbols h)) c ≡ Some (r, o)
         → Walk k test each (suc h) (into b z states 0 c) (out k b z (slice_set states (b + h) (state_number z r)) h o)
     at_head c o r right line passes next line2 move =
@@ -151,7 +153,7 @@ module _ (bounded : CostsAreBounded) (k : Circuit) (test : Situation → Bool) (
     before v p lt = (holds.small p (omega (arith, holds.head)), slice_get-set_other states (b + h) (b + p) v (λ e. omega arith) ∙ holds.plain p (omega (arith, holds.head)) (λ e. omega arith))
 
     -- to the head's cell and back to the control
-    pub there_and_back : (c o : CellLine) (r : CellState) → GoesRight c → IsLineOf z c → IsPassed c → IsState z r → cell_go (Head (symbols h)) c ≡ Some (r, o)
+    pub there_and_back : (c o : CellLine) (r : CellState) → GoesRight c → IsLineOf z c → IsPassed c → IsStateOf z r → cell_go (Head (symbols h)) c ≡ Some (r, o)
         → GoesLeft o → IsReply o → IsLineOf z o → IsPassed o
         → Walk k test each (2 * h + 1) (into b z states 0 c) (situation (slice_set states (b + h) (state_number z r)) (Enter 0 (reply o)))
     there_and_back c o r right line passes next move left answers line2 passes2 =

@@ -6,3 +6,4 @@ pub mod CountingLemmas
 pub mod SituationLemmas
 pub mod AlikeLemmas
 pub mod TableLemmas
+pub mod MemberLemmas

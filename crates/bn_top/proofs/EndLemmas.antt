@@ -14,7 +14,7 @@ use Rattle.bn_reply.specs.Replying.{AnswerEnds, IsUnfinished, untold, told_some}
 use Rattle.bn_reply.specs.declared.status.Status.{Status}
 use Rattle.bn_reply.specs.declared.status.Status.TheVariants.{Usage, Size, ReadFault, WriteFault, NoMemory}
 use Rattle.bn_reply.proofs.ReplyLemmas.{grows_nothing}
-use Rattle.bn_reply.proofs.Walks.{hears-nothing}
+use Rattle.bn_net.proofs.WalkLemmas.{hears-nothing}
 use Rattle.bn_top.specs.Answers.{Answers, no_form, unread, too_long, replied, Replies, usage_text, size_text}
 use Rattle.bn_reply.specs.declared.limits.TheConstants.{MOST_INPUT_BYTES}
 use Rattle.bn_top.specs.Told.{EndsWithoutInput, IsAnswered, IsBegun, IsBroken, NeedsNoInput, unbegun, begun}

@@ -1,9 +1,10 @@
 -- The law on the answers of `view` with the laws below it put in, for the crates above that cite it as it is.
 use Rattle.bn_table.proofs.MachineLemmas.{tables_machines}
 use Rattle.bn_controllaws.proofs.ExistingLemmas.{have-entries}
+use Rattle.bn_rsm.proofs.CostLemmas.{costs-bounded}
 use Rattle.bn_network.proofs.FirstLemmas.{first-moment}
 use Rattle.bn_layout.proofs.ExitLemmas.{exits-one}
-use Rattle.bn_boardanswers.proofs.ClosedLemmas.{costs, counted, flats_one, flats_there, have_moments, read_off, run_to_exit, stand, uniform}
+use Rattle.bn_boardanswers.proofs.ClosedLemmas.{counted, flats_one, flats_there, have_moments, read_off, run_to_exit, stand, uniform}
 use Rattle.bn_boardanswers.proofs.RunLemmas.{exits-named}
 use Rattle.bn_view.specs.Laws.{ShownIsFound, ViewsAreOne, ViewsAreThere, ViewsStand}
 use Rattle.bn_view.proofs.OneLemmas.{views-one, views-there}
@@ -15,7 +16,7 @@ found : ShownIsFound
 found = shown-found run_to_exit have_moments
 
 views : ViewsStand
-views = views-stand uniform stand (first-moment costs have-entries) read_off run_to_exit have_moments
+views = views-stand uniform stand (first-moment costs-bounded have-entries) read_off run_to_exit have_moments
 
 pub one : ViewsAreOne
 one = views-one exits-one found

@@ -5,7 +5,6 @@ use Rattle.bn_theory.specs.Alike.{AreAlike}
 use Rattle.bn_theory.specs.Circuits.{IsCircuit, source, target}
 use Rattle.bn_theory.specs.Stepping.{places, run}
 use Rattle.bn_theory.specs.declared.line.Line.{Line}
-use Rattle.bn_theory.specs.declared.place.Place.{Place}
 use Rattle.bn_theory.specs.declared.config.Config.{Config}
 use Rattle.bn_theory.proofs.AlikeLemmas.{run-alike}
 use Rattle.bn_theory.proofs.RunLemmas.{Reaches-IsConfig, run_makes}
@@ -19,15 +18,14 @@ use Rattle.bn_table.specs.Rows.{Named}
 use Rattle.bn_layout.specs.Flats.{Flat, IsFlatOf}
 use Rattle.bn_layout.specs.Laws.{FlatsAreOne}
 use Rattle.bn_netreply.specs.CircuitReply.{CircuitIsSettled, walked}
-use Rattle.bn_standard.specs.Standard.{IsStandard}
-use Rattle.bn_reply.specs.Words.{IsSpelledBy}
-use Rattle.bn_reply.specs.TableReply.{JudgedReplies, ReadsStandard, WordReplies, faulty, fit, foreign, read, spelled, unfit}
+use Rattle.bn_reply.specs.TableReply.{WordReplies, spelled}
 use Rattle.bn_reply.specs.declared.status.Status.TheVariants.{Done}
 use Rattle.bn_reply.proofs.SettledLemmas.{standard_tells, word_tells}
 use Rattle.bn_reply.proofs.TableLemmas.{reads_table}
-use Rattle.bn_boardanswers.specs.CompileReply.{CompileReplies, IsFlatSpelling, TellsStart}
+use Rattle.bn_boardanswers.specs.CompileReply.{IsFlatSpelling}
 use Rattle.bn_boardanswers.specs.RunReply.{after}
-use Rattle.bn_boardanswers.specs.Windows.{BoardReplies, ComesTo, board, large, long}
+use Rattle.bn_boardanswers.specs.Windows.{BoardReplies, board, large, long}
+use Rattle.bn_boardanswers.proofs.CompileLemmas.{IsCompiled, compiled}
 use Rattle.bn_boardanswers.proofs.SpelledLemmas.{target_of}
 use Rattle.bn_boardanswers.proofs.TellingLemmas.{after_same}
 use Rattle.bn_boardanswers.proofs.WindowLemmas.{standard_machine}
@@ -37,48 +35,6 @@ use Rattle.bn_viewreply.specs.ViewText.{element_line, machine_line, module_line,
 use Rattle.bn_view.specs.declared.layers.Layers.{Layers}
 use Rattle.bn_bennett.specs.Translation.{name_of}
 use Rattle.bn_boardanswers.specs.RunText.{tape_lines}
-
--- ---- what was compiled
-
-record IsCompiled (bytes word : List ℕ) (l : Limits) (text : List ℕ) : Type 0 where
-  table : Named
-  symbols : List ℕ
-  reads : ReadsStandard bytes table
-  spells : IsSpelledBy table word symbols
-  flat : Flat
-  comes : ComesTo table.machine l symbols flat
-  tells : Spelling
-  board_is : IsFlatSpelling flat tells
-  is_text : Spelled tells text
-
-compiled : (bytes word : List ℕ) (l : Limits) (text : List ℕ) (told : List Place) → CompileReplies word l bytes Done text told → IsCompiled bytes word l text
-compiled bytes word l text told (faulty h e n) = absurd (cc)
-compiled bytes word l text told (read t reads answer) = by_machine answer
-  where
-    by_board : IsStandard t.machine.quints → (symbols : List ℕ) → IsSpelledBy t word symbols → BoardReplies TellsStart t.machine l symbols Done text told →
-        IsCompiled bytes word l text
-    by_board standard symbols is (long far h e n) = absurd (cc)
-    by_board standard symbols is (large fits count counts great h e n) = absurd (cc)
-    by_board standard symbols is (board f comes a) =
-        record {
-          table = t;
-          symbols = symbols;
-          reads = record { reads = reads; standard = standard };
-          spells = is;
-          flat = f;
-          comes = comes;
-          tells = a.spelling;
-          board_is = a.board;
-          is_text = a.spelled;
-        }
-
-    by_word : IsStandard t.machine.quints → WordReplies (BoardReplies TellsStart t.machine l) t word Done text told → IsCompiled bytes word l text
-    by_word standard (foreign p h told_is e n) = absurd (cc)
-    by_word standard (spelled symbols is answer) = by_board standard symbols is answer
-
-    by_machine : JudgedReplies (WordReplies (BoardReplies TellsStart t.machine l) t word) t Done text told → IsCompiled bytes word l text
-    by_machine (unfit h e n) = absurd (cc)
-    by_machine (fit standard answer) = by_word standard answer
 
 -- ---- one circuit
 
