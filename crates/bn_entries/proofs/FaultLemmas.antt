@@ -77,28 +77,34 @@ module _ {F : Type 0} (entry_fault : ℕ → List (List ℕ) → Option F) where
     pub many : length taken ≡ count
     pub faults : fault_from entry_fault 1 entries ≡ fault_from entry_fault (count + 1) left
 
-  -- at the start it has taken in none
-  pub taken_none : (entries taken : List (List (List ℕ))) (count : ℕ) → taken ≡ [] → length taken ≡ count → HasTaken entries taken count entries
-  taken_none entries taken count none many =
+-- one more entry makes the count one more
+pub one_more : (taken : List (List (List ℕ))) (fields : List (List ℕ)) {taken2 : List (List (List ℕ))} {count count2 : ℕ}
+    → length taken ≡ count → taken2 ≡ taken ++ fields ∷ [] → length taken2 ≡ count2 → count2 ≡ count + 1
+one_more taken fields many more many2 =
+    sym many2 ∙ ap (λ (t : List (List (List ℕ))). length t) more ∙ length-append taken (fields ∷ []) ∙ omega (arith, many)
+
+module _ {F : Type 0} {entry_fault : ℕ → List (List ℕ) → Option F} {entries taken : List (List (List ℕ))} {count : ℕ} where
+  -- at the start the reader has taken in none
+  pub taken_none : taken ≡ [] → length taken ≡ count → HasTaken entry_fault entries taken count entries
+  taken_none none many =
       let zero_long : count ≡ 0 = sym many ∙ ap (λ (t : List (List (List ℕ))). length t) none in
       record { together = rw none refl; many = many; faults = rw zero_long refl }
 
   -- it takes in one more, which has no fault
-  pub taken_more : (entries taken taken2 : List (List (List ℕ))) (count count2 : ℕ) (left rest : List (List (List ℕ))) (fields : List (List ℕ))
-      → HasTaken entries taken count left → left ≡ fields ∷ rest → taken2 ≡ taken ++ fields ∷ [] → length taken2 ≡ count2
-      → entry_fault (count + 1) fields ≡ None → HasTaken entries taken2 count2 rest
-  taken_more entries taken taken2 count count2 left rest fields h is more many pass =
-      let one : count2 ≡ count + 1 =
-      sym many ∙ ap (λ (t : List (List (List ℕ))). length t) more ∙ length-append taken (fields ∷ []) ∙ omega (arith, h.many) in
+  pub taken_more : {taken2 left rest : List (List (List ℕ))} {count2 : ℕ} {fields : List (List ℕ)}
+      → HasTaken entry_fault entries taken count left → left ≡ fields ∷ rest → taken2 ≡ taken ++ fields ∷ [] → length taken2 ≡ count2
+      → entry_fault (count + 1) fields ≡ None → HasTaken entry_fault entries taken2 count2 rest
+  taken_more {taken2} {left} {rest} {count2} {fields} h is more many pass =
+      let one : count2 ≡ count + 1 = one_more taken fields h.many more many in
       record {
         together = rw more (append_assoc taken (fields ∷ []) rest ∙ rw (← is) h.together);
         many = many;
-        faults = h.faults ∙ rw is (passing (count + 1) fields rest pass ∙ rw one refl);
+        faults = h.faults ∙ rw is (passing entry_fault (count + 1) fields rest pass ∙ rw one refl);
       }
 
   -- where none is left, it has taken in all
-  pub taken_all : (entries taken : List (List (List ℕ))) (count : ℕ) (left : List (List (List ℕ))) → HasTaken entries taken count left → left ≡ [] → taken ≡ entries
-  taken_all entries taken count left h none = sym (append-nil taken) ∙ rw (← none) h.together
+  pub taken_all : {left : List (List (List ℕ))} → HasTaken entry_fault entries taken count left → left ≡ [] → taken ≡ entries
+  taken_all {left} h none = sym (append-nil taken) ∙ rw (← none) h.together
 
 module _ {F : Type 0} (empty : F) (entry_fault : ℕ → List (List ℕ) → Option F) where
   -- without an entry, that is the fault
@@ -119,10 +125,10 @@ module _ {F : Type 0} (empty : F) (entry_fault : ℕ → List (List ℕ) → Opt
   not_empty (fields ∷ rest) e = (omega arith, e)
 
   -- a fault of the next entry is that of all
-  pub fault_of_next : (entries taken : List (List (List ℕ))) (count : ℕ) (left rest : List (List (List ℕ))) (fields : List (List ℕ)) (fault : F)
+  pub fault_of_next : {entries taken left rest : List (List (List ℕ))} {count : ℕ} {fields : List (List ℕ)} {fault : F}
       → HasTaken entry_fault entries taken count left → left ≡ fields ∷ rest → entry_fault (count + 1) fields ≡ Some fault
       → first_fault empty entry_fault entries ≡ Some fault
-  fault_of_next entries taken count left rest fields fault h is e =
+  fault_of_next {entries} {taken} {left} {rest} {count} {fields} {fault} h is e =
       let long : length entries ≡ length taken + length left = ap (λ (t : List (List (List ℕ))). length t) (sym h.together) ∙ length-append taken left in
       let more : length left ≡ length rest + 1 = rw is (omega arith) in
       some_entry entries (omega arith) ∙ h.faults ∙ rw is (failing entry_fault (count + 1) fields rest fault e)
