@@ -1,7 +1,7 @@
 -- Entries without a fault, and what they say.
-use Rattle.std.proofs.Common.{◌≡◌, ◌≤◌, ◌∷◌, ◌∙◌, ℕ, Bool, true, false, not, List, [], length, Option, Some, None, refl, sym, ap, inl, inr, arith, slice_get, nat_lt, if◌then◌else◌}
+use Rattle.std.proofs.Common.{◌≡◌, ◌≤◌, ◌∷◌, ◌∙◌, ℕ, true, false, List, [], length, Some, None, refl, sym, ap, inl, inr, arith, slice_get}
 use Rattle.std.specs.Prelude.{bytes_eq}
-use Rattle.std.proofs.lemmas.Bool.{cases_Bool, false≢true, ltb-false, le-ltb}
+use Rattle.std.proofs.lemmas.Bool.{cases_Bool, false≢true}
 use Rattle.std.proofs.lemmas.Slice.Eq.{bytes_eq-Decides}
 use Rattle.bn_entries.specs.Forms.{is_state_name, is_symbol}
 use Rattle.bn_entries.proofs.FaultLemmas.{in_number, passed, within_number}
