@@ -71,39 +71,37 @@ module _ {F : Type 0} (entry_fault : ℕ → List (List ℕ) → Option F) where
       passing n (made x) (map made xs) (none n x (omega arith) (All-head Good x xs h))
       ∙ none_from made Good most none (n + 1) xs (omega arith) (All-tail Good x xs h)
 
+module _ {F : Type 0} (most : ℕ) (too_many : ℕ → F) (form_fault : ℕ → List (List ℕ) → Option F) where
   -- The reader has taken in these entries, so many, of all; the others are left, and those taken in have no fault.
   pub record HasTaken (entries taken : List (List (List ℕ))) (count : ℕ) (left : List (List (List ℕ))) : Type 0 where
     pub together : taken ++ left ≡ entries
     pub many : length taken ≡ count
-    pub faults : fault_from entry_fault 1 entries ≡ fault_from entry_fault (count + 1) left
+    pub few : count ≤ most
+    pub faults : fault_from (limited most too_many form_fault) 1 entries ≡ fault_from (limited most too_many form_fault) (count + 1) left
 
--- one more entry makes the count one more
-pub one_more : (taken : List (List (List ℕ))) (fields : List (List ℕ)) {taken2 : List (List (List ℕ))} {count count2 : ℕ}
-    → length taken ≡ count → taken2 ≡ taken ++ fields ∷ [] → length taken2 ≡ count2 → count2 ≡ count + 1
-one_more taken fields many more many2 =
-    sym many2 ∙ ap (λ (t : List (List (List ℕ))). length t) more ∙ length-append taken (fields ∷ []) ∙ omega (arith, many)
-
-module _ {F : Type 0} {entry_fault : ℕ → List (List ℕ) → Option F} {entries taken : List (List (List ℕ))} {count : ℕ} where
+module _ {F : Type 0} {most : ℕ} {too_many : ℕ → F} {form_fault : ℕ → List (List ℕ) → Option F} {entries taken : List (List (List ℕ))} {count : ℕ} where
   -- at the start the reader has taken in none
-  pub taken_none : taken ≡ [] → length taken ≡ count → HasTaken entry_fault entries taken count entries
+  pub taken_none : taken ≡ [] → length taken ≡ count → HasTaken most too_many form_fault entries taken count entries
   taken_none none many =
       let zero_long : count ≡ 0 = sym many ∙ ap (λ (t : List (List (List ℕ))). length t) none in
-      record { together = rw none refl; many = many; faults = rw zero_long refl }
+      record { together = rw none refl; many = many; few = omega arith; faults = rw zero_long refl }
 
   -- it takes in one more, which has no fault
   pub taken_more : {taken2 left rest : List (List (List ℕ))} {count2 : ℕ} {fields : List (List ℕ)}
-      → HasTaken entry_fault entries taken count left → left ≡ fields ∷ rest → taken2 ≡ taken ++ fields ∷ [] → length taken2 ≡ count2
-      → entry_fault (count + 1) fields ≡ None → HasTaken entry_fault entries taken2 count2 rest
+      → HasTaken most too_many form_fault entries taken count left → left ≡ fields ∷ rest → taken2 ≡ taken ++ fields ∷ [] → length taken2 ≡ count2
+      → limited most too_many form_fault (count + 1) fields ≡ None → HasTaken most too_many form_fault entries taken2 count2 rest
   taken_more {taken2} {left} {rest} {count2} {fields} h is more many pass =
-      let one : count2 ≡ count + 1 = one_more taken fields h.many more many in
+      let one : count2 ≡ count + 1 =
+      sym many ∙ ap (λ (t : List (List (List ℕ))). length t) more ∙ length-append taken (fields ∷ []) ∙ omega (arith, h.many) in
       record {
         together = rw more (append_assoc taken (fields ∷ []) rest ∙ rw (← is) h.together);
         many = many;
-        faults = h.faults ∙ rw is (passing entry_fault (count + 1) fields rest pass ∙ rw one refl);
+        few = omega (arith, one, (in_number most too_many form_fault (count + 1) fields pass).0);
+        faults = h.faults ∙ rw is (passing (limited most too_many form_fault) (count + 1) fields rest pass ∙ rw one refl);
       }
 
   -- where none is left, it has taken in all
-  pub taken_all : {left : List (List (List ℕ))} → HasTaken entry_fault entries taken count left → left ≡ [] → taken ≡ entries
+  pub taken_all : {left : List (List (List ℕ))} → HasTaken most too_many form_fault entries taken count left → left ≡ [] → taken ≡ entries
   taken_all {left} h none = sym (append-nil taken) ∙ rw (← none) h.together
 
 module _ {F : Type 0} (empty : F) (entry_fault : ℕ → List (List ℕ) → Option F) where
@@ -124,15 +122,6 @@ module _ {F : Type 0} (empty : F) (entry_fault : ℕ → List (List ℕ) → Opt
   not_empty [] e = cc e
   not_empty (fields ∷ rest) e = (omega arith, e)
 
-  -- a fault of the next entry is that of all
-  pub fault_of_next : {entries taken left rest : List (List (List ℕ))} {count : ℕ} {fields : List (List ℕ)} {fault : F}
-      → HasTaken entry_fault entries taken count left → left ≡ fields ∷ rest → entry_fault (count + 1) fields ≡ Some fault
-      → first_fault empty entry_fault entries ≡ Some fault
-  fault_of_next {entries} {taken} {left} {rest} {count} {fields} {fault} h is e =
-      let long : length entries ≡ length taken + length left = ap (λ (t : List (List (List ℕ))). length t) (sym h.together) ∙ length-append taken left in
-      let more : length left ≡ length rest + 1 = rw is (omega arith) in
-      some_entry entries (omega arith) ∙ h.faults ∙ rw is (failing entry_fault (count + 1) fields rest fault e)
-
   -- Entries without a fault: there is one, and all have what none has and what stays from one to the next.
   pub kept_to_last : (P : List (List (List ℕ)) → Type 0) → P []
       → ((done : List (List (List ℕ))) (fields : List (List ℕ)) → P done → entry_fault (length done + 1) fields ≡ None → P (done ++ fields ∷ []))
@@ -149,3 +138,15 @@ module _ {F : Type 0} (empty : F) (entry_fault : ℕ → List (List ℕ) → Opt
   none_faulty made Good most none entries xs rows some few h =
       let count : length entries ≡ length xs = ap (λ (t : List (List (List ℕ))). length t) (sym rows) ∙ length-map xs made in
       some_entry entries some ∙ rw (← rows) (none_from entry_fault made Good most none 1 xs (omega arith) h)
+
+-- a fault of the next entry is that of all
+pub fault_of_next : {F : Type 0} (empty : F) {most : ℕ} {too_many : ℕ → F} {form_fault : ℕ → List (List ℕ) → Option F}
+    {entries taken left rest : List (List (List ℕ))} {count : ℕ} {fields : List (List ℕ)} {fault : F}
+    → HasTaken most too_many form_fault entries taken count left → left ≡ fields ∷ rest
+    → limited most too_many form_fault (count + 1) fields ≡ Some fault
+    → first_fault empty (limited most too_many form_fault) entries ≡ Some fault
+fault_of_next empty {most} {too_many} {form_fault} {entries} {taken} {left} {rest} {count} {fields} {fault} h is e =
+    let long : length entries ≡ length taken + length left = ap (λ (t : List (List (List ℕ))). length t) (sym h.together) ∙ length-append taken left in
+    let more : length left ≡ length rest + 1 = rw is (omega arith) in
+    some_entry empty (limited most too_many form_fault) entries (omega arith) ∙ h.faults
+    ∙ rw is (failing (limited most too_many form_fault) (count + 1) fields rest fault e)

@@ -1,6 +1,6 @@
 -- What the reader of a table keeps from one entry to the next.
-use Rattle.std.proofs.Common.{◌≡◌, ◌≤◌, ◌+◌, ◌∷◌, ◌++◌, ◌∙◌, ℕ, List, [], length, None, ap, arith}
-use Rattle.bn_entries.proofs.FaultLemmas.{HasTaken, in_number, one_more, taken_more, taken_none}
+use Rattle.std.proofs.Common.{◌≡◌, ◌+◌, ◌∷◌, ◌++◌, ◌∙◌, ℕ, List, [], length, None}
+use Rattle.bn_entries.proofs.FaultLemmas.{HasTaken, taken_more, taken_none}
 use Rattle.bn_qtable.specs.Draft.{IsDraft, drafted, names_of}
 use Rattle.bn_qtable.specs.Faults.{entry_fault, form_fault}
 use Rattle.bn_qtable.specs.declared.draft.Draft.{Draft}
@@ -13,23 +13,14 @@ use Rattle.bn_qtable.proofs.Growing.{rows-count}
 -- The draft has the entries before those that are left, and none of them has a fault.
 pub record HasCome (entries : List (List (List ℕ))) (d : Draft) (left : List (List (List ℕ))) : Type 0 where
   pub draft : IsDraft d
-  pub taken : HasTaken entry_fault entries (drafted d) (length d.quads.items) left
-  pub few : length d.quads.items ≤ MOST_ENTRIES
+  pub taken : HasTaken MOST_ENTRIES refusal.TooMany form_fault entries (drafted d) (length d.quads.items) left
 
 count : (d : Draft) → length (drafted d) ≡ length d.quads.items
 count d = rows-count (names_of d) (rules_of d.quads.items) ∙ length-rules_of d.quads.items
 
 pub come-first : (entries : List (List (List ℕ))) (d : Draft) → IsDraft d → drafted d ≡ [] → HasCome entries d entries
-come-first entries d h none =
-    let short : length (drafted d) ≡ 0 = ap (λ (t : List (List (List ℕ))). length t) none in
-    record { draft = h; taken = taken_none none (count d); few = omega (arith, count d) }
+come-first entries d h none = record { draft = h; taken = taken_none none (count d) }
 
 pub come-further : (entries : List (List (List ℕ))) (d d2 : Draft) (left rest : List (List (List ℕ))) (fields : List (List ℕ)) → HasCome entries d left → left ≡ fields ∷ rest
     → IsDraft d2 → drafted d2 ≡ drafted d ++ fields ∷ [] → entry_fault (length d.quads.items + 1) fields ≡ None → HasCome entries d2 rest
-come-further entries d d2 left rest fields h is h2 more pass =
-    let one : length d2.quads.items ≡ length d.quads.items + 1 = one_more (drafted d) fields (count d) more (count d2) in
-    record {
-      draft = h2;
-      taken = taken_more h.taken is more (count d2) pass;
-      few = omega (arith, (in_number MOST_ENTRIES refusal.TooMany form_fault (length d.quads.items + 1) fields pass).0);
-    }
+come-further entries d d2 left rest fields h is h2 more pass = record { draft = h2; taken = taken_more h.taken is more (count d2) pass }

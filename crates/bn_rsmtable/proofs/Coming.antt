@@ -1,11 +1,11 @@
 -- What the reader of a table keeps from one entry to the next.
-use Rattle.std.proofs.Common.{◌≡◌, ◌≢◌, ◌<◌, ◌≤◌, ◌+◌, ◌∷◌, ◌++◌, ◌∙◌, ℕ, List, [], length, Some, None, refl, sym, ap, subst, arith, append_assoc, length-append, Result, Ok, Err}
+use Rattle.std.proofs.Common.{◌≡◌, ◌≢◌, ◌<◌, ◌+◌, ◌∷◌, ◌++◌, ◌∙◌, ℕ, List, [], length, None, refl, sym, ap, subst, arith, Result, Ok, Err}
 use Rattle.std.specs.Prelude.{IfOk, OnOk}
 use Rattle.bn_rsm.specs.Machines.{Machine}
 use Rattle.std.proofs.lemmas.List.{length-map}
 use Rattle.bn_rsmtable.specs.Draft.{IsDraft}
 use Rattle.bn_entries.specs.Entries.{entries_of}
-use Rattle.bn_entries.proofs.FaultLemmas.{HasTaken, in_number, no_entry, one_more, taken_all, taken_more, taken_none}
+use Rattle.bn_entries.proofs.FaultLemmas.{HasTaken, no_entry, taken_all, taken_more, taken_none}
 use Rattle.bn_rsmtable.specs.declared.entry.TheConstants.{MOST_ENTRIES}
 use Rattle.bn_rsm.specs.Faults as moves
 use Rattle.bn_rsm.specs.declared.rsm_move.RsmMove.{RsmMove}
@@ -21,26 +21,17 @@ use Rattle.bn_rsmtable.specs.declared.refusal.RsmTableRefusal.TheVariants as ref
 -- The draft has the entries before those that are left, and none of them has a fault.
 pub record HasCome (entries : List (List (List ℕ))) (d : Draft) (left : List (List (List ℕ))) : Type 0 where
   pub draft : IsDraft d
-  pub taken : HasTaken entry_fault entries (drafted d) (length d.moves.items) left
-  pub few : length d.moves.items ≤ MOST_ENTRIES
+  pub taken : HasTaken MOST_ENTRIES refusal.TooMany form_fault entries (drafted d) (length d.moves.items) left
 
 count : (d : Draft) → length (drafted d) ≡ length d.moves.items
 count d = length-map d.moves.items entry_of
 
 pub come-first : (entries : List (List (List ℕ))) (d : Draft) → IsDraft d → drafted d ≡ [] → HasCome entries d entries
-come-first entries d h none =
-    let short : length (drafted d) ≡ 0 = ap (λ (t : List (List (List ℕ))). length t) none in
-    record { draft = h; taken = taken_none none (count d); few = omega (arith, count d) }
+come-first entries d h none = record { draft = h; taken = taken_none none (count d) }
 
 pub come-further : (entries : List (List (List ℕ))) (d d2 : Draft) (left rest : List (List (List ℕ))) (fields : List (List ℕ)) → HasCome entries d left → left ≡ fields ∷ rest
     → IsDraft d2 → drafted d2 ≡ drafted d ++ fields ∷ [] → entry_fault (length d.moves.items + 1) fields ≡ None → HasCome entries d2 rest
-come-further entries d d2 left rest fields h is h2 more pass =
-    let one : length d2.moves.items ≡ length d.moves.items + 1 = one_more (drafted d) fields (count d) more (count d2) in
-    record {
-      draft = h2;
-      taken = taken_more h.taken is more (count d2) pass;
-      few = omega (arith, (in_number MOST_ENTRIES refusal.TooMany form_fault (length d.moves.items + 1) fields pass).0);
-    }
+come-further entries d d2 left rest fields h is h2 more pass = record { draft = h2; taken = taken_more h.taken is more (count d2) pass }
 
 -- all entries are read as the draft's moves
 pub come-reads : (entries : List (List (List ℕ))) (d : Draft) (left : List (List (List ℕ))) → HasCome entries d left → left ≡ [] → d.moves.items ≢ [] → AreReadAs entries d.moves.items
@@ -48,7 +39,7 @@ come-reads entries d left h none some =
     let all = taken_all h.taken none in
     let long : length entries ≡ length d.moves.items = ap (λ (t : List (List (List ℕ))). length t) (sym all) ∙ count d in
     let has : 0 < length d.moves.items = not-none d.moves.items some in
-    record { rows = all; within = h.draft.within; some = omega arith; few = omega (arith, h.few) }
+    record { rows = all; within = h.draft.within; some = omega arith; few = omega (arith, h.taken.few) }
   where
     not-none : (ms : List RsmMove) → ms ≢ [] → 0 < length ms
     not-none [] some = absurd (some refl)

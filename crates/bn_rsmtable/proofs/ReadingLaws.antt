@@ -1,5 +1,5 @@
 -- What bytes are read as: one list of moves, one machine, or one refusal.
-use Rattle.std.specs.Prelude.{◌≡◌, ◌≢◌, ℕ, ◌+◌, ◌<◌, ◌≤◌, nat_lt, not, if◌then◌else◌, Bool, true, false, List, [], ◌∷◌, length, Option, Some, None, All, ◌⊎◌, refl}
+use Rattle.std.specs.Prelude.{◌≡◌, ◌≢◌, ℕ, ◌+◌, ◌≤◌, nat_lt, not, if◌then◌else◌, Bool, true, false, List, [], ◌∷◌, length, Option, Some, None, All, ◌⊎◌, refl}
 use Rattle.std.proofs.Common.{◌++◌, length-append, sym, ap, subst, ◌∙◌, arith, inl, inr}
 use Rattle.std.proofs.lemmas.List.{length-map, map-append}
 use Rattle.std.proofs.lemmas.List.Elements.{All-head, All-nil, All-push, All-tail}

@@ -22,7 +22,7 @@ pub returns-in_err-add_entry-clause-refused : goal.returns-in_err-add_entry-clau
 returns-in_err-add_entry-clause-refused c =
     let next = rw c.if-branch.true at c.in_ok-read_entry.ensures.ok in
     let p = err_from_is_err_and c.from_residual-in_err-add_entry.result c.from_residual-in_err-add_entry.ensures.1 in
-    rw (p.1, p.2) (λ n. fault_of_next refusal.Empty entry_fault c.entries.invariant.taken next (c.in_err-add_entry.ensures.fault n))
+    rw (p.1, p.2) (λ n. fault_of_next refusal.Empty c.entries.invariant.taken next (c.in_err-add_entry.ensures.fault n))
 
 pub returns-clause-refused : goal.returns-clause-refused
 returns-clause-refused c =
