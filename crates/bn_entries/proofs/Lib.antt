@@ -1,3 +1,5 @@
+pub mod AddedLemmas
+pub mod FaultLemmas
 pub mod FormsLemmas
 pub mod LinesLemmas
 pub mod NumberingLemmas

@@ -237,13 +237,6 @@ module _ {X : Type 0} (same : X → X → Bool) (decides : (a b : X) → Decides
       let apart = apart-firsts same decides xs in
       in_order [] (firsts_by same xs) apart (firsts_by nat_eq ns) (firsts_numbers (firsts_by same xs) apart ns xs h)
 
--- with one more name, the names stay at the front
-pub with_name-grows : (names : List (List ℕ)) (name : List ℕ) → (more : List (List ℕ)) × (with_name names name ≡ names ++ more)
-with_name-grows names name = elim (cases_Bool (list_any (bytes_eq name) names)) [
-  | inl hit ↦ ([], rw (hit, append-nil names) refl)
-  | inr miss ↦ (name ∷ [], rw miss refl)
-]
-
 filter-shorter : {X : Type 0} (test : X → Bool) (zs : List X) → length (filter test zs) ≤ length zs
 filter-shorter test [] = omega arith
 filter-shorter test (z ∷ zs) = elim (cases_Bool (test z)) [

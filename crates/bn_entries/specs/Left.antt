@@ -1,7 +1,9 @@
 -- What a csv reader over a slice has left, and what it keeps between two records.
-use Rattle.std.specs.Prelude.{◌≡◌, ◌+◌, ◌||◌, ◌&&◌, not, ℕ, true, List, [], length, Option, Some, None, is_some, is_none}
+use Rattle.std.specs.Prelude.{◌≡◌, ◌+◌, ◌||◌, ◌&&◌, not, ℕ, true, List, [], length}
+use Rattle.std.specs.Prelude.{Option, Some, None, is_some, is_none}
 use Rattle.std.proofs.Common.{Bor}
-use Rattle.csv.specs.Reading.{default_config, is_flexible, names_headers, reader_config, reader_headers, reader_state, reader_trim, records_from, source_of, took_first}
+use Rattle.csv.specs.Reading.{default_config, is_flexible, names_headers, records_from, source_of, took_first}
+use Rattle.csv.specs.Reading.{reader_config, reader_headers, reader_state, reader_trim}
 use Rattle.csv.specs.declared.parser.State.{State}
 use Rattle.csv.specs.declared.reader.Reader.{Reader}
 use Rattle.csv.specs.declared.reader.Trim.TheVariants as trim

@@ -1,4 +1,5 @@
 pub mod Entries
+pub mod Faults
 pub mod Forms
 pub mod Left
 pub mod Lines

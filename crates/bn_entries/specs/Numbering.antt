@@ -1,6 +1,7 @@
 -- Numbering by first appearance: a name's number, counted from 0, is its place among the distinct names in the
 -- order in which they first appear.
-use Rattle.std.specs.Prelude.{◌≡◌, ℕ, zero, suc, ◌∷◌, ◌++◌, [], List, Bool, not, if◌then◌else◌, nat_eq, filter, bytes_eq, slice_get, Some, Contains}
+use Rattle.std.specs.Prelude.{◌≡◌, ℕ, zero, suc, ◌∷◌, ◌++◌, [], List, Bool, not, if◌then◌else◌}
+use Rattle.std.specs.Prelude.{nat_eq, filter, bytes_eq, slice_get, Some, Contains}
 use Rattle.std.specs.List.{list_any}
 
 -- the distinct elements of a list, in the order of their first appearance; the test says which are the same

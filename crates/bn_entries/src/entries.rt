@@ -65,7 +65,8 @@ impl Entry {
 // error that its contract leaves open is answered as want of memory.
 fn take_record(reader: &mut Reader<&[u8]>, row: &mut ByteRecord) -> Result<bool, NoMemory>
     requires { IsReading reader.old }
-    ensures more { IfOk result (λ found. MatchBool found (left_of reader.old ≡ fields_of row.new ∷ left_of reader.new) (left_of reader.old ≡ [])) }
+    ensures more { IfOk result (λ found.
+        MatchBool found (left_of reader.old ≡ fields_of row.new ∷ left_of reader.new) (left_of reader.old ≡ [])) }
     ensures goes_on { IfOk result (λ found. MatchBool found (IsReading reader.new) ⊤) }
 {
     match reader.read_byte_record(row) {
@@ -113,7 +114,8 @@ impl<'a> Entries<'a> {
 
     /// Reads the next entry into `entry`, and answers whether there was one. After `NoMemory` there is none left.
     pub fn read_entry(&mut self, entry: &mut Entry) -> Result<bool, NoMemory>
-        ensures ok { IfOk result (λ found. MatchBool found (self.old ≡ entry.new ∷ self.new) ((self.old ≡ []) × (self.new ≡ []))) }
+        ensures ok { IfOk result (λ found.
+            MatchBool found (self.old ≡ entry.new ∷ self.new) ((self.old ≡ []) × (self.new ≡ []))) }
         ensures err { OnErr result (self.new ≡ []) }
     {
         if self.ended {

@@ -8,7 +8,8 @@ ghost use Rattle.bn_entries.specs.Numbering.{AreNumbered, firsts};
 
 /// The lines of entries that need no quotes are read as these entries again.
 pub fn written_entries_are_read_back()
-    ensures { (entries : List (List (List ℕ))) → list_all is_plain_entry entries ≡ true → entries_of (lines_of entries) ≡ entries }
+    ensures { (entries : List (List (List ℕ))) → list_all is_plain_entry entries ≡ true
+        → entries_of (lines_of entries) ≡ entries }
 {}
 
 /// The first appearances of a list of names are a numbering: each name has one number, which later names leave as

@@ -13,6 +13,7 @@ use Rattle.bn_quad.specs.declared.quad.Act.{Act}
 use Rattle.bn_quad.specs.declared.quad.Act.TheVariants.{Write, Shift}
 use Rattle.bn_qtable.specs.Draft.{Adds, IsDraft, blanks_alone, drafted, names_of}
 use Rattle.bn_qtable.specs.Entry.{Said, entry_of}
+use Rattle.bn_qtable.specs.declared.entry.TheConstants.{MOST_ENTRIES}
 use Rattle.bn_qtable.specs.Rows.{IsTableOf, Spells, counts_of, rows_by, table_of}
 use Rattle.bn_qtable.specs.Named.{RuleIsNamed}
 use Rattle.bn_qtable.specs.declared.draft.Draft.{Draft}
@@ -132,7 +133,7 @@ no-first-fault d states symbols i q h e f fault =
     let R : Quad → Type 0 = IsSound states symbols in
     fault.faulty (subst R is (subst Q (sym f) (subst P (sym e) sound)))
 
-pub table-of-draft : (d : Draft) (p : Quadruples) (n : Naming) → IsDraft d → length d.quads.items ≤ 20000 → map quad_of p.rules ≡ d.quads.items → p.states ≡ length (names_of d).states → p.symbols ≡ counts_of (names_of d)
+pub table-of-draft : (d : Draft) (p : Quadruples) (n : Naming) → IsDraft d → length d.quads.items ≤ MOST_ENTRIES → map quad_of p.rules ≡ d.quads.items → p.states ≡ length (names_of d).states → p.symbols ≡ counts_of (names_of d)
     → 0 < length p.rules → n ≡ names_of d → IsTableOf (drafted d) (table_of p n)
 table-of-draft d p n h few listed states symbols some names =
     let rules : p.rules ≡ rules_of d.quads.items = sym (rules_of-quads p.rules) ∙ ap rules_of listed in

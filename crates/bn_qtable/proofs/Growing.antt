@@ -1,17 +1,17 @@
 -- One more entry of a table.
-use Rattle.std.proofs.Common.{◌≡◌, ◌<◌, ◌≤◌, ◌+◌, ◌*◌, ◌∷◌, ◌++◌, ◌∙◌, ℕ, Bool, suc, zero, true, List, [], length, Some, refl, sym, ap, subst, inl, inr, arith, slice_get, append_assoc, length-append, All}
+use Rattle.std.proofs.Common.{◌≡◌, ◌<◌, ◌≤◌, ◌+◌, ◌*◌, ◌∷◌, ◌++◌, ◌∙◌, ℕ, true, List, [], length, refl, sym, ap, subst, inl, inr, arith, append_assoc, length-append, All}
 use Rattle.std.specs.Prelude.{bytes_eq, slice_index_or, if◌then◌else◌}
-use Rattle.std.specs.List.{list_all, list_any}
+use Rattle.std.specs.List.{list_all}
 use Rattle.std.proofs.lemmas.Bool.{cases_Bool}
 use Rattle.std.proofs.lemmas.List.{append-nil, map-append, length-map}
 use Rattle.std.proofs.lemmas.List.Concat.{flat_map-append}
 use Rattle.std.proofs.lemmas.List.Elements.{All-nil, All-push, All-head, All-tail, All-weaker}
-use Rattle.std.proofs.lemmas.List.Folds.{list_all-append}
 use Rattle.std.proofs.lemmas.Option.{slice_get_within, get_or_from_slice_get}
 use Rattle.std.proofs.lemmas.Slice.Eq.{bytes_eq-Decides}
 use Rattle.bn_entries.specs.Forms.{is_state_name, is_symbol}
 use Rattle.bn_entries.specs.Numbering.{firsts, firsts_by, with_name}
-use Rattle.bn_entries.proofs.NumberingLemmas.{firsts_push, length-firsts, number_stays, with_name-grows}
+use Rattle.bn_entries.proofs.NumberingLemmas.{firsts_push, length-firsts}
+use Rattle.bn_entries.proofs.AddedLemmas.{front, new_all, new_grows}
 use Rattle.bn_quad.specs.Names.{Naming, naming_of}
 use Rattle.bn_quad.specs.Quadruples.{Deed, Rewrite, Move, Rule, IsDeedInRange, IsRuleInRange}
 use Rattle.bn_qtable.specs.Entry.{Said, Says, Rewrites, Moves, SaysHasForms, entry_of, read_field, act_field, slash}
@@ -27,20 +27,14 @@ grown-twice : (a b c : List (List ℕ)) → Grown a b → Grown b c → Grown a 
 grown-twice a b c (m, e) (k, f) = (m ++ k, f ∙ ap (λ t. t ++ k) e ∙ append_assoc a m k)
 
 pub grown-says : (names : List (List ℕ)) (t : Says) → Grown names (with_says names t)
-grown-says names (Rewrites r w) = grown-twice names (with_name names r) (with_name (with_name names r) w) (with_name-grows names r) (with_name-grows (with_name names r) w)
+grown-says names (Rewrites r w) = grown-twice names (with_name names r) (with_name (with_name names r) w) (new_grows bytes_eq names r) (new_grows bytes_eq (with_name names r) w)
 grown-says names (Moves s) = ([], sym (append-nil names))
 
 longer : (a b : List (List ℕ)) → Grown a b → length a ≤ length b
 longer a b (m, e) = let long : length b ≡ length a + length m = ap (λ (t : List (List ℕ)). length t) e ∙ length-append a m in omega arith
 
--- a look-up in front of what was added
-front : (names more : List (List ℕ)) (n : ℕ) → n < length names → slice_index_or (names ++ more) n [] ≡ slice_index_or names n []
-front [] more n h = absurd (omega arith)
-front (x ∷ xs) more zero h = refl
-front (x ∷ xs) more (suc n) h = front xs more n (omega arith)
-
 front-grown : (a b : List (List ℕ)) (n : ℕ) → Grown a b → n < length a → slice_index_or b n [] ≡ slice_index_or a n []
-front-grown a b n (m, e) h = ap (λ (t : List (List ℕ)). slice_index_or t n []) e ∙ front a m n h
+front-grown a b n (m, e) h = ap (λ (t : List (List ℕ)). slice_index_or t n []) e ∙ front a m [] n h
 
 deed-stays : (a b : List (List ℕ)) (d : Deed) → Grown a b → IsDeedInRange (length a) d → said_deed b d ≡ said_deed a d
 deed-stays a b (Rewrite r w) g h = λ i. Rewrites (front-grown a b r g h.0 i) (front-grown a b w g h.1 i)
@@ -96,7 +90,7 @@ grown-all n s r n2 a =
     let B : List (List ℕ) → Type 0 = Grown n.two in
     let C : List (List ℕ) → Type 0 = Grown n.three in
     record {
-      states = subst S (sym a.states_after) (grown-twice n.states (with_name n.states s.state) (with_name (with_name n.states s.state) s.next) (with_name-grows n.states s.state) (with_name-grows (with_name n.states s.state) s.next));
+      states = subst S (sym a.states_after) (grown-twice n.states (with_name n.states s.state) (with_name (with_name n.states s.state) s.next) (new_grows bytes_eq n.states s.state) (new_grows bytes_eq (with_name n.states s.state) s.next));
       one = subst A (sym a.one_after) (grown-says n.one s.one);
       two = subst B (sym a.two_after) (grown-says n.two s.two);
       three = subst C (sym a.three_after) (grown-says n.three s.three);
@@ -151,14 +145,8 @@ symbols-after tape entries fields (Rewrites r w) e =
 symbols-after tape entries fields (Moves s) e =
     ap (λ (t : List (List ℕ)). firsts (blank ∷ t)) (symbols-push tape entries fields ∙ ap (λ (u : List (List ℕ)). symbols_in tape entries ++ u) e ∙ append-nil (symbols_in tape entries))
 
-form-more : (form : List ℕ → Bool) (names : List (List ℕ)) (name : List ℕ) → list_all form names ≡ true → form name ≡ true → list_all form (with_name names name) ≡ true
-form-more form names name all here = elim (cases_Bool (list_any (bytes_eq name) names)) [
-  | inl hit ↦ rw hit all
-  | inr miss ↦ rw (miss, list_all-append form names (name ∷ []), all, here) refl
-]
-
 form-says : (names : List (List ℕ)) (t : Says) → list_all is_symbol names ≡ true → SaysHasForms t → list_all is_symbol (with_says names t) ≡ true
-form-says names (Rewrites r w) all h = form-more is_symbol (with_name names r) w (form-more is_symbol names r all h.0) h.1
+form-says names (Rewrites r w) all h = new_all bytes_eq is_symbol (with_name names r) w (new_all bytes_eq is_symbol names r all h.0) h.1
 form-says names (Moves s) all h = all
 
 -- one more entry, and its quadruple
@@ -183,7 +171,7 @@ spells-more n rules entries s r n2 h a =
       one_by_first = a.one_after ∙ ap (λ (t : List (List ℕ)). with_says t s.one) h.one_by_first ∙ sym (symbols-after 1 entries (entry_of s) s.one (symbols-said s.one f.one));
       two_by_first = a.two_after ∙ ap (λ (t : List (List ℕ)). with_says t s.two) h.two_by_first ∙ sym (symbols-after 2 entries (entry_of s) s.two (symbols-said s.two f.two));
       three_by_first = a.three_after ∙ ap (λ (t : List (List ℕ)). with_says t s.three) h.three_by_first ∙ sym (symbols-after 3 entries (entry_of s) s.three (symbols-said s.three f.three));
-      states_form = rw a.states_after (form-more is_state_name (with_name n.states s.state) s.next (form-more is_state_name n.states s.state h.states_form f.state) f.next);
+      states_form = rw a.states_after (new_all bytes_eq is_state_name (with_name n.states s.state) s.next (new_all bytes_eq is_state_name n.states s.state h.states_form f.state) f.next);
       one_form = rw a.one_after (form-says n.one s.one h.one_form f.one);
       two_form = rw a.two_after (form-says n.two s.two h.two_form f.two);
       three_form = rw a.three_after (form-says n.three s.three h.three_form f.three);
@@ -212,10 +200,6 @@ spells-none = record {
 pub spells-own : (n : Naming) (rules : List (Rule ℕ)) (entries : List (List (List ℕ))) → Spells n rules entries → Spells n rules (rows_by n rules)
 spells-own n rules entries h =
     let P : List (List (List ℕ)) → Type 0 = Spells n rules in subst P (sym h.rows) h
-
--- a number stays when names are added
-pub name-stays : (names : List (List ℕ)) (later name : List ℕ) (n : ℕ) → slice_get names n ≡ Some name → slice_get (with_name names later) n ≡ Some name
-name-stays names later name n at = let (more, grown) = with_name-grows names later in rw grown (number_stays names more n name at)
 
 -- ---- how many names there are
 
@@ -270,9 +254,3 @@ few-names n rules entries h =
     let count : length entries ≡ length rules = ap (λ (t : List (List (List ℕ))). length t) (sym h.rows) ∙ rows-count n rules in
     let P : ℕ → Type 0 = Few n in
     subst P count (few-of n rules entries h)
-
-pub length-with_name : (names : List (List ℕ)) (name : List ℕ) → length (with_name names name) ≤ length names + 1
-length-with_name names name = elim (cases_Bool (list_any (bytes_eq name) names)) [
-  | inl hit ↦ rw hit (omega arith)
-  | inr miss ↦ rw (miss, length-append names (name ∷ [])) (omega arith)
-]

@@ -1,13 +1,15 @@
 -- Entries without a fault, and what they say.
-use Rattle.std.proofs.Common.{◌≡◌, ◌≤◌, ◌∷◌, ◌∙◌, ℕ, Bool, true, false, not, List, [], length, Option, Some, None, refl, sym, ap, inl, inr, arith, slice_get, nat_lt, if◌then◌else◌}
+use Rattle.std.proofs.Common.{◌≡◌, ◌≤◌, ◌∷◌, ◌∙◌, ℕ, true, false, List, [], length, Some, None, refl, sym, ap, inl, inr, arith, slice_get}
 use Rattle.std.specs.Prelude.{bytes_eq}
-use Rattle.std.proofs.lemmas.Bool.{cases_Bool, false≢true, ltb-false, le-ltb}
+use Rattle.std.proofs.lemmas.Bool.{cases_Bool, false≢true}
 use Rattle.std.proofs.lemmas.Slice.Eq.{bytes_eq-Decides}
 use Rattle.bn_entries.specs.Forms.{is_state_name, is_symbol}
+use Rattle.bn_entries.proofs.FaultLemmas.{in_number, passed, within_number}
 use Rattle.bn_machine.specs.declared.quint.Shift.{Shift}
 use Rattle.bn_machine.specs.declared.quint.Shift.TheVariants.{Left, Stay, Right}
 use Rattle.bn_qtable.specs.Entry.{Said, Says, Rewrites, Moves, HasForms, SaysHasForms, entry_of, read_field, act_field, is_shift, shift_text, slash}
 use Rattle.bn_qtable.specs.Faults.{entry_fault, field_fault, form_fault, is_read, is_act}
+use Rattle.bn_qtable.specs.declared.entry.TheConstants.{MOST_ENTRIES}
 use Rattle.bn_qtable.specs.declared.refusal.QuadTableRefusal.TheVariants as refusal
 
 -- eight fields
@@ -37,10 +39,6 @@ not_eight entry (a ∷ b ∷ c ∷ d ∷ e ∷ f ∷ []) h = refl
 not_eight entry (a ∷ b ∷ c ∷ d ∷ e ∷ f ∷ g ∷ []) h = refl
 not_eight entry (a ∷ b ∷ c ∷ d ∷ e ∷ f ∷ g ∷ x ∷ []) h = absurd (h refl)
 not_eight entry (a ∷ b ∷ c ∷ d ∷ e ∷ f ∷ g ∷ x ∷ y ∷ ys) h = refl
-
-passed : {X : Type 0} (b : Bool) (x : X) (rest : Option X) → (if not b then Some x else rest) ≡ None → (b ≡ true) × (rest ≡ None)
-passed true x rest e = (refl, e)
-passed false x rest e = cc e
 
 shift_is : (field : List ℕ) → is_shift field ≡ true → (s : Shift) × (field ≡ shift_text s)
 shift_is field e = elim (cases_Bool (bytes_eq field (shift_text Left))) [
@@ -152,12 +150,6 @@ eight-or-fault n (a ∷ b ∷ c ∷ d ∷ e ∷ f ∷ []) p = cc p
 eight-or-fault n (a ∷ b ∷ c ∷ d ∷ e ∷ f ∷ g ∷ []) p = cc p
 eight-or-fault n (a ∷ b ∷ c ∷ d ∷ e ∷ f ∷ g ∷ x ∷ y ∷ ys) p = cc p
 
-pub in-number : (n : ℕ) (fields : List (List ℕ)) → entry_fault n fields ≡ None → (n ≤ 20000) × (form_fault n fields ≡ None)
-in-number n fields h = elim (cases_Bool (nat_lt 20000 n)) [
-  | inl past ↦ let none : Some (refusal.TooMany n) ≡ None = rw past at h in cc
-  | inr within ↦ (ltb-false 20000 n within, rw within at h)
-]
-
 eight-said : (a b c d e f g h b2 c2 d2 e2 f2 g2 : List ℕ) → b ≡ b2 → c ≡ c2 → d ≡ d2 → e ≡ e2 → f ≡ f2 → g ≡ g2
     → a ∷ b ∷ c ∷ d ∷ e ∷ f ∷ g ∷ h ∷ [] ≡ a ∷ b2 ∷ c2 ∷ d2 ∷ e2 ∷ f2 ∷ g2 ∷ h ∷ []
 eight-said a b c d e f g h b2 c2 d2 e2 f2 g2 p1 p2 p3 p4 p5 p6 = λ i. a ∷ p1 i ∷ p2 i ∷ p3 i ∷ p4 i ∷ p5 i ∷ p6 i ∷ h ∷ []
@@ -170,7 +162,7 @@ pub record SaysSo (fields : List (List ℕ)) : Type 0 where
 
 pub says-so : (n : ℕ) (fields : List (List ℕ)) → entry_fault n fields ≡ None → SaysSo fields
 says-so n fields none =
-    let x = eight-or-fault n fields (in-number n fields none).1 in
+    let x = eight-or-fault n fields (in_number MOST_ENTRIES refusal.TooMany form_fault n fields none).1 in
     let p = x.pass in
     let one = tell x.b x.e p.read1 p.act1 in
     let two = tell x.c x.f p.read2 p.act2 in
@@ -181,6 +173,6 @@ says-so n fields none =
       forms = record { state = p.state; one = one.forms; two = two.forms; three = three.forms; next = p.next };
     }
 
--- the first 20,000 entries in the right forms have no fault
-pub no_fault : (n : ℕ) (s : Said) → n ≤ 20000 → HasForms s → entry_fault n (entry_of s) ≡ None
-no_fault n s few h = rw (le-ltb 20000 n few) (fields-back n s h)
+-- as many entries in the right forms as a table may have have no fault
+pub no_fault : (n : ℕ) (s : Said) → n ≤ MOST_ENTRIES → HasForms s → entry_fault n (entry_of s) ≡ None
+no_fault n s few h = within_number MOST_ENTRIES refusal.TooMany form_fault n (entry_of s) few ∙ fields-back n s h

@@ -1,29 +1,29 @@
 -- Bytes have one reading, and have one exactly where their entries have no fault.
-use Rattle.std.proofs.Common.{◌≡◌, ◌<◌, ◌≤◌, ◌+◌, ◌∷◌, ◌++◌, ◌∙◌, ℕ, true, List, [], length, Option, Some, None, refl, sym, ap, inl, inr, arith, slice_get, append_assoc, length-append, All, subst}
+use Rattle.std.proofs.Common.{◌≡◌, ◌≤◌, ◌+◌, ◌∷◌, ◌++◌, ◌∙◌, ℕ, true, List, [], length, None, refl, sym, ap, arith, length-append, All, subst}
 use Rattle.std.specs.Prelude.{bytes_eq, slice_index_or}
-use Rattle.std.specs.List.{list_all, list_any}
-use Rattle.std.proofs.lemmas.Bool.{cases_Bool}
-use Rattle.std.proofs.lemmas.List.{append-nil, length-map}
+use Rattle.std.specs.List.{list_all}
 use Rattle.std.proofs.lemmas.List.Elements.{All-head, All-tail}
-use Rattle.std.proofs.lemmas.List.Folds.{list_any-append}
 use Rattle.std.proofs.lemmas.Option.{slice_get-get_or}
 use Rattle.std.proofs.lemmas.Slice.Eq.{bytes_eq-Decides}
 use Rattle.bn_entries.specs.Forms.{is_state_name, is_symbol}
 use Rattle.bn_entries.proofs.FormsLemmas.{all-at}
 use Rattle.bn_entries.specs.Numbering.{with_name}
 use Rattle.bn_entries.specs.NumberingLaws.{AreApart}
-use Rattle.bn_entries.proofs.NumberingLemmas.{apart-firsts, one_number, some_number}
+use Rattle.bn_entries.proofs.AddedLemmas.{first_number, last_number, same_at}
+use Rattle.bn_entries.proofs.FaultLemmas.{in_number, kept_to_last, none_faulty}
+use Rattle.bn_entries.proofs.NumberingLemmas.{apart-firsts}
 use Rattle.bn_machine.specs.declared.quint.Shift.{Shift}
 use Rattle.bn_machine.specs.declared.quint.Shift.TheVariants.{Left, Stay, Right}
 use Rattle.bn_quad.specs.Names.{Naming, naming_of}
 use Rattle.bn_quad.specs.Quadruples.{Deed, Rewrite, Move, Rule, IsDeedInRange, IsRuleInRange, quadruples_of}
 use Rattle.bn_qtable.specs.Entry.{Said, Says, Rewrites, Moves, HasForms, SaysHasForms, entry_of, read_field, act_field, shift_text}
 use Rattle.bn_qtable.specs.Draft.{Adds, Stands, with_says}
-use Rattle.bn_qtable.specs.Faults.{else_fault, entry_fault, fault_from, fault_of}
+use Rattle.bn_qtable.specs.Faults.{entry_fault, fault_of, form_fault}
 use Rattle.bn_qtable.specs.Rows.{IsTableOf, QuadTable, Spells, blank, counts_of, rows_by, said_deed, said_of, states_in, symbols_in, table_of}
-use Rattle.bn_qtable.specs.declared.refusal.QuadTableRefusal.{QuadTableRefusal}
-use Rattle.bn_qtable.proofs.Growing.{name-stays, spells-more, spells-none}
-use Rattle.bn_qtable.proofs.Passing.{in-number, no_fault, says-so, slash-is-none}
+use Rattle.bn_qtable.specs.declared.entry.TheConstants.{MOST_ENTRIES}
+use Rattle.bn_qtable.specs.declared.refusal.QuadTableRefusal.TheVariants as refusal
+use Rattle.bn_qtable.proofs.Growing.{spells-more, spells-none}
+use Rattle.bn_qtable.proofs.Passing.{no_fault, says-so, slash-is-none}
 
 -- ---- one reading
 
@@ -41,12 +41,6 @@ one_shift Right Right e = refl
 abbrev pub Apart : List (List ℕ) → Type 0
 Apart names = AreApart bytes_eq bytes_eq-Decides names
 
-same-name : (names : List (List ℕ)) (m n : ℕ) → Apart names → m < length names → n < length names
-    → slice_index_or names m [] ≡ slice_index_or names n [] → m ≡ n
-same-name names m n apart a b e =
-    one_number bytes_eq bytes_eq-Decides names m n (slice_index_or names n []) apart
-    (slice_get-get_or names m [] a ∙ ap (λ (t : List ℕ). Some t) e) (slice_get-get_or names n [] b)
-
 -- fields say one thing of a tape
 one_says : (t u : Says) → SaysHasForms t → SaysHasForms u → read_field t ≡ read_field u → act_field t ≡ act_field u → t ≡ u
 one_says (Rewrites a b) (Rewrites c d) h k e f = λ i. Rewrites (e i) (f i)
@@ -59,8 +53,8 @@ same-deed : (names : List (List ℕ)) (d e : Deed) → Apart names → IsDeedInR
 same-deed names (Rewrite a b) (Rewrite c d) apart h k e =
     let left : slice_index_or names a [] ≡ slice_index_or names c [] = cc in
     let right : slice_index_or names b [] ≡ slice_index_or names d [] = cc in
-    let one : a ≡ c = same-name names a c apart h.0 k.0 left in
-    let two : b ≡ d = same-name names b d apart h.1 k.1 right in
+    let one : a ≡ c = same_at bytes_eq bytes_eq-Decides names [] a c apart h.0 k.0 left in
+    let two : b ≡ d = same_at bytes_eq bytes_eq-Decides names [] b d apart h.1 k.1 right in
     λ i. Rewrite (one i) (two i)
 same-deed names (Rewrite a b) (Move t) apart h k e = cc e
 same-deed names (Move s) (Rewrite c d) apart h k e = cc e
@@ -130,11 +124,11 @@ same-rule : (n : Naming) (q r : Rule ℕ) → Good n → IsRuleInRange (length n
     → entry_of (said_of n q) ≡ entry_of (said_of n r) → q ≡ r
 same-rule n q r g h k e =
     let same = same-said (said_of n q) (said_of n r) (row-forms n q g h) (row-forms n r g k) e in
-    let a = same-name n.states q.from r.from g.states h.from k.from same.state in
+    let a = same_at bytes_eq bytes_eq-Decides n.states [] q.from r.from g.states h.from k.from same.state in
     let b = same-deed n.one q.one r.one g.one h.deeds.0 k.deeds.0 same.one in
     let c = same-deed n.two q.two r.two g.two h.deeds.1.0 k.deeds.1.0 same.two in
     let d = same-deed n.three q.three r.three g.three h.deeds.1.1.0 k.deeds.1.1.0 same.three in
-    let f = same-name n.states q.to r.to g.states h.to k.to same.next in
+    let f = same_at bytes_eq bytes_eq-Decides n.states [] q.to r.to g.states h.to k.to same.next in
     λ i. record { from = a i; one = b i; two = c i; three = d i; to = f i }
 
 same-rows : (n : Naming) → Good n → (qs rs : List (Rule ℕ)) → All (IsRuleInRange (length n.states) (counts_of n)) qs → All (IsRuleInRange (length n.states) (counts_of n)) rs
@@ -170,33 +164,10 @@ one_reading entries t u h k =
 
 -- ---- a reading or a fault
 
-neither : (a b : Option QuadTableRefusal) → else_fault a b ≡ None → (a ≡ None) × (b ≡ None)
-neither None b e = (refl, e)
-neither (Some x) b e = cc e
-
-faultless : (n : ℕ) (fields : List (List ℕ)) (rest : List (List (List ℕ))) → fault_from n (fields ∷ rest) ≡ None → (entry_fault n fields ≡ None) × (fault_from (n + 1) rest ≡ None)
-unfolding fault_from
-faultless n fields rest e = neither (entry_fault n fields) (fault_from (n + 1) rest) e
-
-in-with_name : (names : List (List ℕ)) (name : List ℕ) → list_any (bytes_eq name) (with_name names name) ≡ true
-in-with_name names name = elim (cases_Bool (list_any (bytes_eq name) names)) [
-  | inl hit ↦ rw (hit, hit) refl
-  | inr miss ↦ rw (miss, list_any-append (bytes_eq name) names (name ∷ []), miss, (bytes_eq-Decides name name).1 refl) refl
-]
-
--- the name added last has a number, and so has the one added before it
-last-number : (names : List (List ℕ)) (name : List ℕ) → (n : ℕ) × (slice_get (with_name names name) n ≡ Some name)
-last-number names name = some_number bytes_eq bytes_eq-Decides name (with_name names name) (in-with_name names name)
-
-first-number : (names : List (List ℕ)) (name later : List ℕ) → (n : ℕ) × (slice_get (with_name (with_name names name) later) n ≡ Some name)
-first-number names name later =
-    let (n, at) = last-number names name in
-    (n, name-stays (with_name names name) later name n at)
-
 some-deed : (names : List (List ℕ)) (t : Says) → (d : Deed) × Stands (with_says names t) d t
 some-deed names (Rewrites r w) =
-    let (m, first) = first-number names r w in
-    let (n, last) = last-number (with_name names r) w in
+    let (m, first) = first_number bytes_eq bytes_eq-Decides names r w in
+    let (n, last) = last_number bytes_eq bytes_eq-Decides (with_name names r) w in
     (Rewrite m n, (first, last))
 some-deed names (Moves s) = (Move s, refl)
 
@@ -205,13 +176,13 @@ record Spelling (entries : List (List (List ℕ))) : Type 0 where
   names : Naming
   rules : List (Rule ℕ)
   spells : Spells names rules entries
-  few : length entries ≤ 20000
+  few : length entries ≤ MOST_ENTRIES
 
-one-more : (n : Naming) (rules : List (Rule ℕ)) (done : List (List (List ℕ))) (s : Said) → HasForms s → Spells n rules done → length done + 1 ≤ 20000
+one-more : (n : Naming) (rules : List (Rule ℕ)) (done : List (List (List ℕ))) (s : Said) → HasForms s → Spells n rules done → length done + 1 ≤ MOST_ENTRIES
     → Spelling (done ++ entry_of s ∷ [])
 one-more n rules done s f h few =
-    let (from, first) = first-number n.states s.state s.next in
-    let (to, last) = last-number (with_name n.states s.state) s.next in
+    let (from, first) = first_number bytes_eq bytes_eq-Decides n.states s.state s.next in
+    let (to, last) = last_number bytes_eq bytes_eq-Decides (with_name n.states s.state) s.next in
     let (one, stands1) = some-deed n.one s.one in
     let (two, stands2) = some-deed n.two s.two in
     let (three, stands3) = some-deed n.three s.three in
@@ -236,50 +207,28 @@ one-more n rules done s f h few =
       few = omega (arith, length-append done (entry_of s ∷ []));
     }
 
-build : (n : ℕ) (done rest : List (List (List ℕ))) → Spelling done → n ≡ length done + 1 → fault_from n rest ≡ None → Spelling (done ++ rest)
-build n done [] so count e = rw (append-nil done) so
-build n done (fields ∷ rest) so count e =
-    let (here, later) = faultless n fields rest e in
-    let x = says-so n fields here in
-    let few = in-number n fields here in
-    let more : Spelling (done ++ entry_of x.what ∷ []) = one-more so.names so.rules done x.what x.forms so.spells (let le = few.0 in omega arith) in
-    let P : List (List ℕ) → Type 0 = λ f. Spelling (done ++ f ∷ []) in
-    let next : Spelling (done ++ fields ∷ []) = subst P (sym x.is) more in
-    let counted : n + 1 ≡ length (done ++ fields ∷ []) + 1 = omega (arith, length-append done (fields ∷ [])) in
-    rw (← append_assoc done (fields ∷ []) rest) (build (n + 1) (done ++ fields ∷ []) rest next counted later)
-
 nothing : Spelling []
 nothing = record { names = naming_of [] (blank ∷ []) (blank ∷ []) (blank ∷ []); rules = []; spells = spells-none; few = omega arith }
 
-not_empty : (entries : List (List (List ℕ))) → fault_of entries ≡ None → (0 < length entries) × (fault_from 1 entries ≡ None)
-unfolding fault_of
-not_empty [] e = cc e
-not_empty (fields ∷ rest) e = (omega arith, e)
+next-spelling : (done : List (List (List ℕ))) (fields : List (List ℕ)) → Spelling done → entry_fault (length done + 1) fields ≡ None → Spelling (done ++ fields ∷ [])
+next-spelling done fields so here =
+    let x = says-so (length done + 1) fields here in
+    let few = (in_number MOST_ENTRIES refusal.TooMany form_fault (length done + 1) fields here).0 in
+    let P : List (List ℕ) → Type 0 = λ f. Spelling (done ++ f ∷ []) in
+    subst P (sym x.is) (one-more so.names so.rules done x.what x.forms so.spells few)
 
 pub reading_of : (entries : List (List (List ℕ))) → fault_of entries ≡ None → (t : QuadTable) × IsTableOf entries t
 reading_of entries e =
-    let (some, none) = not_empty entries e in
-    let so = build 1 [] entries nothing refl none in (
+    let (some, so) = kept_to_last refusal.Empty entry_fault Spelling nothing next-spelling entries e in (
       table_of (quadruples_of so.rules (length so.names.states) (counts_of so.names)) so.names,
       record { spelled = so.spells; some = some; few = so.few; states = refl; symbols = refl },
     )
 
-no-faults : (m : ℕ) (n : Naming) (rules : List (Rule ℕ)) → m + length rules ≤ 20001 → Good n
-    → All (IsRuleInRange (length n.states) (counts_of n)) rules → fault_from m (rows_by n rules) ≡ None
-unfolding fault_from
-no-faults m n [] few g h = refl
-no-faults m n (r ∷ rs) few g h =
-    let In : Rule ℕ → Type 0 = IsRuleInRange (length n.states) (counts_of n) in
-    rw (no_fault m (said_of n r) (omega arith) (row-forms n r g (All-head In r rs h)))
-    (no-faults (m + 1) n rs (omega arith) g (All-tail In r rs h))
-
-some-fault : (entries : List (List (List ℕ))) → 0 < length entries → fault_of entries ≡ fault_from 1 entries
-unfolding fault_of
-some-fault [] h = absurd (omega arith)
-some-fault (fields ∷ rest) h = refl
-
 pub no_fault_of : (entries : List (List (List ℕ))) (t : QuadTable) → IsTableOf entries t → fault_of entries ≡ None
 no_fault_of entries t h =
     let s = h.spelled in
-    let count : length entries ≡ length t.machine.rules = ap (λ (xs : List (List (List ℕ))). length xs) (sym s.rows) ∙ length-map t.machine.rules _ in
-    some-fault entries h.some ∙ rw (← s.rows) (no-faults 1 t.names t.machine.rules (omega (arith, h.few)) (good t.names t.machine.rules entries s) s.in_range)
+    let In : Rule ℕ → Type 0 = IsRuleInRange (length t.names.states) (counts_of t.names) in
+    let g = good t.names t.machine.rules entries s in
+    none_faulty refusal.Empty entry_fault (λ (r : Rule ℕ). entry_of (said_of t.names r)) In MOST_ENTRIES
+    (λ n r few within. no_fault n (said_of t.names r) few (row-forms t.names r g within))
+    entries t.machine.rules s.rows h.some h.few s.in_range

@@ -1,8 +1,9 @@
 -- The first fault of a table's entries. Entries and fields are counted from 1.
-use Rattle.std.specs.Prelude.{ℕ, Bool, ◌+◌, ◌||◌, not, nat_lt, if◌then◌else◌, List, [], ◌∷◌, Option, Some, None}
-use Rattle.std.specs.Prelude.{bytes_eq}
+use Rattle.std.specs.Prelude.{ℕ, Bool, ◌||◌, not, if◌then◌else◌, List, [], ◌∷◌, Option, Some, None, bytes_eq}
+use Rattle.bn_entries.specs.Faults.{first_fault, limited}
 use Rattle.bn_entries.specs.Forms.{is_state_name, is_symbol}
 use Rattle.bn_qtable.specs.Entry.{is_shift, slash}
+use Rattle.bn_qtable.specs.declared.entry.TheConstants.{MOST_ENTRIES}
 use Rattle.bn_qtable.specs.declared.refusal.QuadTableRefusal.{QuadTableRefusal}
 use Rattle.bn_qtable.specs.declared.refusal.QuadTableRefusal.TheVariants as refusal
 
@@ -38,20 +39,10 @@ form_fault entry (state ∷ read1 ∷ read2 ∷ read3 ∷ act1 ∷ act2 ∷ act3
     ∷ []) = field_fault entry state read1 read2 read3 act1 act2 act3 next
 form_fault entry fields = Some (refusal.FieldCount entry)
 
--- the first fault of the entry with this number: it comes after 20,000 others, or its fields have a fault
+-- the first fault of the entry with this number: it comes after as many as a table may have, or its fields have a fault
 abbrev pub entry_fault : ℕ → List (List ℕ) → Option QuadTableRefusal
-entry_fault entry fields = if nat_lt 20000 entry then Some (refusal.TooMany entry) else form_fault entry fields
-
--- the first fault, where the first of these entries has this number
-abbrev pub else_fault : Option QuadTableRefusal → Option QuadTableRefusal → Option QuadTableRefusal
-else_fault None later = later
-else_fault (Some fault) later = Some fault
-
-unfoldable pub fault_from : ℕ → List (List (List ℕ)) → Option QuadTableRefusal
-fault_from entry [] = None
-fault_from entry (fields ∷ rest) = else_fault (entry_fault entry fields) (fault_from (entry + 1) rest)
+entry_fault entry fields = limited MOST_ENTRIES refusal.TooMany form_fault entry fields
 
 -- the fault of a table's entries: there is none, or the first faulty entry's first fault
-unfoldable pub fault_of : List (List (List ℕ)) → Option QuadTableRefusal
-fault_of [] = Some refusal.Empty
-fault_of (fields ∷ rest) = fault_from 1 (fields ∷ rest)
+abbrev pub fault_of : List (List (List ℕ)) → Option QuadTableRefusal
+fault_of entries = first_fault refusal.Empty entry_fault entries

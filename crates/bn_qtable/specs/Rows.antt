@@ -7,6 +7,7 @@ use Rattle.bn_entries.specs.Numbering.{firsts}
 use Rattle.bn_quad.specs.Names.{Naming}
 use Rattle.bn_quad.specs.Quadruples.{Deed, Rewrite, Move, Rule, Quadruples, IsRuleInRange}
 use Rattle.bn_qtable.specs.Entry.{Said, Says, Rewrites, Moves, entry_of, slash}
+use Rattle.bn_qtable.specs.declared.entry.TheConstants.{MOST_ENTRIES}
 
 -- a machine whose states and symbols have names, each by its number
 pub record QuadTable : Type 0 where
@@ -78,11 +79,11 @@ pub record Spells (names : Naming) (rules : List (Rule ℕ)) (entries : List (Li
   pub two_form : list_all is_symbol names.two ≡ true
   pub three_form : list_all is_symbol names.three ≡ true
 
--- a table has these entries, of which there are 1 to 20,000
+-- a table has these entries, of which there is one at least, and as many at most as a table may have
 pub record IsTableOf (entries : List (List (List ℕ))) (t : QuadTable) : Type 0 where
   pub spelled : Spells t.names t.machine.rules entries
   pub some : 0 < length entries
-  pub few : length entries ≤ 20000
+  pub few : length entries ≤ MOST_ENTRIES
   pub states : t.machine.states ≡ length t.names.states
   pub symbols : t.machine.symbols ≡ counts_of t.names
 

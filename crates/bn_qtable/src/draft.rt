@@ -8,6 +8,7 @@ ghost use Rattle.bn_qtable.specs.Named.{HasNames};
 ghost use Rattle.bn_qtable.specs.Rows.{IsTableOf, table_of};
 ghost use Rattle.bn_qtable.specs.declared.refusal.QuadTableRefusal.TheVariants as refusal;
 ghost use Rattle.bn_qtable.specs.Draft.{IsDraft, drafted};
+ghost use Rattle.bn_qtable.specs.declared.entry.TheConstants.{MOST_ENTRIES};
 
 use crate::entry::{Fields, read_fields};
 use crate::lists::Lists;
@@ -51,7 +52,7 @@ fn add_fields(draft: &mut Draft, fields: &Fields) -> Result<(), NoMemory>
 /// Reads one more entry into the draft, or answers its first fault.
 pub fn add_entry(draft: &mut Draft, entry: &Entry) -> Result<(), QuadTableRefusal>
     requires draft { IsDraft draft.old }
-    requires few { length draft.old.quads.items ≤ 20000 }
+    requires few { length draft.old.quads.items ≤ MOST_ENTRIES }
     ensures ok { OnOk result (IsDraft draft.new × (drafted draft.new ≡ drafted draft.old ++ entry.now ∷ [])) }
     ensures passes { OnOk result (entry_fault (length draft.old.quads.items + 1) entry.now ≡ None) }
     ensures fault { IfErr result (λ e. e ≢ refusal.NoMemory
@@ -66,7 +67,7 @@ pub fn add_entry(draft: &mut Draft, entry: &Entry) -> Result<(), QuadTableRefusa
 /// The machine of a draft, which has an entry, with its names; else `Empty`.
 pub fn into_table(alloc: Global, draft: Draft) -> Result<(QuadMachine, QuadNames), QuadTableRefusal>
     requires draft { IsDraft draft }
-    requires few { length draft.quads.items ≤ 20000 }
+    requires few { length draft.quads.items ≤ MOST_ENTRIES }
     ensures ok { IfOk result (λ t. IsTableOf (drafted draft) (table_of t.0 t.1)) }
     ensures named { IfOk result (λ t. HasNames t.0 t.1) }
     ensures empty { IfErr result (λ e. e ≢ refusal.NoMemory → (e ≡ refusal.Empty) × (drafted draft ≡ [])) }

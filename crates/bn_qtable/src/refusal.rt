@@ -14,7 +14,7 @@ pub enum QuadTableRefusal {
     Symbol { entry: u32, field: u32 },
     /// The field, 5 to 7, is the act of a tape that isn't read, and is none of `-`, `0` and `+`.
     Shift { entry: u32, field: u32 },
-    /// The entry comes after 20,000 others, so it is entry 20,001.
+    /// The entry comes after `MOST_ENTRIES` others.
     TooMany { entry: u32 },
     /// There is no entry.
     Empty,

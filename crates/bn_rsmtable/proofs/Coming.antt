@@ -1,85 +1,45 @@
 -- What the reader of a table keeps from one entry to the next.
-use Rattle.std.proofs.Common.{◌≡◌, ◌≢◌, ◌<◌, ◌≤◌, ◌+◌, ◌∷◌, ◌++◌, ◌∙◌, ℕ, List, [], length, Some, None, refl, sym, ap, subst, arith, append_assoc, length-append, Result, Ok, Err}
+use Rattle.std.proofs.Common.{◌≡◌, ◌≢◌, ◌<◌, ◌+◌, ◌∷◌, ◌++◌, ◌∙◌, ℕ, List, [], length, None, refl, sym, ap, subst, arith, Result, Ok, Err}
 use Rattle.std.specs.Prelude.{IfOk, OnOk}
 use Rattle.bn_rsm.specs.Machines.{Machine}
-use Rattle.std.proofs.lemmas.List.{append-nil, length-map}
+use Rattle.std.proofs.lemmas.List.{length-map}
 use Rattle.bn_rsmtable.specs.Draft.{IsDraft}
 use Rattle.bn_entries.specs.Entries.{entries_of}
+use Rattle.bn_entries.proofs.FaultLemmas.{HasTaken, no_entry, taken_all, taken_more, taken_none}
+use Rattle.bn_rsmtable.specs.declared.entry.TheConstants.{MOST_ENTRIES}
 use Rattle.bn_rsm.specs.Faults as moves
 use Rattle.bn_rsm.specs.declared.rsm_move.RsmMove.{RsmMove}
 use Rattle.bn_rsm.specs.declared.refusal.RsmRefusal.TheVariants as clash
 use Rattle.bn_rsmtable.specs.Drafted.{drafted, IsTold}
 use Rattle.bn_rsmtable.specs.Entry.{AreReadAs, entries_by, entry_of, lines_named, states_named}
 use Rattle.bn_rsmtable.specs.Reading.{IsRefusal, Reads}
-use Rattle.bn_rsmtable.specs.Faults.{entry_fault, fault_from, fault_of}
+use Rattle.bn_rsmtable.specs.Faults.{entry_fault, form_fault}
 use Rattle.bn_rsmtable.specs.declared.draft.Draft.{Draft}
 use Rattle.bn_rsmtable.specs.declared.refusal.RsmTableRefusal.{RsmTableRefusal}
 use Rattle.bn_rsmtable.specs.declared.refusal.RsmTableRefusal.TheVariants as refusal
-use Rattle.bn_rsmtable.proofs.Passing.{in_number}
 
 -- The draft has the entries before those that are left, and none of them has a fault.
 pub record HasCome (entries : List (List (List ℕ))) (d : Draft) (left : List (List (List ℕ))) : Type 0 where
   pub draft : IsDraft d
-  pub together : drafted d ++ left ≡ entries
-  pub faults : fault_from 1 entries ≡ fault_from (length d.moves.items + 1) left
-  pub few : length d.moves.items ≤ 65536
+  pub taken : HasTaken MOST_ENTRIES refusal.TooMany form_fault entries (drafted d) (length d.moves.items) left
 
 count : (d : Draft) → length (drafted d) ≡ length d.moves.items
 count d = length-map d.moves.items entry_of
 
 pub come-first : (entries : List (List (List ℕ))) (d : Draft) → IsDraft d → drafted d ≡ [] → HasCome entries d entries
-come-first entries d h none =
-    let zero-long : length d.moves.items ≡ 0 = sym (count d) ∙ ap (λ (t : List (List (List ℕ))). length t) none in
-    record { draft = h; together = rw none refl; faults = rw zero-long refl; few = omega arith }
-
-passing : (n : ℕ) (fields : List (List ℕ)) (rest : List (List (List ℕ))) → entry_fault n fields ≡ None → fault_from n (fields ∷ rest) ≡ fault_from (n + 1) rest
-unfolding fault_from
-passing n fields rest e = rw e refl
-
-failing : (n : ℕ) (fields : List (List ℕ)) (rest : List (List (List ℕ))) (fault : RsmTableRefusal) → entry_fault n fields ≡ Some fault → fault_from n (fields ∷ rest) ≡ Some fault
-unfolding fault_from
-failing n fields rest fault e = rw e refl
+come-first entries d h none = record { draft = h; taken = taken_none none (count d) }
 
 pub come-further : (entries : List (List (List ℕ))) (d d2 : Draft) (left rest : List (List (List ℕ))) (fields : List (List ℕ)) → HasCome entries d left → left ≡ fields ∷ rest
     → IsDraft d2 → drafted d2 ≡ drafted d ++ fields ∷ [] → entry_fault (length d.moves.items + 1) fields ≡ None → HasCome entries d2 rest
-come-further entries d d2 left rest fields h is h2 more pass =
-    let one : length d2.moves.items ≡ length d.moves.items + 1 =
-    sym (count d2) ∙ ap (λ (t : List (List (List ℕ))). length t) more ∙ length-append (drafted d) (fields ∷ []) ∙ omega (arith, count d) in
-    record {
-      draft = h2;
-      together = rw more (append_assoc (drafted d) (fields ∷ []) rest ∙ rw (← is) h.together);
-      faults = h.faults ∙ rw is (passing (length d.moves.items + 1) fields rest pass ∙ rw one refl);
-      few = omega (arith, (in_number (length d.moves.items + 1) fields pass).0);
-    }
-
-some-fault : (entries : List (List (List ℕ))) → 0 < length entries → fault_of entries ≡ fault_from 1 entries
-unfolding fault_of
-some-fault [] h = absurd (omega arith)
-some-fault (fields ∷ rest) h = refl
-
--- a fault of the next entry is that of all
-pub come-to-fault : (entries : List (List (List ℕ))) (d : Draft) (left rest : List (List (List ℕ))) (fields : List (List ℕ)) (fault : RsmTableRefusal) → HasCome entries d left → left ≡ fields ∷ rest
-    → entry_fault (length d.moves.items + 1) fields ≡ Some fault → fault_of entries ≡ Some fault
-come-to-fault entries d left rest fields fault h is e =
-    let long : length entries ≡ length (drafted d) + length left = ap (λ (t : List (List (List ℕ))). length t) (sym h.together) ∙ length-append (drafted d) left in
-    let more : length left ≡ length rest + 1 = rw is (omega arith) in
-    some-fault entries (omega arith) ∙ h.faults ∙ rw is (failing (length d.moves.items + 1) fields rest fault e)
-
--- where no entry is left, the draft has them all
-pub come-last : (entries : List (List (List ℕ))) (d : Draft) (left : List (List (List ℕ))) → HasCome entries d left → left ≡ [] → drafted d ≡ entries
-come-last entries d left h none = sym (append-nil (drafted d)) ∙ rw (← none) h.together
-
-pub no-entry : (entries : List (List (List ℕ))) → entries ≡ [] → fault_of entries ≡ Some refusal.Empty
-unfolding fault_of
-no-entry entries e = rw e refl
+come-further entries d d2 left rest fields h is h2 more pass = record { draft = h2; taken = taken_more h.taken is more (count d2) pass }
 
 -- all entries are read as the draft's moves
 pub come-reads : (entries : List (List (List ℕ))) (d : Draft) (left : List (List (List ℕ))) → HasCome entries d left → left ≡ [] → d.moves.items ≢ [] → AreReadAs entries d.moves.items
 come-reads entries d left h none some =
-    let all = come-last entries d left h none in
+    let all = taken_all h.taken none in
     let long : length entries ≡ length d.moves.items = ap (λ (t : List (List (List ℕ))). length t) (sym all) ∙ count d in
     let has : 0 < length d.moves.items = not-none d.moves.items some in
-    record { rows = all; within = h.draft.within; some = omega arith; few = omega (arith, h.few) }
+    record { rows = all; within = h.draft.within; some = omega arith; few = omega (arith, h.taken.few) }
   where
     not-none : (ms : List RsmMove) → ms ≢ [] → 0 < length ms
     not-none [] some = absurd (some refl)
@@ -99,8 +59,8 @@ come-refused bytes d left (refusal.SameRange i j) h none told =
     there is empty = let stands = is.stands in let gone = rw empty at stands in cc
 come-refused bytes d left refusal.NoMemory h none told = tt
 come-refused bytes d left refusal.Empty h none told =
-    let all = come-last (entries_of bytes) d left h none in
-    no-entry (entries_of bytes) (sym all ∙ ap entries_by told)
+    let all = taken_all h.taken none in
+    no_entry refusal.Empty entry_fault (entries_of bytes) (sym all ∙ ap entries_by told)
 come-refused bytes d left (refusal.FieldCount i) h none told = absurd told
 come-refused bytes d left (refusal.Number i j) h none told = absurd told
 come-refused bytes d left (refusal.TooMany i) h none told = absurd told

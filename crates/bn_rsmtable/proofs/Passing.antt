@@ -1,10 +1,11 @@
 -- Entries without a fault, and the moves that they are.
-use Rattle.std.specs.Prelude.{◌≡◌, ℕ, ◌≤◌, nat_lt, not, Bool, true, false, List, [], ◌∷◌, length, Option, Some, None, slice_get, if◌then◌else◌, refl}
-use Rattle.std.proofs.Common.{arith, inl, inr}
-use Rattle.std.proofs.lemmas.Bool.{cases_Bool, ltb-false, le-ltb}
+use Rattle.std.specs.Prelude.{◌≡◌, ℕ, ◌≤◌, List, [], ◌∷◌, length, Some, None, slice_get, refl}
+use Rattle.std.proofs.Common.{◌∙◌, arith}
+use Rattle.bn_entries.proofs.FaultLemmas.{in_number, passed, within_number}
 use Rattle.bn_rsm.specs.declared.rsm_move.RsmMove.{RsmMove}
 use Rattle.bn_rsmtable.specs.Entry.{IsMove, entry_of}
 use Rattle.bn_rsmtable.specs.Faults.{entry_fault, field_fault, form_fault, is_number}
+use Rattle.bn_rsmtable.specs.declared.entry.TheConstants.{MOST_ENTRIES}
 use Rattle.bn_rsmtable.specs.declared.refusal.RsmTableRefusal.TheVariants as refusal
 use Rattle.bn_rsmtable.proofs.Decimals.{number_decimal, numbered, same_number}
 
@@ -17,10 +18,6 @@ four_is (s ∷ []) a b c d n f0 f1 f2 f3 = cc f1
 four_is (s ∷ t ∷ []) a b c d n f0 f1 f2 f3 = cc f2
 four_is (s ∷ t ∷ u ∷ []) a b c d n f0 f1 f2 f3 = cc f3
 four_is (s ∷ t ∷ u ∷ v ∷ w ∷ ws) a b c d n f0 f1 f2 f3 = absurd (omega arith)
-
-passed : {X : Type 0} (b : Bool) (x : X) (rest : Option X) → (if not b then Some x else rest) ≡ None → (b ≡ true) × (rest ≡ None)
-passed true x rest e = (refl, e)
-passed false x rest e = cc e
 
 -- the move that an entry is
 pub record IsEntry (fields : List (List ℕ)) : Type 0 where
@@ -52,19 +49,15 @@ form_step n (a ∷ b ∷ []) p = cc p
 form_step n (a ∷ b ∷ c ∷ []) p = cc p
 form_step n (a ∷ b ∷ c ∷ d ∷ e ∷ es) p = cc p
 
-pub in_number : (n : ℕ) (fields : List (List ℕ)) → entry_fault n fields ≡ None → (n ≤ 65536) × (form_fault n fields ≡ None)
-in_number n fields h = elim (cases_Bool (nat_lt 65536 n)) [
-  | inl past ↦ let none : Some (refusal.TooMany n) ≡ None = rw past at h in cc
-  | inr within ↦ (ltb-false 65536 n within, rw within at h)
-]
-
 -- an entry without a fault is that of a move
 pub step_of : (n : ℕ) (fields : List (List ℕ)) → entry_fault n fields ≡ None → IsEntry fields
-step_of n fields none = form_step n fields (in_number n fields none).1
+step_of n fields none = form_step n fields (in_number MOST_ENTRIES refusal.TooMany form_fault n fields none).1
 
--- the first 65,536 entries of moves have no fault
-pub no_fault : (n : ℕ) (m : RsmMove) → n ≤ 65536 → IsMove m → entry_fault n (entry_of m) ≡ None
-no_fault n m few h = rw (le-ltb 65536 n few, number_decimal m.state h.state, number_decimal m.line h.line, number_decimal m.next h.next, number_decimal m.out h.out) refl
+-- as many entries of moves as a table may have have no fault
+pub no_fault : (n : ℕ) (m : RsmMove) → n ≤ MOST_ENTRIES → IsMove m → entry_fault n (entry_of m) ≡ None
+no_fault n m few h =
+    within_number MOST_ENTRIES refusal.TooMany form_fault n (entry_of m) few
+    ∙ rw (number_decimal m.state h.state, number_decimal m.line h.line, number_decimal m.next h.next, number_decimal m.out h.out) refl
 
 -- two moves with one entry are one
 same_fields : (a b c d a2 b2 c2 d2 : List ℕ) → a ∷ b ∷ c ∷ d ∷ [] ≡ a2 ∷ b2 ∷ c2 ∷ d2 ∷ [] → (a ≡ a2) × (b ≡ b2) × (c ≡ c2) × (d ≡ d2)

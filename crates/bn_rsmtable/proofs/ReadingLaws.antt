@@ -1,10 +1,13 @@
 -- What bytes are read as: one list of moves, one machine, or one refusal.
-use Rattle.std.specs.Prelude.{◌≡◌, ◌≢◌, ℕ, ◌+◌, ◌<◌, ◌≤◌, nat_lt, not, if◌then◌else◌, Bool, true, false, List, [], ◌∷◌, length, Option, Some, None, All, ◌⊎◌, refl}
-use Rattle.std.proofs.Common.{zero, suc, sym, ap, subst, ◌∙◌, arith, inl, inr}
-use Rattle.std.proofs.lemmas.List.{length-map}
-use Rattle.std.proofs.lemmas.List.Elements.{All-cons, All-head, All-tail}
+use Rattle.std.specs.Prelude.{◌≡◌, ◌≢◌, ℕ, ◌+◌, ◌≤◌, nat_lt, not, if◌then◌else◌, Bool, true, false, List, [], ◌∷◌, length, Option, Some, None, All, ◌⊎◌, refl}
+use Rattle.std.proofs.Common.{◌++◌, length-append, sym, ap, subst, ◌∙◌, arith, inl, inr}
+use Rattle.std.proofs.lemmas.List.{length-map, map-append}
+use Rattle.std.proofs.lemmas.List.Elements.{All-head, All-nil, All-push, All-tail}
 use Rattle.std.specs.List.{list_all}
 use Rattle.bn_entries.specs.Entries.{entries_of}
+use Rattle.bn_entries.specs.Faults.{else_fault, fault_from, first_fault}
+use Rattle.bn_entries.proofs.FaultLemmas.{in_number, kept_to_last, none_faulty}
+use Rattle.bn_rsmtable.specs.declared.entry.TheConstants.{MOST_ENTRIES, MOST_NUMBER}
 use Rattle.bn_entries.specs.Lines.{is_plain_entry, lines_of}
 use Rattle.bn_entries.proofs.LinesLemmas.{entries_of-lines_of}
 use Rattle.bn_rsm.specs.Faults as moves
@@ -14,14 +17,14 @@ use Rattle.bn_rsm.specs.declared.rsm_move.RsmMove.{RsmMove}
 use Rattle.bn_rsm.specs.declared.refusal.RsmRefusal.{RsmRefusal}
 use Rattle.bn_rsm.specs.declared.refusal.RsmRefusal.TheVariants as clash
 use Rattle.bn_rsmtable.specs.Entry.{AreReadAs, IsMove, entries_by, entry_of, lines_named, states_named}
-use Rattle.bn_rsmtable.specs.Faults.{else_fault, entry_fault, fault_from, fault_of, form_fault, is_number}
+use Rattle.bn_rsmtable.specs.Faults.{entry_fault, fault_of, form_fault, is_number}
 use Rattle.bn_rsmtable.specs.Reading.{Clashes, IsRefusal, Reads}
 use Rattle.bn_rsmtable.specs.declared.refusal.RsmTableRefusal.{RsmTableRefusal}
 use Rattle.bn_rsmtable.specs.declared.refusal.RsmTableRefusal.TheVariants as refusal
 use Rattle.bn_rsmtable.specs.Writing.{IsTable}
 use Rattle.bn_rsmtable.proofs.Decimals.{plain_decimal}
 use Rattle.bn_rsmtable.proofs.Drafting.{all_moves, never_outside}
-use Rattle.bn_rsmtable.proofs.Passing.{in_number, no_fault, same_step, step_of}
+use Rattle.bn_rsmtable.proofs.Passing.{no_fault, same_step, step_of}
 
 -- ---- one list of moves
 
@@ -41,67 +44,34 @@ one_reading entries ms ns h k = same_steps ms ns h.within k.within (h.rows ∙ s
 
 -- ---- moves, or a fault
 
-some-fault : (entries : List (List (List ℕ))) → 0 < length entries → fault_of entries ≡ fault_from 1 entries
-unfolding fault_of
-some-fault [] h = absurd (omega arith)
-some-fault (fields ∷ rest) h = refl
-
-no-faults : (n : ℕ) (ms : List RsmMove) → n + length ms ≤ 65537 → All IsMove ms → fault_from n (entries_by ms) ≡ None
-unfolding fault_from
-no-faults n [] few h = refl
-no-faults n (m ∷ ms) few h =
-    rw (no_fault n m (omega arith) (All-head IsMove m ms h)) (no-faults (n + 1) ms (omega arith) (All-tail IsMove m ms h))
-
 pub no_fault_of : (entries : List (List (List ℕ))) (ms : List RsmMove) → AreReadAs entries ms → fault_of entries ≡ None
-no_fault_of entries ms h =
-    let count : length entries ≡ length ms = ap (λ (xs : List (List (List ℕ))). length xs) (sym h.rows) ∙ length-map ms entry_of in
-    some-fault entries h.some ∙ rw (← h.rows) (no-faults 1 ms (omega (arith, h.few)) h.within)
+no_fault_of entries ms h = none_faulty refusal.Empty entry_fault entry_of IsMove MOST_ENTRIES no_fault entries ms h.rows h.some h.few h.within
 
 -- the moves of entries without a fault
-record Steps (n : ℕ) (entries : List (List (List ℕ))) : Type 0 where
+record Steps (entries : List (List (List ℕ))) : Type 0 where
   found : List RsmMove
   rows : entries_by found ≡ entries
   within : All IsMove found
-  few : 0 < length entries → n + length entries ≤ 65537
+  few : length entries ≤ MOST_ENTRIES
 
-else_none : (first later : Option RsmTableRefusal) → else_fault first later ≡ None → (first ≡ None) × (later ≡ None)
-else_none None later e = (refl, e)
-else_none (Some fault) later e = cc e
+no_steps : Steps []
+no_steps = record { found = []; rows = refl; within = All-nil IsMove; few = omega arith }
 
-faultless : (n : ℕ) (fields : List (List ℕ)) (rest : List (List (List ℕ))) → fault_from n (fields ∷ rest) ≡ None → (entry_fault n fields ≡ None) × (fault_from (n + 1) rest ≡ None)
-unfolding fault_from
-faultless n fields rest e = else_none (entry_fault n fields) (fault_from (n + 1) rest) e
-
-steps_of : (n : ℕ) (entries : List (List (List ℕ))) → fault_from n entries ≡ None → Steps n entries
-steps_of n [] e = record { found = []; rows = refl; within = (λ k d l. absurd (omega arith)); few = (λ l. absurd (omega arith)) }
-steps_of n (fields ∷ rest) e =
-    let parts = faultless n fields rest e in
-    let here = step_of n fields parts.0 in
-    let later = steps_of (n + 1) rest parts.1 in
-    let bound = (in_number n fields parts.0).0 in
-    let rest_few = later.few in
+next_step : (done : List (List (List ℕ))) (fields : List (List ℕ)) → Steps done → entry_fault (length done + 1) fields ≡ None → Steps (done ++ fields ∷ [])
+next_step done fields so none =
+    let here = step_of (length done + 1) fields none in
+    let bound = (in_number MOST_ENTRIES refusal.TooMany form_fault (length done + 1) fields none).0 in
     record {
-      found = here.step ∷ later.found;
-      rows = (λ i. sym here.is i ∷ later.rows i);
-      within = All-cons IsMove here.step later.found here.within later.within;
-      few = (λ l. bound_more n (length rest) bound rest_few);
+      found = so.found ++ here.step ∷ [];
+      rows = map-append entry_of so.found (here.step ∷ []) ∙ (λ i. so.rows i ++ sym here.is i ∷ []);
+      within = All-push IsMove so.found here.step so.within here.within;
+      few = omega (arith, bound, length-append done (fields ∷ []));
     }
-  where
-    bound_more : (n k : ℕ) → n ≤ 65536 → (0 < k → (n + 1) + k ≤ 65537) → n + suc k ≤ 65537
-    bound_more n zero b h = omega arith
-    bound_more n (suc k) b h = let m = h (omega arith) in omega arith
-
-not_empty : (entries : List (List (List ℕ))) → fault_of entries ≡ None → (0 < length entries) × (fault_from 1 entries ≡ None)
-unfolding fault_of
-not_empty [] e = cc e
-not_empty (fields ∷ rest) e = (omega arith, e)
 
 pub reading_of : (entries : List (List (List ℕ))) → fault_of entries ≡ None → (ms : List RsmMove) × AreReadAs entries ms
 reading_of entries e =
-    let parts = not_empty entries e in
-    let steps = steps_of 1 entries parts.1 in
-    let few = steps.few parts.0 in
-    (steps.found, record { rows = steps.rows; within = steps.within; some = parts.0; few = omega arith })
+    let (some, steps) = kept_to_last refusal.Empty entry_fault Steps no_steps next_step entries e in
+    (steps.found, record { rows = steps.rows; within = steps.within; some = some; few = steps.few })
 
 -- ---- a machine, or a refusal
 
@@ -145,17 +115,19 @@ count_fault : (b : Bool) (n : ℕ) (rest : Option RsmTableRefusal) → AreOfEntr
 count_fault true n rest h = tt
 count_fault false n rest h = h
 
-first_fault : (first later : Option RsmTableRefusal) → AreOfEntries first → AreOfEntries later → AreOfEntries (else_fault first later)
-first_fault None later h k = k
-first_fault (Some e) later h k = h
+first_of : (first later : Option RsmTableRefusal) → AreOfEntries first → AreOfEntries later → AreOfEntries (else_fault first later)
+first_of None later h k = k
+first_of (Some e) later h k = h
 
-faults_from : (n : ℕ) (entries : List (List (List ℕ))) → AreOfEntries (fault_from n entries)
+faults_from : (n : ℕ) (entries : List (List (List ℕ))) → AreOfEntries (fault_from entry_fault n entries)
 unfolding fault_from
 faults_from n [] = tt
-faults_from n (fields ∷ rest) = first_fault (entry_fault n fields) (fault_from (n + 1) rest) (count_fault (nat_lt 65536 n) n (form_fault n fields) (form_faults n fields)) (faults_from (n + 1) rest)
+faults_from n (fields ∷ rest) =
+    first_of (entry_fault n fields) (fault_from entry_fault (n + 1) rest)
+    (count_fault (nat_lt MOST_ENTRIES n) n (form_fault n fields) (form_faults n fields)) (faults_from (n + 1) rest)
 
 faults_of : (entries : List (List (List ℕ))) → AreOfEntries (fault_of entries)
-unfolding fault_of
+unfolding first_fault
 faults_of [] = tt
 faults_of (fields ∷ rest) = faults_from 1 (fields ∷ rest)
 
@@ -277,8 +249,8 @@ plain_steps (m ∷ ms) h = rw (plain_step m (All-head IsMove m ms h)) (plain_ste
 -- a machine's lines are read as it again
 pub read_back : (m : Machine) (bytes : List ℕ) → IsTable m → bytes ≡ lines_of (entries_by m.moves) → Reads bytes m
 read_back m bytes h is =
-    let states : states_named m.moves ≤ 1048576 = omega (arith, h.states, h.states_few) in
-    let lines : lines_named m.moves ≤ 1048576 = omega (arith, h.lines, h.lines_few) in
+    let states : states_named m.moves ≤ MOST_NUMBER = omega (arith, h.states, h.states_few) in
+    let lines : lines_named m.moves ≤ MOST_NUMBER = omega (arith, h.lines, h.lines_few) in
     let back : entries_of bytes ≡ entries_by m.moves = ap entries_of is ∙ entries_of-lines_of (entries_by m.moves) (plain_steps m.moves (all_moves m.moves states lines)) in
     let count : length (entries_of bytes) ≡ length m.moves = ap (λ (xs : List (List (List ℕ))). length xs) back ∙ length-map m.moves entry_of in
     record {

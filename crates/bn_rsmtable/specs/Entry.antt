@@ -1,10 +1,8 @@
--- Moves of a reversible sequential machine as entries of a table (this project's own profile). In entries the states and lines are counted from 1.
+-- Moves of a reversible sequential machine as entries of a table (this project's own profile). In entries the states
+-- and lines are counted from 1.
 use Rattle.std.specs.Prelude.{◌≡◌, ℕ, ◌+◌, ◌<◌, ◌≤◌, List, [], ◌∷◌, decimal, length, map, max, All}
 use Rattle.bn_rsm.specs.declared.rsm_move.RsmMove.{RsmMove}
-
--- the greatest number of an entry
-abbrev pub most : ℕ
-most = 1048576
+use Rattle.bn_rsmtable.specs.declared.entry.TheConstants.{MOST_ENTRIES, MOST_NUMBER}
 
 -- the entry of a move: state, input line, next state, output line
 abbrev pub entry_of : RsmMove → List (List ℕ)
@@ -15,10 +13,10 @@ entries_by ms = map entry_of ms
 
 -- the move's numbers may stand in an entry
 pub record IsMove (m : RsmMove) : Type 0 where
-  pub state : m.state < most
-  pub line : m.line < most
-  pub next : m.next < most
-  pub out : m.out < most
+  pub state : m.state < MOST_NUMBER
+  pub line : m.line < MOST_NUMBER
+  pub next : m.next < MOST_NUMBER
+  pub out : m.out < MOST_NUMBER
 
 -- how many states, and how many lines, moves need: the greatest that they name, counted from 1
 abbrev pub states_named : List RsmMove → ℕ
@@ -29,9 +27,10 @@ abbrev pub lines_named : List RsmMove → ℕ
 lines_named [] = 0
 lines_named (m ∷ ms) = max (max (m.line + 1) (m.out + 1)) (lines_named ms)
 
--- These entries, of which there are 1 to 65,536, are read as these moves: each entry is that of its move.
+-- These entries, of which there is one at least, and as many at most as a table may have, are read as these moves: each
+-- entry is that of its move.
 pub record AreReadAs (entries : List (List (List ℕ))) (ms : List RsmMove) : Type 0 where
   pub rows : entries_by ms ≡ entries
   pub within : All IsMove ms
   pub some : 0 < length entries
-  pub few : length entries ≤ 65536
+  pub few : length entries ≤ MOST_ENTRIES

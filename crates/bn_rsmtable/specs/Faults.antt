@@ -1,13 +1,16 @@
 -- The first fault of the entries of a table of moves. Entries and fields are counted from 1.
-use Rattle.std.specs.Prelude.{ℕ, Bool, false, ◌+◌, ◌==◌, ◌&&◌, not, nat_lt, if◌then◌else◌, List, [], ◌∷◌, length, Option, Some, None, Result, Ok, Err}
+use Rattle.std.specs.Prelude.{ℕ, Bool, false, ◌==◌, ◌&&◌, not, nat_le, nat_lt, if◌then◌else◌, List, [], ◌∷◌, length}
+use Rattle.std.specs.Prelude.{Option, Some, None, Result, Ok, Err}
 use Rattle.bn_base.specs.Number.{read_number}
 use Rattle.bn_base.specs.declared.numbers.Digits.{Digits}
+use Rattle.bn_entries.specs.Faults.{first_fault, limited}
+use Rattle.bn_rsmtable.specs.declared.entry.TheConstants.{MOST_ENTRIES, MOST_NUMBER}
 use Rattle.bn_rsmtable.specs.declared.refusal.RsmTableRefusal.{RsmTableRefusal}
 use Rattle.bn_rsmtable.specs.declared.refusal.RsmTableRefusal.TheVariants as refusal
 
--- what was read is a number from 1 to 1,048,576, up to this place
+-- what was read is a number from 1 to the greatest that an entry may have, up to this place
 abbrev pub is_count : ℕ → Result (ℕ × ℕ) Digits → Bool
-is_count end (Ok (number, behind)) = behind == end && nat_lt 0 number && nat_lt number 1048577
+is_count end (Ok (number, behind)) = behind == end && nat_lt 0 number && nat_le number MOST_NUMBER
 is_count end (Err fault) = false
 
 -- the field is such a number, from its first byte to its last
@@ -28,20 +31,10 @@ abbrev pub form_fault : ℕ → List (List ℕ) → Option RsmTableRefusal
 form_fault entry (state ∷ line ∷ next ∷ out ∷ []) = field_fault entry state line next out
 form_fault entry fields = Some (refusal.FieldCount entry)
 
--- the first fault of the entry with this number: it comes after 65,536 others, or its fields have a fault
+-- the first fault of the entry with this number: it comes after as many as a table may have, or its fields have a fault
 abbrev pub entry_fault : ℕ → List (List ℕ) → Option RsmTableRefusal
-entry_fault entry fields = if nat_lt 65536 entry then Some (refusal.TooMany entry) else form_fault entry fields
-
--- the first fault, where the first of these entries has this number
-abbrev pub else_fault : Option RsmTableRefusal → Option RsmTableRefusal → Option RsmTableRefusal
-else_fault None later = later
-else_fault (Some fault) later = Some fault
-
-unfoldable pub fault_from : ℕ → List (List (List ℕ)) → Option RsmTableRefusal
-fault_from entry [] = None
-fault_from entry (fields ∷ rest) = else_fault (entry_fault entry fields) (fault_from (entry + 1) rest)
+entry_fault entry fields = limited MOST_ENTRIES refusal.TooMany form_fault entry fields
 
 -- the fault of a table's entries: there is none, or the first faulty entry's first fault
-unfoldable pub fault_of : List (List (List ℕ)) → Option RsmTableRefusal
-fault_of [] = Some refusal.Empty
-fault_of (fields ∷ rest) = fault_from 1 (fields ∷ rest)
+abbrev pub fault_of : List (List (List ℕ)) → Option RsmTableRefusal
+fault_of entries = first_fault refusal.Empty entry_fault entries

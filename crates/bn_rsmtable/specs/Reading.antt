@@ -1,4 +1,5 @@
--- The reading of bytes as a reversible sequential machine (this project's own profile): its moves in order, with as many states and lines as they name.
+-- The reading of bytes as a reversible sequential machine (this project's own profile): its moves in order, with as
+-- many states and lines as they name.
 use Rattle.std.specs.Prelude.{◌≡◌, ◌≢◌, ℕ, List, Some, None, ◌↔◌, ◌⊎◌, ⊤}
 use Rattle.bn_entries.specs.Entries.{entries_of}
 use Rattle.bn_rsm.specs.Faults as moves
@@ -23,7 +24,8 @@ pub record Clashes (bytes : List ℕ) (said : RsmRefusal) : Type 0 where
   pub reads : AreReadAs (entries_of bytes) found
   pub clash : moves.IsRefusal (states_named found) (lines_named found) found said
 
--- what a refusal says of the bytes: the first fault of their entries, or the first move that agrees with an earlier one on a side; want of memory says nothing
+-- what a refusal says of the bytes: the first fault of their entries, or the first move that agrees with an earlier one
+-- on a side; want of memory says nothing
 abbrev pub IsRefusal : List ℕ → RsmTableRefusal → Type 0
 IsRefusal bytes (refusal.SameDomain i j) = Clashes bytes (clash.SameDomain i j)
 IsRefusal bytes (refusal.SameRange i j) = Clashes bytes (clash.SameRange i j)
@@ -35,22 +37,27 @@ IsRefusal bytes refusal.Empty = fault_of (entries_of bytes) ≡ Some refusal.Emp
 
 -- entries are read as one list of moves at most
 abbrev pub OneReading : Type 0
-OneReading = (bytes : List ℕ) (ms ns : List RsmMove) → AreReadAs (entries_of bytes) ms → AreReadAs (entries_of bytes) ns → ms ≡ ns
+OneReading = (bytes : List ℕ) (ms ns : List RsmMove) → AreReadAs (entries_of bytes) ms → AreReadAs (entries_of bytes) ns
+    → ms ≡ ns
 
 -- entries are read as moves exactly where they have no fault
 abbrev pub ReadingOrFault : Type 0
-ReadingOrFault = (bytes : List ℕ) → (fault_of (entries_of bytes) ≡ None) ↔ ((ms : List RsmMove) × AreReadAs (entries_of bytes) ms)
+ReadingOrFault = (bytes : List ℕ)
+    → (fault_of (entries_of bytes) ≡ None) ↔ ((ms : List RsmMove) × AreReadAs (entries_of bytes) ms)
 
 -- bytes read as a machine, or something is said of them that isn't want of memory; and not both
 abbrev pub MachineOrRefusal : Type 0
-MachineOrRefusal = (bytes : List ℕ) → ((m : Machine) × Reads bytes m) ⊎ ((e : RsmTableRefusal) × (e ≢ refusal.NoMemory) × IsRefusal bytes e)
+MachineOrRefusal = (bytes : List ℕ)
+    → ((m : Machine) × Reads bytes m) ⊎ ((e : RsmTableRefusal) × (e ≢ refusal.NoMemory) × IsRefusal bytes e)
 
 abbrev pub MachinesAreNotRefused : Type 0
-MachinesAreNotRefused = (bytes : List ℕ) (m : Machine) (e : RsmTableRefusal) → Reads bytes m → IsRefusal bytes e → e ≡ refusal.NoMemory
+MachinesAreNotRefused = (bytes : List ℕ) (m : Machine) (e : RsmTableRefusal) → Reads bytes m → IsRefusal bytes e
+    → e ≡ refusal.NoMemory
 
 -- bytes read as one machine at most, and one thing at most is said of them
 abbrev pub OneMachine : Type 0
 OneMachine = (bytes : List ℕ) (m n : Machine) → Reads bytes m → Reads bytes n → m ≡ n
 
 abbrev pub OneRefusal : Type 0
-OneRefusal = (bytes : List ℕ) (d e : RsmTableRefusal) → IsRefusal bytes d → IsRefusal bytes e → d ≢ refusal.NoMemory → e ≢ refusal.NoMemory → d ≡ e
+OneRefusal = (bytes : List ℕ) (d e : RsmTableRefusal) → IsRefusal bytes d → IsRefusal bytes e → d ≢ refusal.NoMemory
+    → e ≢ refusal.NoMemory → d ≡ e

@@ -1,13 +1,15 @@
 -- Machines whose text is read as them again.
 use Rattle.std.specs.Prelude.{◌≡◌, ◌<◌, ◌≤◌, length}
 use Rattle.bn_rsm.specs.Machines.{Machine}
-use Rattle.bn_rsmtable.specs.Entry.{lines_named, most, states_named}
+use Rattle.bn_rsmtable.specs.Entry.{lines_named, states_named}
+use Rattle.bn_rsmtable.specs.declared.entry.TheConstants.{MOST_ENTRIES, MOST_NUMBER}
 
--- a machine with 1 to 65,536 moves, and with as many states and lines as they name, of which there are at most 1,048,576
+-- a machine with one move at least, and as many at most as a table may have, and with as many states and lines as they
+-- name, each at most the greatest number of an entry
 pub record IsTable (m : Machine) : Type 0 where
   pub some : 0 < length m.moves
-  pub few : length m.moves ≤ 65536
+  pub few : length m.moves ≤ MOST_ENTRIES
   pub states : m.states ≡ states_named m.moves
   pub lines : m.lines ≡ lines_named m.moves
-  pub states_few : m.states ≤ most
-  pub lines_few : m.lines ≤ most
+  pub states_few : m.states ≤ MOST_NUMBER
+  pub lines_few : m.lines ≤ MOST_NUMBER

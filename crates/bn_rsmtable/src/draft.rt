@@ -5,6 +5,7 @@ ghost use Rattle.bn_rsmtable.specs.Draft.{IsDraft};
 ghost use Rattle.bn_rsmtable.specs.Entry.{IsMove, entry_of, states_named, lines_named};
 ghost use Rattle.bn_rsmtable.specs.Faults.{entry_fault};
 ghost use Rattle.bn_rsmtable.specs.Drafted.{drafted, IsTold};
+ghost use Rattle.bn_rsmtable.specs.declared.entry.TheConstants.{MOST_ENTRIES};
 ghost use Rattle.bn_rsmtable.specs.declared.refusal.RsmTableRefusal.TheVariants as refusal;
 
 use crate::entry::read_move;
@@ -51,11 +52,12 @@ fn add_move(draft: &mut Draft, step: RsmMove) -> Result<(), NoMemory>
 /// Reads one more entry into the draft, or answers its first fault.
 pub fn add_entry(draft: &mut Draft, entry: &Entry) -> Result<(), RsmTableRefusal>
     requires draft { IsDraft draft.old }
-    requires few { length draft.old.moves.items ≤ 65536 }
+    requires few { length draft.old.moves.items ≤ MOST_ENTRIES }
     ensures draft { OnOk result (IsDraft draft.new) }
     ensures more { OnOk result (drafted draft.new ≡ drafted draft.old ++ entry.now ∷ []) }
     ensures passes { OnOk result (entry_fault (length draft.old.moves.items + 1) entry.now ≡ None) }
-    ensures fault { IfErr result (λ e. e ≢ refusal.NoMemory → entry_fault (length draft.old.moves.items + 1) entry.now ≡ Some e) }
+    ensures fault { IfErr result (λ e. e ≢ refusal.NoMemory
+        → entry_fault (length draft.old.moves.items + 1) entry.now ≡ Some e) }
 {
     let number = draft.moves.len() as u32 + 1;
     let step = read_move(entry, number)?;
@@ -67,7 +69,7 @@ pub fn add_entry(draft: &mut Draft, entry: &Entry) -> Result<(), RsmTableRefusal
 /// one on a side.
 pub fn into_machine(alloc: Global, draft: Draft) -> Result<Rsm, RsmTableRefusal>
     requires draft { IsDraft draft }
-    requires few { length draft.moves.items ≤ 65536 }
+    requires few { length draft.moves.items ≤ MOST_ENTRIES }
     ensures moves { IfOk result (λ r. r.moves ≡ draft.moves.items) }
     ensures states { IfOk result (λ r. r.states ≡ states_named draft.moves.items) }
     ensures lines { IfOk result (λ r. r.lines ≡ lines_named draft.moves.items) }

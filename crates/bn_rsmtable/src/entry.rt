@@ -1,10 +1,11 @@
 //! One entry of a table of moves.
 
 ghost use Rattle.std.specs.Prelude.{◌≡◌, ◌<◌, ◌+◌, ◌∷◌, [], true, false, decimal, MatchOption, IfOk};
-ghost use Rattle.bn_rsmtable.specs.Entry.{IsMove, entry_of, most};
+ghost use Rattle.bn_rsmtable.specs.Entry.{IsMove, entry_of};
 ghost use Rattle.bn_rsmtable.specs.Faults as fault;
 ghost use Rattle.bn_rsmtable.specs.Faults.{entry_fault, field_fault};
 ghost use Rattle.bn_rsmtable.specs.Fields.{err_of};
+ghost use Rattle.bn_rsmtable.specs.declared.entry.TheConstants.{MOST_NUMBER};
 
 use crate::refusal::RsmTableRefusal;
 use bn_base::read_u64;
@@ -12,18 +13,19 @@ use bn_entries::Entry;
 use bn_rsm::RsmMove;
 
 /// The most entries of a table.
-pub const MOST_ENTRIES: u32 = 65536;
+pub const MOST_ENTRIES: u32 = 65_536;
 
 /// The greatest number of an entry.
-pub const MOST: u64 = 1048576;
+pub const MOST_NUMBER: u64 = 1_048_576;
 
-// The number that a field is, less one; `None` exactly where it is none from 1 to 1,048,576.
+// The number that a field is, less one; `None` exactly where it is none from 1 to `MOST_NUMBER`.
 fn number_of(field: &[u8]) -> Option<u32>
-    ensures { MatchOption result (fault.is_number field.now ≡ false) (λ n. (fault.is_number field.now ≡ true) × (n < most) × (field.now ≡ decimal (n + 1))) }
+    ensures { MatchOption result (fault.is_number field.now ≡ false) (λ n. (fault.is_number field.now ≡ true)
+        × (n < MOST_NUMBER) × (field.now ≡ decimal (n + 1))) }
 {
     match read_u64(field, 0) {
         Ok((number, behind)) => {
-            if behind == field.len() && 0 < number && number <= MOST {
+            if behind == field.len() && 0 < number && number <= MOST_NUMBER {
                 Some(number as u32 - 1)
             } else {
                 None

@@ -1,6 +1,7 @@
 //! Laws of the definitions. Each function does nothing but name the laws that it rests on; its contract is the law.
 
-ghost use Rattle.bn_rsmtable.specs.Reading.{OneReading, ReadingOrFault, MachineOrRefusal, MachinesAreNotRefused, OneMachine, OneRefusal};
+ghost use Rattle.bn_rsmtable.specs.Reading.{OneReading, ReadingOrFault, MachineOrRefusal, MachinesAreNotRefused};
+ghost use Rattle.bn_rsmtable.specs.Reading.{OneMachine, OneRefusal};
 
 use bn_rsm::{moves_are_sound_or_refused, refusals_are_one, sound_moves_are_taken};
 

@@ -12,14 +12,14 @@ pub enum RsmTableRefusal {
         /// The entry's number, from 1.
         entry: u32,
     },
-    /// The field is no number from 1 to 1,048,576.
+    /// The field is no number from 1 to `MOST_NUMBER`.
     Number {
         /// The entry's number, from 1.
         entry: u32,
         /// The field's number, from 1.
         field: u32,
     },
-    /// The entry comes after 65,536 others, so it is entry 65,537.
+    /// The entry comes after `MOST_ENTRIES` others.
     TooMany {
         /// The entry's number, from 1.
         entry: u32,

@@ -13,6 +13,7 @@ use Rattle.bn_entries.specs.Numbering.{AreNumberedByFirst, firsts, numbers_from}
 use Rattle.bn_entries.proofs.NumberingLemmas.{AreNumbersOf, apart-firsts, both_true, length-firsts, no_more_than, numbered-by-first}
 use Rattle.bn_machine.specs.Machine.{IsInRange}
 use Rattle.bn_machine.specs.declared.quint.Quint.{Quint}
+use Rattle.bn_table.specs.declared.entry.TheConstants.{MOST_ENTRIES}
 use Rattle.bn_table.specs.Rows.{FitsTable, IsTable, Named, Spells, blank, letters_in, names_in, rows_by, rows_of, states_in}
 
 in-numbers : (first count b : ℕ) → first ≤ b → b < first + count → list_any (nat_eq b) (numbers_from first count) ≡ true
@@ -94,7 +95,7 @@ fits_table t h =
     let s = h.spelled in
     let numbers = numbers-of-rows t.names t.letters t.machine.quints s.in_range in
     let count : length (rows_of t) ≡ length t.machine.quints = length-map t.machine.quints _ in
-    let few : length t.machine.quints ≤ 4000 = omega (arith, h.few) in
+    let few : length t.machine.quints ≤ MOST_ENTRIES = omega (arith, h.few) in
     record {
       numbered = rw h.states (numbered-names t.names (states_in t.machine.quints) (names_in (rows_of t)) s.names_by_first numbers);
       quints = few;

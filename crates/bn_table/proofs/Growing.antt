@@ -1,38 +1,19 @@
 -- One more entry of a table.
-use Rattle.std.proofs.Common.{◌≡◌, ◌<◌, ◌≤◌, ◌+◌, ◌∷◌, ◌++◌, ◌∙◌, ℕ, suc, zero, true, List, [], length, Some, refl, sym, ap, subst, inl, inr, arith, slice_get, append_assoc, nat_eq, length-append, All}
-use Rattle.std.specs.Prelude.{bytes_eq, slice_index, slice_index_or}
-use Rattle.std.specs.List.{list_all, list_any}
-use Rattle.std.proofs.lemmas.Bool.{cases_Bool}
+use Rattle.std.proofs.Common.{◌≡◌, ◌≤◌, ◌∷◌, ◌++◌, ◌∙◌, ℕ, true, List, [], length, Some, refl, sym, ap, subst, arith, slice_get, append_assoc, nat_eq, length-append, All}
+use Rattle.std.specs.Prelude.{bytes_eq}
 use Rattle.std.proofs.lemmas.Bool.Decides.{Decides-eqb}
-use Rattle.std.proofs.lemmas.List.{append-nil, map-append}
+use Rattle.std.proofs.lemmas.List.{map-append}
 use Rattle.std.proofs.lemmas.List.Concat.{flat_map-append}
 use Rattle.std.proofs.lemmas.List.Elements.{All-nil, All-push, All-head, All-tail, All-weaker}
-use Rattle.std.proofs.lemmas.List.Folds.{list_all-append}
 use Rattle.std.proofs.lemmas.Option.{slice_get_within, get_or_from_slice_get}
 use Rattle.bn_entries.specs.Forms.{is_state_name, is_symbol_byte}
 use Rattle.bn_entries.specs.Numbering.{firsts, firsts_by, with_name}
-use Rattle.bn_entries.proofs.NumberingLemmas.{firsts-push, firsts_push, number_stays, with_name-grows}
+use Rattle.bn_entries.proofs.NumberingLemmas.{firsts-push, firsts_push}
+use Rattle.bn_entries.proofs.AddedLemmas.{front, new_all, new_grows}
 use Rattle.bn_machine.specs.Machine.{IsInRange}
 use Rattle.bn_machine.specs.declared.quint.Quint.{Quint}
 use Rattle.bn_table.specs.Entry.{Said, entry_of}
 use Rattle.bn_table.specs.Rows.{Spells, blank, field_at, letters_in, names_in, rows_by, said_of, with_letter}
-
-pub with_letter-grows : (letters : List ℕ) (letter : ℕ) → (more : List ℕ) × (with_letter letters letter ≡ letters ++ more)
-with_letter-grows letters letter = elim (cases_Bool (list_any (nat_eq letter) letters)) [
-  | inl hit ↦ ([], rw (hit, append-nil letters) refl)
-  | inr miss ↦ (letter ∷ [], rw miss refl)
-]
-
--- a look-up in front of what was added
-front_name : (names more : List (List ℕ)) (n : ℕ) → n < length names → slice_index_or (names ++ more) n [] ≡ slice_index_or names n []
-front_name [] more n h = absurd (omega arith)
-front_name (x ∷ xs) more zero h = refl
-front_name (x ∷ xs) more (suc n) h = front_name xs more n (omega arith)
-
-front_letter : (letters more : List ℕ) (n : ℕ) → n < length letters → slice_index (letters ++ more) n ≡ slice_index letters n
-front_letter [] more n h = absurd (omega arith)
-front_letter (x ∷ xs) more zero h = refl
-front_letter (x ∷ xs) more (suc n) h = front_letter xs more n (omega arith)
 
 -- the entries of quintuples stay when names and letters are added
 rows-stay : (names more : List (List ℕ)) (letters extra : List ℕ) (quints : List Quint) → All (IsInRange (length names) (length letters)) quints
@@ -40,7 +21,7 @@ rows-stay : (names more : List (List ℕ)) (letters extra : List ℕ) (quints : 
 rows-stay names more letters extra [] h = refl
 rows-stay names more letters extra (q ∷ qs) h =
     let here : IsInRange (length names) (length letters) q = All-head (IsInRange (length names) (length letters)) q qs h in
-    rw (front_name names more q.state here.state, front_letter letters extra q.read here.read, front_letter letters extra q.write here.write, front_name names more q.next here.next)
+    rw (front names more [] q.state here.state, front letters extra 0 q.read here.read, front letters extra 0 q.write here.write, front names more [] q.next here.next)
     (ap (λ (t : List (List (List ℕ))). entry_of (said_of names letters q) ∷ t) (rows-stay names more letters extra qs (All-tail (IsInRange (length names) (length letters)) q qs h)))
 
 wider : (states symbols f z : ℕ) → states ≤ f → symbols ≤ z → (q : Quint) → IsInRange states symbols q → IsInRange f z q
@@ -84,27 +65,15 @@ letters-after entries s =
     ap (λ (t : List ℕ). blank ∷ t) (flat_map-append (λ fields. field_at fields 1 ++ field_at fields 2) entries (entry_of s ∷ []) ∙ sym (append_assoc (letters_in entries) (s.read ∷ []) (s.write ∷ []))) in
     rw more (firsts-push nat_eq Decides-eqb ((blank ∷ letters_in entries) ++ s.read ∷ []) s.write ∙ rw (firsts-push nat_eq Decides-eqb (blank ∷ letters_in entries) s.read) refl)
 
-names-form : (names : List (List ℕ)) (name : List ℕ) → list_all is_state_name names ≡ true → is_state_name name ≡ true → list_all is_state_name (with_name names name) ≡ true
-names-form names name all here = elim (cases_Bool (list_any (bytes_eq name) names)) [
-  | inl hit ↦ rw hit all
-  | inr miss ↦ rw (miss, list_all-append is_state_name names (name ∷ []), all, here) refl
-]
-
-letters-form : (letters : List ℕ) (letter : ℕ) → list_all is_symbol_byte letters ≡ true → is_symbol_byte letter ≡ true → list_all is_symbol_byte (with_letter letters letter) ≡ true
-letters-form letters letter all here = elim (cases_Bool (list_any (nat_eq letter) letters)) [
-  | inl hit ↦ rw hit all
-  | inr miss ↦ rw (miss, list_all-append is_symbol_byte letters (letter ∷ []), all, here) refl
-]
-
 -- one more entry, and its quintuple
 pub spells-more : (names : List (List ℕ)) (letters : List ℕ) (quints : List Quint) (entries : List (List (List ℕ))) (s : Said) (q : Quint) (names2 : List (List ℕ)) (letters2 : List ℕ)
     → Spells names letters quints entries → Adds names letters s q names2 letters2
     → Spells names2 letters2 (quints ++ q ∷ []) (entries ++ entry_of s ∷ [])
 spells-more names letters quints entries s q names2 letters2 h a =
-    let (m1, first) = with_name-grows names s.state in
-    let (m2, second) = with_name-grows (with_name names s.state) s.next in
-    let (k1, third) = with_letter-grows letters s.read in
-    let (k2, fourth) = with_letter-grows (with_letter letters s.read) s.write in
+    let (m1, first) = new_grows bytes_eq names s.state in
+    let (m2, second) = new_grows bytes_eq (with_name names s.state) s.next in
+    let (k1, third) = new_grows nat_eq letters s.read in
+    let (k2, fourth) = new_grows nat_eq (with_letter letters s.read) s.write in
     let grown : names2 ≡ names ++ (m1 ++ m2) = a.names_after ∙ second ∙ ap (λ (t : List (List ℕ)). t ++ m2) first ∙ append_assoc names m1 m2 in
     let spread : letters2 ≡ letters ++ (k1 ++ k2) = a.letters_after ∙ fourth ∙ ap (λ (t : List ℕ). t ++ k2) third ∙ append_assoc letters k1 k2 in
     let longer : length names ≤ length names2 = rw grown (omega (arith, length-append names (m1 ++ m2))) in
@@ -121,8 +90,8 @@ spells-more names letters quints entries s q names2 letters2 h a =
       in_range = All-push (IsInRange (length names2) (length letters2)) quints q (All-weaker (IsInRange (length names) (length letters)) (IsInRange (length names2) (length letters2)) (wider (length names) (length letters) (length names2) (length letters2) longer wide) quints h.in_range) here;
       names_by_first = a.names_after ∙ rw h.names_by_first (sym (names-after entries s));
       letters_by_first = a.letters_after ∙ rw h.letters_by_first (sym (letters-after entries s));
-      names_form = rw a.names_after (names-form (with_name names s.state) s.next (names-form names s.state h.names_form a.state_form) a.next_form);
-      letters_form = rw a.letters_after (letters-form (with_letter letters s.read) s.write (letters-form letters s.read h.letters_form a.read_form) a.write_form);
+      names_form = rw a.names_after (new_all bytes_eq is_state_name (with_name names s.state) s.next (new_all bytes_eq is_state_name names s.state h.names_form a.state_form) a.next_form);
+      letters_form = rw a.letters_after (new_all nat_eq is_symbol_byte (with_letter letters s.read) s.write (new_all nat_eq is_symbol_byte letters s.read h.letters_form a.read_form) a.write_form);
     }
 
 -- no entry
@@ -147,23 +116,3 @@ pub one-drafted : (names : List (List ℕ)) (letters : List ℕ) (quints : List 
 one-drafted names letters quints s q names2 letters2 quints2 h a e =
     let more = spells-more names letters quints (rows_by names letters quints) s q names2 letters2 h a in
     rw e (spells-own names2 letters2 (quints ++ q ∷ []) (rows_by names letters quints ++ entry_of s ∷ []) more, more.rows)
-
--- one more name or letter is at most one more
-pub length-with_name : (names : List (List ℕ)) (name : List ℕ) → length (with_name names name) ≤ length names + 1
-length-with_name names name = elim (cases_Bool (list_any (bytes_eq name) names)) [
-  | inl hit ↦ rw hit (omega arith)
-  | inr miss ↦ rw (miss, length-append names (name ∷ [])) (omega arith)
-]
-
-pub length-with_letter : (letters : List ℕ) (letter : ℕ) → length (with_letter letters letter) ≤ length letters + 1
-length-with_letter letters letter = elim (cases_Bool (list_any (nat_eq letter) letters)) [
-  | inl hit ↦ rw hit (omega arith)
-  | inr miss ↦ rw (miss, length-append letters (letter ∷ [])) (omega arith)
-]
-
--- a number stays when a name or a letter is added
-pub name-stays : (names : List (List ℕ)) (later name : List ℕ) (n : ℕ) → slice_get names n ≡ Some name → slice_get (with_name names later) n ≡ Some name
-name-stays names later name n at = let (more, grown) = with_name-grows names later in rw grown (number_stays names more n name at)
-
-pub letter-stays : (letters : List ℕ) (later letter n : ℕ) → slice_get letters n ≡ Some letter → slice_get (with_letter letters later) n ≡ Some letter
-letter-stays letters later letter n at = let (more, grown) = with_letter-grows letters later in rw grown (number_stays letters more n letter at)

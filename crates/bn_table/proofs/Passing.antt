@@ -1,15 +1,17 @@
 -- Entries without a fault, and what they say.
-use Rattle.std.proofs.Common.{◌≡◌, ◌≤◌, ◌∷◌, ◌∙◌, ℕ, Bool, true, false, not, List, [], length, Option, Some, None, refl, inl, inr, arith, slice_get, nat_lt, if◌then◌else◌}
+use Rattle.std.proofs.Common.{◌≡◌, ◌≤◌, ◌∷◌, ◌∙◌, ℕ, true, List, [], length, Some, None, refl, inl, inr, arith, slice_get}
 use Rattle.std.specs.Prelude.{bytes_eq, ◌==◌}
-use Rattle.std.proofs.lemmas.Bool.{cases_Bool, false≢true, ltb-false, le-ltb}
+use Rattle.std.proofs.lemmas.Bool.{cases_Bool, false≢true}
 use Rattle.std.proofs.lemmas.Bool.Decides.{Decides-eqb}
 use Rattle.std.proofs.lemmas.Slice.Eq.{bytes_eq-Decides}
 use Rattle.bn_entries.specs.Forms.{is_letter, is_state_name, is_symbol_byte}
+use Rattle.bn_entries.proofs.FaultLemmas.{in_number, passed, within_number}
 use Rattle.bn_entries.proofs.NumberingLemmas.{both_true}
 use Rattle.bn_machine.specs.declared.quint.Shift.{Shift}
 use Rattle.bn_machine.specs.declared.quint.Shift.TheVariants.{Left, Stay, Right}
 use Rattle.bn_table.specs.Entry.{Said, HasForms, entry_of, is_shift, shift_text}
 use Rattle.bn_table.specs.Faults.{entry_fault, field_fault, form_fault}
+use Rattle.bn_table.specs.declared.entry.TheConstants.{MOST_ENTRIES}
 use Rattle.bn_table.specs.declared.refusal.TableRefusal.TheVariants as refusal
 
 -- five fields
@@ -32,10 +34,6 @@ not_five entry (v ∷ w ∷ x ∷ []) h = refl
 not_five entry (v ∷ w ∷ x ∷ y ∷ []) h = refl
 not_five entry (v ∷ w ∷ x ∷ y ∷ z ∷ []) h = absurd (h refl)
 not_five entry (v ∷ w ∷ x ∷ y ∷ z ∷ u ∷ us) h = refl
-
-passed : {X : Type 0} (b : Bool) (x : X) (rest : Option X) → (if not b then Some x else rest) ≡ None → (b ≡ true) × (rest ≡ None)
-passed true x rest e = (refl, e)
-passed false x rest e = cc e
 
 letter_is : (field : List ℕ) → is_letter field ≡ true → (b : ℕ) × (field ≡ b ∷ []) × (is_symbol_byte b ≡ true)
 letter_is [] e = absurd (false≢true e)
@@ -91,20 +89,14 @@ five-or-fault n (a ∷ b ∷ c ∷ []) h = cc h
 five-or-fault n (a ∷ b ∷ c ∷ d ∷ []) h = cc h
 five-or-fault n (a ∷ b ∷ c ∷ d ∷ e ∷ f ∷ fs) h = cc h
 
-in-number : (n : ℕ) (fields : List (List ℕ)) → entry_fault n fields ≡ None → (n ≤ 4000) × (form_fault n fields ≡ None)
-in-number n fields h = elim (cases_Bool (nat_lt 4000 n)) [
-  | inl past ↦ let none : Some (refusal.TooMany n) ≡ None = rw past at h in cc
-  | inr within ↦ (ltb-false 4000 n within, rw within at h)
-]
-
 five-said : (a b c d e : List ℕ) (r w : ℕ) (s : Shift) → b ≡ r ∷ [] → c ≡ w ∷ [] → d ≡ shift_text s
     → a ∷ b ∷ c ∷ d ∷ e ∷ [] ≡ a ∷ (r ∷ []) ∷ (w ∷ []) ∷ shift_text s ∷ e ∷ []
 five-said a b c d e r w s read write shift = rw (read, write, shift) refl
 
 -- an entry without a fault says something, in the right forms
-pub says : (n : ℕ) (fields : List (List ℕ)) → entry_fault n fields ≡ None → (n ≤ 4000) × ((s : Said) × (fields ≡ entry_of s) × HasForms s)
+pub says : (n : ℕ) (fields : List (List ℕ)) → entry_fault n fields ≡ None → (n ≤ MOST_ENTRIES) × ((s : Said) × (fields ≡ entry_of s) × HasForms s)
 says n fields h =
-    let (few, form) = in-number n fields h in
+    let (few, form) = in_number MOST_ENTRIES refusal.TooMany form_fault n fields h in
     let (a, b, c, d, e, is, p) = five-or-fault n fields form in
     let (r, read, read-form) = letter_is b p.read in
     let (w, write, write-form) = letter_is c p.write in
@@ -118,9 +110,9 @@ says n fields h =
     )
 
 -- what an entry without a fault says has the right forms
-pub forms : (n : ℕ) (s : Said) → entry_fault n (entry_of s) ≡ None → (n ≤ 4000) × HasForms s
+pub forms : (n : ℕ) (s : Said) → entry_fault n (entry_of s) ≡ None → (n ≤ MOST_ENTRIES) × HasForms s
 forms n s h =
-    let (few, form) = in-number n (entry_of s) h in
+    let (few, form) = in_number MOST_ENTRIES refusal.TooMany form_fault n (entry_of s) h in
     let p = fields-pass n s.state (s.read ∷ []) (s.write ∷ []) (shift_text s.shift) s.next form in (
       few,
       record {
@@ -131,6 +123,6 @@ forms n s h =
       },
     )
 
--- the first 4,000 entries in the right forms have no fault
-pub no_fault : (n : ℕ) (s : Said) → n ≤ 4000 → HasForms s → entry_fault n (entry_of s) ≡ None
-no_fault n s few h = rw (le-ltb 4000 n few) (fields-back n s h)
+-- as many entries in the right forms as a table may have have no fault
+pub no_fault : (n : ℕ) (s : Said) → n ≤ MOST_ENTRIES → HasForms s → entry_fault n (entry_of s) ≡ None
+no_fault n s few h = within_number MOST_ENTRIES refusal.TooMany form_fault n (entry_of s) few ∙ fields-back n s h

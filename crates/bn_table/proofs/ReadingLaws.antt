@@ -1,28 +1,28 @@
 -- Bytes have one reading, and have one exactly where their entries have no fault.
-use Rattle.std.proofs.Common.{◌≡◌, ◌<◌, ◌≤◌, ◌+◌, ◌∷◌, ◌++◌, ◌∙◌, ℕ, true, List, [], length, Option, Some, None, refl, sym, ap, inl, inr, arith, slice_get, nat_eq, append_assoc, length-append, All}
-use Rattle.std.specs.Prelude.{bytes_eq, slice_index, slice_index_or}
-use Rattle.std.specs.List.{list_all, list_any}
-use Rattle.std.proofs.lemmas.Bool.{cases_Bool}
+use Rattle.std.proofs.Common.{◌≡◌, ◌≤◌, ◌+◌, ◌∷◌, ◌++◌, ◌∙◌, ℕ, true, List, [], length, None, refl, sym, ap, arith, nat_eq, length-append, All}
+use Rattle.std.specs.Prelude.{bytes_eq}
+use Rattle.std.specs.List.{list_all}
 use Rattle.std.proofs.lemmas.Bool.Decides.{Decides-eqb}
-use Rattle.std.proofs.lemmas.List.{append-nil, length-map}
 use Rattle.std.proofs.lemmas.List.Elements.{All-head, All-tail}
-use Rattle.std.proofs.lemmas.List.Folds.{list_any-append}
 use Rattle.std.proofs.lemmas.Option.{slice_get-get_or}
 use Rattle.std.proofs.lemmas.Slice.Eq.{bytes_eq-Decides}
 use Rattle.bn_entries.specs.Forms.{is_state_name, is_symbol_byte}
 use Rattle.bn_entries.proofs.FormsLemmas.{all-at}
 use Rattle.bn_entries.specs.Numbering.{with_name}
 use Rattle.bn_entries.specs.NumberingLaws.{AreApart}
-use Rattle.bn_entries.proofs.NumberingLemmas.{apart-firsts, number_stays, one_number, some_number, with_name-grows}
+use Rattle.bn_entries.proofs.AddedLemmas.{first_number, last_number, same_at}
+use Rattle.bn_entries.proofs.FaultLemmas.{kept_to_last, none_faulty}
+use Rattle.bn_entries.proofs.NumberingLemmas.{apart-firsts}
 use Rattle.bn_machine.specs.Machine.{IsInRange, program_of}
 use Rattle.bn_machine.specs.declared.quint.Quint.{Quint}
 use Rattle.bn_machine.specs.declared.quint.Shift.{Shift}
 use Rattle.bn_machine.specs.declared.quint.Shift.TheVariants.{Left, Stay, Right}
 use Rattle.bn_table.specs.Entry.{Said, HasForms, entry_of, shift_text}
-use Rattle.bn_table.specs.Faults.{else_fault, entry_fault, fault_from, fault_of}
+use Rattle.bn_table.specs.Faults.{entry_fault, fault_of}
 use Rattle.bn_table.specs.Rows.{IsTableOf, Named, Spells, blank, letters_in, named, names_in, rows_by, said_of, with_letter}
-use Rattle.bn_table.specs.declared.refusal.TableRefusal.{TableRefusal}
-use Rattle.bn_table.proofs.Growing.{Adds, spells-more, spells-none, with_letter-grows}
+use Rattle.bn_table.specs.declared.entry.TheConstants.{MOST_ENTRIES}
+use Rattle.bn_table.specs.declared.refusal.TableRefusal.TheVariants as refusal
+use Rattle.bn_table.proofs.Growing.{Adds, spells-more, spells-none}
 use Rattle.bn_table.proofs.Passing.{no_fault, says}
 
 -- ---- one reading
@@ -37,18 +37,6 @@ one_shift Stay Right e = cc e
 one_shift Right Left e = cc e
 one_shift Right Stay e = cc e
 one_shift Right Right e = refl
-
-same-name : (names : List (List ℕ)) (m n : ℕ) → AreApart bytes_eq bytes_eq-Decides names → m < length names → n < length names
-    → slice_index_or names m [] ≡ slice_index_or names n [] → m ≡ n
-same-name names m n apart a b e =
-    one_number bytes_eq bytes_eq-Decides names m n (slice_index_or names n []) apart
-    (slice_get-get_or names m [] a ∙ ap (λ (t : List ℕ). Some t) e) (slice_get-get_or names n [] b)
-
-same-letter : (letters : List ℕ) (m n : ℕ) → AreApart nat_eq Decides-eqb letters → m < length letters → n < length letters
-    → slice_index letters m ≡ slice_index letters n → m ≡ n
-same-letter letters m n apart a b e =
-    one_number nat_eq Decides-eqb letters m n (slice_index letters n) apart
-    (slice_get-get_or letters m 0 a ∙ ap (λ (t : ℕ). Some t) e) (slice_get-get_or letters n 0 b)
 
 same-quint : (q r : Quint) → q.state ≡ r.state → q.read ≡ r.read → q.write ≡ r.write → q.shift ≡ r.shift → q.next ≡ r.next → q ≡ r
 same-quint q r a b c d e = λ i. record { state = a i; read = b i; write = c i; shift = d i; next = e i }
@@ -78,11 +66,11 @@ same-rows names letters a b (q ∷ qs) (r ∷ rs) h k e =
     let tail : rows_by names letters qs ≡ rows_by names letters rs = cc in
     let same = same-said (said_of names letters q) (said_of names letters r) head in
     let one : q ≡ r = same-quint q r
-    (same-name names q.state r.state a here.state there.state same.state)
-    (same-letter letters q.read r.read b here.read there.read same.read)
-    (same-letter letters q.write r.write b here.write there.write same.write)
+    (same_at bytes_eq bytes_eq-Decides names [] q.state r.state a here.state there.state same.state)
+    (same_at nat_eq Decides-eqb letters 0 q.read r.read b here.read there.read same.read)
+    (same_at nat_eq Decides-eqb letters 0 q.write r.write b here.write there.write same.write)
     (one_shift q.shift r.shift same.shift)
-    (same-name names q.next r.next a here.next there.next same.next) in
+    (same_at bytes_eq bytes_eq-Decides names [] q.next r.next a here.next there.next same.next) in
     let rest : qs ≡ rs = same-rows names letters a b qs rs (All-tail In q qs h) (All-tail In r rs k) tail in
     λ i. one i ∷ rest i
 
@@ -105,54 +93,21 @@ one_reading entries t u h k =
 
 -- ---- a reading or a fault
 
-neither : (a b : Option TableRefusal) → else_fault a b ≡ None → (a ≡ None) × (b ≡ None)
-neither None b e = (refl, e)
-neither (Some x) b e = cc e
-
-faultless : (n : ℕ) (fields : List (List ℕ)) (rest : List (List (List ℕ))) → fault_from n (fields ∷ rest) ≡ None → (entry_fault n fields ≡ None) × (fault_from (n + 1) rest ≡ None)
-unfolding fault_from
-faultless n fields rest e = neither (entry_fault n fields) (fault_from (n + 1) rest) e
-
-in-with_name : (names : List (List ℕ)) (name : List ℕ) → list_any (bytes_eq name) (with_name names name) ≡ true
-in-with_name names name = elim (cases_Bool (list_any (bytes_eq name) names)) [
-  | inl hit ↦ rw (hit, hit) refl
-  | inr miss ↦ rw (miss, list_any-append (bytes_eq name) names (name ∷ []), miss, (bytes_eq-Decides name name).1 refl) refl
-]
-
-in-with_letter : (letters : List ℕ) (letter : ℕ) → list_any (nat_eq letter) (with_letter letters letter) ≡ true
-in-with_letter letters letter = elim (cases_Bool (list_any (nat_eq letter) letters)) [
-  | inl hit ↦ rw (hit, hit) refl
-  | inr miss ↦ rw (miss, list_any-append (nat_eq letter) letters (letter ∷ []), miss, (Decides-eqb letter letter).1 refl) refl
-]
-
--- the name added first keeps its number
-first-number : (names : List (List ℕ)) (name later : List ℕ) → (n : ℕ) × (slice_get (with_name (with_name names name) later) n ≡ Some name)
-first-number names name later =
-    let (n, at) = some_number bytes_eq bytes_eq-Decides name (with_name names name) (in-with_name names name) in
-    let (more, grown) = with_name-grows (with_name names name) later in
-    (n, rw grown (number_stays (with_name names name) more n name at))
-
-first-letter : (letters : List ℕ) (letter later : ℕ) → (n : ℕ) × (slice_get (with_letter (with_letter letters letter) later) n ≡ Some letter)
-first-letter letters letter later =
-    let (n, at) = some_number nat_eq Decides-eqb letter (with_letter letters letter) (in-with_letter letters letter) in
-    let (more, grown) = with_letter-grows (with_letter letters letter) later in
-    (n, rw grown (number_stays (with_letter letters letter) more n letter at))
-
 -- the names, letters and quintuples of entries
 record Spelling (entries : List (List (List ℕ))) : Type 0 where
   names : List (List ℕ)
   letters : List ℕ
   quints : List Quint
   spells : Spells names letters quints entries
-  few : length entries ≤ 4000
+  few : length entries ≤ MOST_ENTRIES
 
-one-more : (names : List (List ℕ)) (letters : List ℕ) (quints : List Quint) (done : List (List (List ℕ))) (s : Said) → HasForms s → Spells names letters quints done → length done + 1 ≤ 4000
+one-more : (names : List (List ℕ)) (letters : List ℕ) (quints : List Quint) (done : List (List (List ℕ))) (s : Said) → HasForms s → Spells names letters quints done → length done + 1 ≤ MOST_ENTRIES
     → Spelling (done ++ entry_of s ∷ [])
 one-more names letters quints done s f h few =
-    let (n1, state) = first-number names s.state s.next in
-    let (n2, next) = some_number bytes_eq bytes_eq-Decides s.next (with_name (with_name names s.state) s.next) (in-with_name (with_name names s.state) s.next) in
-    let (k1, read) = first-letter letters s.read s.write in
-    let (k2, write) = some_number nat_eq Decides-eqb s.write (with_letter (with_letter letters s.read) s.write) (in-with_letter (with_letter letters s.read) s.write) in
+    let (n1, state) = first_number bytes_eq bytes_eq-Decides names s.state s.next in
+    let (n2, next) = last_number bytes_eq bytes_eq-Decides (with_name names s.state) s.next in
+    let (k1, read) = first_number nat_eq Decides-eqb letters s.read s.write in
+    let (k2, write) = last_number nat_eq Decides-eqb (with_letter letters s.read) s.write in
     let q : Quint = record { state = n1; read = k1; write = k2; shift = s.shift; next = n2 } in
     let adds : Adds names letters s q (with_name (with_name names s.state) s.next) (with_letter (with_letter letters s.read) s.write) = record {
       names_after = refl;
@@ -175,28 +130,18 @@ one-more names letters quints done s f h few =
       few = omega (arith, length-append done (entry_of s ∷ []));
     }
 
-build : (n : ℕ) (done rest : List (List (List ℕ))) → Spelling done → n ≡ length done + 1 → fault_from n rest ≡ None → Spelling (done ++ rest)
-build n done [] so count e = rw (append-nil done) so
-build n done (fields ∷ rest) so count e =
-    let (here, later) = faultless n fields rest e in
-    let (few, said) = says n fields here in
-    let (s, is, f) = said in
-    let next : Spelling (done ++ fields ∷ []) = rw is (one-more so.names so.letters so.quints done s f so.spells (omega arith)) in
-    let counted : n + 1 ≡ length (done ++ fields ∷ []) + 1 = omega (arith, length-append done (fields ∷ [])) in
-    rw (← append_assoc done (fields ∷ []) rest) (build (n + 1) (done ++ fields ∷ []) rest next counted later)
-
 nothing : Spelling []
 nothing = record { names = []; letters = blank ∷ []; quints = []; spells = spells-none; few = omega arith }
 
-not_empty : (entries : List (List (List ℕ))) → fault_of entries ≡ None → (0 < length entries) × (fault_from 1 entries ≡ None)
-unfolding fault_of
-not_empty [] e = cc e
-not_empty (fields ∷ rest) e = (omega arith, e)
+next-spelling : (done : List (List (List ℕ))) (fields : List (List ℕ)) → Spelling done → entry_fault (length done + 1) fields ≡ None → Spelling (done ++ fields ∷ [])
+next-spelling done fields so here =
+    let (few, said) = says (length done + 1) fields here in
+    let (s, is, f) = said in
+    rw is (one-more so.names so.letters so.quints done s f so.spells few)
 
 pub reading_of : (entries : List (List (List ℕ))) → fault_of entries ≡ None → (t : Named) × IsTableOf entries t
 reading_of entries e =
-    let (some, none) = not_empty entries e in
-    let so = build 1 [] entries nothing refl none in (
+    let (some, so) = kept_to_last refusal.Empty entry_fault Spelling nothing next-spelling entries e in (
       named (program_of so.quints (length so.names) (length so.letters)) so.names so.letters,
       record { spelled = so.spells; some = some; few = so.few; states = refl; symbols = refl },
     )
@@ -210,22 +155,10 @@ row-forms names letters q f g h = record {
   next = all-at is_state_name names q.next _ f (slice_get-get_or names q.next [] h.next);
 }
 
-no-faults : (n : ℕ) (names : List (List ℕ)) (letters : List ℕ) (quints : List Quint) → n + length quints ≤ 4001 → list_all is_state_name names ≡ true → list_all is_symbol_byte letters ≡ true
-    → All (IsInRange (length names) (length letters)) quints → fault_from n (rows_by names letters quints) ≡ None
-unfolding fault_from
-no-faults n names letters [] few f g h = refl
-no-faults n names letters (q ∷ qs) few f g h =
-    let In : Quint → Type 0 = IsInRange (length names) (length letters) in
-    rw (no_fault n (said_of names letters q) (omega arith) (row-forms names letters q f g (All-head In q qs h)))
-    (no-faults (n + 1) names letters qs (omega arith) f g (All-tail In q qs h))
-
-some-fault : (entries : List (List (List ℕ))) → 0 < length entries → fault_of entries ≡ fault_from 1 entries
-unfolding fault_of
-some-fault [] h = absurd (omega arith)
-some-fault (fields ∷ rest) h = refl
-
 pub no_fault_of : (entries : List (List (List ℕ))) (t : Named) → IsTableOf entries t → fault_of entries ≡ None
 no_fault_of entries t h =
     let s = h.spelled in
-    let count : length entries ≡ length t.machine.quints = ap (λ (xs : List (List (List ℕ))). length xs) (sym s.rows) ∙ length-map t.machine.quints _ in
-    some-fault entries h.some ∙ rw (← s.rows) (no-faults 1 t.names t.letters t.machine.quints (omega (arith, h.few)) s.names_form s.letters_form s.in_range)
+    let In : Quint → Type 0 = IsInRange (length t.names) (length t.letters) in
+    none_faulty refusal.Empty entry_fault (λ (q : Quint). entry_of (said_of t.names t.letters q)) In MOST_ENTRIES
+    (λ n q few within. no_fault n (said_of t.names t.letters q) few (row-forms t.names t.letters q s.names_form s.letters_form within))
+    entries t.machine.quints s.rows h.some h.few s.in_range

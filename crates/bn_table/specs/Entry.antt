@@ -12,7 +12,8 @@ shift_text Right = 43 ∷ []
 
 -- whether some bytes are the text of a shift
 abbrev pub is_shift : List ℕ → Bool
-is_shift field = bytes_eq field (shift_text Left) || bytes_eq field (shift_text Stay) || bytes_eq field (shift_text Right)
+is_shift field = bytes_eq field (shift_text Left) || bytes_eq field (shift_text Stay)
+    || bytes_eq field (shift_text Right)
 
 -- what an entry says: a state's name, the letter read, the letter written, a shift, and the next state's name
 pub record Said : Type 0 where

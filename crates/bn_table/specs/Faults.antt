@@ -1,7 +1,9 @@
 -- The first fault of a table's entries. Entries and fields are counted from 1.
-use Rattle.std.specs.Prelude.{ℕ, ◌+◌, not, nat_lt, if◌then◌else◌, List, [], ◌∷◌, Option, Some, None}
+use Rattle.std.specs.Prelude.{ℕ, not, if◌then◌else◌, List, [], ◌∷◌, Option, Some, None}
+use Rattle.bn_entries.specs.Faults.{first_fault, limited}
 use Rattle.bn_entries.specs.Forms.{is_letter, is_state_name}
 use Rattle.bn_table.specs.Entry.{is_shift}
+use Rattle.bn_table.specs.declared.entry.TheConstants.{MOST_ENTRIES}
 use Rattle.bn_table.specs.declared.refusal.TableRefusal.{TableRefusal}
 use Rattle.bn_table.specs.declared.refusal.TableRefusal.TheVariants as refusal
 
@@ -20,20 +22,10 @@ abbrev pub form_fault : ℕ → List (List ℕ) → Option TableRefusal
 form_fault entry (state ∷ read ∷ write ∷ shift ∷ next ∷ []) = field_fault entry state read write shift next
 form_fault entry fields = Some (refusal.FieldCount entry)
 
--- the first fault of the entry with this number: it comes after 4,000 others, or its fields have a fault
+-- the first fault of the entry with this number: it comes after as many as a table may have, or its fields have a fault
 abbrev pub entry_fault : ℕ → List (List ℕ) → Option TableRefusal
-entry_fault entry fields = if nat_lt 4000 entry then Some (refusal.TooMany entry) else form_fault entry fields
-
--- the first fault, where the first of these entries has this number
-abbrev pub else_fault : Option TableRefusal → Option TableRefusal → Option TableRefusal
-else_fault None later = later
-else_fault (Some fault) later = Some fault
-
-unfoldable pub fault_from : ℕ → List (List (List ℕ)) → Option TableRefusal
-fault_from entry [] = None
-fault_from entry (fields ∷ rest) = else_fault (entry_fault entry fields) (fault_from (entry + 1) rest)
+entry_fault entry fields = limited MOST_ENTRIES refusal.TooMany form_fault entry fields
 
 -- the fault of a table's entries: there is none, or the first faulty entry's first fault
-unfoldable pub fault_of : List (List (List ℕ)) → Option TableRefusal
-fault_of [] = Some refusal.Empty
-fault_of (fields ∷ rest) = fault_from 1 (fields ∷ rest)
+abbrev pub fault_of : List (List (List ℕ)) → Option TableRefusal
+fault_of entries = first_fault refusal.Empty entry_fault entries

@@ -1,11 +1,13 @@
 -- Tables of quintuples and their entries (this project's own profile).
-use Rattle.std.specs.Prelude.{◌≡◌, ℕ, ◌<◌, ◌≤◌, ◌∷◌, ◌++◌, [], List, true, length, map, nat_eq, slice_index, slice_index_or, All, if◌then◌else◌}
+use Rattle.std.specs.Prelude.{◌≡◌, ℕ, ◌<◌, ◌≤◌, ◌∷◌, ◌++◌, [], List, true, length, map, All, if◌then◌else◌}
+use Rattle.std.specs.Prelude.{nat_eq, slice_index, slice_index_or}
 use Rattle.std.specs.List.{flat_map, list_all, list_any}
 use Rattle.bn_entries.specs.Forms.{is_state_name, is_symbol_byte}
 use Rattle.bn_entries.specs.Numbering.{AreNumberedByFirst, firsts, firsts_by}
 use Rattle.bn_machine.specs.Machine.{IsInRange, Program}
 use Rattle.bn_machine.specs.declared.quint.Quint.{Quint}
 use Rattle.bn_table.specs.Entry.{Said, entry_of}
+use Rattle.bn_table.specs.declared.entry.TheConstants.{MOST_ENTRIES}
 
 -- a machine whose states have names and whose symbols have letters, each by its number
 pub record Named : Type 0 where
@@ -52,7 +54,8 @@ blank = 95
 
 -- these quintuples have these entries, where the states' names and the letters are numbered by their first
 -- appearance in the entries, the blank's letter before all others
-pub record Spells (names : List (List ℕ)) (letters : List ℕ) (quints : List Quint) (entries : List (List (List ℕ))) : Type 0 where
+pub record Spells
+    (names : List (List ℕ)) (letters : List ℕ) (quints : List Quint) (entries : List (List (List ℕ))) : Type 0 where
   pub rows : rows_by names letters quints ≡ entries
   pub in_range : All (IsInRange (length names) (length letters)) quints
   pub names_by_first : names ≡ firsts (names_in entries)
@@ -60,11 +63,11 @@ pub record Spells (names : List (List ℕ)) (letters : List ℕ) (quints : List 
   pub names_form : list_all is_state_name names ≡ true
   pub letters_form : list_all is_symbol_byte letters ≡ true
 
--- a table has these entries, of which there are 1 to 4,000
+-- a table has these entries, of which there is one at least, and as many at most as a table may have
 pub record IsTableOf (entries : List (List (List ℕ))) (t : Named) : Type 0 where
   pub spelled : Spells t.names t.letters t.machine.quints entries
   pub some : 0 < length entries
-  pub few : length entries ≤ 4000
+  pub few : length entries ≤ MOST_ENTRIES
   pub states : t.machine.states ≡ length t.names
   pub symbols : t.machine.symbols ≡ length t.letters
 
@@ -81,9 +84,9 @@ abbrev pub with_letter : List ℕ → ℕ → List ℕ
 with_letter letters letter = if list_any (nat_eq letter) letters then letters else letters ++ letter ∷ []
 
 -- A machine as a table has it: its states are numbered by first appearance and each of them appears, and it has
--- at most 4,000 quintuples, 8,000 states and 91 symbols.
+-- no more quintuples than a table may have, at most 8,000 states and at most 91 symbols.
 pub record FitsTable (p : Program) : Type 0 where
   pub numbered : AreNumberedByFirst (states_in p.quints) p.states
-  pub quints : length p.quints ≤ 4000
+  pub quints : length p.quints ≤ MOST_ENTRIES
   pub states : p.states ≤ 8000
   pub symbols : p.symbols ≤ 91

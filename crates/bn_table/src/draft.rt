@@ -1,12 +1,14 @@
 //! A table that is being read.
 
-ghost use Rattle.std.specs.Prelude.{◌≡◌, ◌≢◌, ◌<◌, ◌≤◌, ◌+◌, ◌-◌, ◌^◌, ◌++◌, ◌∷◌, [], length, Some, None, slice_get, OnOk, IfOk, IfErr};
+ghost use Rattle.std.specs.Prelude.{◌≡◌, ◌≢◌, ◌<◌, ◌≤◌, ◌+◌, ◌-◌, ◌^◌, ◌++◌, ◌∷◌, [], length, Some, None};
+ghost use Rattle.std.specs.Prelude.{slice_get, OnOk, IfOk, IfErr};
 ghost use Rattle.bn_table.specs.Entry.{entry_of};
 ghost use Rattle.bn_table.specs.Fields.{said};
 ghost use Rattle.bn_table.specs.Faults.{entry_fault};
 ghost use Rattle.bn_table.specs.Rows.{IsTableOf, with_letter};
 ghost use Rattle.bn_table.specs.declared.refusal.TableRefusal.TheVariants as refusal;
 ghost use Rattle.bn_table.specs.Draft.{IsDraft, drafted};
+ghost use Rattle.bn_table.specs.declared.entry.TheConstants.{MOST_ENTRIES};
 
 use crate::entry::{Fields, read_fields};
 use crate::refusal::TableRefusal;
@@ -58,7 +60,8 @@ pub fn new_draft(alloc: Global) -> Result<Draft, NoMemory>
 fn add_fields(draft: &mut Draft, fields: &Fields) -> Result<(), NoMemory>
     requires draft { IsDraft draft.old }
     requires passes { entry_fault (length draft.old.quints.items + 1) (entry_of (said fields.now)) ≡ None }
-    ensures { OnOk result (IsDraft draft.new × (drafted draft.new ≡ drafted draft.old ++ entry_of (said fields.now) ∷ [])) }
+    ensures { OnOk result (IsDraft draft.new
+        × (drafted draft.new ≡ drafted draft.old ++ entry_of (said fields.now) ∷ [])) }
 {
     let state = draft.names.number_of(fields.state)?;
     let read = number_letter(&mut draft.letters, fields.read)?;
@@ -80,10 +83,11 @@ fn add_fields(draft: &mut Draft, fields: &Fields) -> Result<(), NoMemory>
 /// Reads one more entry into the draft, or answers its first fault.
 pub fn add_entry(draft: &mut Draft, entry: &Entry) -> Result<(), TableRefusal>
     requires draft { IsDraft draft.old }
-    requires few { length draft.old.quints.items ≤ 4000 }
+    requires few { length draft.old.quints.items ≤ MOST_ENTRIES }
     ensures ok { OnOk result (IsDraft draft.new × (drafted draft.new ≡ drafted draft.old ++ entry.now ∷ [])) }
     ensures passes { OnOk result (entry_fault (length draft.old.quints.items + 1) entry.now ≡ None) }
-    ensures fault { IfErr result (λ e. e ≢ refusal.NoMemory → entry_fault (length draft.old.quints.items + 1) entry.now ≡ Some e) }
+    ensures fault { IfErr result (λ e. e ≢ refusal.NoMemory
+        → entry_fault (length draft.old.quints.items + 1) entry.now ≡ Some e) }
 {
     let number = draft.quints.len() as u32 + 1;
     let fields = read_fields(entry, number)?;
@@ -94,7 +98,7 @@ pub fn add_entry(draft: &mut Draft, entry: &Entry) -> Result<(), TableRefusal>
 /// The table of a draft, which has an entry; else `Empty`.
 pub fn into_table(draft: Draft) -> Result<Table, TableRefusal>
     requires draft { IsDraft draft }
-    requires few { length draft.quints.items ≤ 4000 }
+    requires few { length draft.quints.items ≤ MOST_ENTRIES }
     ensures ok { IfOk result (IsTableOf (drafted draft)) }
     ensures empty { IfErr result (λ e. (e ≡ refusal.Empty) × (drafted draft ≡ [])) }
 {

@@ -25,7 +25,8 @@ pub struct Fields<'a> {
 
 // The letter that a field is.
 fn letter(field: &[u8]) -> Option<u8>
-    ensures { MatchOption result (letter_form field.now ≡ false) (λ b. (letter_form field.now ≡ true) × (field.now ≡ b ∷ [])) }
+    ensures { MatchOption result (letter_form field.now ≡ false) (λ b. (letter_form field.now ≡ true)
+        × (field.now ≡ b ∷ [])) }
 {
     if is_letter(field) {
         Some(field[0])
@@ -36,7 +37,8 @@ fn letter(field: &[u8]) -> Option<u8>
 
 // The shift that a field is.
 fn shift_of(field: &[u8]) -> Option<Shift>
-    ensures { MatchOption result (is_shift field.now ≡ false) (λ s. (is_shift field.now ≡ true) × (field.now ≡ shift_text s)) }
+    ensures { MatchOption result (is_shift field.now ≡ false) (λ s. (is_shift field.now ≡ true)
+        × (field.now ≡ shift_text s)) }
 {
     match field {
         b"-" => Some(Shift::Left),
@@ -55,7 +57,8 @@ fn five_fields<'a>(
     shifted: &[u8],
     next: &'a [u8],
 ) -> Result<Fields<'a>, TableRefusal>
-    ensures says { IfOk result (λ f. entry_of (said f) ≡ state.now ∷ read.now ∷ write.now ∷ shifted.now ∷ next.now ∷ []) }
+    ensures says { IfOk result (λ f.
+        entry_of (said f) ≡ state.now ∷ read.now ∷ write.now ∷ shifted.now ∷ next.now ∷ []) }
     ensures fault { field_fault entry state.now read.now write.now shifted.now next.now ≡ err_of result }
 {
     if !is_state_name(state) {

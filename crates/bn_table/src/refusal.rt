@@ -14,7 +14,7 @@ pub enum TableRefusal {
     Symbol { entry: u32, field: u32 },
     /// Field 4 is none of `-`, `0` and `+`.
     Shift { entry: u32 },
-    /// The entry comes after 4,000 others, so it is entry 4,001.
+    /// The entry comes after `MOST_ENTRIES` others.
     TooMany { entry: u32 },
     /// There is no entry.
     Empty,

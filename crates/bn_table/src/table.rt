@@ -15,7 +15,8 @@ pub(crate) fn place_of(letters: &[u8], letter: u8) -> Option<usize>
 
 /// A table of quintuples: a machine, a name for each state, and a letter, one byte, for each symbol. Its states
 /// are numbered by first appearance, in each quintuple first its state and then its next one; so are its symbols,
-/// first the one read and then the one written, with `_` as symbol 0 before all. It has 1 to 4,000 quintuples.
+/// first the one read and then the one written, with `_` as symbol 0 before all. It has 1 to
+/// `MOST_ENTRIES` quintuples.
 #[derive(Drop)]
 pub struct Table {
     pub(crate) machine: Machine,

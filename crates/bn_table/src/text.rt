@@ -54,7 +54,8 @@ fn write_fields<'a>(
     next: &'a [u8],
 ) -> Result<(), NoMemory>
     requires { is_plain_entry (state.now ∷ read.now ∷ write.now ∷ shift.now ∷ next.now ∷ []) ≡ true }
-    ensures { OnOk result (writer.new ≡ writer.old ++ line_of (state.now ∷ read.now ∷ write.now ∷ shift.now ∷ next.now ∷ [])) }
+    ensures { OnOk result (writer.new
+        ≡ writer.old ++ line_of (state.now ∷ read.now ∷ write.now ∷ shift.now ∷ next.now ∷ [])) }
 {
     writer.write_entry(&[state, read, write, shift, next])
 }
@@ -79,7 +80,8 @@ pub fn write_row(
 fn write_quint(writer: &mut EntryWriter, table: &Table, quint: &Quint) -> Result<(), NoMemory>
     requires table { IsTable table.now }
     requires range { IsInRange table.now.machine.states table.now.machine.symbols quint.now }
-    ensures { OnOk result (writer.new ≡ writer.old ++ line_of (entry_of (said_of table.now.names table.now.letters quint.now))) }
+    ensures { OnOk result (writer.new
+        ≡ writer.old ++ line_of (entry_of (said_of table.now.names table.now.letters quint.now))) }
 {
     write_row(
         writer,

@@ -1,9 +1,12 @@
 -- The eight fields are the entry.
-use Rattle.std.proofs.Common.{◌≡◌, List, ℕ, nat_lt, false, sym, subst, arith}
+use Rattle.std.proofs.Common.{◌≡◌, List, ℕ, ◌∙◌, sym, subst, arith}
 use Rattle.std.specs.Prelude.{IfOk}
-use Rattle.std.proofs.lemmas.Bool.{le-ltb}
+use Rattle.bn_entries.proofs.FaultLemmas.{within_number}
 use Rattle.bn_qtable.specs.Entry.{entry_of}
+use Rattle.bn_qtable.specs.Faults.{form_fault}
 use Rattle.bn_qtable.specs.Fields.{said}
+use Rattle.bn_qtable.specs.declared.entry.TheConstants.{MOST_ENTRIES}
+use Rattle.bn_qtable.specs.declared.refusal.QuadTableRefusal.TheVariants as refusal
 use Rattle.bn_qtable.proofs.Passing.{eight_is}
 use Rattle.bn_qtable.proofs.entry.read_fields.Goals as goal
 
@@ -20,5 +23,4 @@ returns-clause-fault c =
     let count = c.len.ensures in
     let is = eight_is c.args.entry.now c.field.result.now c.field-2.result.now c.field-3.result.now c.field-4.result.now c.field-5.result.now c.field-6.result.now c.field-7.result.now c.field-8.result.now (omega (arith, count))
     c.field.ensures c.field-2.ensures c.field-3.ensures c.field-4.ensures c.field-5.ensures c.field-6.ensures c.field-7.ensures c.field-8.ensures in
-    let within : nat_lt 20000 c.args.number ≡ false = le-ltb 20000 c.args.number (omega arith) in
-    rw within (rw is c.eight_fields.ensures.fault)
+    within_number MOST_ENTRIES refusal.TooMany form_fault c.args.number c.args.entry.now (omega arith) ∙ rw is c.eight_fields.ensures.fault

@@ -2,8 +2,11 @@
 use Rattle.std.proofs.Common.{◌∙◌, refl, sym, ap, Some}
 use Rattle.std.proofs.lemmas.Result.{MatchResult-weaker, err_from_is_err_and}
 use Rattle.bn_entries.specs.Entries.{entries_of}
+use Rattle.bn_entries.proofs.FaultLemmas.{fault_of_next, no_entry, taken_all}
+use Rattle.bn_qtable.specs.Faults.{entry_fault}
 use Rattle.bn_qtable.specs.declared.refusal.QuadTableRefusal.{QuadTableRefusal}
-use Rattle.bn_qtable.proofs.Coming.{come-first, come-further, come-last, come-to-fault, no-entry}
+use Rattle.bn_qtable.specs.declared.refusal.QuadTableRefusal.TheVariants as refusal
+use Rattle.bn_qtable.proofs.Coming.{come-first, come-further}
 use Rattle.bn_qtable.proofs.text.read_quads.Goals as goal
 
 pub entries-init : goal.entries-init
@@ -19,15 +22,14 @@ pub returns-in_err-add_entry-clause-refused : goal.returns-in_err-add_entry-clau
 returns-in_err-add_entry-clause-refused c =
     let next = rw c.if-branch.true at c.in_ok-read_entry.ensures.ok in
     let p = err_from_is_err_and c.from_residual-in_err-add_entry.result c.from_residual-in_err-add_entry.ensures.1 in
-    rw (p.1, p.2) (λ n. come-to-fault (entries_of c.args.bytes.now) c.entries.draft c.entries.entries c.read_entry.new.self c.read_entry.new.entry c.in_err-add_entry.field-0.0 c.entries.invariant next
-    (c.in_err-add_entry.ensures.fault n))
+    rw (p.1, p.2) (λ n. fault_of_next refusal.Empty c.entries.invariant.taken next (c.in_err-add_entry.ensures.fault n))
 
 pub returns-clause-refused : goal.returns-clause-refused
 returns-clause-refused c =
     let none = (rw c.if-branch.false at c.in_ok-read_entry.ensures.ok).0 in
-    let all = come-last (entries_of c.args.bytes.now) c.entries.draft c.entries.entries c.entries.invariant none in
+    let all = taken_all c.entries.invariant.taken none in
     MatchResult-weaker c.into_table.result c.into_table.ensures.empty (λ t p. tt)
-    (λ e p n. no-entry (entries_of c.args.bytes.now) (sym all ∙ (p n).1) ∙ sym (ap (λ (x : QuadTableRefusal). Some x) (p n).0))
+    (λ e p n. no_entry refusal.Empty entry_fault (entries_of c.args.bytes.now) (sym all ∙ (p n).1) ∙ sym (ap (λ (x : QuadTableRefusal). Some x) (p n).0))
 
 pub returns-in_err-read_entry-clause-refused : goal.returns-in_err-read_entry-clause-refused
 returns-in_err-read_entry-clause-refused c =

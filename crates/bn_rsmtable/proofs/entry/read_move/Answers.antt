@@ -1,8 +1,11 @@
 -- The four fields are the entry.
-use Rattle.std.proofs.Common.{◌≡◌, List, ℕ, nat_lt, false, sym, subst, arith}
+use Rattle.std.proofs.Common.{◌≡◌, List, ℕ, ◌∙◌, sym, subst, arith}
 use Rattle.std.specs.Prelude.{IfOk}
-use Rattle.std.proofs.lemmas.Bool.{le-ltb}
+use Rattle.bn_entries.proofs.FaultLemmas.{within_number}
 use Rattle.bn_rsmtable.specs.Entry.{entry_of}
+use Rattle.bn_rsmtable.specs.Faults.{form_fault}
+use Rattle.bn_rsmtable.specs.declared.entry.TheConstants.{MOST_ENTRIES}
+use Rattle.bn_rsmtable.specs.declared.refusal.RsmTableRefusal.TheVariants as refusal
 use Rattle.bn_rsmtable.proofs.Passing.{four_is}
 use Rattle.bn_rsmtable.proofs.entry.read_move.Goals as goal
 
@@ -17,5 +20,4 @@ pub returns-clause-fault : goal.returns-clause-fault
 returns-clause-fault c =
     let count = c.len.ensures in
     let is = four_is c.args.entry.now c.field.result.now c.field-2.result.now c.field-3.result.now c.field-4.result.now (omega (arith, count)) c.field.ensures c.field-2.ensures c.field-3.ensures c.field-4.ensures in
-    let within : nat_lt 65536 c.args.number ≡ false = le-ltb 65536 c.args.number (omega arith) in
-    rw within (rw is c.four_fields.ensures.fault)
+    within_number MOST_ENTRIES refusal.TooMany form_fault c.args.number c.args.entry.now (omega arith) ∙ rw is c.four_fields.ensures.fault

@@ -1,7 +1,9 @@
 -- By what is kept from one entry to the next.
 use Rattle.std.proofs.lemmas.Result.{IfErr-weaker, err_from_is_err_and}
 use Rattle.bn_entries.specs.Entries.{entries_of}
-use Rattle.bn_rsmtable.proofs.Coming.{come-further, come-machine, come-refused, come-to-fault}
+use Rattle.bn_entries.proofs.FaultLemmas.{fault_of_next}
+use Rattle.bn_rsmtable.specs.declared.refusal.RsmTableRefusal.TheVariants as refusal
+use Rattle.bn_rsmtable.proofs.Coming.{come-further, come-machine, come-refused}
 use Rattle.bn_rsmtable.proofs.ReadingLaws.{refused_unless}
 use Rattle.bn_rsmtable.proofs.text.read_rsm.Goals as goal
 
@@ -15,8 +17,7 @@ pub returns-in_err-add_entry-clause-refused : goal.returns-in_err-add_entry-clau
 returns-in_err-add_entry-clause-refused c =
     let next = rw c.if-branch.true at c.in_ok-read_entry.ensures.ok in
     let p = err_from_is_err_and c.from_residual-in_err-add_entry.result c.from_residual-in_err-add_entry.ensures.1 in
-    rw (p.1, p.2) (refused_unless c.args.bytes.now c.in_err-add_entry.field-0.0 (λ n. come-to-fault (entries_of c.args.bytes.now) c.entries.draft c.entries.entries c.read_entry.new.self c.read_entry.new.entry c.in_err-add_entry.field-0.0 c.entries.invariant next
-    (c.in_err-add_entry.ensures.fault n)))
+    rw (p.1, p.2) (refused_unless c.args.bytes.now c.in_err-add_entry.field-0.0 (λ n. fault_of_next refusal.Empty c.entries.invariant.taken next (c.in_err-add_entry.ensures.fault n)))
 
 pub returns-clause-ok : goal.returns-clause-ok
 returns-clause-ok c =

@@ -1,9 +1,12 @@
 -- The five fields are the entry.
-use Rattle.std.proofs.Common.{◌≡◌, List, ℕ, nat_lt, false, sym, subst, arith}
+use Rattle.std.proofs.Common.{◌≡◌, List, ℕ, ◌∙◌, sym, subst, arith}
 use Rattle.std.specs.Prelude.{IfOk}
-use Rattle.std.proofs.lemmas.Bool.{le-ltb}
+use Rattle.bn_entries.proofs.FaultLemmas.{within_number}
 use Rattle.bn_table.specs.Entry.{entry_of}
+use Rattle.bn_table.specs.Faults.{form_fault}
 use Rattle.bn_table.specs.Fields.{said}
+use Rattle.bn_table.specs.declared.entry.TheConstants.{MOST_ENTRIES}
+use Rattle.bn_table.specs.declared.refusal.TableRefusal.TheVariants as refusal
 use Rattle.bn_table.proofs.Passing.{five_is}
 use Rattle.bn_table.proofs.entry.read_fields.Goals as goal
 
@@ -20,5 +23,4 @@ returns-clause-fault c =
     let count = c.len.ensures in
     let is = five_is c.args.entry.now c.field.result.now c.field-2.result.now c.field-3.result.now c.field-4.result.now c.field-5.result.now (omega (arith, count))
     c.field.ensures c.field-2.ensures c.field-3.ensures c.field-4.ensures c.field-5.ensures in
-    let within : nat_lt 4000 c.args.number ≡ false = le-ltb 4000 c.args.number (omega arith) in
-    rw within (rw is c.five_fields.ensures.fault)
+    within_number MOST_ENTRIES refusal.TooMany form_fault c.args.number c.args.entry.now (omega arith) ∙ rw is c.five_fields.ensures.fault

@@ -6,7 +6,8 @@ use Rattle.bn_quad.specs.Kept.{rule_of}
 use Rattle.bn_quad.specs.declared.quad.Quad.{Quad}
 use Rattle.bn_qtable.specs.Draft.{Adds, HasRoom}
 use Rattle.bn_qtable.specs.Fields.{said}
-use Rattle.bn_qtable.proofs.Growing.{length-with_name, name-stays}
+use Rattle.std.specs.Prelude.{bytes_eq}
+use Rattle.bn_entries.proofs.AddedLemmas.{new_length, new_stays}
 use Rattle.bn_qtable.proofs.Drafting.{quad-kept}
 use Rattle.bn_qtable.proofs.lists.Lists.number.Goals as goal
 
@@ -15,7 +16,7 @@ number_of-requires-2 c =
     let l = c.self.inside in
     let room : HasRoom (naming_of l.states l.one l.two l.three) = subst HasRoom (sym c.self.view_is) c.requires.room in
     let after : c.number_of.new.self ≡ with_name l.states c.args.fields.now.state.now = c.in_ok-state.ensures.names in
-    record { room = rw after (omega (arith, room.states, length-with_name l.states c.args.fields.now.state.now)) }
+    record { room = rw after (omega (arith, room.states, new_length bytes_eq l.states c.args.fields.now.state.now)) }
 
 pub returns-clause-adds : goal.returns-clause-adds
 returns-clause-adds c =
@@ -36,7 +37,7 @@ returns-clause-adds c =
       one_after = c.in_ok-read1.ensures.symbols;
       two_after = c.in_ok-read2.ensures.symbols;
       three_after = c.in_ok-read3.ensures.symbols;
-      from = rw states2 (name-stays c.number_of.new.self s.next s.state c.in_ok-state.state c.in_ok-state.ensures.number);
+      from = rw states2 (new_stays bytes_eq c.number_of.new.self s.next s.state c.in_ok-state.state c.in_ok-state.ensures.number);
       one = c.in_ok-read1.ensures.stands;
       two = c.in_ok-read2.ensures.stands;
       three = c.in_ok-read3.ensures.stands;
