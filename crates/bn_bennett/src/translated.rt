@@ -13,6 +13,7 @@ use bn_machine::Machine;
 use bn_quad::{NoMemory, Quad, QuadMachine, Uniform};
 use bn_stages::{Name, list_counts_names, list_has_length, list_is_in_range, numbers_pass_tests};
 use bn_standard::Standard;
+use bn_table::MOST_ENTRIES;
 use std::alloc::Global;
 use std::marker::Model;
 
@@ -115,7 +116,7 @@ impl Translated {
 
 // How many symbols each tape has, tape 1 first: the history has one for each quintuple.
 fn symbols_of(machine: &Machine) -> [u32; 3]
-    requires { length machine.now.quints ≤ 4000 }
+    requires { length machine.now.quints ≤ MOST_ENTRIES }
     ensures symbols { result ≡ symbols_of machine.now }
     ensures valid { IsMachine machine.now }
 {

@@ -19,6 +19,7 @@ use bn_erasing::{
 use bn_quad::{NoMemory, Quad, QuadMachine, Uniform};
 use bn_stages::{Name, list_counts_names, list_has_names, numbers_pass_tests};
 use bn_standard::Standard;
+use bn_table::MOST_ENTRIES;
 use std::alloc::Global;
 use std::marker::Model;
 
@@ -269,8 +270,8 @@ fn backward_quad(quad: &Quad, meeting: Meeting) -> Quad
 // How many symbols each tape has, tape 1 first: the history has the blank, and one for each quintuple of the longer
 // machine.
 fn symbols_of(first: &Standard, second: &Standard) -> [u32; 3]
-    requires first { length first.now.quints ≤ 4000 }
-    requires second { length second.now.quints ≤ 4000 }
+    requires first { length first.now.quints ≤ MOST_ENTRIES }
+    requires second { length second.now.quints ≤ MOST_ENTRIES }
     ensures symbols { result ≡ erasing_symbols first.now second.now }
     ensures left { IsStandardMachine first.now }
     ensures right { IsStandardMachine second.now }

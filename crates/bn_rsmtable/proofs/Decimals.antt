@@ -11,7 +11,7 @@ use Rattle.bn_base.specs.Number.{AreDigits, read_number}
 use Rattle.bn_base.proofs.NumberLemmas.{read_number-again, read_number-takes}
 use Rattle.bn_base.specs.declared.numbers.Digits.{Digits}
 use Rattle.bn_entries.specs.Lines.{is_plain, is_plain_byte}
-use Rattle.bn_rsmtable.specs.declared.entry.TheConstants.{MOST_NUMBER}
+use Rattle.bn_base.specs.declared.limits.TheConstants.{MOST_COUNT}
 use Rattle.bn_rsmtable.specs.Faults.{is_count, is_number}
 
 own : IsNumeralModel AreDigits (digits_value 10)
@@ -32,17 +32,17 @@ plain_run (d ∷ ds) some h = plain_digits (d ∷ ds) h
 pub plain_decimal : (n : ℕ) → n < 2 ^ 64 → is_plain (decimal n) ≡ true
 plain_decimal n h = plain_run (decimal n) (decimal_nonempty n h) (digits_decimal own n h)
 
-read_whole : (n : ℕ) → n ≤ MOST_NUMBER → read_number (decimal n) 0 ≡ Ok (n, length (decimal n))
+read_whole : (n : ℕ) → n ≤ MOST_COUNT → read_number (decimal n) 0 ≡ Ok (n, length (decimal n))
 read_whole n bound =
     let read = read_number-again [] [] n (omega arith) (λ h. absurd (omega arith)) in
     let place : 0 + length (decimal n) ≡ length (decimal n) = omega arith in
     ap (λ t. read_number t 0) (sym (append-nil (decimal n))) ∙ read ∙ ap (λ p. Ok (n, p)) place
 
-counted : (e n : ℕ) → 0 < n → n ≤ MOST_NUMBER → is_count e (Ok (n, e)) ≡ true
+counted : (e n : ℕ) → 0 < n → n ≤ MOST_COUNT → is_count e (Ok (n, e)) ≡ true
 counted e n some few = grind (arith, nat_tests)
 
 -- it is a number of an entry
-pub number_decimal : (n : ℕ) → n < MOST_NUMBER → is_number (decimal (n + 1)) ≡ true
+pub number_decimal : (n : ℕ) → n < MOST_COUNT → is_number (decimal (n + 1)) ≡ true
 number_decimal n h = ap (is_count (length (decimal (n + 1)))) (read_whole (n + 1) (omega arith)) ∙ counted (length (decimal (n + 1))) (n + 1) (omega arith) (omega arith)
 
 -- what the test of a reading says
@@ -50,9 +50,9 @@ record IsCounted (field : List ℕ) (r : Result (ℕ × ℕ) Digits) : Type 0 wh
   number : ℕ
   is : r ≡ Ok (number, length field)
   some : 0 < number
-  few : number ≤ MOST_NUMBER
+  few : number ≤ MOST_COUNT
 
-count_parts : (e n behind : ℕ) → is_count e (Ok (n, behind)) ≡ true → (behind ≡ e) × (0 < n) × (n ≤ MOST_NUMBER)
+count_parts : (e n behind : ℕ) → is_count e (Ok (n, behind)) ≡ true → (behind ≡ e) × (0 < n) × (n ≤ MOST_COUNT)
 count_parts e n behind h = (grind (arith, nat_tests), grind (arith, nat_tests), grind (arith, nat_tests))
 
 count_is : (field : List ℕ) (r : Result (ℕ × ℕ) Digits) → is_count (length field) r ≡ true → IsCounted field r
@@ -65,7 +65,7 @@ count_is field (Err fault) h = cc h
 pub record Numbered (field : List ℕ) : Type 0 where
   pub number : ℕ
   pub spelled : field ≡ decimal (number + 1)
-  pub few : number < MOST_NUMBER
+  pub few : number < MOST_COUNT
 
 pub numbered : (field : List ℕ) → is_number field ≡ true → Numbered field
 numbered field h =
@@ -74,10 +74,10 @@ numbered field h =
     let whole : field ≡ decimal c.number = takes.2 ∙ ap (λ rest. decimal c.number ++ rest) (drop_all (length field) field (omega arith)) ∙ append-nil (decimal c.number) in
     less_one c.number c.some c.few whole
   where
-    less_one : (n : ℕ) → 0 < n → n ≤ MOST_NUMBER → field ≡ decimal n → Numbered field
+    less_one : (n : ℕ) → 0 < n → n ≤ MOST_COUNT → field ≡ decimal n → Numbered field
     less_one zero some few whole = absurd (omega arith)
     less_one (suc k) some few whole = let one : suc k ≡ k + 1 = omega arith in record { number = k; spelled = whole ∙ ap decimal one; few = omega arith }
 
 -- two numbers with one text are one
-pub same_number : (m n : ℕ) → m < MOST_NUMBER → n < MOST_NUMBER → decimal (m + 1) ≡ decimal (n + 1) → m ≡ n
+pub same_number : (m n : ℕ) → m < MOST_COUNT → n < MOST_COUNT → decimal (m + 1) ≡ decimal (n + 1) → m ≡ n
 same_number m n low high e = let same = decimal_injective (m + 1) (n + 1) (omega arith) (omega arith) e in omega arith

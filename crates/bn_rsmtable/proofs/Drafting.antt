@@ -7,7 +7,7 @@ use Rattle.bn_rsm.specs.Faults as moves
 use Rattle.bn_rsm.specs.Faults.{MoveFault, out_of_range, same_domain, same_range, clash, fault_of, is_within}
 use Rattle.bn_rsm.specs.declared.rsm_move.RsmMove.{RsmMove}
 use Rattle.bn_rsm.specs.declared.refusal.RsmRefusal.TheVariants as refused
-use Rattle.bn_rsmtable.specs.declared.entry.TheConstants.{MOST_NUMBER}
+use Rattle.bn_base.specs.declared.limits.TheConstants.{MOST_COUNT}
 use Rattle.bn_rsmtable.specs.Draft.{IsDraft}
 use Rattle.bn_rsmtable.specs.Entry.{IsMove, states_named, lines_named}
 use Rattle.bn_rsmtable.specs.declared.draft.Draft.{Draft}
@@ -55,7 +55,7 @@ never_outside ms j h =
     no_clash_there _ _ (rw named at h.here)
 
 -- where few states and lines are named, each move may stand in an entry
-pub all_moves : (ms : List RsmMove) → states_named ms ≤ MOST_NUMBER → lines_named ms ≤ MOST_NUMBER → All IsMove ms
+pub all_moves : (ms : List RsmMove) → states_named ms ≤ MOST_COUNT → lines_named ms ≤ MOST_COUNT → All IsMove ms
 all_moves [] s k = λ i d l. absurd (omega arith)
 all_moves (m ∷ ms) s k =
     let first : IsMove m = record { state = omega arith; line = omega arith; next = omega arith; out = omega arith } in

@@ -7,7 +7,8 @@ use Rattle.std.specs.List.{list_all}
 use Rattle.bn_entries.specs.Entries.{entries_of}
 use Rattle.bn_entries.specs.Faults.{else_fault, fault_from, first_fault}
 use Rattle.bn_entries.proofs.FaultLemmas.{in_number, kept_to_last, none_faulty}
-use Rattle.bn_rsmtable.specs.declared.entry.TheConstants.{MOST_ENTRIES, MOST_NUMBER}
+use Rattle.bn_rsmtable.specs.declared.entry.TheConstants.{MOST_ENTRIES}
+use Rattle.bn_base.specs.declared.limits.TheConstants.{MOST_COUNT}
 use Rattle.bn_entries.specs.Lines.{is_plain_entry, lines_of}
 use Rattle.bn_entries.proofs.LinesLemmas.{entries_of-lines_of}
 use Rattle.bn_rsm.specs.Faults as moves
@@ -249,8 +250,8 @@ plain_steps (m ∷ ms) h = rw (plain_step m (All-head IsMove m ms h)) (plain_ste
 -- a machine's lines are read as it again
 pub read_back : (m : Machine) (bytes : List ℕ) → IsTable m → bytes ≡ lines_of (entries_by m.moves) → Reads bytes m
 read_back m bytes h is =
-    let states : states_named m.moves ≤ MOST_NUMBER = omega (arith, h.states, h.states_few) in
-    let lines : lines_named m.moves ≤ MOST_NUMBER = omega (arith, h.lines, h.lines_few) in
+    let states : states_named m.moves ≤ MOST_COUNT = omega (arith, h.states, h.states_few) in
+    let lines : lines_named m.moves ≤ MOST_COUNT = omega (arith, h.lines, h.lines_few) in
     let back : entries_of bytes ≡ entries_by m.moves = ap entries_of is ∙ entries_of-lines_of (entries_by m.moves) (plain_steps m.moves (all_moves m.moves states lines)) in
     let count : length (entries_of bytes) ≡ length m.moves = ap (λ (xs : List (List (List ℕ))). length xs) back ∙ length-map m.moves entry_of in
     record {

@@ -2,7 +2,8 @@
 -- and lines are counted from 1.
 use Rattle.std.specs.Prelude.{◌≡◌, ℕ, ◌+◌, ◌<◌, ◌≤◌, List, [], ◌∷◌, decimal, length, map, max, All}
 use Rattle.bn_rsm.specs.declared.rsm_move.RsmMove.{RsmMove}
-use Rattle.bn_rsmtable.specs.declared.entry.TheConstants.{MOST_ENTRIES, MOST_NUMBER}
+use Rattle.bn_rsmtable.specs.declared.entry.TheConstants.{MOST_ENTRIES}
+use Rattle.bn_base.specs.declared.limits.TheConstants.{MOST_COUNT}
 
 -- the entry of a move: state, input line, next state, output line
 abbrev pub entry_of : RsmMove → List (List ℕ)
@@ -13,10 +14,10 @@ entries_by ms = map entry_of ms
 
 -- the move's numbers may stand in an entry
 pub record IsMove (m : RsmMove) : Type 0 where
-  pub state : m.state < MOST_NUMBER
-  pub line : m.line < MOST_NUMBER
-  pub next : m.next < MOST_NUMBER
-  pub out : m.out < MOST_NUMBER
+  pub state : m.state < MOST_COUNT
+  pub line : m.line < MOST_COUNT
+  pub next : m.next < MOST_COUNT
+  pub out : m.out < MOST_COUNT
 
 -- how many states, and how many lines, moves need: the greatest that they name, counted from 1
 abbrev pub states_named : List RsmMove → ℕ

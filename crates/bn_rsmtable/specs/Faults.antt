@@ -4,13 +4,14 @@ use Rattle.std.specs.Prelude.{Option, Some, None, Result, Ok, Err}
 use Rattle.bn_base.specs.Number.{read_number}
 use Rattle.bn_base.specs.declared.numbers.Digits.{Digits}
 use Rattle.bn_entries.specs.Faults.{first_fault, limited}
-use Rattle.bn_rsmtable.specs.declared.entry.TheConstants.{MOST_ENTRIES, MOST_NUMBER}
+use Rattle.bn_rsmtable.specs.declared.entry.TheConstants.{MOST_ENTRIES}
+use Rattle.bn_base.specs.declared.limits.TheConstants.{MOST_COUNT}
 use Rattle.bn_rsmtable.specs.declared.refusal.RsmTableRefusal.{RsmTableRefusal}
 use Rattle.bn_rsmtable.specs.declared.refusal.RsmTableRefusal.TheVariants as refusal
 
 -- what was read is a number from 1 to the greatest that an entry may have, up to this place
 abbrev pub is_count : ℕ → Result (ℕ × ℕ) Digits → Bool
-is_count end (Ok (number, behind)) = behind == end && nat_lt 0 number && nat_le number MOST_NUMBER
+is_count end (Ok (number, behind)) = behind == end && nat_lt 0 number && nat_le number MOST_COUNT
 is_count end (Err fault) = false
 
 -- the field is such a number, from its first byte to its last

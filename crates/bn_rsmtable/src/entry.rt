@@ -5,27 +5,23 @@ ghost use Rattle.bn_rsmtable.specs.Entry.{IsMove, entry_of};
 ghost use Rattle.bn_rsmtable.specs.Faults as fault;
 ghost use Rattle.bn_rsmtable.specs.Faults.{entry_fault, field_fault};
 ghost use Rattle.bn_rsmtable.specs.Fields.{err_of};
-ghost use Rattle.bn_rsmtable.specs.declared.entry.TheConstants.{MOST_NUMBER};
 
 use crate::refusal::RsmTableRefusal;
-use bn_base::read_u64;
+use bn_base::{MOST_COUNT, read_u64};
 use bn_entries::Entry;
 use bn_rsm::RsmMove;
 
 /// The most entries of a table.
 pub const MOST_ENTRIES: u32 = 65_536;
 
-/// The greatest number of an entry.
-pub const MOST_NUMBER: u64 = 1_048_576;
-
-// The number that a field is, less one; `None` exactly where it is none from 1 to `MOST_NUMBER`.
+// The number that a field is, less one; `None` exactly where it is none from 1 to `MOST_COUNT`.
 fn number_of(field: &[u8]) -> Option<u32>
     ensures { MatchOption result (fault.is_number field.now ≡ false) (λ n. (fault.is_number field.now ≡ true)
-        × (n < MOST_NUMBER) × (field.now ≡ decimal (n + 1))) }
+        × (n < MOST_COUNT) × (field.now ≡ decimal (n + 1))) }
 {
     match read_u64(field, 0) {
         Ok((number, behind)) => {
-            if behind == field.len() && 0 < number && number <= MOST_NUMBER {
+            if behind == field.len() && 0 < number && number <= MOST_COUNT {
                 Some(number as u32 - 1)
             } else {
                 None

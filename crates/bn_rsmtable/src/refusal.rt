@@ -12,7 +12,7 @@ pub enum RsmTableRefusal {
         /// The entry's number, from 1.
         entry: u32,
     },
-    /// The field is no number from 1 to `MOST_NUMBER`.
+    /// The field is no number from 1 to `MOST_COUNT`.
     Number {
         /// The entry's number, from 1.
         entry: u32,

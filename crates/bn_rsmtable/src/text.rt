@@ -15,7 +15,7 @@ use itoa::Buffer;
 use std::alloc::Global;
 
 /// Reads the bytes of a table: csv records without a header, each with a state, an input line, the next state and an
-/// output line, numbers from 1 to `MOST_NUMBER`. It answers the bytes' machine, where they have one; the machine has as
+/// output line, numbers from 1 to `MOST_COUNT`. It answers the bytes' machine, where they have one; the machine has as
 /// many states and lines as the moves name. Each refusal but `NoMemory` comes exactly where it is the first.
 pub fn read_rsm(alloc: Global, bytes: &[u8]) -> Result<Rsm, RsmTableRefusal>
     ensures ok { IfOk result (Reads bytes.now) }
@@ -47,7 +47,7 @@ fn write_move(writer: &mut EntryWriter, step: &RsmMove) -> Result<(), NoMemory>
 }
 
 /// The text of a machine: for each move, in order, a line with its four numbers, counted from 1. Reading it gives the
-/// machine, where it has 1 to `MOST_ENTRIES` moves and as many states and lines as they name, at most `MOST_NUMBER`.
+/// machine, where it has 1 to `MOST_ENTRIES` moves and as many states and lines as they name, at most `MOST_COUNT`.
 pub fn write_rsm(alloc: Global, rsm: &Rsm) -> Result<Vec<u8>, NoMemory>
     ensures text { IfOk result (λ text. text.items ≡ lines_of (entries_by rsm.now.moves)) }
     ensures read_back { IfOk result (λ text. IsTable rsm.now → Reads text.items rsm.now) }

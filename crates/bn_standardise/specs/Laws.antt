@@ -9,7 +9,8 @@ use Rattle.bn_machine.specs.declared.quint.Shift.TheVariants.{Left, Stay, Right}
 use Rattle.bn_table.specs.Reading.{Reads}
 use Rattle.bn_table.specs.Rows.{FitsTable, IsTable, Named}
 use Rattle.bn_standard.specs.Standard.{IsStandard}
-use Rattle.bn_standardise.specs.Limits.{most_quints, most_symbols}
+use Rattle.bn_standardise.specs.Limits.{most_symbols}
+use Rattle.bn_table.specs.declared.entry.TheConstants.{MOST_ENTRIES}
 use Rattle.bn_standardise.specs.Standardised.{standardised, numbering_of, IsLoose, TellsApart}
 use Rattle.bn_standardise.specs.Refusals.{IsAccepted, IsLooseRefusal, count_of}
 use Rattle.bn_standardise.specs.Printed.{standard_lines, standard_table}
@@ -39,7 +40,7 @@ IsInStandardForm = (p : Program) → IsLoose p → IsStandard (standardised p).q
 -- and it is one as tables have it, its states numbered by first appearance, where it isn't too long
 abbrev pub FitsTableAgain : Type 0
 FitsTableAgain =
-    (p : Program) → IsMachine p → count_of p ≤ most_quints → p.symbols ≤ most_symbols → FitsTable (standardised p)
+    (p : Program) → IsMachine p → count_of p ≤ MOST_ENTRIES → p.symbols ≤ most_symbols → FitsTable (standardised p)
 
 -- ---- the text
 

@@ -4,7 +4,7 @@ use Rattle.bn_machine.specs.Machine.{Program}
 use Rattle.bn_machine.specs.declared.quint.Quint.{Quint}
 use Rattle.bn_standard.specs.Standard.{IsUnambiguous}
 use Rattle.bn_standard.specs.Verdict.{IsLeastRepeat}
-use Rattle.bn_standardise.specs.Limits.{most_quints}
+use Rattle.bn_table.specs.declared.entry.TheConstants.{MOST_ENTRIES}
 use Rattle.bn_standardise.specs.Standardised.{IsLoose, LeavesHalting}
 use Rattle.bn_standardise.specs.declared.refusal.LooseRefusal.{LooseRefusal}
 use Rattle.bn_standardise.specs.declared.refusal.LooseRefusal.TheVariants.{Repeat, Halting, Many, NoMemory}
@@ -22,13 +22,13 @@ count_of p = length p.quints + p.symbols + 1
 -- table may have.
 pub record IsAccepted (p : Program) : Type 0 where
   pub loose : IsLoose p
-  pub few : count_of p ≤ most_quints
+  pub few : count_of p ≤ MOST_ENTRIES
 
 -- When each refusal comes: all tests before its own are passed. Want of memory is free.
 abbrev pub IsLooseRefusal : Program → LooseRefusal → Type 0
 IsLooseRefusal p (Repeat i j) = IsLeastRepeat p.quints i j
 IsLooseRefusal p (Halting i) = IsUnambiguous p.quints × IsLeastHalting p.quints i
-IsLooseRefusal p (Many count) = IsLoose p × (count ≡ count_of p) × (most_quints < count)
+IsLooseRefusal p (Many count) = IsLoose p × (count ≡ count_of p) × (MOST_ENTRIES < count)
 IsLooseRefusal p NoMemory = ⊤
 
 -- why the first test isn't passed

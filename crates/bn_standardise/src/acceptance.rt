@@ -3,7 +3,7 @@
 ghost use Rattle.std.specs.Prelude.{◌≡◌, ◌↔◌, ◌<◌, ◌≤◌, ◌^◌, IsTrue, MatchOption, IfErr, OnOk, length};
 ghost use Rattle.bn_machine.specs.Machine.{final_of};
 ghost use Rattle.bn_standard.specs.Standard.{IsUnambiguous};
-ghost use Rattle.bn_standardise.specs.Limits.{most_quints, most_symbols};
+ghost use Rattle.bn_standardise.specs.Limits.{most_symbols};
 ghost use Rattle.bn_standardise.specs.Standardised.{HasNoHalting};
 ghost use Rattle.bn_standardise.specs.Refusals.{IsAccepted, IsLeastHalting};
 ghost use Rattle.bn_standardise.specs.Refusals.{IsLooseRefusal, IsRepeatRefusal};
@@ -11,10 +11,8 @@ ghost use Rattle.bn_standardise.specs.Refusals.{IsLooseRefusal, IsRepeatRefusal}
 use crate::refusal::LooseRefusal;
 use bn_machine::{Machine, Quint};
 use bn_standard::{Why, check};
+use bn_table::MOST_ENTRIES;
 use std::alloc::Global;
-
-// The most quintuples of the machine in standard form, as many as a table may have.
-const MOST_QUINTUPLES: u32 = 4_000;
 
 // Whether no two quintuples share state and scanned symbol: this is the first demand of standard form, so the test of
 // standard form tells where it isn't met. What the other demands come to says nothing here.
@@ -52,7 +50,7 @@ fn first_halting(quints: &[Quint], halt: u32) -> Option<u32>
 
 /// Tests the machine: `Repeat` comes before `Halting`, and `Halting` before `Many`.
 pub(crate) fn accept(alloc: Global, machine: &Machine) -> Result<(), LooseRefusal>
-    requires few { length machine.now.quints ≤ most_quints }
+    requires few { length machine.now.quints ≤ MOST_ENTRIES }
     requires letters { machine.now.symbols ≤ most_symbols }
     ensures ok { OnOk result (IsAccepted machine.now) }
     ensures refused { IfErr result (IsLooseRefusal machine.now) }
@@ -63,7 +61,7 @@ pub(crate) fn accept(alloc: Global, machine: &Machine) -> Result<(), LooseRefusa
         return Err(LooseRefusal::Halting { i });
     }
     let count = quints.len() as u32 + machine.symbols() + 1;
-    if count > MOST_QUINTUPLES {
+    if count > MOST_ENTRIES {
         return Err(LooseRefusal::Many { count });
     }
     Ok(())

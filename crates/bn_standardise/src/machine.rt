@@ -2,7 +2,7 @@
 
 ghost use Rattle.std.specs.Prelude.{◌≡◌, ◌≤◌, IfOk, IfErr, OnOk, length};
 ghost use Rattle.bn_standard.specs.Standard.{IsStandard};
-ghost use Rattle.bn_standardise.specs.Limits.{most_quints, most_symbols};
+ghost use Rattle.bn_standardise.specs.Limits.{most_symbols};
 ghost use Rattle.bn_standardise.specs.Standardised.{standardised};
 ghost use Rattle.bn_standardise.specs.Refusals.{IsAccepted, IsLooseRefusal};
 
@@ -12,6 +12,7 @@ use crate::numbering::number_rules;
 use crate::refusal::LooseRefusal;
 use bn_entries::NoMemory;
 use bn_machine::{Machine, MachineRefusal};
+use bn_table::MOST_ENTRIES;
 use std::alloc::Global;
 
 // The machine in standard form, where the machine is accepted.
@@ -35,7 +36,7 @@ fn build(alloc: Global, machine: &Machine) -> Result<Machine, NoMemory>
 /// where a quintuple leaves the halting state, else `Many` exactly where the list would have more than 4,000
 /// quintuples.
 pub fn standardise(alloc: Global, machine: &Machine) -> Result<Machine, LooseRefusal>
-    requires few { length machine.now.quints ≤ most_quints }
+    requires few { length machine.now.quints ≤ MOST_ENTRIES }
     requires letters { machine.now.symbols ≤ most_symbols }
     ensures made { IfOk result (λ made. made ≡ standardised machine.now) }
     ensures standard { OnOk result (IsStandard (standardised machine.now).quints) }

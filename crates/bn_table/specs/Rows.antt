@@ -1,6 +1,6 @@
 -- Tables of quintuples and their entries (this project's own profile).
 use Rattle.std.specs.Prelude.{◌≡◌, ℕ, ◌<◌, ◌≤◌, ◌∷◌, ◌++◌, [], List, true, length, map, All, if◌then◌else◌}
-use Rattle.std.specs.Prelude.{nat_eq, slice_index, slice_index_or}
+use Rattle.std.specs.Prelude.{◌*◌, nat_eq, slice_index, slice_index_or}
 use Rattle.std.specs.List.{flat_map, list_all, list_any}
 use Rattle.bn_entries.specs.Forms.{is_state_name, is_symbol_byte}
 use Rattle.bn_entries.specs.Numbering.{AreNumberedByFirst, firsts, firsts_by}
@@ -88,5 +88,5 @@ with_letter letters letter = if list_any (nat_eq letter) letters then letters el
 pub record FitsTable (p : Program) : Type 0 where
   pub numbered : AreNumberedByFirst (states_in p.quints) p.states
   pub quints : length p.quints ≤ MOST_ENTRIES
-  pub states : p.states ≤ 8000
+  pub states : p.states ≤ 2 * MOST_ENTRIES
   pub symbols : p.symbols ≤ 91
