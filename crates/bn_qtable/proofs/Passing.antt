@@ -173,6 +173,6 @@ says-so n fields none =
       forms = record { state = p.state; one = one.forms; two = two.forms; three = three.forms; next = p.next };
     }
 
--- as many entries in the right forms as a table may have have no fault
+-- entries in the right forms have no fault, up to as many as a table may have
 pub no_fault : (n : ℕ) (s : Said) → n ≤ MOST_ENTRIES → HasForms s → entry_fault n (entry_of s) ≡ None
 no_fault n s few h = within_number MOST_ENTRIES refusal.TooMany form_fault n (entry_of s) few ∙ fields-back n s h

@@ -53,7 +53,7 @@ form_step n (a ∷ b ∷ c ∷ d ∷ e ∷ es) p = cc p
 pub step_of : (n : ℕ) (fields : List (List ℕ)) → entry_fault n fields ≡ None → IsEntry fields
 step_of n fields none = form_step n fields (in_number MOST_ENTRIES refusal.TooMany form_fault n fields none).1
 
--- as many entries of moves as a table may have have no fault
+-- entries of moves have no fault, up to as many as a table may have
 pub no_fault : (n : ℕ) (m : RsmMove) → n ≤ MOST_ENTRIES → IsMove m → entry_fault n (entry_of m) ≡ None
 no_fault n m few h =
     within_number MOST_ENTRIES refusal.TooMany form_fault n (entry_of m) few
