@@ -1,5 +1,6 @@
 //! Laws on tapes, steps and runs. Each function does nothing; its contract is the law.
 ghost use Rattle.bn_machine.specs.Laws.{AlikeMomentsEndAlike, CutWordsRunAlike, HasOneEnding, HasOneOutcome, HasOneOutput, HeadsStayNear, RoomsChangeNothing, RunsHaveHistories, StepsAreFunctions, TapesAreTheirSymbols, TurnsAreOne, WindowsHaveOneList, WordsStandFar};
+ghost use Rattle.bn_machine.specs.Laws.{GreatestSideIsStated};
 
 /// Tapes with the same symbols and the same head are the same.
 pub fn tapes_are_their_symbols()
@@ -65,4 +66,9 @@ pub fn outcome_is_one()
 /// A window of cells shows a tape in one way.
 pub fn windows_have_one_list()
     ensures { WindowsHaveOneList }
+{}
+
+/// The greatest number of cells on either side of a tape is 2^21.
+pub fn greatest_side_is_stated()
+    ensures { GreatestSideIsStated }
 {}
