@@ -1,5 +1,5 @@
 -- What the laws of this crate say, each the contract of a function with an empty body.
-use Rattle.std.specs.Prelude.{◌≡◌, ℕ, ◌≤◌, ℤ, pos, ◌≤ℤ◌, List, length, take}
+use Rattle.std.specs.Prelude.{◌≡◌, ℕ, ◌^◌, ◌≤◌, ℤ, pos, ◌≤ℤ◌, List, length, take}
 use Rattle.bn_theory.specs.Runs.{Reaches, IsFunction}
 use Rattle.bn_machine.specs.Tape.{Tape, cell, letter_at}
 use Rattle.bn_machine.specs.Window.{window_of, Room, anywhere, within, IsBetween, Windowed}
@@ -9,6 +9,7 @@ use Rattle.bn_machine.specs.Run.{After, AfterWithin, Follows, IsOutput, Ending, 
 use Rattle.bn_machine.specs.Outcome.{Limits, Outcome, HasOutcome}
 use Rattle.bn_machine.specs.Steps.{AgreesUpTo}
 use Rattle.bn_machine.specs.declared.machine.Turn.{Turn}
+use Rattle.bn_machine.specs.declared.tape.TheConstants.Tape.{GREATEST_SIDE}
 
 -- tapes with the same symbols and the same head are the same
 abbrev pub TapesAreTheirSymbols : Type 0
@@ -88,3 +89,7 @@ abbrev pub WindowsHaveOneList : Type 0
 WindowsHaveOneList =
     (left right : ℕ) (xs ys : List ℕ) (a b : ℕ) → length xs ≡ length ys
     → (window_of left right xs a).tape ≡ (window_of left right ys b).tape → (xs ≡ ys) × (a ≡ b)
+
+-- the greatest number of cells on either side of a tape
+abbrev pub GreatestSideIsStated : Type 0
+GreatestSideIsStated = GREATEST_SIDE ≡ 2 ^ 21

@@ -3,6 +3,7 @@ ghost use Rattle.bn_machine.specs.Laws.{AlikeMomentsEndAlike, CutWordsRunAlike, 
 ghost use Rattle.bn_machine.specs.Laws.{HasOneOutput, HeadsStayNear, RoomsChangeNothing, RunsHaveHistories};
 ghost use Rattle.bn_machine.specs.Laws.{StepsAreFunctions, TapesAreTheirSymbols, TurnsAreOne, WindowsHaveOneList};
 ghost use Rattle.bn_machine.specs.Laws.{WordsStandFar};
+ghost use Rattle.bn_machine.specs.Laws.{GreatestSideIsStated};
 
 /// Tapes with the same symbols and the same head are the same.
 pub fn tapes_are_their_symbols()
@@ -68,4 +69,9 @@ pub fn outcome_is_one()
 /// A window of cells shows a tape in one way.
 pub fn windows_have_one_list()
     ensures { WindowsHaveOneList }
+{}
+
+/// The greatest number of cells on either side of a tape is 2^21.
+pub fn greatest_side_is_stated()
+    ensures { GreatestSideIsStated }
 {}

@@ -25,7 +25,7 @@ use Rattle.bn_rsm.specs.Laws.{CostsAreBounded}
 use Rattle.bn_realise.specs.Banks.{column_at, bottom_at, IsBankWire, across, turning_line, IsResting, IsBank, IsBankEntering, exit_after, moved}
 use Rattle.bn_realise.proofs.BankCrossingLemmas.{later_column, other_column, bank_crosses}
 use Rattle.bn_realise.proofs.BankWiresLemmas.{column_once, output-no_wire, turning-wire}
-use Rattle.bn_realise.specs.BankNets.{CanMove, IsMove, IsBankNet, Banked, IsBankOf, IsSomeBank, CanMoveBank, IsReadyBank, HasLeft}
+use Rattle.bn_realise.specs.BankNets.{CanMove, IsMove, IsBankNet, Banked, IsBankOf, IsSomeBank, IsReadyBank, HasLeft}
 use Rattle.bn_net.specs.declared.net.TheConstants.{MOST_ELEMENTS}
 
 -- the bars of one bank at rest
@@ -215,6 +215,14 @@ same_start b t u q i p x c states lines first second =
   where
     same_mark : (q p : ℕ) → ◌≡◌ {A = Option ℕ} (Some (bar (q == q))) (Some (bar (p == q))) → q ≡ p
     same_mark q p same = by_tests q p (bars_tell (q == q) (p == q) same) (eqb_tells q q) (eqb_tells p q)
+
+-- a bank by itself can make a move of some table whose bank it is
+pub record CanMoveBank (v : Banked) (c : Config) : Type 0 where
+  pub table : Table
+  pub reversible : IsReversible table
+  pub square : table.outputs ≡ table.inputs
+  pub is_bank : IsBankOf v table
+  pub can : CanMove 0 table c
 
 pub bank_moved : (v : Banked) (t : Table) (q i made : ℕ) (c end : Config) → CanMoveBank v c → end ≡ run (rotary_circuit v.net) c clock → Reaches (Goes (rotary_circuit v.net)) made c end → IsReversible t → t.outputs ≡ t.inputs → IsBankOf v t → IsBankEntering 0 t q i c → IsMove (rotary_circuit v.net) 0 t q i made c end
 bank_moved v t q i made c end can went counted reversible square is entering =

@@ -69,14 +69,6 @@ pub record IsSomeBank (v : Banked) : Type 0 where
   pub square : table.outputs ≡ table.inputs
   pub is_bank : IsBankOf v table
 
--- it can make a move of some table whose bank it is
-pub record CanMoveBank (v : Banked) (c : Config) : Type 0 where
-  pub table : Table
-  pub reversible : IsReversible table
-  pub square : table.outputs ≡ table.inputs
-  pub is_bank : IsBankOf v table
-  pub can : CanMove 0 table c
-
 -- The bank is at rest in a state, the signal enters an input line, and the clock has room for the cost, whichever table
 -- it
 -- is the bank of.

@@ -17,7 +17,8 @@ pub fn bank(alloc: Global, rsm: &Rsm) -> Result<Bank, BankRefusal>
     requires some_states { 0 < rsm.now.states }
     requires some_lines { 0 < rsm.now.lines }
     ensures made { IfOk result (λ v. IsBankOf v (machine_table rsm.now)) }
-    ensures elements { (result ≡ Err (BankRefusal.Elements (elements_of rsm.now))) ↔ (MOST_ELEMENTS < elements_of rsm.now) }
+    ensures elements { (result ≡ Err (BankRefusal.Elements (elements_of rsm.now)))
+        ↔ (MOST_ELEMENTS < elements_of rsm.now) }
     ensures count { IfErr result (IsCounted (elements_of rsm.now)) }
 {
     let (states, lines) = (rsm.states(), rsm.lines_in());
