@@ -21,6 +21,8 @@ pub whole : {A : Type 0} (o : Option A) (P : A → Type 0) (x : A) → Whole o P
 whole o P x w e = let f : Option _ → Type 0 = λ v. Whole v P in subst f e w
 
 pub forth : (q : CellState) (i : CellLine) → Whole (cell_go q i) (λ m. cell_back m.0 m.1 ≡ Some (q, i))
+forth (Plain t) TakeRight = refl
+forth (Plain t) TakeLeft = refl
 forth (Plain t) _ = refl
 forth (Head t) Read = refl
 forth (Head zero) (Write u) = refl
@@ -30,6 +32,8 @@ forth (Head t) ShiftLeft = refl
 forth (Head t) _ = tt
 
 pub back : (q : CellState) (i : CellLine) → Whole (cell_back q i) (λ m. cell_go m.0 m.1 ≡ Some (q, i))
+back (Plain t) TakeRight = refl
+back (Plain t) TakeLeft = refl
 back (Plain t) _ = refl
 back (Head zero) (Answer u) = refl
 back (Head (suc t)) (Answer u) = tt

@@ -23,6 +23,7 @@ pub struct Bank {
 impl Model for Bank {
     ghost use Rattle.std.specs.Prelude.{◌≡◌, ◌+◌, ◌*◌, ◌≤◌, length};
     ghost use Rattle.bn_realise.specs.BankNets.{Banked, IsSomeBank};
+    ghost use Rattle.bn_net.specs.declared.net.TheConstants.{MOST_ELEMENTS};
 
     ghost Value = { Banked };
 

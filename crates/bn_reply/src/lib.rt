@@ -15,7 +15,7 @@ mod writing;
 pub use cut::cut_input;
 pub use laws::inputs_are_cut_once;
 pub use letters::push_letters;
-pub use limits::MOST_INPUT_BYTES;
+pub use limits::{MOST_INPUT_BYTES, most_input_bytes_are_stated};
 pub use lines::{empty_text, field_text, record_text, why_text};
 pub use opening::{Judged, OpenedTable, OpenedWord, judge_table, open_table, open_word};
 pub use reply::Reply;

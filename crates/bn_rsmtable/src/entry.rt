@@ -1,6 +1,6 @@
 //! One entry of a table of moves.
 
-ghost use Rattle.std.specs.Prelude.{◌≡◌, ◌<◌, ◌+◌, ◌∷◌, [], true, false, decimal, MatchOption, IfOk};
+ghost use Rattle.std.specs.Prelude.{◌≡◌, ◌<◌, ◌+◌, ◌∷◌, [], true, false, decimal, MatchOption, IfOk, ◌^◌};
 ghost use Rattle.bn_rsmtable.specs.Entry.{IsMove, entry_of};
 ghost use Rattle.bn_rsmtable.specs.Faults as fault;
 ghost use Rattle.bn_rsmtable.specs.Faults.{entry_fault, field_fault};
@@ -13,6 +13,11 @@ use bn_rsm::RsmMove;
 
 /// The most entries of a table.
 pub const MOST_ENTRIES: u32 = 65_536;
+
+/// A law: the most entries are 2^16.
+pub fn most_entries_are_stated()
+    ensures { MOST_ENTRIES ≡ 2 ^ 16 }
+{}
 
 // The number that a field is, less one; `None` exactly where it is none from 1 to `MOST_COUNT`.
 fn number_of(field: &[u8]) -> Option<u32>

@@ -9,7 +9,7 @@ mod refusal;
 mod tests;
 mod text;
 
-pub use crate::entry::MOST_ENTRIES;
+pub use crate::entry::{MOST_ENTRIES, most_entries_are_stated};
 pub use crate::laws::{
     bytes_are_read_or_refused, bytes_have_a_reading_or_a_fault, bytes_have_one_answer,
     bytes_have_one_reading,

@@ -65,7 +65,7 @@ module _ (r : Rule ℕ) (state : ℕ) (w : Tapes) (side : Side) where
 pub leaving_ends : (p : Quadruples) (state : ℕ) (w : Tapes) (tape : ℕ) (side : Side) → IsLeaving p state w tape side → EndsAt (rooms_of w) p.rules (final_of p.rules) (configuration state w) (Leaving tape side)
 leaving_ends p state w tape side l =
     leaves tape side (after l.rule (configuration state w)) l.going
-    (record { number = l.number; leads = record { rule = l.rule; stands = l.first.stands; leads = record { applies = l.first.applies; gives = refl } } })
+    (record { number = l.number; leads = record { rule = l.rule; stands = l.first.stands; leads = record { applies = l.first.holds; gives = refl } } })
     (first_outside l.rule state w side tape l.leaves) refl
 
 pub ends_leaving : (p : Quadruples) (state : ℕ) (w : Tapes) (tape : ℕ) (side : Side) (e : Exit) → IsDeterministic p.rules → AreAllowed (rooms_of w) (configuration state w) → e ≡ Leaving tape side → EndsAt (rooms_of w) p.rules (final_of p.rules) (configuration state w) e → IsLeaving p state w tape side
