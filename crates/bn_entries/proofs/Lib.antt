@@ -6,3 +6,4 @@ pub mod NumberingLemmas
 pub mod RecordsFromLemmas
 pub mod PlaceFacts
 pub mod RecordsLeft
+pub mod ShiftLemmas

@@ -1,16 +1,15 @@
 -- A draft and its quadruples.
-use Rattle.std.proofs.Common.{◌≡◌, ◌<◌, ◌≤◌, get_or, ◌∷◌, ◌++◌, ◌∙◌, ℕ, List, [], length, Option, None, Some, refl, sym, ap, arith, subst, All, zero, suc, map}
+use Rattle.std.proofs.Common.{◌≡◌, ◌<◌, ◌≤◌, get_or, ◌∷◌, ◌++◌, ◌∙◌, ℕ, List, [], length, Option, Some, refl, sym, ap, arith, subst, All, zero, suc, map}
 use Rattle.std.proofs.lemmas.List.{map-append}
 use Rattle.std.proofs.lemmas.List.Elements.{All-head, All-tail}
 use Rattle.std.proofs.lemmas.Option.{slice_get-get_or}
 use Rattle.bn_lists.specs.Lists.{nth}
 use Rattle.bn_quad.specs.Names.{Naming}
 use Rattle.bn_quad.specs.Quadruples.{Deed, Rewrite, Move, Rule, Quadruples, IsDeedInRange, IsRuleInRange}
-use Rattle.bn_quad.specs.Kept.{Agree, IsUnmixed, IsActInRange, IsFirstFault, IsReadInRange, IsSound, act_at, act_of, deed_of, quad_of, read_at, read_of, rule_of, rules_of}
-use Rattle.bn_quad.proofs.KeptLemmas.{length-rules_of, rule_of-quad_of, rules_of-quads}
+use Rattle.bn_quad.specs.Kept.{Agree, IsUnmixed, IsActInRange, IsFirstFault, IsReadInRange, IsSound, act_at, act_of, quad_of, read_at, read_of, rule_of, rules_of}
+use Rattle.bn_quad.proofs.KeptLemmas.{act_of-deed_of, length-rules_of, read_of-deed_of, rule_of-quad_of, rules_of-quads}
 use Rattle.bn_quad.specs.declared.quad.Quad.{Quad}
 use Rattle.bn_quad.specs.declared.quad.Act.{Act}
-use Rattle.bn_quad.specs.declared.quad.Act.TheVariants.{Write, Shift}
 use Rattle.bn_qtable.specs.Draft.{Adds, IsDraft, blanks_alone, drafted, names_of}
 use Rattle.bn_qtable.specs.Entry.{Said, entry_of}
 use Rattle.bn_qtable.specs.declared.entry.TheConstants.{MOST_ENTRIES}
@@ -24,18 +23,6 @@ few-draft d h =
     let P : ℕ → Type 0 = Few (names_of d) in
     subst P (length-rules_of d.quads.items) (few-names (names_of d) (rules_of d.quads.items) (drafted d) h.spelled)
 
-read-kept : (r : Option ℕ) (a : Act) → Agree r a → read_of (deed_of r a) ≡ r
-read-kept None (Write w) h = absurd h
-read-kept None (Shift s) h = refl
-read-kept (Some r) (Write w) h = refl
-read-kept (Some r) (Shift s) h = absurd h
-
-act-kept : (r : Option ℕ) (a : Act) → Agree r a → act_of (deed_of r a) ≡ a
-act-kept None (Write w) h = absurd h
-act-kept None (Shift s) h = refl
-act-kept (Some r) (Write w) h = refl
-act-kept (Some r) (Shift s) h = absurd h
-
 -- three tapes that agree
 abbrev pub AllAgree : Quad → Type 0
 AllAgree q = Agree (read_at q 0) (act_at q 0) × Agree (read_at q 1) (act_at q 1) × Agree (read_at q 2) (act_at q 2)
@@ -48,12 +35,12 @@ three_acts q = act_at q 0 ∷ act_at q 1 ∷ act_at q 2 ∷ []
 
 pub quad-kept : (q : Quad) → AllAgree q → q.read ≡ three_reads q → q.act ≡ three_acts q → quad_of (rule_of q) ≡ q
 quad-kept q h reads acts =
-    let r1 = read-kept (read_at q 0) (act_at q 0) h.0 in
-    let r2 = read-kept (read_at q 1) (act_at q 1) h.1 in
-    let r3 = read-kept (read_at q 2) (act_at q 2) h.2 in
-    let a1 = act-kept (read_at q 0) (act_at q 0) h.0 in
-    let a2 = act-kept (read_at q 1) (act_at q 1) h.1 in
-    let a3 = act-kept (read_at q 2) (act_at q 2) h.2 in
+    let r1 = read_of-deed_of (read_at q 0) (act_at q 0) h.0 in
+    let r2 = read_of-deed_of (read_at q 1) (act_at q 1) h.1 in
+    let r3 = read_of-deed_of (read_at q 2) (act_at q 2) h.2 in
+    let a1 = act_of-deed_of (read_at q 0) (act_at q 0) h.0 in
+    let a2 = act_of-deed_of (read_at q 1) (act_at q 1) h.1 in
+    let a3 = act_of-deed_of (read_at q 2) (act_at q 2) h.2 in
     let rs : (quad_of (rule_of q)).read ≡ three_reads q = λ i. r1 i ∷ r2 i ∷ r3 i ∷ [] in
     let acts1 : (quad_of (rule_of q)).act ≡ three_acts q = λ i. a1 i ∷ a2 i ∷ a3 i ∷ [] in
     let rs2 : (quad_of (rule_of q)).read ≡ q.read = rs ∙ sym reads in

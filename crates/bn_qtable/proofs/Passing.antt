@@ -7,10 +7,12 @@ use Rattle.bn_entries.specs.Forms.{is_state_name, is_symbol}
 use Rattle.bn_entries.proofs.FaultLemmas.{in_number, passed, within_number}
 use Rattle.bn_machine.specs.declared.quint.Shift.{Shift}
 use Rattle.bn_machine.specs.declared.quint.Shift.TheVariants.{Left, Stay, Right}
-use Rattle.bn_qtable.specs.Entry.{Said, Says, Rewrites, Moves, HasForms, SaysHasForms, entry_of, read_field, act_field, is_shift, shift_text, slash}
+use Rattle.bn_qtable.specs.Entry.{Said, Says, Rewrites, Moves, HasForms, SaysHasForms, entry_of, read_field, act_field, slash}
+use Rattle.bn_entries.specs.Shifts.{is_shift, shift_text}
 use Rattle.bn_qtable.specs.Faults.{entry_fault, field_fault, form_fault, is_read, is_act}
 use Rattle.bn_qtable.specs.declared.entry.TheConstants.{MOST_ENTRIES}
 use Rattle.bn_qtable.specs.declared.refusal.QuadTableRefusal.TheVariants as refusal
+use Rattle.bn_entries.proofs.ShiftLemmas.{shift_is}
 
 -- eight fields
 pub eight_is : (fields : List (List ℕ)) (a b c d e f g h : List ℕ) → length fields ≡ 8 → slice_get fields 0 ≡ Some a → slice_get fields 1 ≡ Some b
@@ -39,15 +41,6 @@ not_eight entry (a ∷ b ∷ c ∷ d ∷ e ∷ f ∷ []) h = refl
 not_eight entry (a ∷ b ∷ c ∷ d ∷ e ∷ f ∷ g ∷ []) h = refl
 not_eight entry (a ∷ b ∷ c ∷ d ∷ e ∷ f ∷ g ∷ x ∷ []) h = absurd (h refl)
 not_eight entry (a ∷ b ∷ c ∷ d ∷ e ∷ f ∷ g ∷ x ∷ y ∷ ys) h = refl
-
-shift_is : (field : List ℕ) → is_shift field ≡ true → (s : Shift) × (field ≡ shift_text s)
-shift_is field e = elim (cases_Bool (bytes_eq field (shift_text Left))) [
-  | inl left ↦ (Left, (bytes_eq-Decides field (shift_text Left)).0 left)
-  | inr miss ↦ elim (cases_Bool (bytes_eq field (shift_text Stay))) [
-    | inl stay ↦ (Stay, (bytes_eq-Decides field (shift_text Stay)).0 stay)
-    | inr other ↦ (Right, (bytes_eq-Decides field (shift_text Right)).0 (rw (miss, other) at e))
-  ]
-]
 
 shift_back : (s : Shift) → is_shift (shift_text s) ≡ true
 shift_back Left = refl

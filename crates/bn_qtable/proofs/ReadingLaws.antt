@@ -12,11 +12,9 @@ use Rattle.bn_entries.specs.NumberingLaws.{AreApart}
 use Rattle.bn_entries.proofs.AddedLemmas.{first_number, last_number, same_at}
 use Rattle.bn_entries.proofs.FaultLemmas.{in_number, kept_to_last, none_faulty}
 use Rattle.bn_entries.proofs.NumberingLemmas.{apart-firsts}
-use Rattle.bn_machine.specs.declared.quint.Shift.{Shift}
-use Rattle.bn_machine.specs.declared.quint.Shift.TheVariants.{Left, Stay, Right}
 use Rattle.bn_quad.specs.Names.{Naming, naming_of}
 use Rattle.bn_quad.specs.Quadruples.{Deed, Rewrite, Move, Rule, IsDeedInRange, IsRuleInRange, quadruples_of}
-use Rattle.bn_qtable.specs.Entry.{Said, Says, Rewrites, Moves, HasForms, SaysHasForms, entry_of, read_field, act_field, shift_text}
+use Rattle.bn_qtable.specs.Entry.{Said, Says, Rewrites, Moves, HasForms, SaysHasForms, entry_of, read_field, act_field}
 use Rattle.bn_qtable.specs.Draft.{Adds, Stands, with_says}
 use Rattle.bn_qtable.specs.Faults.{entry_fault, fault_of, form_fault}
 use Rattle.bn_qtable.specs.Rows.{IsTableOf, QuadTable, Spells, blank, counts_of, rows_by, said_deed, said_of, states_in, symbols_in, table_of}
@@ -24,19 +22,9 @@ use Rattle.bn_qtable.specs.declared.entry.TheConstants.{MOST_ENTRIES}
 use Rattle.bn_qtable.specs.declared.refusal.QuadTableRefusal.TheVariants as refusal
 use Rattle.bn_qtable.proofs.Growing.{spells-more, spells-none}
 use Rattle.bn_qtable.proofs.Passing.{no_fault, says-so, slash-is-none}
+use Rattle.bn_entries.proofs.ShiftLemmas.{one_shift}
 
 -- ---- one reading
-
-one_shift : (s t : Shift) → shift_text s ≡ shift_text t → s ≡ t
-one_shift Left Left e = refl
-one_shift Left Stay e = cc e
-one_shift Left Right e = cc e
-one_shift Stay Left e = cc e
-one_shift Stay Stay e = refl
-one_shift Stay Right e = cc e
-one_shift Right Left e = cc e
-one_shift Right Stay e = cc e
-one_shift Right Right e = refl
 
 abbrev pub Apart : List (List ℕ) → Type 0
 Apart names = AreApart bytes_eq bytes_eq-Decides names

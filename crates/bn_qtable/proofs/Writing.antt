@@ -17,7 +17,8 @@ use Rattle.bn_quad.specs.Names.{Naming}
 use Rattle.bn_quad.specs.Quadruples.{Deed, Rewrite, Move, Rule, Quadruples, IsDeedInRange, IsQuadMachine, IsRuleInRange}
 use Rattle.bn_quad.specs.Kept.{rule_of, rules_of}
 use Rattle.bn_quad.specs.declared.quad.Quad.{Quad}
-use Rattle.bn_qtable.specs.Entry.{entry_of, read_field, act_field, shift_text}
+use Rattle.bn_qtable.specs.Entry.{entry_of, read_field, act_field}
+use Rattle.bn_entries.specs.Shifts.{shift_text}
 use Rattle.bn_qtable.specs.Named.{AreNamed, DeedIsNamed, HasNames, IsNamed, RuleIsNamed}
 use Rattle.bn_qtable.specs.Rows.{rows_by, said_deed, said_of}
 

@@ -2,7 +2,8 @@
 use Rattle.std.specs.Prelude.{ℕ, Bool, ◌||◌, not, if◌then◌else◌, List, [], ◌∷◌, Option, Some, None, bytes_eq}
 use Rattle.bn_entries.specs.Faults.{first_fault, limited}
 use Rattle.bn_entries.specs.Forms.{is_state_name, is_symbol}
-use Rattle.bn_qtable.specs.Entry.{is_shift, slash}
+use Rattle.bn_qtable.specs.Entry.{slash}
+use Rattle.bn_entries.specs.Shifts.{is_shift}
 use Rattle.bn_qtable.specs.declared.entry.TheConstants.{MOST_ENTRIES}
 use Rattle.bn_qtable.specs.declared.refusal.QuadTableRefusal.{QuadTableRefusal}
 use Rattle.bn_qtable.specs.declared.refusal.QuadTableRefusal.TheVariants as refusal

@@ -1,14 +1,15 @@
 //! One entry of a table of quadruples.
 
 ghost use Rattle.std.specs.Prelude.{◌≡◌, ◌∷◌, [], true, false, MatchOption, IfOk, IfSome, IfNone, bytes_eq};
-ghost use Rattle.bn_qtable.specs.Entry.{HasForms, SaysHasForms, entry_of, is_shift, shift_text, slash, read_field};
+ghost use Rattle.bn_qtable.specs.Entry.{HasForms, SaysHasForms, entry_of, slash, read_field};
+ghost use Rattle.bn_entries.specs.Shifts.{is_shift, shift_text};
 ghost use Rattle.bn_qtable.specs.Entry.{act_field};
 ghost use Rattle.bn_qtable.specs.Fields.{said, says, err_of};
 ghost use Rattle.bn_qtable.specs.Faults as fault;
 ghost use Rattle.bn_qtable.specs.Faults.{entry_fault, field_fault};
 
 use crate::refusal::QuadTableRefusal;
-use bn_entries::{Entry, is_state_name, is_symbol};
+use bn_entries::{Entry, is_state_name, is_symbol, shift_of};
 use bn_machine::Shift;
 
 /// The most entries of a table.
@@ -36,19 +37,6 @@ pub struct Fields<'a> {
     pub two: TapeText<'a>,
     pub three: TapeText<'a>,
     pub next: &'a [u8],
-}
-
-// The shift that a field is.
-fn shift_of(field: &[u8]) -> Option<Shift>
-    ensures { MatchOption result (is_shift field.now ≡ false)
-        (λ s. (is_shift field.now ≡ true) × (field.now ≡ shift_text s)) }
-{
-    match field {
-        b"-" => Some(Shift::Left),
-        b"0" => Some(Shift::Stay),
-        b"+" => Some(Shift::Right),
-        _ => None,
-    }
 }
 
 // Whether a field is `/`, the read of a tape that isn't read.

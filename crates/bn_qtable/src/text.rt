@@ -7,7 +7,8 @@ ghost use Rattle.bn_entries.specs.Lines.{is_plain, is_plain_entry, line_of, line
 ghost use Rattle.bn_lists.specs.Lists.{nth};
 ghost use Rattle.bn_quad.specs.Names.{symbols_on};
 ghost use Rattle.bn_quad.specs.Kept.{Agree, IsUnmixed, deed_of, rule_of};
-ghost use Rattle.bn_qtable.specs.Entry.{entry_of, shift_text, read_field, act_field};
+ghost use Rattle.bn_qtable.specs.Entry.{entry_of, read_field, act_field};
+ghost use Rattle.bn_entries.specs.Shifts.{shift_text};
 ghost use Rattle.bn_qtable.specs.Faults.{fault_of};
 ghost use Rattle.bn_qtable.specs.Named.{HasNames, RuleIsNamed, DeedIsNamed};
 ghost use Rattle.bn_qtable.specs.Reading.{Reads};
@@ -16,7 +17,7 @@ ghost use Rattle.bn_qtable.specs.declared.refusal.QuadTableRefusal.TheVariants a
 
 use crate::draft::{add_entry, into_table, new_draft};
 use crate::refusal::QuadTableRefusal;
-use bn_entries::{Entries, Entry, EntryWriter, NoMemory};
+use bn_entries::{Entries, Entry, EntryWriter, NoMemory, text_of_shift};
 use bn_machine::Shift;
 use bn_quad::{Act, Quad, QuadMachine, QuadNames};
 use std::alloc::Global;
@@ -37,17 +38,6 @@ pub fn read_quads(alloc: Global, bytes: &[u8]) -> Result<(QuadMachine, QuadNames
         add_entry(&mut draft, &entry)?;
     }
     into_table(alloc, draft)
-}
-
-// The text of a shift.
-fn text_of_shift(shift: Shift) -> &'static [u8]
-    ensures { result.now ≡ shift_text shift }
-{
-    match shift {
-        Shift::Left => b"-",
-        Shift::Stay => b"0",
-        Shift::Right => b"+",
-    }
 }
 
 // The fields of what is read and done on a tape.

@@ -18,13 +18,13 @@ deed_of-kept : (d : Deed) → deed_of (read_of d) (act_of d) ≡ d
 deed_of-kept (Rewrite read written) = refl
 deed_of-kept (Move s) = refl
 
-read_of-deed_of : (r : Option ℕ) (a : Act) → Agree r a → read_of (deed_of r a) ≡ r
+pub read_of-deed_of : (r : Option ℕ) (a : Act) → Agree r a → read_of (deed_of r a) ≡ r
 read_of-deed_of None (Write w) h = absurd h
 read_of-deed_of None (Shift s) h = refl
 read_of-deed_of (Some r) (Write w) h = refl
 read_of-deed_of (Some r) (Shift s) h = absurd h
 
-act_of-deed_of : (r : Option ℕ) (a : Act) → Agree r a → act_of (deed_of r a) ≡ a
+pub act_of-deed_of : (r : Option ℕ) (a : Act) → Agree r a → act_of (deed_of r a) ≡ a
 act_of-deed_of None (Write w) h = absurd h
 act_of-deed_of None (Shift s) h = refl
 act_of-deed_of (Some r) (Write w) h = refl

@@ -3,7 +3,8 @@ use Rattle.std.proofs.Common.{◌≡◌, ◌∙◌, ◌≤◌, ◌<◌, ◌+◌,
 use Rattle.std.proofs.lemmas.List.{map-append, take_all, take_more}
 use Rattle.bn_entries.specs.Lines.{line_of, lines_of}
 use Rattle.bn_entries.proofs.LinesLemmas.{lines_of-push}
-use Rattle.bn_table.specs.Entry.{entry_of, said, shift_text}
+use Rattle.bn_table.specs.Entry.{entry_of, said}
+use Rattle.bn_entries.specs.Shifts.{shift_text}
 use Rattle.bn_standardise.specs.Printed.{name_text, rule_entry}
 use Rattle.bn_standardise.specs.declared.rule.Rule.{Rule}
 

@@ -1,18 +1,19 @@
 -- Entries without a fault, and what they say.
-use Rattle.std.proofs.Common.{◌≡◌, ◌≤◌, ◌∷◌, ◌∙◌, ℕ, true, List, [], length, Some, None, refl, inl, inr, arith, slice_get}
-use Rattle.std.specs.Prelude.{bytes_eq, ◌==◌}
-use Rattle.std.proofs.lemmas.Bool.{cases_Bool, false≢true}
+use Rattle.std.proofs.Common.{◌≡◌, ◌≤◌, ◌∷◌, ◌∙◌, ℕ, true, List, [], length, Some, None, refl, arith, slice_get}
+use Rattle.std.specs.Prelude.{◌==◌}
+use Rattle.std.proofs.lemmas.Bool.{false≢true}
 use Rattle.std.proofs.lemmas.Bool.Decides.{Decides-eqb}
-use Rattle.std.proofs.lemmas.Slice.Eq.{bytes_eq-Decides}
 use Rattle.bn_entries.specs.Forms.{is_letter, is_state_name, is_symbol_byte}
 use Rattle.bn_entries.proofs.FaultLemmas.{in_number, passed, within_number}
 use Rattle.bn_entries.proofs.NumberingLemmas.{both_true}
 use Rattle.bn_machine.specs.declared.quint.Shift.{Shift}
 use Rattle.bn_machine.specs.declared.quint.Shift.TheVariants.{Left, Stay, Right}
-use Rattle.bn_table.specs.Entry.{Said, HasForms, entry_of, is_shift, shift_text}
+use Rattle.bn_table.specs.Entry.{Said, HasForms, entry_of}
+use Rattle.bn_entries.specs.Shifts.{is_shift, shift_text}
 use Rattle.bn_table.specs.Faults.{entry_fault, field_fault, form_fault}
 use Rattle.bn_table.specs.declared.entry.TheConstants.{MOST_ENTRIES}
 use Rattle.bn_table.specs.declared.refusal.TableRefusal.TheVariants as refusal
+use Rattle.bn_entries.proofs.ShiftLemmas.{shift_is}
 
 -- five fields
 pub five_is : (fields : List (List ℕ)) (a b c d e : List ℕ) → length fields ≡ 5 → slice_get fields 0 ≡ Some a → slice_get fields 1 ≡ Some b
@@ -44,15 +45,6 @@ letter_is (b ∷ c ∷ rest) e =
 
 pub letter_back : (b : ℕ) → is_symbol_byte b ≡ true → is_letter (b ∷ []) ≡ true
 letter_back b e = rw e refl
-
-shift_is : (field : List ℕ) → is_shift field ≡ true → (s : Shift) × (field ≡ shift_text s)
-shift_is field e = elim (cases_Bool (bytes_eq field (shift_text Left))) [
-  | inl left ↦ (Left, (bytes_eq-Decides field (shift_text Left)).0 left)
-  | inr miss ↦ elim (cases_Bool (bytes_eq field (shift_text Stay))) [
-    | inl stay ↦ (Stay, (bytes_eq-Decides field (shift_text Stay)).0 stay)
-    | inr other ↦ (Right, (bytes_eq-Decides field (shift_text Right)).0 (rw (miss, other) at e))
-  ]
-]
 
 pub shift_back : (s : Shift) → is_shift (shift_text s) ≡ true
 shift_back Left = refl

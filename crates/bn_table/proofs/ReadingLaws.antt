@@ -15,28 +15,17 @@ use Rattle.bn_entries.proofs.FaultLemmas.{kept_to_last, none_faulty}
 use Rattle.bn_entries.proofs.NumberingLemmas.{apart-firsts}
 use Rattle.bn_machine.specs.Machine.{IsInRange, program_of}
 use Rattle.bn_machine.specs.declared.quint.Quint.{Quint}
-use Rattle.bn_machine.specs.declared.quint.Shift.{Shift}
-use Rattle.bn_machine.specs.declared.quint.Shift.TheVariants.{Left, Stay, Right}
-use Rattle.bn_table.specs.Entry.{Said, HasForms, entry_of, shift_text}
+use Rattle.bn_table.specs.Entry.{Said, HasForms, entry_of}
+use Rattle.bn_entries.specs.Shifts.{shift_text}
 use Rattle.bn_table.specs.Faults.{entry_fault, fault_of}
 use Rattle.bn_table.specs.Rows.{IsTableOf, Named, Spells, blank, letters_in, named, names_in, rows_by, said_of, with_letter}
 use Rattle.bn_table.specs.declared.entry.TheConstants.{MOST_ENTRIES}
 use Rattle.bn_table.specs.declared.refusal.TableRefusal.TheVariants as refusal
 use Rattle.bn_table.proofs.Growing.{Adds, spells-more, spells-none}
 use Rattle.bn_table.proofs.Passing.{no_fault, says}
+use Rattle.bn_entries.proofs.ShiftLemmas.{one_shift}
 
 -- ---- one reading
-
-one_shift : (s t : Shift) → shift_text s ≡ shift_text t → s ≡ t
-one_shift Left Left e = refl
-one_shift Left Stay e = cc e
-one_shift Left Right e = cc e
-one_shift Stay Left e = cc e
-one_shift Stay Stay e = refl
-one_shift Stay Right e = cc e
-one_shift Right Left e = cc e
-one_shift Right Stay e = cc e
-one_shift Right Right e = refl
 
 same-quint : (q r : Quint) → q.state ≡ r.state → q.read ≡ r.read → q.write ≡ r.write → q.shift ≡ r.shift → q.next ≡ r.next → q ≡ r
 same-quint q r a b c d e = λ i. record { state = a i; read = b i; write = c i; shift = d i; next = e i }

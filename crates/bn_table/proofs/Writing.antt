@@ -12,7 +12,8 @@ use Rattle.bn_machine.specs.Machine.{IsInRange}
 use Rattle.bn_machine.specs.declared.quint.Quint.{Quint}
 use Rattle.bn_machine.specs.declared.quint.Shift.{Shift}
 use Rattle.bn_machine.specs.declared.quint.Shift.TheVariants.{Left, Stay, Right}
-use Rattle.bn_table.specs.Entry.{Said, HasForms, entry_of, shift_text}
+use Rattle.bn_table.specs.Entry.{Said, HasForms, entry_of}
+use Rattle.bn_entries.specs.Shifts.{shift_text}
 use Rattle.bn_table.specs.Reading.{Reads}
 use Rattle.bn_table.specs.Rows.{IsTable, IsTableOf, Named, rows_by, rows_of, said_of}
 use Rattle.bn_table.proofs.ReadingLaws.{row-forms}

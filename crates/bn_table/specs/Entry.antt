@@ -1,19 +1,8 @@
 -- The five fields of a quintuple's entry (this project's own profile).
-use Rattle.std.specs.Prelude.{◌≡◌, true, ℕ, Bool, ◌||◌, List, [], ◌∷◌, bytes_eq}
+use Rattle.std.specs.Prelude.{◌≡◌, true, ℕ, List, [], ◌∷◌}
 use Rattle.bn_entries.specs.Forms.{is_state_name, is_symbol_byte}
 use Rattle.bn_machine.specs.declared.quint.Shift.{Shift}
-use Rattle.bn_machine.specs.declared.quint.Shift.TheVariants.{Left, Stay, Right}
-
--- the text of a shift: `-` to the left, `0` for none, `+` to the right
-abbrev pub shift_text : Shift → List ℕ
-shift_text Left = 45 ∷ []
-shift_text Stay = 48 ∷ []
-shift_text Right = 43 ∷ []
-
--- whether some bytes are the text of a shift
-abbrev pub is_shift : List ℕ → Bool
-is_shift field = bytes_eq field (shift_text Left) || bytes_eq field (shift_text Stay)
-    || bytes_eq field (shift_text Right)
+use Rattle.bn_entries.specs.Shifts.{shift_text}
 
 -- what an entry says: a state's name, the letter read, the letter written, a shift, and the next state's name
 pub record Said : Type 0 where

@@ -2,7 +2,7 @@
 use Rattle.std.specs.Prelude.{ℕ, not, if◌then◌else◌, List, [], ◌∷◌, Option, Some, None}
 use Rattle.bn_entries.specs.Faults.{first_fault, limited}
 use Rattle.bn_entries.specs.Forms.{is_letter, is_state_name}
-use Rattle.bn_table.specs.Entry.{is_shift}
+use Rattle.bn_entries.specs.Shifts.{is_shift}
 use Rattle.bn_table.specs.declared.entry.TheConstants.{MOST_ENTRIES}
 use Rattle.bn_table.specs.declared.refusal.TableRefusal.{TableRefusal}
 use Rattle.bn_table.specs.declared.refusal.TableRefusal.TheVariants as refusal

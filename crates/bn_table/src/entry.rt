@@ -2,12 +2,13 @@
 
 ghost use Rattle.std.specs.Prelude.{◌≡◌, ◌∷◌, [], true, false, MatchOption, IfOk};
 ghost use Rattle.bn_entries.specs.Forms.{is_letter as letter_form};
-ghost use Rattle.bn_table.specs.Entry.{entry_of, is_shift, shift_text};
+ghost use Rattle.bn_table.specs.Entry.{entry_of};
+ghost use Rattle.bn_entries.specs.Shifts.{is_shift, shift_text};
 ghost use Rattle.bn_table.specs.Fields.{said, err_of};
 ghost use Rattle.bn_table.specs.Faults.{entry_fault, field_fault};
 
 use crate::refusal::TableRefusal;
-use bn_entries::{Entry, is_letter, is_state_name};
+use bn_entries::{Entry, is_letter, is_state_name, shift_of};
 use bn_machine::Shift;
 
 /// The most entries of a table.
@@ -37,19 +38,6 @@ fn letter(field: &[u8]) -> Option<u8>
         Some(field[0])
     } else {
         None
-    }
-}
-
-// The shift that a field is.
-fn shift_of(field: &[u8]) -> Option<Shift>
-    ensures { MatchOption result (is_shift field.now ≡ false) (λ s. (is_shift field.now ≡ true)
-        × (field.now ≡ shift_text s)) }
-{
-    match field {
-        b"-" => Some(Shift::Left),
-        b"0" => Some(Shift::Stay),
-        b"+" => Some(Shift::Right),
-        _ => None,
     }
 }
 

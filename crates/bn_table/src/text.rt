@@ -4,7 +4,8 @@ ghost use Rattle.std.specs.Prelude.{◌≡◌, ◌<◌, ◌++◌, ◌∷◌, [],
 ghost use Rattle.bn_entries.specs.Entries.{entries_of};
 ghost use Rattle.bn_entries.specs.Lines.{is_plain_entry, line_of, lines_of};
 ghost use Rattle.bn_machine.specs.Machine.{IsInRange};
-ghost use Rattle.bn_table.specs.Entry.{HasForms, entry_of, said, shift_text};
+ghost use Rattle.bn_table.specs.Entry.{HasForms, entry_of, said};
+ghost use Rattle.bn_entries.specs.Shifts.{shift_text};
 ghost use Rattle.bn_table.specs.Faults.{fault_of};
 ghost use Rattle.bn_table.specs.Reading.{Reads};
 ghost use Rattle.bn_table.specs.Rows.{IsTable, rows_of, said_of};
@@ -13,7 +14,7 @@ ghost use Rattle.bn_table.specs.declared.refusal.TableRefusal.TheVariants as ref
 use crate::draft::{add_entry, into_table, new_draft};
 use crate::refusal::TableRefusal;
 use crate::table::Table;
-use bn_entries::{Entries, Entry, EntryWriter, NoMemory};
+use bn_entries::{Entries, Entry, EntryWriter, NoMemory, text_of_shift};
 use bn_machine::{Quint, Shift};
 use std::alloc::Global;
 
@@ -31,17 +32,6 @@ pub fn read_quints(alloc: Global, bytes: &[u8]) -> Result<Table, TableRefusal>
         add_entry(&mut draft, &entry)?;
     }
     into_table(draft)
-}
-
-// The text of a shift.
-fn text_of_shift(shift: Shift) -> &'static [u8]
-    ensures { result.now ≡ shift_text shift }
-{
-    match shift {
-        Shift::Left => b"-",
-        Shift::Stay => b"0",
-        Shift::Right => b"+",
-    }
 }
 
 // Writes an entry of five fields that need no quotes.
