@@ -83,7 +83,8 @@ impl Column {
         requires good { IsConfig (rotary_circuit self.now.net) config.old }
         requires entering { CanCross 0 self.now.rows config.old }
         ensures crossed { (i : ℕ) (marked from_east : Bool) → IsEntering 0 self.now.rows i marked from_east config.old → IsCrossing (rotary_circuit self.now.net) 0 self.now.rows i marked from_east result config.old config.new }
-        ensures left { (i : ℕ) (marked from_east : Bool) → IsEntering 0 self.now.rows i marked from_east config.old → config.new.place ≡ Left i (exit_side marked) }
+        ensures left { (i : ℕ) (marked from_east : Bool) → IsEntering 0 self.now.rows i marked from_east config.old
+            → config.new.place ≡ Left i (exit_side marked) }
         ensures good { IsConfig (rotary_circuit self.now.net) config.new }
     {
         cross_in(&self.net, config, 0, self.rows)

@@ -20,5 +20,5 @@ AreInOrder (w ∷ ws) = ComesFirst w.from ws × AreInOrder ws
 -- of wires in order no two leave one line, so that none stands twice
 abbrev pub WiresStandOnce : Type 0
 WiresStandOnce =
-    (wires : List Wire) (i j : ℕ) (v w : Wire) → AreInOrder wires → slice_get wires i ≡ Some v → slice_get wires j ≡ Some w
-    → v.from ≡ w.from → i ≡ j
+    (wires : List Wire) (i j : ℕ) (v w : Wire) → AreInOrder wires → slice_get wires i ≡ Some v
+    → slice_get wires j ≡ Some w → v.from ≡ w.from → i ≡ j

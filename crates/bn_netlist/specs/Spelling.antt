@@ -79,7 +79,8 @@ TextsAgree = (s : Spelling) (first second : List ℕ) → Spelled s first → Sp
 
 -- The same configuration has one text, in whatever order its wires are listed.
 abbrev pub SameHaveOneText : Type 0
-SameHaveOneText = (s t : Spelling) (first second : List ℕ) → AreSame s t → Spelled s first → Spelled t second → first ≡ second
+SameHaveOneText =
+    (s t : Spelling) (first second : List ℕ) → AreSame s t → Spelled s first → Spelled t second → first ≡ second
 
 -- Each text has one configuration.
 abbrev pub SpellingsAgree : Type 0

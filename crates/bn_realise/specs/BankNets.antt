@@ -13,7 +13,8 @@ use Rattle.bn_net.specs.Parts.{Parts}
 use Rattle.bn_column.specs.Nets.{rotary_circuit}
 use Rattle.bn_rsm.specs.Machines.{Machine}
 use Rattle.bn_rsm.specs.Costs.{table_cost}
-use Rattle.bn_realise.specs.Banks.{column_at, bottom_at, IsBank, IsBankWire, IsBankEntering, IsResting, IsWithinBank, moved}
+use Rattle.bn_realise.specs.Banks.{column_at, bottom_at, IsBank, IsBankWire, IsBankEntering, IsResting}
+use Rattle.bn_realise.specs.Banks.{IsWithinBank, moved}
 use Rattle.bn_realise.specs.declared.refusal.BankRefusal.{BankRefusal}
 use Rattle.bn_realise.specs.declared.refusal.BankRefusal.TheVariants.{Elements, NoMemory}
 
@@ -63,8 +64,8 @@ pub record IsSomeBank (v : Banked) : Type 0 where
   pub square : table.outputs ≡ table.inputs
   pub is_bank : IsBankOf v table
 
--- The bank is at rest in a state, the signal enters an input line, and the clock has room for the cost, whichever table it
--- is the bank of.
+-- The bank is at rest in a state, the signal enters an input line, and the clock has room for the cost, whichever table
+-- it is the bank of.
 pub record IsReadyBank (v : Banked) (c : Config) : Type 0 where
   pub state : ℕ
   pub line : ℕ
@@ -72,7 +73,8 @@ pub record IsReadyBank (v : Banked) (c : Config) : Type 0 where
   pub some_line : line < v.lines
   pub resting : IsResting c.states 0 v.states v.lines (Some state)
   pub enters : c.place ≡ Enter line west
-  pub in_time : (t : Table) → IsReversible t → t.outputs ≡ t.inputs → IsBankOf v t → c.steps + table_cost t state line ≤ clock
+  pub in_time : (t : Table) → IsReversible t → t.outputs ≡ t.inputs → IsBankOf v t
+      → c.steps + table_cost t state line ≤ clock
 
 -- the signal has left by this line
 abbrev pub HasLeft : Place → Line → Type 0

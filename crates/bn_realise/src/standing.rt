@@ -97,7 +97,8 @@ impl Bank {
         requires good { IsConfig (rotary_circuit self.now.net) config.old }
         requires entering { IsReadyBank self.now config.old }
         ensures moved { (t : Table) (q i : ℕ) → IsReversible t → t.outputs ≡ t.inputs → IsBankOf self.now t → IsBankEntering 0 t q i config.old → IsMove (rotary_circuit self.now.net) 0 t q i result config.old config.new }
-        ensures left { (t : Table) (q i : ℕ) → IsReversible t → t.outputs ≡ t.inputs → IsBankOf self.now t → IsBankEntering 0 t q i config.old → HasLeft config.new.place (exit_after 0 t q i (t.go q i)) }
+        ensures left { (t : Table) (q i : ℕ) → IsReversible t → t.outputs ≡ t.inputs → IsBankOf self.now t
+            → IsBankEntering 0 t q i config.old → HasLeft config.new.place (exit_after 0 t q i (t.go q i)) }
         ensures good { IsConfig (rotary_circuit self.now.net) config.new }
     {
         self.net.run(config, CLOCK)
