@@ -1,6 +1,6 @@
 -- What a watch in memory has heard: the first places, at most as many as it has room for, and whether some were lost.
-use Rattle.std.specs.Prelude.{◌≡◌, ℕ, ◌<◌, ◌≤◌, Bool, true, false, List, [], ◌∷◌, ◌++◌, length, nat_lt, Option, Some}
-use Rattle.std.specs.Prelude.{None, if◌then◌else◌}
+use Rattle.std.specs.Prelude.{◌≡◌, ℕ, ◌<◌, ◌≤◌, nat_lt, Bool, true, false, if◌then◌else◌}
+use Rattle.std.specs.Prelude.{List, [], ◌∷◌, ◌++◌, length, Option, Some, None}
 use Rattle.bn_theory.specs.declared.place.Place.{Place}
 
 pub record Heard : Type 0 where
@@ -29,8 +29,7 @@ hears_all h [] = h
 hears_all h (place ∷ places) = hears_all (hears_next h place) places
 
 -- A watch that was told nothing yet tells all that it is told after that, as long as this is at most its room, and no
--- list
--- beyond.
+-- list beyond.
 pub record TellsWithinRoom (room : ℕ) (places : List Place) : Type 0 where
   pub told : length places ≤ room → told_by (hears_all (fresh room) places) ≡ Some places
   pub lost : room < length places → told_by (hears_all (fresh room) places) ≡ None

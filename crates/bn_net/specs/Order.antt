@@ -21,5 +21,4 @@ AreInOrder (w ∷ ws) = ComesFirst w.from ws × AreInOrder ws
 abbrev pub WiresStandOnce : Type 0
 WiresStandOnce =
     (wires : List Wire) (i j : ℕ) (v w : Wire) → AreInOrder wires → slice_get wires i ≡ Some v
-        → slice_get wires j ≡ Some w
-    → v.from ≡ w.from → i ≡ j
+    → slice_get wires j ≡ Some w → v.from ≡ w.from → i ≡ j

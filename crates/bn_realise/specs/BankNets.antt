@@ -13,8 +13,8 @@ use Rattle.bn_net.specs.Parts.{Parts}
 use Rattle.bn_column.specs.Nets.{rotary_circuit}
 use Rattle.bn_rsm.specs.Machines.{Machine}
 use Rattle.bn_rsm.specs.Costs.{table_cost}
-use Rattle.bn_realise.specs.Banks.{column_at, bottom_at, IsBank, IsBankWire, IsBankEntering, IsResting, IsWithinBank}
-use Rattle.bn_realise.specs.Banks.{moved}
+use Rattle.bn_realise.specs.Banks.{column_at, bottom_at, IsBank, IsBankWire, IsBankEntering, IsResting}
+use Rattle.bn_realise.specs.Banks.{IsWithinBank, moved}
 use Rattle.bn_realise.specs.declared.refusal.BankRefusal.{BankRefusal}
 use Rattle.bn_realise.specs.declared.refusal.BankRefusal.TheVariants.{Elements, NoMemory}
 
@@ -70,8 +70,7 @@ pub record IsSomeBank (v : Banked) : Type 0 where
   pub is_bank : IsBankOf v table
 
 -- The bank is at rest in a state, the signal enters an input line, and the clock has room for the cost, whichever table
--- it
--- is the bank of.
+-- it is the bank of.
 pub record IsReadyBank (v : Banked) (c : Config) : Type 0 where
   pub state : ℕ
   pub line : ℕ

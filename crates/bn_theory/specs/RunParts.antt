@@ -32,8 +32,7 @@ abbrev pub PlacesAreThoseOfRuns : Type 0
 PlacesAreThoseOfRuns = (k : Circuit) (t : ℕ) (c : Config) → ArePlacesOfRun k t c
 
 -- Likewise the places told of a run back: the place with number i, from 0, is that after i + 1 steps back; and there
--- are
--- as many as steps back can be made, at most as many as are asked for.
+-- are as many as steps back can be made, at most as many as are asked for.
 pub record ArePlacesOfRunBack (k : Circuit) (t : ℕ) (d : Config) : Type 0 where
   pub count : ℕ
   pub all : length (places_back k t d) ≡ count

@@ -17,7 +17,7 @@ write_config-requires c =
     let bank = net_spelling c.args.rsm.now c.args.bank spelled c.args.state c.args.line c.requires.is c.into_net.ensures c.in-Ok.ensures.start refl
     c.exit_line-end.ensures in
     bank-Admits c.args.rsm.now c.args.state c.args.line c.requires.state c.requires.line (spelling_of spelled) bank c.requires.few
-    (net_circuit spelled c.net.result.now (c.net.ensures ∙ sym c.into_net.ensures) c.len-count.ensures.circuit)
+    (net_circuit spelled c.net.result.now (c.net.ensures.net ∙ sym c.into_net.ensures) c.len-count.ensures.circuit)
 
 pub returns-in-Ok-write_config : goal.returns-in-Ok-write_config
 returns-in-Ok-write_config c =
@@ -30,6 +30,6 @@ returns-in-Ok-write_config c =
     } in
     let bank = net_spelling c.args.rsm.now c.args.bank spelled c.args.state c.args.line c.requires.is c.into_net.ensures c.in-Ok.ensures.start refl
     c.exit_line-end.ensures in
-    let circuit = net_circuit spelled c.net.result.now (c.net.ensures ∙ sym c.into_net.ensures) c.len-count.ensures.circuit in
+    let circuit = net_circuit spelled c.net.result.now (c.net.ensures.net ∙ sym c.into_net.ensures) c.len-count.ensures.circuit in
     let admitted = bank-Admits c.args.rsm.now c.args.state c.args.line c.requires.state c.requires.line (spelling_of spelled) bank c.requires.few circuit in
     (spelling_of spelled, bank, record { admitted = admitted; written = c.in-Ok-write_config.ensures })
