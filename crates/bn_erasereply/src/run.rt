@@ -1,6 +1,6 @@
 //! The run of the erasing machine from a word.
 
-ghost use Rattle.std.specs.Prelude.{◌≡◌, ◌≤◌, IfOk, length, max};
+ghost use Rattle.std.specs.Prelude.{◌≡◌, ◌+◌, ◌≤◌, IfOk, length, max};
 ghost use Rattle.bn_machine.specs.Window.{new_window};
 ghost use Rattle.bn_machine.specs.Run.{IsOutput};
 ghost use Rattle.bn_erasing.specs.Outcome.{rewound};

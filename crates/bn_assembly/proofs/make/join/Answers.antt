@@ -29,9 +29,9 @@ new-requires-clause-faultless c =
 
 pub of-requires : goal.of-requires
 of-requires c =
-    let made = joined_some c.args.machine.now (limits_of c.args.windows.now) c.args.word.now c.args.control c.requires.valid.tapes c.requires.control c.requires.few c.in_ok-net.net (record { states = c.new.result; place = Enter 0 0; steps = 0 })
+    let made = joined_some c.args.machine.now (limits_of c.args.windows.now) c.args.word.now c.args.control c.requires.valid.tapes c.requires.control c.requires.few c.in_ok-net.net (record { states = c.new-2.result; place = Enter 0 0; steps = 0 })
     c.in_ok-modules.modules.items c.as_slice.result.now c.in_ok-modules.ensures c.in_ok-net.ensures.elements (c.as_slice.ensures.value ∙ c.in_ok-wires.ensures) c.in_ok-net.ensures.targets c.in_ok-net.ensures.circuit
-    (c.new.ensures ∙ c.in_ok-states.ensures) refl refl in
+    (c.new-2.ensures ∙ c.in_ok-states.ensures) refl refl in
     record {
       machine = c.args.machine.now;
       names = made.0;
@@ -47,7 +47,7 @@ of-requires c =
 
 pub returns : goal.returns
 returns c =
-    let made = joined_some c.args.machine.now (limits_of c.args.windows.now) c.args.word.now c.args.control c.requires.valid.tapes c.requires.control c.requires.few c.in_ok-net.net (record { states = c.new.result; place = Enter 0 0; steps = 0 })
+    let made = joined_some c.args.machine.now (limits_of c.args.windows.now) c.args.word.now c.args.control c.requires.valid.tapes c.requires.control c.requires.few c.in_ok-net.net (record { states = c.new-2.result; place = Enter 0 0; steps = 0 })
     c.in_ok-modules.modules.items c.as_slice.result.now c.in_ok-modules.ensures c.in_ok-net.ensures.elements (c.as_slice.ensures.value ∙ c.in_ok-wires.ensures) c.in_ok-net.ensures.targets c.in_ok-net.ensures.circuit
-    (c.new.ensures ∙ c.in_ok-states.ensures) refl refl in
+    (c.new-2.ensures ∙ c.in_ok-states.ensures) refl refl in
     (made.0, rw c.of.ensures made.1)
