@@ -69,6 +69,7 @@ fn assemble_fitting(
         return Err(AssembleRefusal::NoMemory);
     };
     let machine = machine.machine();
+    // (for the prover: the contract of this call tells what the type keeps.)
     let _ = machine.quads();
     let count = count_elements(machine, windows, control.rsm().states());
     if count > MOST_ELEMENTS {

@@ -141,6 +141,7 @@ pub fn names(alloc: Global, table: &Table, translated: &Translated) -> Result<Qu
 {
     translations_have_names();
     translations_are_tables();
+    // (for the prover: the contract of this call tells what the type keeps.)
     let _quints = table.machine().quints();
     all_names(alloc, table, translated)
 }

@@ -68,6 +68,7 @@ fn symbols_of(machine: &QuadMachine) -> [u32; 3]
     ensures symbols { result ≡ machine.now.symbols }
     ensures valid { IsQuadMachine machine.now }
 {
+    // (for the prover: the contract of this call tells what the type keeps.)
     let _quads = machine.quads();
     [machine.symbols(1), machine.symbols(2), machine.symbols(3)]
 }

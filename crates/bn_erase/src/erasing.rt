@@ -125,6 +125,7 @@ fn join_translated(
     list_counts_names();
     numbers_pass_tests();
     erasing_has_names();
+    // (for the prover: the contract of this call tells what the type keeps. So below.)
     let _left = first.machine().quints();
     let _right = second.machine().quints();
     let meeting = meeting_of(translated, other);

@@ -130,6 +130,7 @@ impl Board {
         requires { column_at first rows columns ≤ elements_of self.now.layout }
         ensures { result ≡ marked_column self.now.config.states first columns rows }
     {
+        // (for the prover: the contract of this call tells what the type keeps.)
         let _elements = self.layout().elements();
         for column in 0..columns {
             if self.is_marked(first + column * (rows + 1) + rows) {

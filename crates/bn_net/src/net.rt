@@ -67,6 +67,7 @@ impl<E: Element> Net<E> {
             net.check(wires[index], index as u32 + 1)?;
             net.connect(wires[index]);
         }
+        // (for the prover: a function knows what its type keeps where it uses a field. So below.)
         let _ = &net.elements;
         Ok(net)
     }

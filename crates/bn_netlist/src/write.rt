@@ -101,6 +101,7 @@ fn push_target(
     ensures { OnOk result (text.new.items ≡ text.old.items
         ++ (codes " " ++ target_text (target net.now.wires (record { element = element; line = line })))) }
 {
+    // (for the prover: the contract of this call tells what the type keeps.)
     let _ = net.len();
     match net.target(Line { element, line }) {
         None => push(text, b" -"),

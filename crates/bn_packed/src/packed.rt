@@ -192,6 +192,7 @@ impl Packed {
         ensures told { Hears (W.told watch.old)
             (places (rotary_circuit self.old.net) e self.old.config) (W.told watch.new) }
     {
+        // (for the prover: the contract of this call tells what the type keeps. So below.)
         let _elements = self.wires.len();
         let before = self.signal.steps;
         let count = e.min(CLOCK - before);

@@ -63,6 +63,7 @@ pub(crate) fn walk_until<C: Cell, S: Stop, W: Watch>(
         → signal.steps < result.steps
         ⊎ IsStuck (rotary_circuit wiring.now) (config_at bars.old signal.place signal.steps) }
 {
+    // (for the prover: the contract of this call tells what the type keeps. So below.)
     let _elements = wiring.len();
     let Place::Enter { element, line } = signal.place else {
         return signal;

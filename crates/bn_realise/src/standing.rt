@@ -81,6 +81,7 @@ impl Bank {
     {
         costs_are_bounded();
         let states = resting(alloc, self.states, self.lines, state)?;
+        // (for the prover: a function knows what its type keeps where it uses a field.)
         let _ = &self.net;
         Ok(Config {
             states: States::new(states),

@@ -30,6 +30,7 @@ impl<'a> Shows for Viewer<'a> {
         // The laws that a board has one view wherever it is; and what every board keeps.
         shown_is_found();
         views_are_one();
+        // (for the prover: the contract of this call tells what the type keeps.)
         let _elements = board.len();
         let Ok(text) = layers_text(alloc, self.table, self.translated, board) else {
             return Err(NoMemory);

@@ -46,6 +46,7 @@ pub fn check<'a>(alloc: Global, machine: &'a Machine) -> Result<Standard<'a>, Wh
     ensures standard { OnOk result (IsStandard machine.now.quints) }
     ensures refused { IfErr result (IsRefusal machine.now.quints) }
 {
+    // (the test needs no memory; callers hand it over all the same)
     let _ = alloc;
     let quints = machine.quints();
     if let Some((i, j)) = first_repeat(quints) {
