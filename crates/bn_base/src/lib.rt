@@ -7,7 +7,7 @@ mod numbers;
 #[cfg(test)]
 mod tests;
 
+pub use bn_lists::NoMemory;
 pub use limits::{MOST_COUNT, most_count_is_stated};
 pub use lines::{Lines, NextLine, one_cut};
 pub use numbers::{Digits, GREATEST, one_spelling, push_u64, read_u64};
-pub use bn_lists::NoMemory;

@@ -11,18 +11,18 @@ use Rattle.bn_column.specs.Columns.{IsColumn, IsEntering, IsAtRest, IsBeside, Is
 abbrev pub ColumnsAreCrossed : Type 0
 ColumnsAreCrossed =
     (k : Circuit) (b rows i : ℕ) (marked from_east : Bool) (c : Config) (test : Config → Bool) → IsColumn k b rows
-        → IsEntering b rows i marked from_east c → c.steps + crossing_cost rows (i + 1) marked from_east ≤ clock
-        → ((d : Config) → IsWithin b rows marked from_east c.states d → test d ≡ true)
-        → Passes (Goes k) test (crossing_cost rows (i + 1) marked from_east) c (crossed k b rows i marked from_east c)
+    → IsEntering b rows i marked from_east c → c.steps + crossing_cost rows (i + 1) marked from_east ≤ clock
+    → ((d : Config) → IsWithin b rows marked from_east c.states d → test d ≡ true)
+    → Passes (Goes k) test (crossing_cost rows (i + 1) marked from_east) c (crossed k b rows i marked from_east c)
 
 -- After a crossing the column is at rest again, marked exactly where the signal came from the east.
 abbrev pub CrossedColumnsRest : Type 0
 CrossedColumnsRest =
     (k : Circuit) (b rows i : ℕ) (marked from_east : Bool) (c : Config) → IsEntering b rows i marked from_east c
-        → IsAtRest (crossed k b rows i marked from_east c).states b rows from_east
+    → IsAtRest (crossed k b rows i marked from_east c).states b rows from_east
 
 -- A crossing changes no bar beside the column.
 abbrev pub CrossingsStayWithin : Type 0
 CrossingsStayWithin =
     (k : Circuit) (b rows i : ℕ) (marked from_east : Bool) (c : Config) (e : ℕ) → IsBeside b rows e
-        → slice_get (crossed k b rows i marked from_east c).states e ≡ slice_get c.states e
+    → slice_get (crossed k b rows i marked from_east c).states e ≡ slice_get c.states e

@@ -4,8 +4,8 @@ ghost use Rattle.bn_column.specs.Columns.{bar};
 ghost use Rattle.bn_theory.specs.Circuits.{IsConfig};
 
 use crate::cross::cross_in;
-use bn_lists::NoMemory;
 use bn_element::{EAST, HORIZONTAL, Rotary, VERTICAL, WEST};
+use bn_lists::NoMemory;
 use bn_net::{Config, Net, Place, States};
 use std::alloc::Global;
 use std::marker::Model;

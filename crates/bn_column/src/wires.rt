@@ -4,8 +4,8 @@ ghost use Rattle.bn_column.specs.Wirings.{AreWiresOf, AreApart, AreFitting};
 ghost use Rattle.bn_column.specs.Columns.{IsInner};
 ghost use Rattle.bn_column.specs.Nets.{IsNetOf, wire_of};
 
-use bn_lists::NoMemory;
 use bn_element::{EAST, NORTH, Rotary, SOUTH, WEST};
+use bn_lists::NoMemory;
 use bn_net::{Line, Net, Wire};
 use std::alloc::Global;
 

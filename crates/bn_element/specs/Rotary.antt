@@ -51,11 +51,4 @@ pub rotary-IsReversible : IsReversible rotary
 rotary-IsReversible =
     table_by-IsReversible 2 4 4 rotary_moves
     (refl, refl, (refl, refl, (refl, refl, (refl, refl, (refl, refl, (refl, refl, (refl, refl, (refl, refl, tt))))))))
-    (omega arith, omega arith, omega arith, omega arith,
-    (omega arith, omega arith, omega arith, omega arith,
-    (omega arith, omega arith, omega arith, omega arith,
-    (omega arith, omega arith, omega arith, omega arith,
-    (omega arith, omega arith, omega arith, omega arith,
-    (omega arith, omega arith, omega arith, omega arith,
-    (omega arith, omega arith, omega arith, omega arith,
-    (omega arith, omega arith, omega arith, omega arith, tt))))))))
+    (grind (arith))

@@ -259,3 +259,6 @@ module _ (net : Parts Module) (bases : List ℕ) (most : ℕ) (modules : AreModu
       (module_circuit net) 0 0) ws
   owned m ws all so = all_own (module_circuit net) modules ws (subst (λ n. AreWiresOf (IsOwnWire (module_circuit net) n) ws) (all ∙ sym (tables_counted
       net)) so)
+
+-- where the modules' banks begin
+pub ruleset bases_of_modules = (module_at, base_more, bases_all)

@@ -15,11 +15,7 @@ use bn_realise::bank_wires;
 use std::alloc::Global;
 
 // The first element of each module's bank.
-#[tactic(auto, using(
-    crate::proofs::WireLemmas::module_at,
-    crate::proofs::WireLemmas::base_more,
-    crate::proofs::WireLemmas::bases_all
-))]
+#[tactic(auto, using(crate::proofs::WireLemmas::bases_of_modules))]
 pub(crate) fn bases(alloc: Global, net: &Net<Module>) -> Result<Vec<u32>, NoMemory>
     requires modules { AreModules (module_circuit net.now) }
     requires few { size (module_circuit net.now).tables ≤ MOST_ELEMENTS }

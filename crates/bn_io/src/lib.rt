@@ -16,8 +16,8 @@ mod std_source;
 mod tests;
 mod writing;
 
-pub use mem_sink::MemSink;
 pub use bn_lists::NoMemory;
+pub use mem_sink::MemSink;
 pub use mem_source::MemSource;
 pub use reading::{ReadRefusal, read_all};
 pub use sinks::{Sink, SinkFailed};

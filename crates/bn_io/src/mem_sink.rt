@@ -5,8 +5,8 @@ ghost use Rattle.bn_io.specs.Faults.{HasCause};
 ghost use Rattle.bn_io.specs.Told.{Grows};
 ghost use Rattle.bn_io.specs.Memory.{MemoryOutput, OutputFails, accepted, output_failed, output_more};
 
-use bn_lists::NoMemory;
 use crate::sinks::{Sink, SinkFailed};
+use bn_lists::NoMemory;
 use std::alloc::Global;
 use std::marker::Model;
 

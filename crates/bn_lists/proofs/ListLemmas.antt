@@ -110,11 +110,15 @@ first_or_none {X} P decides (y ∷ ys) = by_head (decides y) (first_or_none P de
 
     by_rest : (P y → ⊥) → ((n : ℕ) × (x : X) × IsFirstWith P ys n x) ⊎ HasNone P ys
         → ((n : ℕ) × (x : X) × IsFirstWith P (y ∷ ys) n x) ⊎ HasNone P (y ∷ ys)
-    by_rest lacks (inl (n, x, f)) = inl (suc n, x, record {
-      stands = stands_behind n x f.stands;
-      holds = f.holds;
-      first = behind lacks n x f;
-    })
+    by_rest lacks (inl (n, x, f)) = inl (
+      suc n,
+      x,
+      record {
+        stands = stands_behind n x f.stands;
+        holds = f.holds;
+        first = behind lacks n x f;
+      },
+    )
     by_rest lacks (inr none) = inr (record { none = none_behind lacks none })
 
     by_head : P y ⊎ (P y → ⊥) → ((n : ℕ) × (x : X) × IsFirstWith P ys n x) ⊎ HasNone P ys

@@ -36,7 +36,7 @@ abbrev pub RoomsChangeNothing : Type 0
 RoomsChangeNothing =
     ((room : Room) (p : Program) (i : ℕ) (c d : Moment) → Reaches (Goes room p) i c d → Reaches (Goes anywhere p) i c d)
     × ((left right : ℕ) (p : Program) (word : List ℕ) (i : ℕ) (c : Moment) → i ≤ left → i ≤ right → After p word i c
-        → AfterWithin (within left right) p word i c)
+    → AfterWithin (within left right) p word i c)
 
 -- after i steps the head is from -i to i
 abbrev pub HeadsStayNear : Type 0
@@ -66,23 +66,23 @@ AlikeMomentsEndAlike =
 abbrev pub RunsHaveHistories : Type 0
 RunsHaveHistories =
     ((room : Room) (p : Program) (i : ℕ) (c d : Moment) → Reaches (Goes room p) i c d
-        → (ns : List ℕ) × (length ns ≡ i) × Follows room p ns c d)
+    → (ns : List ℕ) × (length ns ≡ i) × Follows room p ns c d)
     × ((room : Room) (p : Program) (ns : List ℕ) (c d : Moment) → Follows room p ns c d
-        → Reaches (Goes room p) (length ns) c d)
+    → Reaches (Goes room p) (length ns) c d)
 
 -- a run of at most n steps on a tape without ends comes out in one way, and only in one
 abbrev pub HasOneEnding : Type 0
 HasOneEnding =
     ((p : Program) (word : List ℕ) (n : ℕ) → (i : ℕ) × (e : Ending) × HasEnding p word n i e)
     × ((p : Program) (word : List ℕ) (n i j : ℕ) (e f : Ending) → HasEnding p word n i e → HasEnding p word n j f
-        → (i ≡ j) × (e ≡ f))
+    → (i ≡ j) × (e ≡ f))
 
 -- a bounded run comes out in one way, and only in one
 abbrev pub HasOneOutcome : Type 0
 HasOneOutcome =
     ((p : Program) (word : List ℕ) (l : Limits) → (i : ℕ) × (o : Outcome) × HasOutcome p word l i o)
     × ((p : Program) (word : List ℕ) (l : Limits) (i j : ℕ) (o q : Outcome) → HasOutcome p word l i o
-        → HasOutcome p word l j q → (i ≡ j) × (o ≡ q))
+    → HasOutcome p word l j q → (i ≡ j) × (o ≡ q))
 
 -- a window of cells shows a tape in one way: one list of cells, and one cell for the head
 abbrev pub WindowsHaveOneList : Type 0

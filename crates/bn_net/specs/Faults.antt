@@ -23,7 +23,7 @@ abbrev pub fault_of : List Table → List Wire → Wire → Option WireFault
 fault_of tables earlier w =
     if is_within tables w
     then (if is_some (target earlier w.from) then Some second_target
-        else (if is_some (source earlier w.to) then Some second_source else None))
+    else (if is_some (source earlier w.to) then Some second_source else None))
     else Some out_of_range
 
 -- the wire at place j, counted from 0, has no fault

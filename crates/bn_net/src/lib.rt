@@ -7,8 +7,8 @@ mod refusal;
 mod row_map;
 mod watch;
 
-pub use bn_theory::{CLOCK, Config, Line, Place, States, Wire};
 pub use bn_lists::NoMemory;
+pub use bn_theory::{CLOCK, Config, Line, Place, States, Wire};
 pub use laws::{most_elements_are_stated, watches_tell_within_room, wires_stand_once};
 pub use net::{MOST_ELEMENTS, Net};
 pub use refusal::NetRefusal;

@@ -15,9 +15,9 @@ ghost use Rattle.bn_net.specs.Faults.{fault_of, checked, AreStates, AreFaultless
 ghost use Rattle.bn_theory.specs.declared.line.Line.{Line};
 
 use crate::refusal::NetRefusal;
-use bn_lists::NoMemory;
 use crate::row_map::RowMap;
 use bn_element::Element;
+use bn_lists::NoMemory;
 use bn_theory::{CLOCK, Config, Line, Place, Wire};
 use std::alloc::{AllocError, Global};
 use std::marker::Model;

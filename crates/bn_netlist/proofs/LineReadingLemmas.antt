@@ -36,6 +36,9 @@ word_missing (w ∷ word) (b ∷ bytes) h =
       | inr other ↦ rw other.0 refl
     ]
 
+-- how passing over a word comes out
+pub ruleset words = (word_passed, word_missing)
+
 -- a word
 pub word_taken-takes : (word bytes rest : List ℕ) → word_taken word bytes ≡ Some rest → bytes ≡ word ++ rest
 unfolding word_taken

@@ -38,10 +38,7 @@ impl<'a> Cursor<'a> {
     }
 
     /// Passes over this word. Where it doesn't stand here, nothing is passed over.
-    #[tactic(auto, using(
-        crate::proofs::LineReadingLemmas::word_passed,
-        crate::proofs::LineReadingLemmas::word_missing
-    ))]
+    #[tactic(auto, using(crate::proofs::LineReadingLemmas::words))]
     pub(crate) fn word(&mut self, word: &[u8]) -> Option<()>
         ensures taken { MatchOption result
             (word_taken word.now self.old ≡ None)

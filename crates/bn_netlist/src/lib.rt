@@ -15,6 +15,7 @@ mod row;
 mod whole_line;
 mod write;
 
+pub use bn_lists::NoMemory;
 pub use laws::{
     circuits_agree, each_text_spells_or_has_a_fault, faulty_texts_spell_nothing,
     one_configuration_a_text, one_first_fault, one_text_a_configuration, one_text_for_all_orders,
@@ -23,5 +24,4 @@ pub use laws::{
 pub use net_config::NetConfig;
 pub use read::read_config;
 pub use refusal::NetlistRefusal;
-pub use bn_lists::NoMemory;
 pub use write::write_config;

@@ -48,4 +48,3 @@ pub enum NetlistRefusal {
     /// There was no memory.
     NoMemory,
 }
-

@@ -12,9 +12,9 @@ ghost use Rattle.bn_netlist.specs.Header.{header_then, header_of};
 ghost use Rattle.bn_netlist.specs.NetText.{spelling_of};
 
 use crate::net_config::NetConfig;
-use bn_lists::NoMemory;
 use bn_base::push_u64;
 use bn_element::{EAST, HORIZONTAL, NORTH, Rotary, SOUTH, WEST};
+use bn_lists::NoMemory;
 use bn_net::Net;
 use bn_theory::{Line, Place};
 use std::alloc::Global;

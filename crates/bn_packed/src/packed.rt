@@ -206,8 +206,8 @@ impl Packed {
         ensures net { self.new.net ≡ self.old.net }
         ensures bound { result ≤ e }
         ensures made { Reaches (Goes (rotary_circuit self.old.net)) result self.old.config self.new.config }
-        ensures between {
-            PassesBy (rotary_circuit self.old.net) (S.stops stop.now) result self.old.config self.new.config }
+        ensures between { PassesBy (rotary_circuit self.old.net) (S.stops stop.now) result self.old.config
+            self.new.config }
         ensures ended { result < e
             → IsStuck (rotary_circuit self.old.net) self.new.config
             ⊎ (stops_at (S.stops stop.now) self.new.config.place ≡ true) }

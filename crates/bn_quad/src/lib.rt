@@ -13,6 +13,7 @@ mod soundness;
 mod tapes;
 mod uniform;
 
+pub use bn_lists::NoMemory;
 pub use laws::{
     one_rule_applies, quad_steps_are_functions, quad_turns_are_one, refusals_are_one,
     rules_are_their_quads, steps_are_leads, turned_rules_lead_back,
@@ -21,7 +22,6 @@ pub use machine::QuadMachine;
 pub use names::QuadNames;
 pub use quad::{Act, Quad};
 pub use refusal::{NotUniform, QuadRefusal, UniformRefusal};
-pub use bn_lists::NoMemory;
 pub use tapes::{QuadTurn, Tapes};
 pub use uniform::Uniform;
 

@@ -5,10 +5,10 @@ ghost use Rattle.std.specs.Prelude.{◌≡◌, ◌↔◌, ◌<◌, ◌≤◌, �
 use crate::clash::{Clash, Flaw};
 use crate::quad::{Quad, turned};
 use crate::refusal::{NotUniform, QuadRefusal};
-use bn_lists::NoMemory;
 use crate::search::{first_clash, first_flaw, first_rule};
 use crate::soundness::{first_fault, is_in_range};
 use crate::tapes::{QuadTurn, Tapes, first_leaving, perform_all};
+use bn_lists::NoMemory;
 use std::alloc::{AllocError, Global};
 use std::marker::Model;
 

@@ -20,39 +20,39 @@ use Rattle.bn_net.specs.Parts.{Parts}
 abbrev pub BanksAreCrossed : Type 0
 BanksAreCrossed =
     (k : Circuit) (b : ℕ) (t : Table) (q i : ℕ) (c : Config) (test : Config → Bool) → IsReversible t
-        → t.outputs ≡ t.inputs → IsBank k b t → IsBankEntering b t q i c → c.steps + table_cost t q i ≤ clock
-        → ((d : Config) → IsWithinBank b t q i c.states d → test d ≡ true)
-        → Passes (Goes k) test (table_cost t q i) c (moved k b t q i c)
+    → t.outputs ≡ t.inputs → IsBank k b t → IsBankEntering b t q i c → c.steps + table_cost t q i ≤ clock
+    → ((d : Config) → IsWithinBank b t q i c.states d → test d ≡ true)
+    → Passes (Goes k) test (table_cost t q i) c (moved k b t q i c)
 
 -- After a move the bank is at rest in the new state, or with no column marked where the pair has no move.
 abbrev pub MovedBanksRest : Type 0
 MovedBanksRest =
     (k : Circuit) (b : ℕ) (t : Table) (q i : ℕ) (c : Config) → IsReversible t → t.outputs ≡ t.inputs → IsBank k b t
-        → IsBankEntering b t q i c → IsResting (moved k b t q i c).states b t.states t.inputs (mark_after (t.go q i))
+    → IsBankEntering b t q i c → IsResting (moved k b t q i c).states b t.states t.inputs (mark_after (t.go q i))
 
 -- A move changes no bar beside the bank.
 abbrev pub MovesStayWithin : Type 0
 MovesStayWithin =
     (k : Circuit) (b : ℕ) (t : Table) (q i : ℕ) (c : Config) (e : ℕ) → IsReversible t → t.outputs ≡ t.inputs
-        → IsBank k b t → IsBankEntering b t q i c → IsBesideBank b t e
-        → slice_get (moved k b t q i c).states e ≡ slice_get c.states e
+    → IsBank k b t → IsBankEntering b t q i c → IsBesideBank b t e
+    → slice_get (moved k b t q i c).states e ≡ slice_get c.states e
 
 -- A bank's own wires join lines of the bank, and none leads to one of its input lines.
 abbrev pub OwnWiresStayInside : Type 0
 OwnWiresStayInside =
     (b : ℕ) (t : Table) (from to : Line) → IsReversible t → t.outputs ≡ t.inputs → IsBankWire b t from to
-        → IsWithinLines b t from to × ((i : ℕ) → i < t.inputs → to ≢ input_line b i)
+    → IsWithinLines b t from to × ((i : ℕ) → i < t.inputs → to ≢ input_line b i)
 
 -- Where the bottoms of a bank are as a mark says, at most one of them is horizontal: at rest, and strictly within a
 -- move.
 abbrev pub MarksAreOne : Type 0
 MarksAreOne =
     (states : List ℕ) (b n k : ℕ) (mark : Option ℕ) → AreMarked states b n k mark → (j m : ℕ) → j < n → m < n
-        → slice_get states (bottom_at b k j) ≡ Some horizontal → slice_get states (bottom_at b k m) ≡ Some horizontal
-        → j ≡ m
+    → slice_get states (bottom_at b k j) ≡ Some horizontal → slice_get states (bottom_at b k m) ≡ Some horizontal
+    → j ≡ m
 
 -- A net is the bank of one table at most.
 abbrev pub BanksAreOfOneTable : Type 0
 BanksAreOfOneTable =
     (net : Parts Rotary) (t u : Table) → IsReversible t → IsReversible u → t.outputs ≡ t.inputs → u.outputs ≡ u.inputs
-        → IsBankNet net t → IsBankNet net u → u.inputs ≡ t.inputs → (q i : ℕ) → t.go q i ≡ u.go q i
+    → IsBankNet net t → IsBankNet net u → u.inputs ≡ t.inputs → (q i : ℕ) → t.go q i ≡ u.go q i

@@ -9,6 +9,7 @@ mod refusal;
 mod standing;
 mod wires;
 
+pub use bn_lists::NoMemory;
 pub use cost::bank_cost;
 pub use cross::cross_bank_in;
 pub use laws::{
@@ -17,7 +18,6 @@ pub use laws::{
 };
 pub use make::bank;
 pub use refusal::BankRefusal;
-pub use bn_lists::NoMemory;
 pub use standing::Bank;
 pub use wires::bank_wires;
 

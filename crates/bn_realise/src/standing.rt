@@ -5,8 +5,8 @@ ghost use Rattle.bn_theory.specs.Tables.{Table, IsReversible};
 ghost use Rattle.bn_theory.specs.Circuits.{IsConfig};
 ghost use Rattle.bn_column.specs.Nets.{rotary_circuit};
 
-use bn_lists::NoMemory;
 use bn_element::{HORIZONTAL, Rotary, VERTICAL, WEST};
+use bn_lists::NoMemory;
 use bn_net::{CLOCK, Config, MOST_ELEMENTS, Net, Place, States};
 use bn_rsm::costs_are_bounded;
 use std::alloc::Global;

@@ -5,9 +5,9 @@ ghost use Rattle.bn_realise.specs.Banks.{IsBankWire, column_at};
 ghost use Rattle.bn_realise.specs.BankWires.{IsEarlier, IsStage, IsHalf};
 ghost use Rattle.bn_realise.specs.BankNets.{HasRoom};
 
-use bn_lists::NoMemory;
 use bn_column::{column_wires, wire};
 use bn_element::{EAST, Element, WEST};
+use bn_lists::NoMemory;
 use bn_net::Wire;
 use std::alloc::Global;
 

@@ -12,6 +12,7 @@ mod reply;
 mod status;
 mod writing;
 
+pub use bn_lists::NoMemory;
 pub use cut::cut_input;
 pub use laws::inputs_are_cut_once;
 pub use letters::push_letters;
@@ -19,6 +20,5 @@ pub use limits::{MOST_INPUT_BYTES, most_input_bytes_are_stated};
 pub use lines::{empty_text, field_text, record_text, why_text};
 pub use opening::{Judged, OpenedTable, OpenedWord, judge_table, open_table, open_word};
 pub use reply::Reply;
-pub use bn_lists::NoMemory;
 pub use status::Status;
 pub use writing::finish;

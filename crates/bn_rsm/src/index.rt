@@ -8,8 +8,8 @@ ghost use Rattle.bn_rsm.specs.Pairs.{AreNumbers, checked, same_pair};
 ghost use Rattle.bn_rsm.specs.declared.rsm_move.RsmMove.{RsmMove};
 
 use crate::refusal::RsmRefusal;
-use bn_lists::NoMemory;
 use crate::rsm_move::RsmMove;
+use bn_lists::NoMemory;
 use std::alloc::Global;
 use std::collections::HashMap;
 

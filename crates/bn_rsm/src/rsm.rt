@@ -6,9 +6,9 @@ ghost use Rattle.bn_rsm.specs.Faults.{turned};
 
 use crate::index::Index;
 use crate::refusal::RsmRefusal;
-use bn_lists::NoMemory;
 use crate::rsm_move::RsmMove;
 use bn_element::Element;
+use bn_lists::NoMemory;
 use std::alloc::{AllocError, Global};
 use std::marker::Model;
 

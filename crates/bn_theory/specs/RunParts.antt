@@ -10,7 +10,7 @@ use Rattle.bn_theory.specs.declared.config.Config.{Config}
 abbrev pub RunsUndoInPart : Type 0
 RunsUndoInPart =
     (k : Circuit) → IsCircuit k → (s r t : ℕ) (c d : Config) → t ≡ r + s → Reaches (Goes k) t c d
-        → back k d s ≡ run k c r
+    → back k d s ≡ run k c r
 
 -- of a path, what stands strictly between its ends passes the test
 abbrev pub PathsPassBetween : Type 0

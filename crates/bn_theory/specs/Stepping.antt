@@ -22,8 +22,8 @@ abbrev pub next_from : Circuit → Config → Place → Option Config
 next_from k c (Left e o) = None
 next_from k c (Enter e i) =
     option_and_then (λ q. option_and_then
-        (λ m. if nat_le (c.steps + 1) clock then Some (moved_on k c e m) else None)
-        (go_of k.tables e q i)) (slice_get c.states e)
+    (λ m. if nat_le (c.steps + 1) clock then Some (moved_on k c e m) else None)
+    (go_of k.tables e q i)) (slice_get c.states e)
 
 abbrev pub next : Circuit → Config → Option Config
 next k c = next_from k c c.place
@@ -42,8 +42,8 @@ abbrev pub previous_by : Circuit → Config → ℕ → Option Config
 previous_by k d zero = None
 previous_by k d (suc steps) =
     option_and_then (λ o. option_and_then (λ r. option_and_then
-        (λ m. Some (moved_back d steps o.element m)) (back_of k.tables o.element r o.line))
-        (slice_get d.states o.element)) (line_before k.wires d.place)
+    (λ m. Some (moved_back d steps o.element m)) (back_of k.tables o.element r o.line))
+    (slice_get d.states o.element)) (line_before k.wires d.place)
 
 abbrev pub previous : Circuit → Config → Option Config
 previous k d = previous_by k d d.steps
