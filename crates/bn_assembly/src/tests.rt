@@ -10,7 +10,7 @@ use bn_bennett::{Translated, translate};
 use bn_cell::cell;
 use bn_control::{MOST_QUADRUPLES, MOST_STATES, MOST_SYMBOLS};
 use bn_element::Element;
-use bn_net::{Config, Net, Place, States};
+use bn_net::{Config, MOST_ELEMENTS, Net, Place, States};
 use bn_quad::QuadMachine;
 use bn_realise::bank_cost;
 use bn_rsm::Rsm;
