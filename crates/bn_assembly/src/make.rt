@@ -1,6 +1,5 @@
 //! Networks are assembled here.
-ghost use Rattle.std.specs.Prelude.{◌≡◌, ℕ, ◌*◌, ◌^◌, ◌<◌, ◌≤◌, List, IfOk, IfErr, length, map};
-ghost use Rattle.bn_theory.specs.declared.line.Line.{Line};
+ghost use Rattle.std.specs.Prelude.{◌≡◌, ℕ, ◌*◌, ◌^◌, ◌<◌, ◌≤◌, List, IfOk, IfErr, length};
 ghost use Rattle.bn_quad.specs.Quadruples.{IsQuadMachine};
 ghost use Rattle.bn_quad.specs.Calls.{IsUniformMachine};
 ghost use Rattle.bn_modules.specs.Controls.{ControlState, IsNumbering};

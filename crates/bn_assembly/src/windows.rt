@@ -1,8 +1,8 @@
 //! The window of cells of each tape.
 
 /// The window of each tape (this project's own profile): tape 1, the work tape, has its cells at the positions from
-/// minus `left1` to `right1`, tape 2, the history, from 0 to `right2`, and tape 3, the output, from 0 to `right3`. Each
-/// side has at most `MOST_COUNT` cells.
+/// minus `left1` to `right1`, tape 2, the history, from 0 to `right2`, and tape 3, the output, from 0 to `right3`. A
+/// network takes sides of at most `MOST_COUNT` cells.
 #[derive(Clone, Copy, PartialEq, Eq, Debug)]
 pub struct Windows {
     /// The cells of tape 1 left of position 0.

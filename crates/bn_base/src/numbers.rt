@@ -9,6 +9,7 @@ ghost use Rattle.bn_base.specs.Number.{greatest, WhatIsReadIsSpelled, WhatIsSpel
 
 use bn_lists::NoMemory;
 use itoa::Buffer;
+
 /// Why the bytes at a place are no number.
 #[derive(Clone, Copy, Debug, PartialEq, Eq)]
 pub enum Digits {

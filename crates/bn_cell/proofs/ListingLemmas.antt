@@ -4,7 +4,8 @@ use Rattle.std.proofs.lemmas.Option.{some_pair_parts}
 use Rattle.bn_theory.specs.Tables.{Table, IsReversible, go_by, back_by, AreOneToOne, AreWithin, pair_tells}
 use Rattle.bn_rsm.specs.Machines.{move_of, AreSound}
 use Rattle.bn_rsm.specs.declared.rsm_move.RsmMove.{RsmMove}
-use Rattle.bn_theory.proofs.MemberLemmas.{IsMember, of_two}
+use Rattle.bn_lists.specs.Lists.{Has}
+use Rattle.bn_lists.proofs.MemberLemmas.{of_two}
 
 -- the moves leave different pairs
 abbrev pub LeaveApart : RsmMove → RsmMove → Type 0
@@ -13,24 +14,24 @@ LeaveApart v w = v.state ≡ w.state → v.line ≡ w.line → ⊥
 -- so does each of a list and those behind it
 abbrev pub AreApart : List RsmMove → Type 0
 AreApart [] = Unit {0}
-AreApart (m ∷ ms) = ((v : RsmMove) → IsMember v ms → LeaveApart m v) × AreApart ms
+AreApart (m ∷ ms) = ((v : RsmMove) → Has ms v → LeaveApart m v) × AreApart ms
 
 -- lists that are apart, one behind the other
-pub apart_joined : (xs ys : List RsmMove) → AreApart xs → AreApart ys → ((v w : RsmMove) → IsMember v xs → IsMember w ys → LeaveApart v w) → AreApart (xs ++ ys)
+pub apart_joined : (xs ys : List RsmMove) → AreApart xs → AreApart ys → ((v w : RsmMove) → Has xs v → Has ys w → LeaveApart v w) → AreApart (xs ++ ys)
 apart_joined [] ys a b far = b
 apart_joined (x ∷ xs) ys a b far = (heads, apart_joined xs ys a.1 b (λ v w h k. far v w (inr h) k))
   where
-    heads : (v : RsmMove) → IsMember v (xs ++ ys) → LeaveApart x v
+    heads : (v : RsmMove) → Has (xs ++ ys) v → LeaveApart x v
     heads v h = elim (of_two xs ys v h) [ inl here ↦ a.0 v here | inr there ↦ far x v (inl refl) there ]
 
 -- the moves of a table, each of them once
 pub record AreMovesOf (t : Table) (ms : List RsmMove) : Type 0 where
   pub apart : AreApart ms
-  pub each : (q i r o : ℕ) → t.go q i ≡ Some (r, o) → IsMember (record { state = q; line = i; next = r; out = o }) ms
-  pub only : (v : RsmMove) → IsMember v ms → t.go v.state v.line ≡ Some (v.next, v.out)
+  pub each : (q i r o : ℕ) → t.go q i ≡ Some (r, o) → Has ms (record { state = q; line = i; next = r; out = o })
+  pub only : (v : RsmMove) → Has ms v → t.go v.state v.line ≡ Some (v.next, v.out)
 
 -- what is found is a move of the list
-found : (ms : List RsmMove) (q i r o : ℕ) → go_by (map move_of ms) q i ≡ Some (r, o) → IsMember (record { state = q; line = i; next = r; out = o }) ms
+found : (ms : List RsmMove) (q i r o : ℕ) → go_by (map move_of ms) q i ≡ Some (r, o) → Has ms (record { state = q; line = i; next = r; out = o })
 found [] q i r o h = absurd (cc)
 found (m ∷ ms) q i r o h =
     elim (pair_tells m.state m.line q i) [
@@ -39,7 +40,7 @@ found (m ∷ ms) q i r o h =
       | inr other ↦ inr (found ms q i r o (rw other.0 at h))
     ]
 
-back_found : (ms : List RsmMove) (q i r o : ℕ) → back_by (map move_of ms) r o ≡ Some (q, i) → IsMember (record { state = q; line = i; next = r; out = o }) ms
+back_found : (ms : List RsmMove) (q i r o : ℕ) → back_by (map move_of ms) r o ≡ Some (q, i) → Has ms (record { state = q; line = i; next = r; out = o })
 back_found [] q i r o h = absurd (cc)
 back_found (m ∷ ms) q i r o h =
     elim (pair_tells m.next m.out r o) [
@@ -49,7 +50,7 @@ back_found (m ∷ ms) q i r o h =
     ]
 
 -- a move of the list is found, where those behind it leave other pairs
-finds : (ms : List RsmMove) (v : RsmMove) → AreApart ms → IsMember v ms → go_by (map move_of ms) v.state v.line ≡ Some (v.next, v.out)
+finds : (ms : List RsmMove) (v : RsmMove) → AreApart ms → Has ms v → go_by (map move_of ms) v.state v.line ≡ Some (v.next, v.out)
 finds [] v apart h = absurd h
 finds (m ∷ ms) v apart h =
     elim (pair_tells m.state m.line v.state v.line) [
@@ -57,11 +58,11 @@ finds (m ∷ ms) v apart h =
       | inr other ↦ rw other.0 (finds ms v apart.1 (later h other.1))
     ]
   where
-    first : IsMember v (m ∷ ms) → m.state ≡ v.state → m.line ≡ v.line → ◌≡◌ {A = Option (ℕ × ℕ)} (Some (m.next, m.out)) (Some (v.next, v.out))
+    first : Has (m ∷ ms) v → m.state ≡ v.state → m.line ≡ v.line → ◌≡◌ {A = Option (ℕ × ℕ)} (Some (m.next, m.out)) (Some (v.next, v.out))
     first (inl e) a b = ap (λ (x : RsmMove). Some (x.next, x.out)) (sym e)
     first (inr k) a b = absurd (apart.0 v k a b)
 
-    later : IsMember v (m ∷ ms) → (m.state ≡ v.state → m.line ≡ v.line → ⊥) → IsMember v ms
+    later : Has (m ∷ ms) v → (m.state ≡ v.state → m.line ≡ v.line → ⊥) → Has ms v
     later (inl e) none = absurd (none (ap (λ (x : RsmMove). x.state) (sym e)) (ap (λ (x : RsmMove). x.line) (sym e)))
     later (inr k) none = k
 
@@ -71,7 +72,7 @@ none_or (Some p) h = absurd (h p.0 p.1 refl)
 
 module _ (t : Table) (is : IsReversible t) where
   -- such moves are one to one
-  one_to_one : (ms : List RsmMove) → AreApart ms → ((v : RsmMove) → IsMember v ms → t.go v.state v.line ≡ Some (v.next, v.out)) → AreOneToOne (map move_of ms)
+  one_to_one : (ms : List RsmMove) → AreApart ms → ((v : RsmMove) → Has ms v → t.go v.state v.line ≡ Some (v.next, v.out)) → AreOneToOne (map move_of ms)
   one_to_one [] apart only = tt
   one_to_one (m ∷ ms) apart only = (
     none_or (go_by (map move_of ms) m.state m.line) (λ r o e. apart.0 (record { state = m.state; line = m.line; next = r; out = o }) (found ms m.state m.line r o e) refl refl),
@@ -79,7 +80,7 @@ module _ (t : Table) (is : IsReversible t) where
     one_to_one ms apart.1 (λ v h. only v (inr h)),
   )
     where
-      behind_none : (q i : ℕ) → IsMember (record { state = q; line = i; next = m.next; out = m.out }) ms → ⊥
+      behind_none : (q i : ℕ) → Has ms (record { state = q; line = i; next = m.next; out = m.out }) → ⊥
       behind_none q i h =
           let here = is.undone m.state m.line m.next m.out (only m (inl refl)) in
           let there = is.undone q i m.next m.out (only (record { state = q; line = i; next = m.next; out = m.out }) (inr h)) in
@@ -87,7 +88,7 @@ module _ (t : Table) (is : IsReversible t) where
           apart.0 (record { state = q; line = i; next = m.next; out = m.out }) h parts.0 parts.1
 
   -- and in range
-  within : (ms : List RsmMove) → ((v : RsmMove) → IsMember v ms → t.go v.state v.line ≡ Some (v.next, v.out)) → AreWithin t.states t.inputs t.outputs (map move_of ms)
+  within : (ms : List RsmMove) → ((v : RsmMove) → Has ms v → t.go v.state v.line ≡ Some (v.next, v.out)) → AreWithin t.states t.inputs t.outputs (map move_of ms)
   within [] only = tt
   within (m ∷ ms) only =
       let a = is.departs m.state m.line m.next m.out (only m (inl refl)) in

@@ -4,7 +4,8 @@ use Rattle.std.proofs.lemmas.Bool.{cases_lt}
 use Rattle.bn_theory.specs.Tables.{Table, IsReversible}
 use Rattle.bn_rsm.specs.declared.rsm_move.RsmMove.{RsmMove}
 use Rattle.bn_cell.specs.Rows.{move_at, row, rows}
-use Rattle.bn_theory.proofs.MemberLemmas.{IsMember, in_front, behind, of_two}
+use Rattle.bn_lists.specs.Lists.{Has}
+use Rattle.bn_lists.proofs.MemberLemmas.{in_front, behind, of_two}
 use Rattle.bn_cell.proofs.ListingLemmas.{AreApart, apart_joined, AreMovesOf}
 
 pub row_more : (t : Table) (q n : ℕ) → row t q (n + 1) ≡ row t q n ++ move_at q n (t.go q n)
@@ -21,14 +22,14 @@ module _ (t : Table) where
     goes : t.go v.state v.line ≡ Some (v.next, v.out)
 
   -- a move of a row is one of the table
-  row_only : (q n : ℕ) (v : RsmMove) → IsMember v (row t q n) → IsFrom q n v
+  row_only : (q n : ℕ) (v : RsmMove) → Has (row t q n) v → IsFrom q n v
   row_only q zero v h = absurd h
   row_only q (suc n) v h = elim (of_two (row t q n) (move_at q n (t.go q n)) v h) [
     | inl here ↦ let one = row_only q n v here in let low = one.line in record { state = one.state; line = omega arith; goes = one.goes }
     | inr there ↦ last (t.go q n) refl there
   ]
     where
-      last : (o : Option (ℕ × ℕ)) → t.go q n ≡ o → IsMember v (move_at q n o) → IsFrom q (suc n) v
+      last : (o : Option (ℕ × ℕ)) → t.go q n ≡ o → Has (move_at q n o) v → IsFrom q (suc n) v
       last None e h = absurd h
       last (Some m) e (inr h) = absurd h
       last (Some m) e (inl is) = let w : RsmMove = record { state = q; line = n; next = m.0; out = m.1 } in
@@ -36,7 +37,7 @@ module _ (t : Table) where
           subst (λ v. IsFrom q (suc n) v) (sym is) (record { state = refl; line = low; goes = e })
 
   -- the table's moves from a state are in its row
-  row_each : (q n i r o : ℕ) → i < n → t.go q i ≡ Some (r, o) → IsMember (record { state = q; line = i; next = r; out = o }) (row t q n)
+  row_each : (q n i r o : ℕ) → i < n → t.go q i ≡ Some (r, o) → Has (row t q n) (record { state = q; line = i; next = r; out = o })
   row_each q zero i r o low e = absurd (omega arith)
   row_each q (suc n) i r o low e = elim (cases_lt i n) [
     | inl before ↦ in_front (row t q n) (move_at q n (t.go q n)) (record { state = q; line = i; next = r; out = o }) (row_each q n i r o before e)
@@ -51,7 +52,7 @@ module _ (t : Table) where
       single None = tt
       single (Some m) = (λ v h. absurd h, tt)
 
-      far : (o : Option (ℕ × ℕ)) (v w : RsmMove) → IsMember v (row t q n) → IsMember w (move_at q n o) → v.state ≡ w.state → v.line ≡ w.line → ⊥
+      far : (o : Option (ℕ × ℕ)) (v w : RsmMove) → Has (row t q n) v → Has (move_at q n o) w → v.state ≡ w.state → v.line ≡ w.line → ⊥
       far None v w h k a b = k
       far (Some m) v w h (inr k) a b = k
       far (Some m) v w h (inl is) a b = let low = (row_only q n v h).line in let at : w.line ≡ n = ap (λ (x : RsmMove). x.line) is in omega arith
@@ -61,14 +62,14 @@ module _ (t : Table) where
     state : v.state < n
     goes : t.go v.state v.line ≡ Some (v.next, v.out)
 
-  rows_only : (n : ℕ) (v : RsmMove) → IsMember v (rows t n) → IsAbove n v
+  rows_only : (n : ℕ) (v : RsmMove) → Has (rows t n) v → IsAbove n v
   rows_only zero v h = absurd h
   rows_only (suc n) v h = elim (of_two (rows t n) (row t n t.inputs) v h) [
     | inl here ↦ let one = rows_only n v here in let low = one.state in record { state = omega arith; goes = one.goes }
     | inr there ↦ let one = row_only n t.inputs v there in let at = one.state in record { state = omega arith; goes = one.goes }
   ]
 
-  rows_each : (n q i r o : ℕ) → q < n → i < t.inputs → t.go q i ≡ Some (r, o) → IsMember (record { state = q; line = i; next = r; out = o }) (rows t n)
+  rows_each : (n q i r o : ℕ) → q < n → i < t.inputs → t.go q i ≡ Some (r, o) → Has (rows t n) (record { state = q; line = i; next = r; out = o })
   rows_each zero q i r o low line e = absurd (omega arith)
   rows_each (suc n) q i r o low line e = elim (cases_lt q n) [
     | inl before ↦ in_front (rows t n) (row t n t.inputs) (record { state = q; line = i; next = r; out = o }) (rows_each n q i r o before line e)
@@ -79,7 +80,7 @@ module _ (t : Table) where
   rows_apart zero = tt
   rows_apart (suc n) = apart_joined (rows t n) (row t n t.inputs) (rows_apart n) (row_apart n t.inputs) far
     where
-      far : (v w : RsmMove) → IsMember v (rows t n) → IsMember w (row t n t.inputs) → v.state ≡ w.state → v.line ≡ w.line → ⊥
+      far : (v w : RsmMove) → Has (rows t n) v → Has (row t n t.inputs) w → v.state ≡ w.state → v.line ≡ w.line → ⊥
       far v w h k a b = let low = (rows_only n v h).state in let at = (row_only n t.inputs w k).state in omega arith
 
   -- the rows of all states are the moves of the table

@@ -1,7 +1,7 @@
 -- The commands of a quadruple by names, and the moves from one to the next.
 use Rattle.std.proofs.Common.{◌≡◌, inl, inr, ℕ, suc, List, [], ◌∷◌, ◌++◌, map, Some, refl, sym, ap, subst, ◌∙◌, append_assoc, append-nil}
 use Rattle.std.proofs.lemmas.List.{map-append}
-use Rattle.bn_lists.specs.Lists.{nth}
+use Rattle.bn_lists.specs.Lists.{nth, Has}
 use Rattle.bn_machine.specs.declared.quint.Shift.TheVariants as way
 use Rattle.bn_machine.specs.declared.quint.Side.{Side}
 use Rattle.bn_machine.specs.declared.quint.Side.TheVariants as side
@@ -9,7 +9,6 @@ use Rattle.bn_quad.specs.Quadruples.{Deed, Rewrite, Move, Rule, Quadruples}
 use Rattle.bn_quad.specs.Kept.{act_of}
 use Rattle.bn_modules.specs.declared.cell_line.CellLine.TheVariants.{Answer, DoneWrite}
 use Rattle.bn_modules.specs.Controls.{ControlMove, Reads, Shifts, Writes, Tape, IsEntry, ControlGoes, reads_on, shifts_on, writes_on, reads, shifts, reads_of, shifts_of, writes_of, symbols_in, to_shift, to_reads, to_shifts, to_writes, done_line}
-use Rattle.bn_theory.proofs.MemberLemmas.{IsMember}
 use Rattle.bn_control.specs.declared.command.Command.{Command}
 use Rattle.bn_control.specs.declared.line.Sending.{Sending}
 use Rattle.bn_control.specs.Commands.{line_of, sending_of, commands_by, read_commands, shift_commands, shift_command, write_commands, moves_by}
@@ -86,68 +85,68 @@ module _ (m : Quadruples) (n : ℕ) (r : Rule ℕ) (here : nth m.rules n ≡ Som
   next_read before [] = next_shift (shifts_of r)
   next_read before (p ∷ rest) = refl
 
-  write_goes : (before rest : List (ℕ × ℕ)) → writes_of r ≡ before ++ rest → (g : Going) → IsMember g (goings e (write_names r.to rest)) → Goes g
+  write_goes : (before rest : List (ℕ × ℕ)) → writes_of r ≡ before ++ rest → (g : Going) → Has (goings e (write_names r.to rest)) g → Goes g
   write_goes before [] split g h = absurd h
   write_goes before (p ∷ rest) split g (inl is) =
       let first : Goes (Writes r.to p.0 (symbols_in rest), Tape p.0 DoneWrite, next_name e (write_names r.to rest)) = writes_on n r here e entry before rest p split refl refl (next_write rest) in
       subst Goes (sym is) first
   write_goes before (p ∷ rest) split g (inr h) = write_goes (before ++ (p ∷ [])) rest (split ∙ sym (append_assoc before (p ∷ []) rest)) g h
 
-  shift_goes : (before rest : List (ℕ × Side)) → shifts_of r ≡ before ++ rest → (g : Going) → IsMember g (goings e (shift_names n rest ++ write_names r.to (writes_of r))) → Goes g
+  shift_goes : (before rest : List (ℕ × Side)) → shifts_of r ≡ before ++ rest → (g : Going) → Has (goings e (shift_names n rest ++ write_names r.to (writes_of r))) g → Goes g
   shift_goes before [] split g h = write_goes [] (writes_of r) refl g h
   shift_goes before (p ∷ rest) split g (inl is) =
       let first : Goes (Shifts n p.0, Tape p.0 (done_line p.1), next_name e (shift_names n rest ++ write_names r.to (writes_of r))) = shifts_on n r here e entry before rest p split refl refl (next_shift rest) in
       subst Goes (sym is) first
   shift_goes before (p ∷ rest) split g (inr h) = shift_goes (before ++ (p ∷ [])) rest (split ∙ sym (append_assoc before (p ∷ []) rest)) g h
 
-  read_goes : (before rest : List (ℕ × ℕ)) → reads_of r ≡ before ++ rest → (g : Going) → IsMember g (goings e (read_names r.from before rest ++ later_names n r)) → Goes g
+  read_goes : (before rest : List (ℕ × ℕ)) → reads_of r ≡ before ++ rest → (g : Going) → Has (goings e (read_names r.from before rest ++ later_names n r)) g → Goes g
   read_goes before [] split g h = shift_goes [] (shifts_of r) refl g h
   read_goes before (p ∷ rest) split g (inl is) =
       let first : Goes (Reads r.from (symbols_in before), Tape p.0 (Answer p.1), next_name e (read_names r.from (before ++ (p ∷ [])) rest ++ later_names n r)) = reads_on n r here e entry before rest p split refl refl (next_read (before ++ (p ∷ [])) rest) in
       subst Goes (sym is) first
   read_goes before (p ∷ rest) split g (inr h) = read_goes (before ++ (p ∷ [])) rest (split ∙ sym (append_assoc before (p ∷ []) rest)) g h
 
-  pub each_goes : (g : Going) → IsMember g (goings e (names_by n r)) → Goes g
+  pub each_goes : (g : Going) → Has (goings e (names_by n r)) g → Goes g
   each_goes g h = read_goes [] (reads_of r) refl g h
 
   -- ---- and the control's moves along this quadruple are among them
 
-  write_stands : (before rest : List (ℕ × ℕ)) (p : ℕ × ℕ) → IsMember (Writes r.to p.0 (symbols_in rest), Tape p.0 DoneWrite, to_writes e r.to rest) (goings e (write_names r.to (before ++ (p ∷ rest))))
+  write_stands : (before rest : List (ℕ × ℕ)) (p : ℕ × ℕ) → Has (goings e (write_names r.to (before ++ (p ∷ rest)))) (Writes r.to p.0 (symbols_in rest), Tape p.0 DoneWrite, to_writes e r.to rest)
   write_stands [] rest p = inl (λ i. (Writes r.to p.0 (symbols_in rest), Tape p.0 DoneWrite, sym (next_write rest) i))
   write_stands (b ∷ before) rest p = inr (write_stands before rest p)
 
-  write_later : (ss : List (ℕ × Side)) (g : Going) → IsMember g (goings e (write_names r.to (writes_of r))) → IsMember g (goings e (shift_names n ss ++ write_names r.to (writes_of r)))
+  write_later : (ss : List (ℕ × Side)) (g : Going) → Has (goings e (write_names r.to (writes_of r))) g → Has (goings e (shift_names n ss ++ write_names r.to (writes_of r))) g
   write_later [] g h = h
   write_later (p ∷ ss) g h = inr (write_later ss g h)
 
-  shift_stands : (before rest : List (ℕ × Side)) (p : ℕ × Side) → IsMember (Shifts n p.0, Tape p.0 (done_line p.1), to_shifts e n r rest) (goings e (shift_names n (before ++ (p ∷ rest)) ++ write_names r.to (writes_of r)))
+  shift_stands : (before rest : List (ℕ × Side)) (p : ℕ × Side) → Has (goings e (shift_names n (before ++ (p ∷ rest)) ++ write_names r.to (writes_of r))) (Shifts n p.0, Tape p.0 (done_line p.1), to_shifts e n r rest)
   shift_stands [] rest p = inl (λ i. (Shifts n p.0, Tape p.0 (done_line p.1), sym (next_shift rest) i))
   shift_stands (b ∷ before) rest p = inr (shift_stands before rest p)
 
-  later : (before rs : List (ℕ × ℕ)) (g : Going) → IsMember g (goings e (later_names n r)) → IsMember g (goings e (read_names r.from before rs ++ later_names n r))
+  later : (before rs : List (ℕ × ℕ)) (g : Going) → Has (goings e (later_names n r)) g → Has (goings e (read_names r.from before rs ++ later_names n r)) g
   later before [] g h = h
   later before (p ∷ rs) g h = inr (later (before ++ (p ∷ [])) rs g h)
 
   read_stands : (done before rest : List (ℕ × ℕ)) (p : ℕ × ℕ)
-      → IsMember (Reads r.from (symbols_in (done ++ before)), Tape p.0 (Answer p.1), to_reads e n r ((done ++ before) ++ (p ∷ [])) rest) (goings e (read_names r.from done (before ++ (p ∷ rest)) ++ later_names n r))
+      → Has (goings e (read_names r.from done (before ++ (p ∷ rest)) ++ later_names n r)) (Reads r.from (symbols_in (done ++ before)), Tape p.0 (Answer p.1), to_reads e n r ((done ++ before) ++ (p ∷ [])) rest)
   read_stands done [] rest p =
       let none = append-nil done in
       inl (λ i. (Reads r.from (symbols_in (none i)), Tape p.0 (Answer p.1), (ap (λ l. to_reads e n r (l ++ (p ∷ [])) rest) none ∙ sym (next_read (done ++ (p ∷ [])) rest)) i))
   read_stands done (b ∷ before) rest p =
       let one = append_assoc done (b ∷ []) before in
-      inr (subst (λ l. IsMember (Reads r.from (symbols_in l), Tape p.0 (Answer p.1), to_reads e n r (l ++ (p ∷ [])) rest) (goings e (read_names r.from (done ++ (b ∷ [])) (before ++ (p ∷ rest)) ++ later_names n r))) one (read_stands (done ++ (b ∷ [])) before rest p))
+      inr (subst (λ l. Has (goings e (read_names r.from (done ++ (b ∷ [])) (before ++ (p ∷ rest)) ++ later_names n r)) (Reads r.from (symbols_in l), Tape p.0 (Answer p.1), to_reads e n r (l ++ (p ∷ [])) rest)) one (read_stands (done ++ (b ∷ [])) before rest p))
 
-  pub reads_stand : (before rest : List (ℕ × ℕ)) (p : ℕ × ℕ) → reads_of r ≡ before ++ (p ∷ rest) → IsMember (Reads r.from (symbols_in before), Tape p.0 (Answer p.1), to_reads e n r (before ++ (p ∷ [])) rest) (goings e (names_by n r))
+  pub reads_stand : (before rest : List (ℕ × ℕ)) (p : ℕ × ℕ) → reads_of r ≡ before ++ (p ∷ rest) → Has (goings e (names_by n r)) (Reads r.from (symbols_in before), Tape p.0 (Answer p.1), to_reads e n r (before ++ (p ∷ [])) rest)
   reads_stand before rest p split =
-      subst (λ l. IsMember (Reads r.from (symbols_in before), Tape p.0 (Answer p.1), to_reads e n r (before ++ (p ∷ [])) rest) (goings e (read_names r.from [] l ++ later_names n r))) (sym split) (read_stands [] before rest p)
+      subst (λ l. Has (goings e (read_names r.from [] l ++ later_names n r)) (Reads r.from (symbols_in before), Tape p.0 (Answer p.1), to_reads e n r (before ++ (p ∷ [])) rest)) (sym split) (read_stands [] before rest p)
 
-  pub shifts_stand : (before rest : List (ℕ × Side)) (p : ℕ × Side) → shifts_of r ≡ before ++ (p ∷ rest) → IsMember (Shifts n p.0, Tape p.0 (done_line p.1), to_shifts e n r rest) (goings e (names_by n r))
+  pub shifts_stand : (before rest : List (ℕ × Side)) (p : ℕ × Side) → shifts_of r ≡ before ++ (p ∷ rest) → Has (goings e (names_by n r)) (Shifts n p.0, Tape p.0 (done_line p.1), to_shifts e n r rest)
   shifts_stand before rest p split =
       later [] (reads_of r) (Shifts n p.0, Tape p.0 (done_line p.1), to_shifts e n r rest)
-      (subst (λ l. IsMember (Shifts n p.0, Tape p.0 (done_line p.1), to_shifts e n r rest) (goings e (shift_names n l ++ write_names r.to (writes_of r)))) (sym split) (shift_stands before rest p))
+      (subst (λ l. Has (goings e (shift_names n l ++ write_names r.to (writes_of r))) (Shifts n p.0, Tape p.0 (done_line p.1), to_shifts e n r rest)) (sym split) (shift_stands before rest p))
 
-  pub writes_stand : (before rest : List (ℕ × ℕ)) (p : ℕ × ℕ) → writes_of r ≡ before ++ (p ∷ rest) → IsMember (Writes r.to p.0 (symbols_in rest), Tape p.0 DoneWrite, to_writes e r.to rest) (goings e (names_by n r))
+  pub writes_stand : (before rest : List (ℕ × ℕ)) (p : ℕ × ℕ) → writes_of r ≡ before ++ (p ∷ rest) → Has (goings e (names_by n r)) (Writes r.to p.0 (symbols_in rest), Tape p.0 DoneWrite, to_writes e r.to rest)
   writes_stand before rest p split =
       later [] (reads_of r) (Writes r.to p.0 (symbols_in rest), Tape p.0 DoneWrite, to_writes e r.to rest)
       (write_later (shifts_of r) (Writes r.to p.0 (symbols_in rest), Tape p.0 DoneWrite, to_writes e r.to rest)
-      (subst (λ l. IsMember (Writes r.to p.0 (symbols_in rest), Tape p.0 DoneWrite, to_writes e r.to rest) (goings e (write_names r.to l))) (sym split) (write_stands before rest p)))
+      (subst (λ l. Has (goings e (write_names r.to l)) (Writes r.to p.0 (symbols_in rest), Tape p.0 DoneWrite, to_writes e r.to rest)) (sym split) (write_stands before rest p)))

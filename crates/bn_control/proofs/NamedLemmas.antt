@@ -2,7 +2,7 @@
 use Rattle.std.proofs.Common.{◌≡◌, inl, inr, get_or, ℕ, zero, suc, ◌+◌, ◌*◌, ◌<◌, ◌≤◌, List, [], ◌∷◌, ◌++◌, length, map, Some, refl, sym, ap, subst, ◌∙◌, arith, length-append}
 use Rattle.std.proofs.lemmas.Bool.Decides.{eqb_tells}
 use Rattle.std.proofs.lemmas.Option.{slice_get-get_or}
-use Rattle.bn_lists.specs.Lists.{nth}
+use Rattle.bn_lists.specs.Lists.{nth, Has}
 use Rattle.bn_lists.proofs.ListLemmas.{nth_within, nth_once}
 use Rattle.bn_quad.specs.Quadruples.{Rule, Quadruples, IsQuadMachine, initial_of}
 use Rattle.bn_quad.specs.Calls.{IsUniformMachine}
@@ -11,7 +11,7 @@ use Rattle.bn_quad.specs.declared.quad.Quad.{Quad}
 use Rattle.bn_modules.specs.Controls.{ControlState, ControlLine, ControlMove, Begin as begin_name, Outside as outside_name, IsEntry, ControlGoes, begins, reads_on, shifts_on, writes_on}
 use Rattle.bn_controllaws.proofs.EntryLemmas.{one_entry}
 use Rattle.bn_controllaws.proofs.RangeLemmas.{rule_in_range, initial_in_range}
-use Rattle.bn_theory.proofs.MemberLemmas.{IsMember, in_front, behind, of_two}
+use Rattle.bn_lists.proofs.MemberLemmas.{in_front, behind, of_two}
 use Rattle.bn_control.specs.declared.command.Command.{Command}
 use Rattle.bn_control.specs.declared.line.Line.TheVariants.{Outside}
 use Rattle.bn_control.specs.declared.line.Sending.{Sending}
@@ -28,18 +28,18 @@ use Rattle.bn_control.proofs.RuleLemmas.{AreProper, commands_proper, commands_fe
 
 -- ---- members by names
 
-pub mapped : {A B : Type 0} (f : A → B) (l : List A) (x : A) → IsMember x l → IsMember (f x) (map f l)
+pub mapped : {A B : Type 0} (f : A → B) (l : List A) (x : A) → Has l x → Has (map f l) (f x)
 mapped f [] x h = h
 mapped f (y ∷ l) x (inl e) = inl (ap f e)
 mapped f (y ∷ l) x (inr h) = inr (mapped f l x h)
 
-pub from_mapped : {A B : Type 0} (f : A → B) (l : List A) (y : B) → IsMember y (map f l) → (x : A) × IsMember x l × (f x ≡ y)
+pub from_mapped : {A B : Type 0} (f : A → B) (l : List A) (y : B) → Has (map f l) y → (x : A) × Has l x × (f x ≡ y)
 from_mapped f [] y h = absurd h
 from_mapped f (x ∷ l) y (inl e) = (x, inl refl, sym e)
 from_mapped f (x ∷ l) y (inr h) = let more = from_mapped f l y h in (more.0, inr more.1, more.2)
 
 -- a move by names that a list has
-kept_going : (xs : List NamedMove) (x : NamedMove) (g : Going) → IsMember x xs → going_of x ≡ g → IsKeptAmong xs g.0 g.1 g.2
+kept_going : (xs : List NamedMove) (x : NamedMove) (g : Going) → Has xs x → going_of x ≡ g → IsKeptAmong xs g.0 g.1 g.2
 kept_going xs x g h e = record { move = x; member = h; state = ap (λ (v : Going). v.0) e; line = ap (λ (v : Going). v.1) e; to = ap (λ (v : Going). v.2) e }
 
 more_kept : (xs ys : List NamedMove) (q : ControlState) (i : ControlLine) (k : ControlMove) → IsKeptAmong xs q i k → IsKeptAmong (xs ++ ys) q i k
@@ -47,7 +47,7 @@ more_kept xs ys q i k h = record { move = h.move; member = in_front xs ys h.move
 
 -- ---- along one quadruple
 
-moves_proper : (last : Sending) (cs : List Command) → IsProper last.state → AreProper cs → (x : NamedMove) → IsMember x (moves_by last cs) → IsProper x.state × IsProper x.to.state
+moves_proper : (last : Sending) (cs : List Command) → IsProper last.state → AreProper cs → (x : NamedMove) → Has (moves_by last cs) x → IsProper x.state × IsProper x.to.state
 moves_proper last [] p ps x h = absurd h
 moves_proper last (c ∷ []) p ps x (inl e) = rw e (ps.0, p)
 moves_proper last (c ∷ []) p ps x (inr h) = absurd h
@@ -63,17 +63,17 @@ module _ (m : Quadruples) (n : ℕ) (r : Rule ℕ) (here : nth m.rules n ≡ Som
   along_names = moves_are s (commands_by n r) ∙ ap (goings (sending_of s)) (commands_are n r)
 
   -- the moves along the quadruple are the control's
-  along_only : (x : NamedMove) → IsMember x (moves_by s (commands_by n r)) → IsGoing m x
+  along_only : (x : NamedMove) → Has (moves_by s (commands_by n r)) x → IsGoing m x
   along_only x h =
-      let name : IsMember (going_of x) (goings (sending_of s) (names_by n r)) = subst (IsMember (going_of x)) along_names (mapped going_of (moves_by s (commands_by n r)) x h) in
+      let name : Has (goings (sending_of s) (names_by n r)) (going_of x) = subst (λ l. Has l (going_of x)) along_names (mapped going_of (moves_by s (commands_by n r)) x h) in
       let proper = moves_proper s (commands_by n r) sent.proper (commands_proper n r) x h in
       record { goes = each_goes m n r here (sending_of s) sent.entry (going_of x) name; from = proper.0; to = proper.1 }
 
   -- and all of them
-  along_each : IsUniformMachine m → (e : ControlMove) → IsEntry m r.to e → (g : Going) → IsMember g (goings e (names_by n r)) → IsKeptAmong (moves_by s (commands_by n r)) g.0 g.1 g.2
+  along_each : IsUniformMachine m → (e : ControlMove) → IsEntry m r.to e → (g : Going) → Has (goings e (names_by n r)) g → IsKeptAmong (moves_by s (commands_by n r)) g.0 g.1 g.2
   along_each u e entry g h =
       let same : e ≡ sending_of s = one_entry m u r.to e (sending_of s) entry sent.entry in
-      let name : IsMember g (map going_of (moves_by s (commands_by n r))) = subst (IsMember g) (sym along_names) (subst (λ v. IsMember g (goings v (names_by n r))) same h) in
+      let name : Has (map going_of (moves_by s (commands_by n r))) g = subst (λ l. Has l g) (sym along_names) (subst (λ v. Has (goings v (names_by n r)) g) same h) in
       let found = from_mapped going_of (moves_by s (commands_by n r)) g name in
       kept_going (moves_by s (commands_by n r)) found.0 g found.1 found.2
 
@@ -84,7 +84,7 @@ module _ (m : Quadruples) (u : IsUniformMachine m) where
   pub first_move : (s : Sending) → IsFirstSent m (initial_of m.rules) s → (xs : List NamedMove) → xs ≡ (record { state = Begin; line = Outside; to = s }) ∷ [] → AreMovesSoFar m 0 xs
   first_move s sent xs is = subst (AreMovesSoFar m 0) (sym is) (record { only = only; first = first; each = λ n r e g low here. absurd (none n r low here) })
     where
-      only : (x : NamedMove) → IsMember x ((record { state = Begin; line = Outside; to = s }) ∷ []) → IsGoing m x
+      only : (x : NamedMove) → Has ((record { state = Begin; line = Outside; to = s }) ∷ []) x → IsGoing m x
       only x (inl e) = rw e (record { goes = begins refl refl sent.entry; from = tt; to = sent.proper })
       only x (inr h) = absurd h
 
@@ -99,17 +99,17 @@ module _ (m : Quadruples) (u : IsUniformMachine m) where
   pub more_moves : (k : ℕ) (r : Rule ℕ) (s : Sending) (xs ys : List NamedMove) → nth m.rules (k + 1) ≡ Some r → IsFirstSent m r.to s → ys ≡ xs ++ moves_by s (commands_by (k + 1) r) → AreMovesSoFar m k xs → AreMovesSoFar m (k + 1) ys
   more_moves k r s xs ys here sent is far = subst (AreMovesSoFar m (k + 1)) (sym is) (record { only = only; first = λ e entry. more_kept xs (moves_by s (commands_by (k + 1) r)) begin_name outside_name e (far.first e entry); each = each })
     where
-      only : (x : NamedMove) → IsMember x (xs ++ moves_by s (commands_by (k + 1) r)) → IsGoing m x
+      only : (x : NamedMove) → Has (xs ++ moves_by s (commands_by (k + 1) r)) x → IsGoing m x
       only x h = elim (of_two xs (moves_by s (commands_by (k + 1) r)) x h) [ inl old ↦ far.only x old | inr new ↦ along_only m (k + 1) r here s sent x new ]
 
-      each : (n : ℕ) (t : Rule ℕ) (e : ControlMove) (g : Going) → n ≤ k + 1 → nth m.rules n ≡ Some t → IsEntry m t.to e → IsMember g (goings e (names_by n t)) → IsKeptAmong (xs ++ moves_by s (commands_by (k + 1) r)) g.0 g.1 g.2
+      each : (n : ℕ) (t : Rule ℕ) (e : ControlMove) (g : Going) → n ≤ k + 1 → nth m.rules n ≡ Some t → IsEntry m t.to e → Has (goings e (names_by n t)) g → IsKeptAmong (xs ++ moves_by s (commands_by (k + 1) r)) g.0 g.1 g.2
       each n t e g low there entry h = elim (eqb_tells n (k + 1)) [
         | inl same ↦ (
             let number = same.1 in
             let at : nth m.rules (k + 1) ≡ Some t = ap (nth m.rules) (sym number) ∙ there in
             let rule : t ≡ r = nth_once m.rules (k + 1) t r at here in
             let entry' : IsEntry m r.to e = subst (λ (v : Rule ℕ). IsEntry m v.to e) rule entry in
-            let h' : IsMember g (goings e (names_by (k + 1) r)) = subst (λ v. IsMember g (goings e (names_by (k + 1) v))) rule (subst (λ v. IsMember g (goings e (names_by v t))) number h) in
+            let h' : Has (goings e (names_by (k + 1) r)) g = subst (λ v. Has (goings e (names_by (k + 1) v)) g) rule (subst (λ v. Has (goings e (names_by v t)) g) number h) in
             let kept = along_each m (k + 1) r here s sent u e entry' g h' in
             record { move = kept.move; member = behind xs (moves_by s (commands_by (k + 1) r)) kept.move kept.member; state = kept.state; line = kept.line; to = kept.to })
         | inr other ↦ (let ne = other.1 in more_kept xs (moves_by s (commands_by (k + 1) r)) g.0 g.1 g.2 (far.each n t e g (omega arith) there entry h))

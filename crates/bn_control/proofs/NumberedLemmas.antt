@@ -2,7 +2,8 @@
 use Rattle.std.proofs.Common.{◌≡◌, inl, inr, get_or, ℕ, ◌+◌, ◌<◌, List, [], ◌∷◌, ◌++◌, length, take, refl, sym, subst}
 use Rattle.std.proofs.lemmas.List.{take_more}
 use Rattle.bn_quad.specs.Quadruples.{Quadruples}
-use Rattle.bn_theory.proofs.MemberLemmas.{IsMember, in_front, behind, of_two}
+use Rattle.bn_lists.specs.Lists.{Has}
+use Rattle.bn_lists.proofs.MemberLemmas.{in_front, behind, of_two}
 use Rattle.bn_control.specs.declared.named.NamedMove.{NamedMove}
 use Rattle.bn_control.specs.declared.numbered.Move.{Move}
 use Rattle.bn_control.specs.declared.state.State.{State}
@@ -15,23 +16,23 @@ module _ (m : Quadruples) (ss : List State) where
   pub one_numbered : (xs : List NamedMove) (vs : List Move) (x : NamedMove) (v : Move) → AreNumbered m ss xs vs → IsNumbered m ss x v → AreNumbered m ss (xs ++ x ∷ []) (vs ++ v ∷ [])
   one_numbered xs vs x v far here = record { only = only; each = each }
     where
-      only : (w : Move) → IsMember w (vs ++ v ∷ []) → (y : NamedMove) × IsMember y (xs ++ x ∷ []) × IsNumbered m ss y w
+      only : (w : Move) → Has (vs ++ v ∷ []) w → (y : NamedMove) × Has (xs ++ x ∷ []) y × IsNumbered m ss y w
       only w h = elim (of_two vs (v ∷ []) w h) [
         | inl old ↦ (let kept = far.only w old in (kept.0, in_front xs (x ∷ []) kept.0 kept.1, kept.2))
         | inr new ↦ last new
       ]
         where
-          last : IsMember w (v ∷ []) → (y : NamedMove) × IsMember y (xs ++ x ∷ []) × IsNumbered m ss y w
+          last : Has (v ∷ []) w → (y : NamedMove) × Has (xs ++ x ∷ []) y × IsNumbered m ss y w
           last (inl e) = (x, behind xs (x ∷ []) x (inl refl), subst (IsNumbered m ss x) (sym e) here)
           last (inr h) = absurd h
 
-      each : (y : NamedMove) → IsMember y (xs ++ x ∷ []) → (w : Move) × IsMember w (vs ++ v ∷ []) × IsNumbered m ss y w
+      each : (y : NamedMove) → Has (xs ++ x ∷ []) y → (w : Move) × Has (vs ++ v ∷ []) w × IsNumbered m ss y w
       each y h = elim (of_two xs (x ∷ []) y h) [
         | inl old ↦ (let kept = far.each y old in (kept.0, in_front vs (v ∷ []) kept.0 kept.1, kept.2))
         | inr new ↦ last new
       ]
         where
-          last : IsMember y (x ∷ []) → (w : Move) × IsMember w (vs ++ v ∷ []) × IsNumbered m ss y w
+          last : Has (x ∷ []) y → (w : Move) × Has (vs ++ v ∷ []) w × IsNumbered m ss y w
           last (inl e) = (v, behind vs (v ∷ []) v (inl refl), subst (λ z. IsNumbered m ss z v) (sym e) here)
           last (inr h) = absurd h
 

@@ -13,7 +13,8 @@ use Rattle.bn_controllaws.proofs.ExistingLemmas.{some_entry}
 use Rattle.bn_controllaws.proofs.GoingLemmas.{sound, end_entry}
 use Rattle.bn_controllaws.proofs.KeyLemmas.{by_key, ties_one}
 use Rattle.bn_controllaws.proofs.RangeLemmas.{rule_in_range, initial_in_range}
-use Rattle.bn_theory.proofs.MemberLemmas.{IsMember, place_of, member_at, in_front, behind, of_two}
+use Rattle.bn_lists.specs.Lists.{Has}
+use Rattle.bn_lists.proofs.MemberLemmas.{place_of, member_at, in_front, behind, of_two}
 use Rattle.bn_control.specs.declared.line.Sending.{Sending}
 use Rattle.bn_control.specs.declared.named.NamedMove.{NamedMove}
 use Rattle.bn_control.specs.declared.state.State.{State}
@@ -29,10 +30,10 @@ use Rattle.bn_control.proofs.SearchLemmas.{named_at, kept_at}
 
 -- ---- elements of a list, in std's word
 
-pub from_contained : {A : Type 0} (xs : List A) (x : A) → Contains xs x → IsMember x xs
+pub from_contained : {A : Type 0} (xs : List A) (x : A) → Contains xs x → Has xs x
 from_contained xs x h = member_at xs h.0 x (slice_get-get_or xs h.0 x h.1 ∙ ap (λ y. Some y) h.2)
 
-pub contained : {A : Type 0} (xs : List A) (x : A) → IsMember x xs → Contains xs x
+pub contained : {A : Type 0} (xs : List A) (x : A) → Has xs x → Contains xs x
 contained xs x h = let at = place_of xs x h in (at.0, slice_get_within xs at.0 x at.1, get_or_from_slice_get xs at.0 x x at.1)
 
 -- ---- the states, gathered
@@ -49,7 +50,7 @@ module _ (m : Quadruples) (u : IsUniformMachine m) (is : IsQuadMachine m) (es : 
   gathered = ((End ∷ []) ++ map awaiting es) ++ map moving xs
 
   -- what holds of all
-  on_each : (P : State → Type 0) → P End → ((s : Sending) (a : ℕ) → IsFirstSent m a s → P s.state) → ((x : NamedMove) → IsGoing m x → P x.state) → (x : State) → IsMember x gathered → P x
+  on_each : (P : State → Type 0) → P End → ((s : Sending) (a : ℕ) → IsFirstSent m a s → P s.state) → ((x : NamedMove) → IsGoing m x → P x.state) → (x : State) → Has gathered x → P x
   on_each P first second third x h = elim (of_two ((End ∷ []) ++ map awaiting es) (map moving xs) x h) [
     | inl front ↦ elim (of_two (End ∷ []) (map awaiting es) x front) [
       | inl one ↦ at_end one
@@ -58,17 +59,17 @@ module _ (m : Quadruples) (u : IsUniformMachine m) (is : IsQuadMachine m) (es : 
     | inr back ↦ (let found = from_mapped moving xs x back in subst P found.2 (third found.0 (moves.only found.0 found.1)))
   ]
     where
-      at_end : IsMember x (End ∷ []) → P x
+      at_end : Has (End ∷ []) x → P x
       at_end (inl e) = subst P (sym e) first
       at_end (inr h) = absurd h
 
   -- the state of a move
-  by_move : (q : ControlState) (i : ControlLine) (k : ControlMove) → ControlGoes m q i k → (x : State) × IsMember x gathered × (name_of x ≡ q)
+  by_move : (q : ControlState) (i : ControlLine) (k : ControlMove) → ControlGoes m q i k → (x : State) × Has gathered x × (name_of x ≡ q)
   by_move q i k goes =
       let kept = moves.each q i k goes in
       (kept.move.state, behind ((End ∷ []) ++ map awaiting es) (map moving xs) kept.move.state (mapped moving xs kept.move kept.member), kept.state)
 
-  each : (q : ControlState) → Occurs m q → (x : State) × IsMember x gathered × (name_of x ≡ q)
+  each : (q : ControlState) → Occurs m q → (x : State) × Has gathered x × (name_of x ≡ q)
   each q (is_begin e) =
       let first = some_entry m u (initial_of m.rules) (initial_in_range m is) in
       by_move q _ first.0 (begins e refl first.1)
@@ -109,7 +110,7 @@ module _ (m : Quadruples) (u : IsUniformMachine m) (is : IsQuadMachine m) (es : 
 
 module _ (m : Quadruples) (raw ss : List State) (states : AreStates m raw) (strict : IsStrictlySortedBy cmp ss)
     (all : (x : State) → Contains raw x → Any (λ y. cmp x y ≡ Equal) ss) (only : (x : State) → Contains ss x → Contains raw x) where
-  among : (n : ℕ) (x : State) → slice_get ss n ≡ Some x → IsMember x raw
+  among : (n : ℕ) (x : State) → slice_get ss n ≡ Some x → Has raw x
   among n x e = from_contained raw x (only x (contained ss x (member_at ss n x e)))
 
   at_place : (q : ControlState) → Occurs m q → (n : ℕ) × (slice_get (map name_of ss) n ≡ Some q)

@@ -18,7 +18,8 @@ use Rattle.bn_modules.specs.Controls.{ControlState, NumberedGoes, IsControlTable
 use Rattle.bn_controllaws.proofs.KeyLemmas.{by_key, keys_ordered}
 use Rattle.bn_controllaws.proofs.SortedLemmas.{one_place}
 use Rattle.bn_controllaws.proofs.TabledLemmas.{table_there}
-use Rattle.bn_theory.proofs.MemberLemmas.{IsMember, place_of, member_at}
+use Rattle.bn_lists.specs.Lists.{Has}
+use Rattle.bn_lists.proofs.MemberLemmas.{place_of, member_at}
 use Rattle.bn_cell.proofs.ListingLemmas.{LeaveApart, AreApart, AreMovesOf, moves_sound, moves_go}
 use Rattle.bn_control.specs.contracts.numbered.MoveOrd.TheImpl as impl
 use Rattle.bn_control.specs.contracts.numbered.MoveOrd.TheImpl.Laws.{total-law}
@@ -62,7 +63,7 @@ apart_by : (vs : List Move) → ((i j : ℕ) (v w : Move) → i < j → slice_ge
 apart_by [] far = tt
 apart_by (v ∷ vs) far = (heads, apart_by vs (λ i j x y low e d. far (suc i) (suc j) x y (omega arith) e d))
   where
-    heads : (w : RsmMove) → IsMember w (map rsm_move vs) → LeaveApart (rsm_move v) w
+    heads : (w : RsmMove) → Has (map rsm_move vs) w → LeaveApart (rsm_move v) w
     heads w h =
         let found = from_mapped rsm_move vs w h in
         let at = place_of vs found.0 found.1 in
@@ -79,7 +80,7 @@ module _ (m : Quadruples) (u : IsUniformMachine m) (is : IsQuadMachine m) (xs : 
   there = table_there m names is u ordered.numbering
 
   -- a kept move is one of the control in numbers
-  numbered_move : (v : Move) → IsMember v vs → NumberedGoes m names v.state v.line v.next v.out
+  numbered_move : (v : Move) → Has vs v → NumberedGoes m names v.state v.line v.next v.out
   numbered_move v h =
       let kept = numbers.only v (from_contained raw v (only v (contained vs v h))) in
       let going = moves.only kept.0 kept.1 in
@@ -94,14 +95,14 @@ module _ (m : Quadruples) (u : IsUniformMachine m) (is : IsQuadMachine m) (xs : 
         exits = sym kept.2.out;
       }
 
-  goes_by : (v : Move) → IsMember v vs → there.0.go v.state v.line ≡ Some (v.next, v.out)
+  goes_by : (v : Move) → Has vs v → there.0.go v.state v.line ≡ Some (v.next, v.out)
   goes_by v h = (there.1.goes v.state v.line v.next v.out).1 (numbered_move v h)
 
   one_number : (i j : ℕ) (q r : ControlState) → slice_get names i ≡ Some q → slice_get names j ≡ Some r → q ≡ r → i ≡ j
   one_number i j q r e d same = one_place by_key keys_ordered names ordered.numbering.rising_keys i j r (e ∙ ap (λ v. Some v) same) d
 
   -- each of them is kept
-  kept_move : (n j r o : ℕ) → NumberedGoes m names n j r o → IsMember (record { state = n; line = j; next = r; out = o }) vs
+  kept_move : (n j r o : ℕ) → NumberedGoes m names n j r o → Has vs (record { state = n; line = j; next = r; out = o })
   kept_move n j r o g =
       let kept = moves.each g.state g.line g.move g.goes in
       let number = numbers.each kept.move kept.member in
@@ -114,7 +115,7 @@ module _ (m : Quadruples) (u : IsUniformMachine m) (is : IsQuadMachine m) (xs : 
       let here : slice_get vs tie.0 ≡ Some tie.1 = slice_get-get_or vs tie.0 tie.1 tie.2 ∙ ap (λ y. Some y) tie.3 in
       let same : tie.1 ≡ number.0 = sym (tied_moves number.0 tie.1 tie.4) in
       let exact : number.0 ≡ record { state = n; line = j; next = r; out = o } = λ i. record { state = state i; line = line i; next = next i; out = out i } in
-      subst (λ w. IsMember w vs) (same ∙ exact) (member_at vs tie.0 tie.1 here)
+      subst (λ w. Has vs w) (same ∙ exact) (member_at vs tie.0 tie.1 here)
 
   far : (i j : ℕ) (v w : Move) → i < j → slice_get vs i ≡ Some v → slice_get vs j ≡ Some w → LeaveApart (rsm_move v) (rsm_move w)
   far i j v w low e d state line =

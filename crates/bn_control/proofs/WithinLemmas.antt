@@ -6,7 +6,7 @@ use Rattle.bn_modules.specs.declared.cell_line.CellLine.TheVariants.{Read, Write
 use Rattle.bn_modules.specs.Cells.{IsLineOf}
 use Rattle.bn_controllaws.proofs.LineLemmas.{IsLine, outside, tape, IsReply, IsCommand, IsInLine, IsOutLine}
 use Rattle.bn_controllaws.proofs.GoingLemmas.{sound}
-use Rattle.bn_theory.proofs.MemberLemmas.{member_at}
+use Rattle.bn_lists.proofs.MemberLemmas.{member_at}
 use Rattle.bn_control.specs.declared.line.Line.{Line}
 use Rattle.bn_control.specs.declared.line.Line.TheVariants.{Outside, Tape}
 use Rattle.bn_control.specs.declared.named.NamedMove.{NamedMove}

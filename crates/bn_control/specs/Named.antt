@@ -2,7 +2,7 @@
 use Rattle.std.specs.Prelude.{◌≡◌, List}
 use Rattle.bn_quad.specs.Quadruples.{Quadruples}
 use Rattle.bn_modules.specs.Controls.{ControlState, ControlLine, ControlMove, ControlGoes}
-use Rattle.bn_theory.proofs.MemberLemmas.{IsMember}
+use Rattle.bn_lists.specs.Lists.{Has}
 use Rattle.bn_control.specs.declared.named.NamedMove.{NamedMove}
 use Rattle.bn_control.specs.States.{name_of, IsProper}
 use Rattle.bn_control.specs.Commands.{line_of, sending_of}
@@ -16,12 +16,12 @@ pub record IsGoing (m : Quadruples) (x : NamedMove) : Type 0 where
 -- this move is among them
 pub record IsKeptAmong (xs : List NamedMove) (q : ControlState) (i : ControlLine) (k : ControlMove) : Type 0 where
   pub move : NamedMove
-  pub member : IsMember move xs
+  pub member : Has xs move
   pub state : name_of move.state ≡ q
   pub line : line_of move.line ≡ i
   pub to : sending_of move.to ≡ k
 
 -- all moves of the control, and none else
 pub record AreMoves (m : Quadruples) (xs : List NamedMove) : Type 0 where
-  pub only : (x : NamedMove) → IsMember x xs → IsGoing m x
+  pub only : (x : NamedMove) → Has xs x → IsGoing m x
   pub each : (q : ControlState) (i : ControlLine) (k : ControlMove) → ControlGoes m q i k → IsKeptAmong xs q i k

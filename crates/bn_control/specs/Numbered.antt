@@ -4,7 +4,7 @@ use Rattle.bn_rsm.specs.declared.rsm_move.RsmMove.{RsmMove}
 use Rattle.bn_quad.specs.Quadruples.{Quadruples}
 use Rattle.bn_modules.specs.Cells.{IsLineOf}
 use Rattle.bn_modules.specs.Controls.{in_number, out_number}
-use Rattle.bn_theory.proofs.MemberLemmas.{IsMember}
+use Rattle.bn_lists.specs.Lists.{Has}
 use Rattle.bn_control.specs.declared.line.Line.{Line}
 use Rattle.bn_control.specs.declared.line.Line.TheVariants.{Outside, Tape}
 use Rattle.bn_control.specs.declared.named.NamedMove.{NamedMove}
@@ -35,8 +35,8 @@ pub record IsNumbered (m : Quadruples) (ss : List State) (x : NamedMove) (v : Mo
 
 -- the moves in numbers
 pub record AreNumbered (m : Quadruples) (ss : List State) (xs : List NamedMove) (vs : List Move) : Type 0 where
-  pub only : (v : Move) → IsMember v vs → (x : NamedMove) × IsMember x xs × IsNumbered m ss x v
-  pub each : (x : NamedMove) → IsMember x xs → (v : Move) × IsMember v vs × IsNumbered m ss x v
+  pub only : (v : Move) → Has vs v → (x : NamedMove) × Has xs x × IsNumbered m ss x v
+  pub each : (x : NamedMove) → Has xs x → (v : Move) × Has vs v × IsNumbered m ss x v
 
 -- a move as a sequential machine has it
 abbrev pub rsm_move : Move → RsmMove

@@ -2,15 +2,15 @@
 use Rattle.std.specs.Prelude.{◌≡◌, ℕ, List, map, Some, slice_get}
 use Rattle.bn_quad.specs.Quadruples.{Quadruples}
 use Rattle.bn_modules.specs.Controls.{ControlState, Occurs, IsNumbering}
-use Rattle.bn_theory.proofs.MemberLemmas.{IsMember}
+use Rattle.bn_lists.specs.Lists.{Has}
 use Rattle.bn_control.specs.declared.state.State.{State}
 use Rattle.bn_control.specs.States.{name_of, IsProper}
 
 -- the states of the control, in whatever order, and some maybe twice
 pub record AreStates (m : Quadruples) (ss : List State) : Type 0 where
-  pub proper : (x : State) → IsMember x ss → IsProper x
-  pub only : (x : State) → IsMember x ss → Occurs m (name_of x)
-  pub each : (q : ControlState) → Occurs m q → (x : State) × IsMember x ss × (name_of x ≡ q)
+  pub proper : (x : State) → Has ss x → IsProper x
+  pub only : (x : State) → Has ss x → Occurs m (name_of x)
+  pub each : (q : ControlState) → Occurs m q → (x : State) × Has ss x × (name_of x ≡ q)
 
 -- the states of the control in their order
 pub record AreOrdered (m : Quadruples) (ss : List State) : Type 0 where

@@ -6,42 +6,43 @@ use Rattle.std.proofs.lemmas.List.{reverse-append}
 use Rattle.bn_machine.specs.declared.quint.Quint.{Quint}
 use Rattle.bn_quad.specs.Quadruples.{Deed, Rule, deeds_of}
 use Rattle.bn_stages.specs.Renamed.{rename}
-use Rattle.bn_theory.proofs.MemberLemmas.{IsMember, in_front, behind, of_two}
+use Rattle.bn_lists.specs.Lists.{Has}
+use Rattle.bn_lists.proofs.MemberLemmas.{in_front, behind, of_two}
 use Rattle.bn_controlcount.proofs.ApartLemmas.{IsApart, joined}
 
 abbrev pub along : {Q A : Type 0} → (ℕ → Rule Q → List A) → ℕ → List (Rule Q) → List A
 along f n [] = []
 along f n (r ∷ rs) = f n r ++ along f (suc n) rs
 
-pub along_member : {Q A : Type 0} (f : ℕ → Rule Q → List A) (n : ℕ) (rs : List (Rule Q)) (i : ℕ) (r : Rule Q) (x : A) → slice_get rs i ≡ Some r → IsMember x (f (n + i) r) → IsMember x (along f n rs)
+pub along_member : {Q A : Type 0} (f : ℕ → Rule Q → List A) (n : ℕ) (rs : List (Rule Q)) (i : ℕ) (r : Rule Q) (x : A) → slice_get rs i ≡ Some r → Has (f (n + i) r) x → Has (along f n rs) x
 along_member f n [] i r x e h = absurd (cc)
 along_member f n (s ∷ rs) zero r x e h =
     let same : r ≡ s = cc in
     let place : n + 0 ≡ n = omega arith in
-    in_front (f n s) (along f (suc n) rs) x (subst (λ v. IsMember x (f n v)) same (subst (λ k. IsMember x (f k r)) place h))
+    in_front (f n s) (along f (suc n) rs) x (subst (λ v. Has (f n v) x) same (subst (λ k. Has (f k r) x) place h))
 along_member f n (s ∷ rs) (suc i) r x e h =
     let place : n + suc i ≡ suc n + i = omega arith in
-    behind (f n s) (along f (suc n) rs) x (along_member f (suc n) rs i r x e (subst (λ k. IsMember x (f k r)) place h))
+    behind (f n s) (along f (suc n) rs) x (along_member f (suc n) rs i r x e (subst (λ k. Has (f k r) x) place h))
 
-pub from_along : {Q A : Type 0} (f : ℕ → Rule Q → List A) (n : ℕ) (rs : List (Rule Q)) (x : A) → IsMember x (along f n rs) → (i : ℕ) × (r : Rule Q) × (slice_get rs i ≡ Some r) × IsMember x (f (n + i) r)
+pub from_along : {Q A : Type 0} (f : ℕ → Rule Q → List A) (n : ℕ) (rs : List (Rule Q)) (x : A) → Has (along f n rs) x → (i : ℕ) × (r : Rule Q) × (slice_get rs i ≡ Some r) × Has (f (n + i) r) x
 from_along f n [] x h = absurd h
 from_along f n (s ∷ rs) x h = elim (of_two (f n s) (along f (suc n) rs) x h) [
-  | inl here ↦ (let place : n ≡ n + 0 = omega arith in (0, s, refl, subst (λ k. IsMember x (f k s)) place here))
-  | inr there ↦ (let more = from_along f (suc n) rs x there in let place : suc n + more.0 ≡ n + suc more.0 = omega arith in (suc more.0, more.1, more.2, subst (λ k. IsMember x (f k more.1)) place more.3))
+  | inl here ↦ (let place : n ≡ n + 0 = omega arith in (0, s, refl, subst (λ k. Has (f k s) x) place here))
+  | inr there ↦ (let more = from_along f (suc n) rs x there in let place : suc n + more.0 ≡ n + suc more.0 = omega arith in (suc more.0, more.1, more.2, subst (λ k. Has (f k more.1) x) place more.3))
 ]
 
 pub apart_along : {Q A : Type 0} (f : ℕ → Rule Q → List A) (n : ℕ) (rs : List (Rule Q))
     → ((i : ℕ) (r : Rule Q) → slice_get rs i ≡ Some r → IsApart (f (n + i) r))
-    → ((i j : ℕ) (r s : Rule Q) (x : A) → slice_get rs i ≡ Some r → slice_get rs j ≡ Some s → IsMember x (f (n + i) r) → IsMember x (f (n + j) s) → i ≡ j)
+    → ((i j : ℕ) (r s : Rule Q) (x : A) → slice_get rs i ≡ Some r → slice_get rs j ≡ Some s → Has (f (n + i) r) x → Has (f (n + j) s) x → i ≡ j)
     → IsApart (along f n rs)
 apart_along f n [] one far = tt
 apart_along {A = A} f n (s ∷ rs) one far =
     joined (f n s) (along f (suc n) rs) (let place : n + 0 ≡ n = omega arith in subst (λ k. IsApart (f k s)) place (one 0 s refl))
     (apart_along f (suc n) rs (λ i r e. let place : n + suc i ≡ suc n + i = omega arith in subst (λ k. IsApart (f k r)) place (one (suc i) r e))
     (λ i j r t x e d h g. let a : suc n + i ≡ n + suc i = omega arith in let b : suc n + j ≡ n + suc j = omega arith in
-    let same = far (suc i) (suc j) r t x e d (subst (λ k. IsMember x (f k r)) a h) (subst (λ k. IsMember x (f k t)) b g) in omega arith))
+    let same = far (suc i) (suc j) r t x e d (subst (λ k. Has (f k r) x) a h) (subst (λ k. Has (f k t) x) b g) in omega arith))
     (λ x h g. let found = from_along f (suc n) rs x g in let a : n ≡ n + 0 = omega arith in let b : suc n + found.0 ≡ n + suc found.0 = omega arith in
-    let same = far 0 (suc found.0) s found.1 x refl found.2 (subst (λ k. IsMember x (f k s)) a h) (subst (λ k. IsMember x (f k found.1)) b found.3) in omega arith)
+    let same = far 0 (suc found.0) s found.1 x refl found.2 (subst (λ k. Has (f k s) x) a h) (subst (λ k. Has (f k found.1) x) b found.3) in omega arith)
 
 -- ---- sums
 

@@ -2,7 +2,7 @@
 use Rattle.std.proofs.Common.{◌≡◌, inl, inr, Bool, true, false, cond, ◌==◌, ◌||◌, not, slice_get, ℕ, suc, ◌+◌, ◌<◌, List, [], ◌∷◌, ◌++◌, length, map, Some, refl, sym, ap, subst, ◌∙◌, arith, eq-eqb}
 use Rattle.std.specs.List.{filter, range_with_len}
 use Rattle.std.proofs.lemmas.Bool.{eqb-true}
-use Rattle.bn_theory.proofs.MemberLemmas.{IsMember}
+use Rattle.bn_lists.specs.Lists.{Has}
 use Rattle.bn_controlcount.proofs.ApartLemmas.{same_length, filtered, from_filtered, apart_filtered, range_member, range_apart}
 
 -- how many pass
@@ -75,8 +75,8 @@ just_one n x low =
     (λ k h. inl (eqb-true k x (from_filtered (λ k. k == x) (range_with_len 0 n) k h).1))
     within
   where
-    within : (k : ℕ) → IsMember k (x ∷ []) → IsMember k (filter (λ k. k == x) (range_with_len 0 n))
-    within k (inl e) = subst (λ v. IsMember v (filter (λ k. k == x) (range_with_len 0 n))) (sym e) (filtered (λ k. k == x) (range_with_len 0 n) x (range_member 0 n x (omega arith) (omega arith)) (eq-eqb x x refl))
+    within : (k : ℕ) → Has (x ∷ []) k → Has (filter (λ k. k == x) (range_with_len 0 n)) k
+    within k (inl e) = subst (λ v. Has (filter (λ k. k == x) (range_with_len 0 n)) v) (sym e) (filtered (λ k. k == x) (range_with_len 0 n) x (range_member 0 n x (omega arith) (omega arith)) (eq-eqb x x refl))
     within k (inr h) = absurd h
 
 -- elements tested by their places

@@ -5,7 +5,7 @@ use Rattle.std.proofs.lemmas.Bool.{eqb-true}
 use Rattle.std.proofs.lemmas.List.FromFn.{length-range_with_len}
 use Rattle.std.proofs.lemmas.List.Sums.{length-filter}
 use Rattle.bn_machine.specs.Machine.{Program, IsInRange, start_of, final_of}
-use Rattle.bn_lists.specs.Lists.{nth}
+use Rattle.bn_lists.specs.Lists.{nth, Has}
 use Rattle.bn_machine.specs.declared.quint.Quint.{Quint}
 use Rattle.bn_stages.specs.List.{bennett}
 use Rattle.bn_stages.specs.Names.{NumbersStates, IsNameOf, Mentions}
@@ -16,7 +16,7 @@ use Rattle.bn_stages.proofs.Counts.{list_has_names}
 use Rattle.bn_stages.proofs.Halted.{quint_in_range}
 use Rattle.bn_table.specs.Rows.{FitsTable}
 use Rattle.bn_bennett.proofs.Counting.{each_mentioned}
-use Rattle.bn_theory.proofs.MemberLemmas.{IsMember, place_of, member_at, in_front, behind, of_two}
+use Rattle.bn_lists.proofs.MemberLemmas.{place_of, member_at, in_front, behind, of_two}
 use Rattle.bn_controlcount.specs.Laws.{is_left, is_entered, never_left, never_entered}
 use Rattle.bn_controlcount.proofs.Told.{is_reader, is_written}
 use Rattle.bn_controlcount.proofs.ApartLemmas.{IsApart, IsWithin, same_length, joined, mapped, from_mapped, apart_mapped, filtered, from_filtered, apart_filtered, apart_places, range_member, from_range, range_apart}
@@ -60,22 +60,22 @@ module _ (p : Program) (standard : IsStandardMachine p) (fits : FitsTable p) (or
 
   -- ---- the names of the list are these
 
-  in_computing : (j : ℕ) → j < p.states → IsMember (Compute j) all
+  in_computing : (j : ℕ) → j < p.states → Has all (Compute j)
   in_computing j low = in_front computing (retracing ++ (within_computing ++ (within_retracing ++ copying))) (Compute j) (mapped Compute states j (range_member 0 p.states j (omega arith) (omega arith)))
 
-  in_retracing : (j : ℕ) → j < p.states → IsMember (Retrace j) all
+  in_retracing : (j : ℕ) → j < p.states → Has all (Retrace j)
   in_retracing j low = behind computing (retracing ++ (within_computing ++ (within_retracing ++ copying))) (Retrace j)
       (in_front retracing (within_computing ++ (within_retracing ++ copying)) (Retrace j) (mapped Retrace states j (range_member 0 p.states j (omega arith) (omega arith))))
 
-  in_within_computing : (k : ℕ) → 0 < k → k ≤ length p.quints → IsMember (ComputeWithin k) all
+  in_within_computing : (k : ℕ) → 0 < k → k ≤ length p.quints → Has all (ComputeWithin k)
   in_within_computing k some low = behind computing (retracing ++ (within_computing ++ (within_retracing ++ copying))) (ComputeWithin k) (behind retracing (within_computing ++ (within_retracing ++ copying)) (ComputeWithin k)
       (in_front within_computing (within_retracing ++ copying) (ComputeWithin k) (mapped ComputeWithin places k (range_member 1 (length p.quints) k (omega arith) (omega arith)))))
 
-  in_within_retracing : (k : ℕ) → 0 < k → k ≤ length p.quints → IsMember (RetraceWithin k) all
+  in_within_retracing : (k : ℕ) → 0 < k → k ≤ length p.quints → Has all (RetraceWithin k)
   in_within_retracing k some low = behind computing (retracing ++ (within_computing ++ (within_retracing ++ copying))) (RetraceWithin k) (behind retracing (within_computing ++ (within_retracing ++ copying)) (RetraceWithin k)
       (behind within_computing (within_retracing ++ copying) (RetraceWithin k) (in_front within_retracing copying (RetraceWithin k) (mapped RetraceWithin places k (range_member 1 (length p.quints) k (omega arith) (omega arith))))))
 
-  in_copying : (x : Name) → IsMember x copying → IsMember x all
+  in_copying : (x : Name) → Has copying x → Has all x
   in_copying x h = behind computing (retracing ++ (within_computing ++ (within_retracing ++ copying))) x (behind retracing (within_computing ++ (within_retracing ++ copying)) x (behind within_computing (within_retracing ++ copying) x (behind within_retracing copying x h)))
 
   mentioned_low : (j : ℕ) → Mentions p.quints j → j < p.states
@@ -93,7 +93,7 @@ module _ (p : Program) (standard : IsStandardMachine p) (fits : FitsTable p) (or
       let at = place_of order x h in
       by x ((list_has_names p standard.machine.some x).0 (numbers.only at.0 x at.1))
     where
-      by : (x : Name) → IsNameOf p x → IsMember x all
+      by : (x : Name) → IsNameOf p x → Has all x
       by (Compute j) h = in_computing j (mentioned_low j h)
       by (ComputeWithin k) h = in_within_computing k h.0 h.1
       by GoRight h = in_copying GoRight (inl refl)
@@ -103,50 +103,50 @@ module _ (p : Program) (standard : IsStandardMachine p) (fits : FitsTable p) (or
       by (Retrace j) h = in_retracing j (mentioned_low j h)
       by (RetraceWithin k) h = in_within_retracing k h.0 h.1
 
-  named_in : (x : Name) → IsNameOf p x → IsMember x order
+  named_in : (x : Name) → IsNameOf p x → Has order x
   named_in x h = let found = numbers.each x ((list_has_names p standard.machine.some x).1 h) in member_at order found.0 x found.1
 
   all_within : IsWithin all order
   all_within x h = elim (of_two computing (retracing ++ (within_computing ++ (within_retracing ++ copying))) x h) [
-    | inl one ↦ (let found = from_mapped Compute states x one in let low = (from_range 0 p.states found.0 found.1).1 in subst (λ y. IsMember y order) found.2 (named_in (Compute found.0) (each_mentioned p fits found.0 (omega arith))))
+    | inl one ↦ (let found = from_mapped Compute states x one in let low = (from_range 0 p.states found.0 found.1).1 in subst (λ y. Has order y) found.2 (named_in (Compute found.0) (each_mentioned p fits found.0 (omega arith))))
     | inr rest ↦ elim (of_two retracing (within_computing ++ (within_retracing ++ copying)) x rest) [
-      | inl two ↦ (let found = from_mapped Retrace states x two in let low = (from_range 0 p.states found.0 found.1).1 in subst (λ y. IsMember y order) found.2 (named_in (Retrace found.0) (each_mentioned p fits found.0 (omega arith))))
+      | inl two ↦ (let found = from_mapped Retrace states x two in let low = (from_range 0 p.states found.0 found.1).1 in subst (λ y. Has order y) found.2 (named_in (Retrace found.0) (each_mentioned p fits found.0 (omega arith))))
       | inr rest ↦ elim (of_two within_computing (within_retracing ++ copying) x rest) [
-        | inl three ↦ (let found = from_mapped ComputeWithin places x three in let range = from_range 1 (length p.quints) found.0 found.1 in let low = range.0 in let high = range.1 in subst (λ y. IsMember y order) found.2 (named_in (ComputeWithin found.0) (omega arith, omega arith)))
+        | inl three ↦ (let found = from_mapped ComputeWithin places x three in let range = from_range 1 (length p.quints) found.0 found.1 in let low = range.0 in let high = range.1 in subst (λ y. Has order y) found.2 (named_in (ComputeWithin found.0) (omega arith, omega arith)))
         | inr rest ↦ elim (of_two within_retracing copying x rest) [
-          | inl four ↦ (let found = from_mapped RetraceWithin places x four in let range = from_range 1 (length p.quints) found.0 found.1 in let low = range.0 in let high = range.1 in subst (λ y. IsMember y order) found.2 (named_in (RetraceWithin found.0) (omega arith, omega arith)))
+          | inl four ↦ (let found = from_mapped RetraceWithin places x four in let range = from_range 1 (length p.quints) found.0 found.1 in let low = range.0 in let high = range.1 in subst (λ y. Has order y) found.2 (named_in (RetraceWithin found.0) (omega arith, omega arith)))
           | inr five ↦ copies x five
         ]
       ]
     ]
   ]
     where
-      copies : (x : Name) → IsMember x copying → IsMember x order
-      copies x (inl e) = subst (λ y. IsMember y order) (sym e) (named_in GoRight tt)
-      copies x (inr (inl e)) = subst (λ y. IsMember y order) (sym e) (named_in CopyLetter tt)
-      copies x (inr (inr (inl e))) = subst (λ y. IsMember y order) (sym e) (named_in GoLeft tt)
-      copies x (inr (inr (inr (inl e)))) = subst (λ y. IsMember y order) (sym e) (named_in PassLetter tt)
+      copies : (x : Name) → Has copying x → Has order x
+      copies x (inl e) = subst (λ y. Has order y) (sym e) (named_in GoRight tt)
+      copies x (inr (inl e)) = subst (λ y. Has order y) (sym e) (named_in CopyLetter tt)
+      copies x (inr (inr (inl e))) = subst (λ y. Has order y) (sym e) (named_in GoLeft tt)
+      copies x (inr (inr (inr (inl e)))) = subst (λ y. Has order y) (sym e) (named_in PassLetter tt)
       copies x (inr (inr (inr (inr h)))) = absurd h
 
   -- ---- and each stands once
 
-  kind_copying : (x : Name) → IsMember x copying → 4 ≤ kind x
+  kind_copying : (x : Name) → Has copying x → 4 ≤ kind x
   kind_copying x (inl e) = let is = ap kind e in omega arith
   kind_copying x (inr (inl e)) = let is = ap kind e in omega arith
   kind_copying x (inr (inr (inl e))) = let is = ap kind e in omega arith
   kind_copying x (inr (inr (inr (inl e)))) = let is = ap kind e in omega arith
   kind_copying x (inr (inr (inr (inr h)))) = absurd h
 
-  kind_of : (make : ℕ → Name) (c : ℕ) → ((k : ℕ) → kind (make k) ≡ c) → (l : List ℕ) (x : Name) → IsMember x (map make l) → kind x ≡ c
+  kind_of : (make : ℕ → Name) (c : ℕ) → ((k : ℕ) → kind (make k) ≡ c) → (l : List ℕ) (x : Name) → Has (map make l) x → kind x ≡ c
   kind_of make c is l x h = let found = from_mapped make l x h in ap kind (sym found.2) ∙ is found.0
 
-  over_four : (x : Name) → IsMember x (within_retracing ++ copying) → 3 ≤ kind x
+  over_four : (x : Name) → Has (within_retracing ++ copying) x → 3 ≤ kind x
   over_four x h = elim (of_two within_retracing copying x h) [ inl a ↦ (let is = kind_of RetraceWithin 3 (λ k. refl) places x a in omega arith) | inr b ↦ (let is = kind_copying x b in omega arith) ]
 
-  over_three : (x : Name) → IsMember x (within_computing ++ (within_retracing ++ copying)) → 2 ≤ kind x
+  over_three : (x : Name) → Has (within_computing ++ (within_retracing ++ copying)) x → 2 ≤ kind x
   over_three x h = elim (of_two within_computing (within_retracing ++ copying) x h) [ inl a ↦ (let is = kind_of ComputeWithin 2 (λ k. refl) places x a in omega arith) | inr b ↦ (let is = over_four x b in omega arith) ]
 
-  over_two : (x : Name) → IsMember x (retracing ++ (within_computing ++ (within_retracing ++ copying))) → 1 ≤ kind x
+  over_two : (x : Name) → Has (retracing ++ (within_computing ++ (within_retracing ++ copying))) x → 1 ≤ kind x
   over_two x h = elim (of_two retracing (within_computing ++ (within_retracing ++ copying)) x h) [ inl a ↦ (let is = kind_of Retrace 1 (λ k. refl) states x a in omega arith) | inr b ↦ (let is = over_three x b in omega arith) ]
 
   copying_apart : IsApart copying

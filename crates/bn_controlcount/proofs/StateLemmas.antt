@@ -6,7 +6,7 @@ use Rattle.std.proofs.lemmas.Bool.Decides.{eqb_tells}
 use Rattle.std.proofs.lemmas.List.{map-append, reverse-append, reverse-reverse}
 use Rattle.std.proofs.lemmas.Option.{slice_get-get_or}
 use Rattle.bn_machine.specs.Machine.{Program, start_of, final_of as final_state}
-use Rattle.bn_lists.specs.Lists.{nth, IsIn}
+use Rattle.bn_lists.specs.Lists.{nth, IsIn, Has}
 use Rattle.bn_lists.proofs.ListLemmas.{nth-get_or}
 use Rattle.bn_machine.specs.declared.quint.Quint.{Quint}
 use Rattle.bn_machine.specs.declared.quint.Shift.TheVariants as way
@@ -18,8 +18,7 @@ use Rattle.bn_controllaws.proofs.ExistingLemmas.{left_or_not}
 use Rattle.bn_controllaws.proofs.ListLemmas.{same_length as same_symbols}
 use Rattle.bn_controllaws.proofs.RangeLemmas.{rule_in_range}
 use Rattle.bn_controllaws.proofs.UniformLemmas.{same_domain, same_range}
-use Rattle.bn_theory.proofs.MemberLemmas.{IsMember, in_front, behind, of_two}
-use Rattle.bn_lists.specs.Lists.{IsIn}
+use Rattle.bn_lists.proofs.MemberLemmas.{in_front, behind, of_two}
 use Rattle.bn_stages.specs.List.{bennett, goes_right, goes_left, writes_ahead, shifts_ahead, begins_copy, turns_left, ends_copy, shifts_back, writes_back}
 use Rattle.bn_stages.proofs.ListLemmas.{has_goes_right, has_goes_left, has_writes_ahead, has_shifts_ahead, has_begins_copy, has_turns_left, has_ends_copy, has_shifts_back, has_writes_back}
 use Rattle.bn_stages.proofs.Counts.{list_has_names}
@@ -57,7 +56,7 @@ abbrev pub write_states : ℕ → Rule ℕ → List ControlState
 write_states n r = map (write_state r.to) (tails (writes_of r))
 
 -- shifted tapes rise
-shifts_above : (t : ℕ) (ds : List Deed) (s : ℕ × Side) → IsMember s (shifts t ds) → t ≤ s.0
+shifts_above : (t : ℕ) (ds : List Deed) (s : ℕ × Side) → Has (shifts t ds) s → t ≤ s.0
 shifts_above t [] s h = absurd h
 shifts_above t (Rewrite r w ∷ ds) s h = let more = shifts_above (suc t) ds s h in omega arith
 shifts_above t (Move way.Left ∷ ds) s (inl e) = let same = ap (λ (v : ℕ × Side). v.0) e in omega arith
@@ -66,7 +65,7 @@ shifts_above t (Move way.Stay ∷ ds) s h = let more = shifts_above (suc t) ds s
 shifts_above t (Move way.Right ∷ ds) s (inl e) = let same = ap (λ (v : ℕ × Side). v.0) e in omega arith
 shifts_above t (Move way.Right ∷ ds) s (inr h) = let more = shifts_above (suc t) ds s h in omega arith
 
-shift_new : (n t : ℕ) (ds : List Deed) → IsMember (Shifts n t) (map (λ (s : ℕ × Side). Shifts n s.0) (shifts (suc t) ds)) → ⊥
+shift_new : (n t : ℕ) (ds : List Deed) → Has (map (λ (s : ℕ × Side). Shifts n s.0) (shifts (suc t) ds)) (Shifts n t) → ⊥
 shift_new n t ds h =
     let found = from_mapped (λ (s : ℕ × Side). Shifts n s.0) (shifts (suc t) ds) (Shifts n t) h in
     let above = shifts_above (suc t) ds found.0 found.1 in
@@ -217,46 +216,46 @@ module _ (p : Program) (standard : IsStandardMachine p) (order : List Name) (num
 
   -- ---- the parts of the list
 
-  in_firsts : (x : ControlState) → IsMember x firsts → IsMember x listed
+  in_firsts : (x : ControlState) → Has firsts x → Has listed x
   in_firsts x h = inr (inr (in_front firsts (more_read ++ (shifted ++ (lasts ++ more_written))) x h))
 
-  in_reads : (x : ControlState) → IsMember x more_read → IsMember x listed
+  in_reads : (x : ControlState) → Has more_read x → Has listed x
   in_reads x h = inr (inr (behind firsts (more_read ++ (shifted ++ (lasts ++ more_written))) x (in_front more_read (shifted ++ (lasts ++ more_written)) x h)))
 
-  in_shifts : (x : ControlState) → IsMember x shifted → IsMember x listed
+  in_shifts : (x : ControlState) → Has shifted x → Has listed x
   in_shifts x h = inr (inr (behind firsts (more_read ++ (shifted ++ (lasts ++ more_written))) x (behind more_read (shifted ++ (lasts ++ more_written)) x (in_front shifted (lasts ++ more_written) x h))))
 
-  in_lasts : (x : ControlState) → IsMember x lasts → IsMember x listed
+  in_lasts : (x : ControlState) → Has lasts x → Has listed x
   in_lasts x h = inr (inr (behind firsts (more_read ++ (shifted ++ (lasts ++ more_written))) x (behind more_read (shifted ++ (lasts ++ more_written)) x (behind shifted (lasts ++ more_written) x (in_front lasts more_written x h)))))
 
-  in_writes : (x : ControlState) → IsMember x more_written → IsMember x listed
+  in_writes : (x : ControlState) → Has more_written x → Has listed x
   in_writes x h = inr (inr (behind firsts (more_read ++ (shifted ++ (lasts ++ more_written))) x (behind more_read (shifted ++ (lasts ++ more_written)) x (behind shifted (lasts ++ more_written) x (behind lasts more_written x h)))))
 
   -- ---- each state that occurs is listed
 
-  reader_in : (a : ℕ) → a < m.states → is_reader p (named a) ≡ true → IsMember (Reads a []) listed
+  reader_in : (a : ℕ) → a < m.states → is_reader p (named a) ≡ true → Has listed (Reads a [])
   reader_in a low reads = in_firsts (Reads a []) (mapped first_state readers a (filtered (λ b. is_reader p (named b)) (range_with_len 0 m.states) a (range_member 0 m.states a (omega arith) (omega arith)) reads))
 
-  written_in : (a t : ℕ) → a < m.states → is_written p (named a) ≡ true → t ≡ low (named a) → IsMember (Writes a t []) listed
-  written_in a t few writes tape = subst (λ v. IsMember (Writes a v []) listed) (sym tape) (in_lasts (last_state a) (mapped last_state written a (filtered (λ b. is_written p (named b)) (range_with_len 0 m.states) a (range_member 0 m.states a (omega arith) (omega arith)) writes)))
+  written_in : (a t : ℕ) → a < m.states → is_written p (named a) ≡ true → t ≡ low (named a) → Has listed (Writes a t [])
+  written_in a t few writes tape = subst (λ v. Has listed (Writes a v [])) (sym tape) (in_lasts (last_state a) (mapped last_state written a (filtered (λ b. is_written p (named b)) (range_with_len 0 m.states) a (range_member 0 m.states a (omega arith) (omega arith)) writes)))
 
-  read_in : (n : ℕ) (r : Rule ℕ) → nth m.rules n ≡ Some r → (before rest : List (ℕ × ℕ)) (q : ℕ × ℕ) → reads_of r ≡ before ++ (q ∷ rest) → IsMember (Reads r.from (symbols_in before)) listed
+  read_in : (n : ℕ) (r : Rule ℕ) → nth m.rules n ≡ Some r → (before rest : List (ℕ × ℕ)) (q : ℕ × ℕ) → reads_of r ≡ before ++ (q ∷ rest) → Has listed (Reads r.from (symbols_in before))
   read_in zero r here before rest q split = absurd (cc)
   read_in (suc i) r here [] rest q split = reader_in r.from (from_low (suc i) r here) (subst (ReadsTell p (named r.from)) split (before_tells (suc i) r here)).0
   read_in (suc i) r here (b ∷ before) rest q split =
       let symbols : symbols_in (before ++ (q ∷ rest)) ≡ symbols_in before ++ (q.1 ∷ symbols_in rest) = map-append (λ (v : ℕ × ℕ). v.1) before (q ∷ rest) in
       let prefix = init_member (symbols_in (before ++ (q ∷ rest))) (symbols_in before) (symbols_in rest) q.1 symbols in
       let one = mapped (λ (c : List ℕ). Reads r.from (b.1 ∷ c)) (inits (symbols_in (before ++ (q ∷ rest)))) (symbols_in before) prefix in
-      in_reads (Reads r.from (symbols_in (b ∷ before))) (along_member read_states 1 m.rules i r (Reads r.from (symbols_in (b ∷ before))) here (subst (λ l. IsMember (Reads r.from (symbols_in (b ∷ before))) (more_reads r.from l)) (sym split) one))
+      in_reads (Reads r.from (symbols_in (b ∷ before))) (along_member read_states 1 m.rules i r (Reads r.from (symbols_in (b ∷ before))) here (subst (λ l. Has (more_reads r.from l) (Reads r.from (symbols_in (b ∷ before)))) (sym split) one))
 
-  shift_in : (n : ℕ) (r : Rule ℕ) → nth m.rules n ≡ Some r → (before rest : List (ℕ × Side)) (s : ℕ × Side) → shifts_of r ≡ before ++ (s ∷ rest) → IsMember (Shifts n s.0) listed
+  shift_in : (n : ℕ) (r : Rule ℕ) → nth m.rules n ≡ Some r → (before rest : List (ℕ × Side)) (s : ℕ × Side) → shifts_of r ≡ before ++ (s ∷ rest) → Has listed (Shifts n s.0)
   shift_in zero r here before rest s split = absurd (cc)
   shift_in (suc i) r here before rest s split =
       let place : 1 + i ≡ suc i = omega arith in
-      let one : IsMember s (shifts_of r) = subst (IsMember s) (sym split) (behind before (s ∷ rest) s (inl refl)) in
-      in_shifts (Shifts (suc i) s.0) (along_member shift_states 1 m.rules i r (Shifts (suc i) s.0) here (subst (λ k. IsMember (Shifts k s.0) (shift_states (1 + i) r)) place (mapped (λ (v : ℕ × Side). Shifts (1 + i) v.0) (shifts_of r) s one)))
+      let one : Has (shifts_of r) s = subst (λ l. Has l s) (sym split) (behind before (s ∷ rest) s (inl refl)) in
+      in_shifts (Shifts (suc i) s.0) (along_member shift_states 1 m.rules i r (Shifts (suc i) s.0) here (subst (λ k. Has (shift_states (1 + i) r) (Shifts k s.0)) place (mapped (λ (v : ℕ × Side). Shifts (1 + i) v.0) (shifts_of r) s one)))
 
-  write_in : (n : ℕ) (r : Rule ℕ) → nth m.rules n ≡ Some r → (before rest : List (ℕ × ℕ)) (q : ℕ × ℕ) → writes_of r ≡ before ++ (q ∷ rest) → IsMember (Writes r.to q.0 (symbols_in rest)) listed
+  write_in : (n : ℕ) (r : Rule ℕ) → nth m.rules n ≡ Some r → (before rest : List (ℕ × ℕ)) (q : ℕ × ℕ) → writes_of r ≡ before ++ (q ∷ rest) → Has listed (Writes r.to q.0 (symbols_in rest))
   write_in zero r here before rest q split = absurd (cc)
   write_in (suc i) r here before [] q split =
       let lowest = last_first (rising 1 (deeds_of r)) before q split in
@@ -266,17 +265,17 @@ module _ (p : Program) (standard : IsStandardMachine p) (order : List Name) (num
       let one = mapped (write_state r.to) (tails (writes_of r)) (q, c ∷ rest) (tail_member (writes_of r) before rest q c split) in
       in_writes (Writes r.to q.0 (symbols_in (c ∷ rest))) (along_member write_states 1 m.rules i r (Writes r.to q.0 (symbols_in (c ∷ rest))) here one)
 
-  pub occurs_listed : (q : ControlState) → Occurs m q → IsMember q listed
+  pub occurs_listed : (q : ControlState) → Occurs m q → Has listed q
   occurs_listed q (is_begin e) = inl e
   occurs_listed q (is_end e) = inr (inl e)
-  occurs_listed q (is_open a few other none e) = subst (λ x. IsMember x listed) (sym e) (reader_in a few (open_reader a few other none))
-  occurs_listed q (is_read n r here before rest v split e) = subst (λ x. IsMember x listed) (sym e) (read_in n r here before rest v split)
-  occurs_listed q (is_shift n r here before rest v split e) = subst (λ x. IsMember x listed) (sym e) (shift_in n r here before rest v split)
-  occurs_listed q (is_write n r here before rest v split e) = subst (λ x. IsMember x listed) (sym e) (write_in n r here before rest v split)
+  occurs_listed q (is_open a few other none e) = subst (λ x. Has listed x) (sym e) (reader_in a few (open_reader a few other none))
+  occurs_listed q (is_read n r here before rest v split e) = subst (λ x. Has listed x) (sym e) (read_in n r here before rest v split)
+  occurs_listed q (is_shift n r here before rest v split e) = subst (λ x. Has listed x) (sym e) (shift_in n r here before rest v split)
+  occurs_listed q (is_write n r here before rest v split e) = subst (λ x. Has listed x) (sym e) (write_in n r here before rest v split)
 
   -- ---- each state that is listed occurs
 
-  from_firsts : (x : ControlState) → IsMember x firsts → Occurs m x
+  from_firsts : (x : ControlState) → Has firsts x → Occurs m x
   from_firsts x h =
       let found = from_mapped first_state readers x h in
       let a = found.0 in
@@ -294,19 +293,19 @@ module _ (p : Program) (standard : IsStandardMachine p) (order : List Name) (num
       by a few reads (inl f) = reading a f.0 f.1 f.2 f.3 reads (reads_of f.1) refl
       by a few reads (inr none) = is_open a few (not_final a reads) none refl
 
-  from_reads : (x : ControlState) → IsMember x more_read → Occurs m x
+  from_reads : (x : ControlState) → Has more_read x → Occurs m x
   from_reads x h =
       let found = from_along read_states 1 m.rules x h in
       by found.0 found.1 found.2 (reads_of found.1) refl found.3
     where
-      by : (i : ℕ) (r : Rule ℕ) → slice_get m.rules i ≡ Some r → (l : List (ℕ × ℕ)) → reads_of r ≡ l → IsMember x (more_reads r.from l) → Occurs m x
+      by : (i : ℕ) (r : Rule ℕ) → slice_get m.rules i ≡ Some r → (l : List (ℕ × ℕ)) → reads_of r ≡ l → Has (more_reads r.from l) x → Occurs m x
       by i r here [] e h = absurd h
       by i r here (q ∷ l) e h =
           let found = from_mapped (λ (b : List ℕ). Reads r.from (q.1 ∷ b)) (inits (symbols_in l)) x h in
           let split = from_init (λ (v : ℕ × ℕ). v.1) l found.0 found.1 in
           is_read (suc i) r here (q ∷ split.0) split.2 split.1 (e ∙ ap (λ k. q ∷ k) split.3) (sym found.2 ∙ ap (λ b. Reads r.from (q.1 ∷ b)) (sym split.4))
 
-  from_shifts : (x : ControlState) → IsMember x shifted → Occurs m x
+  from_shifts : (x : ControlState) → Has shifted x → Occurs m x
   from_shifts x h =
       let found = from_along shift_states 1 m.rules x h in
       let i = found.0 in
@@ -315,7 +314,7 @@ module _ (p : Program) (standard : IsStandardMachine p) (order : List Name) (num
       let split = split_at (shifts_of found.1) one.0 one.1 in
       is_shift (suc found.0) found.1 found.2 split.0 split.1 one.0 split.2 (sym one.2 ∙ ap (λ k. Shifts k one.0.0) place)
 
-  from_writes : (x : ControlState) → IsMember x more_written → Occurs m x
+  from_writes : (x : ControlState) → Has more_written x → Occurs m x
   from_writes x h =
       let found = from_along write_states 1 m.rules x h in
       let one = from_mapped (write_state found.1.to) (tails (writes_of found.1)) x found.3 in
@@ -365,7 +364,7 @@ module _ (p : Program) (standard : IsStandardMachine p) (order : List Name) (num
       by (Retrace j) h w = by_or j (j == final_state p.quints) refl w
       by (RetraceWithin k) h w = let q = quint_at k h.0 h.1 in record { rule = shifts_back k q.0; stands = has_shifts_back p k q.0 q.1; to = refl; first = _; rest = _; writes = refl }
 
-  from_lasts : (x : ControlState) → IsMember x lasts → Occurs m x
+  from_lasts : (x : ControlState) → Has lasts x → Occurs m x
   from_lasts x h =
       let found = from_mapped last_state written x h in
       let pass = from_filtered (λ b. is_written p (named b)) (range_with_len 0 m.states) found.0 found.1 in
@@ -382,7 +381,7 @@ module _ (p : Program) (standard : IsStandardMachine p) (order : List Name) (num
           let split : writes_of kept.1 ≡ reverse w.rest ++ (w.first ∷ []) = ap reverse writes ∙ first_last w.rest w.first in
           is_write kept.0 kept.1 kept.2 (reverse w.rest) [] w.first split (λ i. Writes (sym same i) ((ap low (sym to) ∙ sym told.1) i) [])
 
-  pub listed_occurs : (x : ControlState) → IsMember x listed → Occurs m x
+  pub listed_occurs : (x : ControlState) → Has listed x → Occurs m x
   listed_occurs x (inl e) = is_begin e
   listed_occurs x (inr (inl e)) = is_end e
   listed_occurs x (inr (inr h)) = elim (of_two firsts (more_read ++ (shifted ++ (lasts ++ more_written))) x h) [
@@ -398,26 +397,26 @@ module _ (p : Program) (standard : IsStandardMachine p) (order : List Name) (num
 
   -- ---- no state is listed twice
 
-  class_firsts : (x : ControlState) → IsMember x firsts → class x ≡ 2
+  class_firsts : (x : ControlState) → Has firsts x → class x ≡ 2
   class_firsts x h = let found = from_mapped first_state readers x h in ap class (sym found.2)
 
-  class_reads : (x : ControlState) → IsMember x more_read → class x ≡ 3
+  class_reads : (x : ControlState) → Has more_read x → class x ≡ 3
   class_reads x h = let found = from_along read_states 1 m.rules x h in by found.1.from (reads_of found.1) found.3
     where
-      by : (a : ℕ) (l : List (ℕ × ℕ)) → IsMember x (more_reads a l) → class x ≡ 3
+      by : (a : ℕ) (l : List (ℕ × ℕ)) → Has (more_reads a l) x → class x ≡ 3
       by a [] h = absurd h
       by a (q ∷ l) h = let one = from_mapped (λ (b : List ℕ). Reads a (q.1 ∷ b)) (inits (symbols_in l)) x h in ap class (sym one.2)
 
-  class_shifts : (x : ControlState) → IsMember x shifted → class x ≡ 4
+  class_shifts : (x : ControlState) → Has shifted x → class x ≡ 4
   class_shifts x h =
       let found = from_along shift_states 1 m.rules x h in
       let one = from_mapped (λ (s : ℕ × Side). Shifts (1 + found.0) s.0) (shifts_of found.1) x found.3 in
       ap class (sym one.2)
 
-  class_lasts : (x : ControlState) → IsMember x lasts → class x ≡ 5
+  class_lasts : (x : ControlState) → Has lasts x → class x ≡ 5
   class_lasts x h = let found = from_mapped last_state written x h in ap class (sym found.2)
 
-  class_writes : (x : ControlState) → IsMember x more_written → class x ≡ 6
+  class_writes : (x : ControlState) → Has more_written x → class x ≡ 6
   class_writes x h =
       let found = from_along write_states 1 m.rules x h in
       let one = from_mapped (write_state found.1.to) (tails (writes_of found.1)) x found.3 in
@@ -431,11 +430,11 @@ module _ (p : Program) (standard : IsStandardMachine p) (order : List Name) (num
   lasts_apart = apart_mapped last_state (λ a b e. cc) written (apart_filtered (λ a. is_written p (named a)) (range_with_len 0 m.states) (range_apart 0 m.states))
 
   -- a state that awaits a second or later read tells its quadruple
-  read_symbols : (i : ℕ) (r : Rule ℕ) → slice_get m.rules i ≡ Some r → (x : ControlState) → IsMember x (read_states (1 + i) r)
+  read_symbols : (i : ℕ) (r : Rule ℕ) → slice_get m.rules i ≡ Some r → (x : ControlState) → Has (read_states (1 + i) r) x
       → (y : ℕ) × (b : List ℕ) × (x ≡ Reads r.from (y ∷ b)) × (symbols_in (reads_of r) ≡ y ∷ later p (named r.from) y)
   read_symbols i r here x h = by (reads_of r) refl h
     where
-      by : (l : List (ℕ × ℕ)) → reads_of r ≡ l → IsMember x (more_reads r.from l) → (y : ℕ) × (b : List ℕ) × (x ≡ Reads r.from (y ∷ b)) × (symbols_in (reads_of r) ≡ y ∷ later p (named r.from) y)
+      by : (l : List (ℕ × ℕ)) → reads_of r ≡ l → Has (more_reads r.from l) x → (y : ℕ) × (b : List ℕ) × (x ≡ Reads r.from (y ∷ b)) × (symbols_in (reads_of r) ≡ y ∷ later p (named r.from) y)
       by [] e h = absurd h
       by (q ∷ l) e h =
           let one = from_mapped (λ (b : List ℕ). Reads r.from (q.1 ∷ b)) (inits (symbols_in l)) x h in
@@ -449,7 +448,7 @@ module _ (p : Program) (standard : IsStandardMachine p) (order : List Name) (num
       one a [] = tt
       one a (q ∷ l) = apart_mapped (λ (b : List ℕ). Reads a (q.1 ∷ b)) (λ b c e. cc) (inits (symbols_in l)) (inits_apart (symbols_in l))
 
-      across : (i j : ℕ) (r s : Rule ℕ) (x : ControlState) → slice_get m.rules i ≡ Some r → slice_get m.rules j ≡ Some s → IsMember x (read_states (1 + i) r) → IsMember x (read_states (1 + j) s) → i ≡ j
+      across : (i j : ℕ) (r s : Rule ℕ) (x : ControlState) → slice_get m.rules i ≡ Some r → slice_get m.rules j ≡ Some s → Has (read_states (1 + i) r) x → Has (read_states (1 + j) s) x → i ≡ j
       across i j r s x here there h g =
           let a = read_symbols i r here x h in
           let b = read_symbols j s there x g in
@@ -463,7 +462,7 @@ module _ (p : Program) (standard : IsStandardMachine p) (order : List Name) (num
   shifted_apart : IsApart shifted
   shifted_apart = apart_along shift_states 1 m.rules (λ i r here. shifts_apart (1 + i) 1 (deeds_of r)) across
     where
-      across : (i j : ℕ) (r s : Rule ℕ) (x : ControlState) → slice_get m.rules i ≡ Some r → slice_get m.rules j ≡ Some s → IsMember x (shift_states (1 + i) r) → IsMember x (shift_states (1 + j) s) → i ≡ j
+      across : (i j : ℕ) (r s : Rule ℕ) (x : ControlState) → slice_get m.rules i ≡ Some r → slice_get m.rules j ≡ Some s → Has (shift_states (1 + i) r) x → Has (shift_states (1 + j) s) x → i ≡ j
       across i j r s x here there h g =
           let a = from_mapped (λ (v : ℕ × Side). Shifts (1 + i) v.0) (shifts_of r) x h in
           let b = from_mapped (λ (v : ℕ × Side). Shifts (1 + j) v.0) (shifts_of s) x g in
@@ -472,7 +471,7 @@ module _ (p : Program) (standard : IsStandardMachine p) (order : List Name) (num
           omega arith
 
   -- and so does one that awaits a write before the last
-  write_symbols : (i : ℕ) (r : Rule ℕ) → slice_get m.rules i ≡ Some r → (x : ControlState) → IsMember x (write_states (1 + i) r)
+  write_symbols : (i : ℕ) (r : Rule ℕ) → slice_get m.rules i ≡ Some r → (x : ControlState) → Has (write_states (1 + i) r) x
       → (t y : ℕ) × (b : List ℕ) × (x ≡ Writes r.to t (y ∷ b)) × (symbols_in (writes_of r) ≡ earlier p (named r.to) (last_of y b) ++ last_of y b ∷ [])
   write_symbols i r here x h =
       let one = from_mapped (write_state r.to) (tails (writes_of r)) x h in
@@ -500,7 +499,7 @@ module _ (p : Program) (standard : IsStandardMachine p) (order : List Name) (num
   writes_apart : IsApart more_written
   writes_apart = apart_along write_states 1 m.rules (λ i r here. tails_apart (write_state r.to) (λ v w e. same_symbols v.1 w.1 (cc)) (writes_of r)) across
     where
-      across : (i j : ℕ) (r s : Rule ℕ) (x : ControlState) → slice_get m.rules i ≡ Some r → slice_get m.rules j ≡ Some s → IsMember x (write_states (1 + i) r) → IsMember x (write_states (1 + j) s) → i ≡ j
+      across : (i j : ℕ) (r s : Rule ℕ) (x : ControlState) → slice_get m.rules i ≡ Some r → slice_get m.rules j ≡ Some s → Has (write_states (1 + i) r) x → Has (write_states (1 + j) s) x → i ≡ j
       across i j r s x here there h g =
           let a = write_symbols i r here x h in
           let b = write_symbols j s there x g in
@@ -527,27 +526,27 @@ module _ (p : Program) (standard : IsStandardMachine p) (order : List Name) (num
       differ : (x : ControlState) (a b : ℕ) → class x ≡ a → class x ≡ b → (a ≡ b → ⊥) → ⊥
       differ x a b e f ne = ne (sym e ∙ f)
 
-      over_shifts : (x : ControlState) → IsMember x (shifted ++ (lasts ++ more_written)) → 4 ≤ class x
+      over_shifts : (x : ControlState) → Has (shifted ++ (lasts ++ more_written)) x → 4 ≤ class x
       over_shifts x g = elim (of_two shifted (lasts ++ more_written) x g) [
         | inl a ↦ (let is = class_shifts x a in omega arith)
         | inr b ↦ elim (of_two lasts more_written x b) [ inl c ↦ (let is = class_lasts x c in omega arith) | inr d ↦ (let is = class_writes x d in omega arith) ]
       ]
 
-      over_reads : (x : ControlState) → IsMember x (more_read ++ (shifted ++ (lasts ++ more_written))) → 3 ≤ class x
+      over_reads : (x : ControlState) → Has (more_read ++ (shifted ++ (lasts ++ more_written))) x → 3 ≤ class x
       over_reads x g = elim (of_two more_read (shifted ++ (lasts ++ more_written)) x g) [
         | inl a ↦ (let is = class_reads x a in omega arith)
         | inr b ↦ (let is = over_shifts x b in omega arith)
       ]
 
-      over_firsts : (x : ControlState) → IsMember x (firsts ++ (more_read ++ (shifted ++ (lasts ++ more_written)))) → 2 ≤ class x
+      over_firsts : (x : ControlState) → Has (firsts ++ (more_read ++ (shifted ++ (lasts ++ more_written)))) x → 2 ≤ class x
       over_firsts x g = elim (of_two firsts (more_read ++ (shifted ++ (lasts ++ more_written))) x g) [
         | inl a ↦ (let is = class_firsts x a in omega arith)
         | inr b ↦ (let is = over_reads x b in omega arith)
       ]
 
-      not_begin : IsMember Begin (End ∷ (firsts ++ (more_read ++ (shifted ++ (lasts ++ more_written))))) → ⊥
+      not_begin : Has (End ∷ (firsts ++ (more_read ++ (shifted ++ (lasts ++ more_written))))) Begin → ⊥
       not_begin (inl e) = absurd (cc)
       not_begin (inr h) = let above : 2 ≤ 0 = over_firsts Begin h in omega arith
 
-      not_end : IsMember End (firsts ++ (more_read ++ (shifted ++ (lasts ++ more_written)))) → ⊥
+      not_end : Has (firsts ++ (more_read ++ (shifted ++ (lasts ++ more_written)))) End → ⊥
       not_end h = let above : 2 ≤ 1 = over_firsts End h in omega arith

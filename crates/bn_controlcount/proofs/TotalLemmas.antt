@@ -19,7 +19,7 @@ use Rattle.bn_stages.specs.declared.name.Name.TheVariants.{GoRight, Retrace}
 use Rattle.bn_stages.proofs.Halted.{some_symbol}
 use Rattle.bn_stages.proofs.Numbering.{numbers_pass_tests}
 use Rattle.bn_table.specs.Rows.{FitsTable}
-use Rattle.bn_theory.proofs.MemberLemmas.{place_of, member_at}
+use Rattle.bn_lists.proofs.MemberLemmas.{place_of, member_at}
 use Rattle.bn_controllaws.proofs.KeyLemmas.{by_key, keys_ordered}
 use Rattle.bn_controllaws.proofs.SortedLemmas.{one_place}
 use Rattle.bn_controlcount.specs.Laws.{ControlsAreCounted, without_shift, never_entered, never_left}

@@ -9,7 +9,7 @@ use Rattle.std.proofs.lemmas.Cmp.{on_total, nat_list_cmp_total}
 use Rattle.std.proofs.lemmas.Map.Lookups.{exact_bytes}
 use Rattle.bn_quad.specs.Quadruples.{Quadruples, Rule, deeds_of}
 use Rattle.bn_modules.specs.Controls.{ControlState, Begin, End, Reads, Shifts, Writes, Occurs, is_begin, is_end, is_open, is_read, is_shift, is_write, key_of, writes_of, rising}
-use Rattle.bn_theory.proofs.MemberLemmas.{IsMember}
+use Rattle.bn_lists.specs.Lists.{Has}
 use Rattle.bn_controllaws.proofs.ListedLemmas.{member_split, member_turned}
 use Rattle.bn_controllaws.proofs.RangeLemmas.{rising_low}
 
@@ -29,7 +29,7 @@ IsLow _ = Unit {0}
 -- a tape that is written is one of three
 written_low : (r : Rule ℕ) (before rest : List (ℕ × ℕ)) (p : ℕ × ℕ) → writes_of r ≡ before ++ (p ∷ rest) → p.0 ≤ 3
 written_low r before rest p e =
-    let is : IsMember p (rising 1 (deeds_of r)) = member_turned (rising 1 (deeds_of r)) p (member_split (writes_of r) before rest p e) in
+    let is : Has (rising 1 (deeds_of r)) p = member_turned (rising 1 (deeds_of r)) p (member_split (writes_of r) before rest p e) in
     let low : p.0 < 1 + 3 = rising_low (deeds_of r) 1 p is in
     omega arith
 

@@ -2,30 +2,30 @@
 use Rattle.std.proofs.Common.{◌≡◌, ◌⊎◌, inl, inr, slice_get, ℕ, zero, suc, ◌<◌, List, [], ◌∷◌, ◌++◌, reverse, Some, refl, sym, ap, subst, arith}
 use Rattle.std.proofs.lemmas.Bool.{cases_lt}
 use mathlib.Core.List.{reverse_aux}
-use Rattle.bn_theory.proofs.MemberLemmas.{IsMember, in_front, behind, of_two}
-use Rattle.bn_lists.specs.Lists.{nth}
+use Rattle.bn_lists.specs.Lists.{Has, nth}
+use Rattle.bn_lists.proofs.MemberLemmas.{in_front, behind, of_two}
 
 -- what a list is split at is an element
-pub member_split : {A : Type 0} (l before rest : List A) (p : A) → l ≡ before ++ (p ∷ rest) → IsMember p l
+pub member_split : {A : Type 0} (l before rest : List A) (p : A) → l ≡ before ++ (p ∷ rest) → Has l p
 member_split [] [] rest p e = absurd (cc)
 member_split [] (b ∷ before) rest p e = absurd (cc)
 member_split (y ∷ l) [] rest p e = let same : y ≡ p = cc in inl (sym same)
 member_split (y ∷ l) (b ∷ before) rest p e = inr (member_split l before rest p cc)
 
 -- an element of a list turned round onto another is one of either
-turned_onto : {A : Type 0} (l acc : List A) (x : A) → IsMember x (reverse_aux l acc) → IsMember x l ⊎ IsMember x acc
+turned_onto : {A : Type 0} (l acc : List A) (x : A) → Has (reverse_aux l acc) x → Has l x ⊎ Has acc x
 turned_onto [] acc x h = inr h
 turned_onto (y ∷ l) acc x h = elim (turned_onto l (y ∷ acc) x h) [ inl here ↦ inl (inr here) | inr there ↦ elim there [ inl e ↦ inl (inl e) | inr more ↦ inr more ] ]
 
 -- an element of a list turned round is one of the list
-pub member_turned : {A : Type 0} (l : List A) (x : A) → IsMember x (reverse l) → IsMember x l
+pub member_turned : {A : Type 0} (l : List A) (x : A) → Has (reverse l) x → Has l x
 member_turned l x h = elim (turned_onto l [] x h) [ inl here ↦ here | inr none ↦ absurd none ]
 
 -- what has the property, in a list
 pub record Listing {A : Type 0} (P : A → Type 0) : Type 0 where
   pub items : List A
-  pub each : (x : A) → P x → IsMember x items
-  pub only : (x : A) → IsMember x items → P x
+  pub each : (x : A) → P x → Has items x
+  pub only : (x : A) → Has items x → P x
 
 -- nothing has it
 pub nothing : {A : Type 0} (P : A → Type 0) → ((x : A) → P x → ⊥) → Listing P
@@ -35,7 +35,7 @@ nothing P none = record { items = []; each = λ x h. none x h; only = λ x h. ab
 pub alone : {A : Type 0} (P : A → Type 0) (a : A) → P a → ((x : A) → P x → x ≡ a) → Listing P
 alone P a has one = record { items = a ∷ []; each = λ x h. inl (one x h); only = only }
   where
-    only : (x : _) → IsMember x (a ∷ []) → P x
+    only : (x : _) → Has (a ∷ []) x → P x
     only x (inl e) = subst P (sym e) has
     only x (inr h) = absurd h
 
@@ -43,11 +43,11 @@ alone P a has one = record { items = a ∷ []; each = λ x h. inl (one x h); onl
 pub either : {A : Type 0} (P Q : A → Type 0) → Listing P → Listing Q → Listing (λ x. P x ⊎ Q x)
 either P Q a b = record { items = a.items ++ b.items; each = each; only = only }
   where
-    each : (x : _) → P x ⊎ Q x → IsMember x (a.items ++ b.items)
+    each : (x : _) → P x ⊎ Q x → Has (a.items ++ b.items) x
     each x (inl h) = in_front a.items b.items x (a.each x h)
     each x (inr h) = behind a.items b.items x (b.each x h)
 
-    only : (x : _) → IsMember x (a.items ++ b.items) → P x ⊎ Q x
+    only : (x : _) → Has (a.items ++ b.items) x → P x ⊎ Q x
     only x h = elim (of_two a.items b.items x h) [ inl here ↦ inl (a.only x here) | inr there ↦ inr (b.only x there) ]
 
 -- a property that says the same
@@ -55,27 +55,27 @@ pub same : {A : Type 0} (P Q : A → Type 0) → Listing P → ((x : A) → P x 
 same P Q a forth back = record { items = a.items; each = λ x h. a.each x (back x h); only = λ x h. forth x (a.only x h) }
 
 -- for each element of a list, what has the property
-along : {A B : Type 0} (Q : A → B → Type 0) (l : List A) → ((x : A) → IsMember x l → Listing (Q x)) → Listing (λ y. (x : A) × IsMember x l × Q x y)
-along {A = A} {B = B} Q [] f = nothing (λ (y : B). (x : A) × IsMember x [] × Q x y) (λ y h. h.1)
+along : {A B : Type 0} (Q : A → B → Type 0) (l : List A) → ((x : A) → Has l x → Listing (Q x)) → Listing (λ y. (x : A) × Has l x × Q x y)
+along {A = A} {B = B} Q [] f = nothing (λ (y : B). (x : A) × Has [] x × Q x y) (λ y h. h.1)
 along {A = A} {B = B} Q (a ∷ l) f =
-    same (λ y. Q a y ⊎ ((x : A) × IsMember x l × Q x y)) (λ y. (x : A) × IsMember x (a ∷ l)
-    × Q x y) (either (Q a) (λ y. (x : A) × IsMember x l × Q x y) (f a (inl refl)) (along Q l (λ x h. f x (inr h)))) forth back
+    same (λ y. Q a y ⊎ ((x : A) × Has l x × Q x y)) (λ y. (x : A) × Has (a ∷ l) x
+    × Q x y) (either (Q a) (λ y. (x : A) × Has l x × Q x y) (f a (inl refl)) (along Q l (λ x h. f x (inr h)))) forth back
   where
-    forth : (y : B) → Q a y ⊎ ((x : A) × IsMember x l × Q x y) → (x : A) × IsMember x (a ∷ l) × Q x y
+    forth : (y : B) → Q a y ⊎ ((x : A) × Has l x × Q x y) → (x : A) × Has (a ∷ l) x × Q x y
     forth y (inl q) = (a, inl refl, q)
     forth y (inr h) = (h.0, inr h.1, h.2)
 
-    pick : (y : B) (x : A) → IsMember x (a ∷ l) → Q x y → Q a y ⊎ ((x : A) × IsMember x l × Q x y)
+    pick : (y : B) (x : A) → Has (a ∷ l) x → Q x y → Q a y ⊎ ((x : A) × Has l x × Q x y)
     pick y x (inl e) q = inl (subst (λ z. Q z y) e q)
     pick y x (inr h) q = inr (x, h, q)
 
-    back : (y : B) → (x : A) × IsMember x (a ∷ l) × Q x y → Q a y ⊎ ((x : A) × IsMember x l × Q x y)
+    back : (y : B) → (x : A) × Has (a ∷ l) x × Q x y → Q a y ⊎ ((x : A) × Has l x × Q x y)
     back y h = pick y h.0 h.1 h.2
 
 -- for each that has the first property, what has the second
 pub for_each : {A B : Type 0} (P : A → Type 0) (Q : A → B → Type 0) → Listing P → ((x : A) → P x → Listing (Q x)) → Listing (λ y. (x : A) × P x × Q x y)
 for_each {A = A} {B = B} P Q a f =
-    same (λ y. (x : A) × IsMember x a.items × Q x y) (λ y. (x : A) × P x
+    same (λ y. (x : A) × Has a.items x × Q x y) (λ y. (x : A) × P x
     × Q x y) (along Q a.items (λ x h. f x (a.only x h))) (λ y h. (h.0, a.only h.0 h.1, h.2)) (λ y h. (h.0, a.each h.0 h.1, h.2))
 
 -- those of the first property that also have the second, which can be told

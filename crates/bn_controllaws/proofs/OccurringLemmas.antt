@@ -6,7 +6,7 @@ use Rattle.bn_machine.specs.declared.quint.Side.{Side}
 use Rattle.bn_quad.specs.Quadruples.{Quadruples, Rule, final_of}
 use Rattle.bn_modules.specs.Controls.{ControlState, Begin, End, Reads, Shifts, Writes, IsNotLeft, Occurs, is_begin, is_end, is_open, is_read, is_shift, is_write, reads_of, shifts_of, writes_of, symbols_in, IsNumbering}
 use Rattle.bn_controllaws.proofs.ExistingLemmas.{left_or_not}
-use Rattle.bn_theory.proofs.MemberLemmas.{place_of, member_at}
+use Rattle.bn_lists.proofs.MemberLemmas.{place_of, member_at}
 use Rattle.bn_controllaws.proofs.ListedLemmas.{Listing, alone, either, same, for_each, those, below, entries, splits}
 use Rattle.bn_controllaws.proofs.SortedLemmas.{order_of, one_order, sorted_rises}
 use Rattle.bn_controllaws.proofs.KeyLemmas.{by_key, keys_ordered, ties_one}

@@ -1,12 +1,11 @@
 -- Where the numbers of a machine's deeds are.
 use Rattle.std.proofs.Common.{◌≡◌, inl, inr, get_or, ℕ, zero, suc, ◌+◌, ◌<◌, List, [], ◌∷◌, length, Some, refl, ap, subst, arith}
 use Rattle.std.proofs.lemmas.Option.{slice_get_within, get_or_from_slice_get}
-use Rattle.bn_lists.specs.Lists.{nth}
+use Rattle.bn_lists.specs.Lists.{nth, Has}
 use Rattle.bn_machine.specs.declared.quint.Shift.TheVariants as way
 use Rattle.bn_machine.specs.declared.quint.Side.{Side}
 use Rattle.bn_quad.specs.Quadruples.{Deed, Rewrite, Move, Rule, Quadruples, initial_of, AreDeedsInRange, IsRuleInRange, IsQuadMachine}
 use Rattle.bn_modules.specs.Controls.{reads, rising, shifts}
-use Rattle.bn_theory.proofs.MemberLemmas.{IsMember}
 
 -- the place of a tape and, among these numbers of symbols, its symbol
 abbrev pub IsIn : List ℕ → ℕ → (ℕ × ℕ) → Type 0
@@ -17,7 +16,7 @@ further : (z : ℕ) (zs : List ℕ) (t : ℕ) (p : ℕ × ℕ) → IsIn zs (suc 
 further z zs t p h = let at = h.1 in let low = h.2 in (suc h.0, omega arith, omega arith, h.3)
 
 -- what is read is a symbol of its tape
-pub reads_in : (zs : List ℕ) (ds : List Deed) (t : ℕ) (p : ℕ × ℕ) → AreDeedsInRange zs ds → IsMember p (reads t ds) → IsIn zs t p
+pub reads_in : (zs : List ℕ) (ds : List Deed) (t : ℕ) (p : ℕ × ℕ) → AreDeedsInRange zs ds → Has (reads t ds) p → IsIn zs t p
 reads_in zs [] t p h is = absurd is
 reads_in [] (d ∷ ds) t p h is = absurd h
 reads_in (z ∷ zs) (Rewrite r w ∷ ds) t p h (inl e) =
@@ -26,7 +25,7 @@ reads_in (z ∷ zs) (Rewrite r w ∷ ds) t p h (inr more) = further z zs t p (re
 reads_in (z ∷ zs) (Move d ∷ ds) t p h is = further z zs t p (reads_in zs ds (suc t) p h.1 is)
 
 -- what is written is a symbol of its tape
-pub rising_in : (zs : List ℕ) (ds : List Deed) (t : ℕ) (p : ℕ × ℕ) → AreDeedsInRange zs ds → IsMember p (rising t ds) → IsIn zs t p
+pub rising_in : (zs : List ℕ) (ds : List Deed) (t : ℕ) (p : ℕ × ℕ) → AreDeedsInRange zs ds → Has (rising t ds) p → IsIn zs t p
 rising_in zs [] t p h is = absurd is
 rising_in [] (d ∷ ds) t p h is = absurd h
 rising_in (z ∷ zs) (Rewrite r w ∷ ds) t p h (inl e) =
@@ -35,7 +34,7 @@ rising_in (z ∷ zs) (Rewrite r w ∷ ds) t p h (inr more) = further z zs t p (r
 rising_in (z ∷ zs) (Move d ∷ ds) t p h is = further z zs t p (rising_in zs ds (suc t) p h.1 is)
 
 -- a written tape is one of as many as there are deeds
-pub rising_low : (ds : List Deed) (t : ℕ) (p : ℕ × ℕ) → IsMember p (rising t ds) → p.0 < t + length ds
+pub rising_low : (ds : List Deed) (t : ℕ) (p : ℕ × ℕ) → Has (rising t ds) p → p.0 < t + length ds
 rising_low [] t p is = absurd is
 rising_low (Rewrite r w ∷ ds) t p (inl e) = let one = ap (λ (v : ℕ × ℕ). v.0) e in omega arith
 rising_low (Rewrite r w ∷ ds) t p (inr more) = let low = rising_low ds (suc t) p more in omega arith
@@ -46,7 +45,7 @@ abbrev pub IsAmong : ℕ → ℕ → ℕ → Type 0
 IsAmong count t n = (j : ℕ) × (n ≡ t + j) × (j < count)
 
 -- a shifted tape is one of as many as there are deeds
-pub shifts_low : (ds : List Deed) (t : ℕ) (p : ℕ × Side) → IsMember p (shifts t ds) → IsAmong (length ds) t p.0
+pub shifts_low : (ds : List Deed) (t : ℕ) (p : ℕ × Side) → Has (shifts t ds) p → IsAmong (length ds) t p.0
 shifts_low [] t p is = absurd is
 shifts_low (Rewrite r w ∷ ds) t p is = let low = shifts_low ds (suc t) p is in let at = low.1 in let few = low.2 in (suc low.0, omega arith, omega arith)
 shifts_low (Move way.Left ∷ ds) t p (inl e) = let one = ap (λ (v : ℕ × Side). v.0) e in (0, omega arith, omega arith)

@@ -5,7 +5,8 @@ use Rattle.std.specs.Ordering.{ordering_reverse}
 use Rattle.std.specs.declared.cmp.Ordering.{Ordering}
 use Rattle.std.specs.declared.cmp.Ordering.TheVariants.{Less, Equal, Greater}
 use Rattle.std.proofs.lemmas.Cmp.{tied_itself}
-use Rattle.bn_theory.proofs.MemberLemmas.{IsMember, member_at}
+use Rattle.bn_lists.specs.Lists.{Has}
+use Rattle.bn_lists.proofs.MemberLemmas.{member_at}
 use Rattle.bn_controllaws.proofs.ListedLemmas.{Listing}
 use Rattle.bn_controllaws.proofs.NumberLemmas.{by_order}
 
@@ -63,7 +64,7 @@ module _ {A : Type 0} (cmp : A → A → Ordering) (order : IsTotalOrder cmp) wh
   -- each element is before those behind it
   abbrev pub IsSorted : List A → Type 0
   IsSorted [] = Unit {0}
-  IsSorted (x ∷ l) = ((y : A) → IsMember y l → cmp x y ≡ Less) × IsSorted l
+  IsSorted (x ∷ l) = ((y : A) → Has l y → cmp x y ≡ Less) × IsSorted l
 
   -- such a list rises
   pub sorted_rises : (l : List A) → IsSorted l → Rises l
@@ -76,35 +77,35 @@ module _ {A : Type 0} (cmp : A → A → Ordering) (order : IsTotalOrder cmp) wh
   pub record Order (P : A → Type 0) : Type 0 where
     pub items : List A
     pub sorted : IsSorted items
-    pub each : (x : A) → P x → IsMember x items
-    pub only : (x : A) → IsMember x items → P x
+    pub each : (x : A) → P x → Has items x
+    pub only : (x : A) → Has items x → P x
 
   -- a list that rises and has one element more
   record Inserted (x : A) (l : List A) : Type 0 where
     items : List A
     sorted : IsSorted items
-    here : IsMember x items
-    others : (y : A) → IsMember y l → IsMember y items
-    only : (y : A) → IsMember y items → (y ≡ x) ⊎ IsMember y l
+    here : Has items x
+    others : (y : A) → Has l y → Has items y
+    only : (y : A) → Has items y → (y ≡ x) ⊎ Has l y
 
   -- an element more, where those that tie with it are it
-  inserted : (x : A) (l : List A) → IsSorted l → ((y : A) → IsMember y l → cmp x y ≡ Equal → x ≡ y) → Inserted x l
+  inserted : (x : A) (l : List A) → IsSorted l → ((y : A) → Has l y → cmp x y ≡ Equal → x ≡ y) → Inserted x l
   inserted x [] s tied = record { items = x ∷ []; sorted = (λ y h. absurd h, tt); here = inl refl; others = λ y h. absurd h; only = λ y h. h }
   inserted x (y ∷ l) s tied = by (inserted x l s.1 (λ z h. tied z (inr h))) (cmp x y) refl
     where
-      ahead : cmp x y ≡ Less → (z : A) → IsMember z (y ∷ l) → cmp x z ≡ Less
+      ahead : cmp x y ≡ Less → (z : A) → Has (y ∷ l) z → cmp x z ≡ Less
       ahead e z (inl is) = subst (λ v. cmp x v ≡ Less) (sym is) e
       ahead e z (inr h) = order.trans x y z e (s.0 z h)
 
-      behind : cmp y x ≡ Less → (z : A) → (z ≡ x) ⊎ IsMember z l → cmp y z ≡ Less
+      behind : cmp y x ≡ Less → (z : A) → (z ≡ x) ⊎ Has l z → cmp y z ≡ Less
       behind e z (inl is) = subst (λ v. cmp y v ≡ Less) (sym is) e
       behind e z (inr h) = s.0 z h
 
-      kept : (r : Inserted x l) (z : A) → IsMember z (y ∷ l) → IsMember z (y ∷ r.items)
+      kept : (r : Inserted x l) (z : A) → Has (y ∷ l) z → Has (y ∷ r.items) z
       kept r z (inl is) = inl is
       kept r z (inr h) = inr (r.others z h)
 
-      from : (r : Inserted x l) (z : A) → IsMember z (y ∷ r.items) → (z ≡ x) ⊎ IsMember z (y ∷ l)
+      from : (r : Inserted x l) (z : A) → Has (y ∷ r.items) z → (z ≡ x) ⊎ Has (y ∷ l) z
       from r z (inl is) = inr (inl is)
       from r z (inr h) = elim (r.only z h) [ inl is ↦ inl is | inr more ↦ inr (inr more) ]
 
@@ -116,18 +117,18 @@ module _ {A : Type 0} (cmp : A → A → Ordering) (order : IsTotalOrder cmp) wh
           record { items = y ∷ r.items; sorted = (λ z h. behind low z (r.only z h), r.sorted); here = inr r.here; others = kept r; only = from r }
 
   -- the elements of a list in order, where those that tie are one
-  sorted_list : (l : List A) → ((x y : A) → IsMember x l → IsMember y l → cmp x y ≡ Equal → x ≡ y) → Order (λ x. IsMember x l)
+  sorted_list : (l : List A) → ((x y : A) → Has l x → Has l y → cmp x y ≡ Equal → x ≡ y) → Order (λ x. Has l x)
   sorted_list [] tied = record { items = []; sorted = tt; each = λ x h. h; only = λ x h. h }
   sorted_list (a ∷ l) tied =
       let rest = sorted_list l (λ x y h k. tied x y (inr h) (inr k)) in
       let more = inserted a rest.items rest.sorted (λ y h. tied a y (inl refl) (inr (rest.only y h))) in
       record { items = more.items; sorted = more.sorted; each = each rest more; only = only rest more }
     where
-      each : (rest : Order (λ x. IsMember x l)) (more : Inserted a rest.items) (x : A) → IsMember x (a ∷ l) → IsMember x more.items
-      each rest more x (inl e) = subst (λ v. IsMember v more.items) (sym e) more.here
+      each : (rest : Order (λ x. Has l x)) (more : Inserted a rest.items) (x : A) → Has (a ∷ l) x → Has more.items x
+      each rest more x (inl e) = subst (λ v. Has more.items v) (sym e) more.here
       each rest more x (inr h) = more.others x (rest.each x h)
 
-      only : (rest : Order (λ x. IsMember x l)) (more : Inserted a rest.items) (x : A) → IsMember x more.items → IsMember x (a ∷ l)
+      only : (rest : Order (λ x. Has l x)) (more : Inserted a rest.items) (x : A) → Has more.items x → Has (a ∷ l) x
       only rest more x h = elim (more.only x h) [ inl e ↦ inl e | inr k ↦ inr (rest.only x k) ]
 
   -- what is listed can be put in order, where those that tie are one

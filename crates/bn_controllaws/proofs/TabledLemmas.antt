@@ -9,7 +9,8 @@ use Rattle.bn_theory.proofs.TableLemmas.{tables-one, consistent-reversible}
 use Rattle.bn_modules.specs.Controls.{ControlState, ControlMove, ControlGoes, IsNumbering, NumberedGoes, IsControlTable, control_lines, in_number, out_number}
 use Rattle.bn_controllaws.proofs.ForthLemmas.{forth}
 use Rattle.bn_controllaws.proofs.BackLemmas.{back}
-use Rattle.bn_theory.proofs.MemberLemmas.{IsMember, member_at}
+use Rattle.bn_lists.specs.Lists.{Has}
+use Rattle.bn_lists.proofs.MemberLemmas.{member_at}
 use Rattle.bn_controllaws.proofs.ListedLemmas.{Listing, alone, same, for_each}
 use Rattle.bn_controllaws.proofs.SortedLemmas.{one_place}
 use Rattle.bn_controllaws.proofs.KeyLemmas.{by_key, keys_ordered}
@@ -19,7 +20,7 @@ use Rattle.bn_controllaws.proofs.GoingLemmas.{Going, sound, going}
 -- ---- lists of moves
 
 -- what is found is a move of the list
-found : (ms : List Move) (q i r o : ℕ) → go_by ms q i ≡ Some (r, o) → IsMember (record { state = q; input = i; next = r; output = o }) ms
+found : (ms : List Move) (q i r o : ℕ) → go_by ms q i ≡ Some (r, o) → Has ms (record { state = q; input = i; next = r; output = o })
 found [] q i r o h = absurd (cc)
 found (m ∷ ms) q i r o h =
     elim (pair_tells m.state m.input q i) [
@@ -29,7 +30,7 @@ found (m ∷ ms) q i r o h =
     ]
 
 -- a move of the list is found, where those from its pair lead where it does
-finds : (ms : List Move) (v : Move) → IsMember v ms → ((w : Move) → IsMember w ms → w.state ≡ v.state → w.input ≡ v.input → (w.next ≡ v.next)
+finds : (ms : List Move) (v : Move) → Has ms v → ((w : Move) → Has ms w → w.state ≡ v.state → w.input ≡ v.input → (w.next ≡ v.next)
     × (w.output ≡ v.output)) → go_by ms v.state v.input ≡ Some (v.next, v.output)
 finds [] v h all = absurd h
 finds (m ∷ ms) v h all =
@@ -38,12 +39,12 @@ finds (m ∷ ms) v h all =
       | inr other ↦ rw other.0 (finds ms v (later h other.1) (λ w k. all w (inr k)))
     ]
   where
-    later : IsMember v (m ∷ ms) → (m.state ≡ v.state → m.input ≡ v.input → ⊥) → IsMember v ms
+    later : Has (m ∷ ms) v → (m.state ≡ v.state → m.input ≡ v.input → ⊥) → Has ms v
     later (inl e) none = absurd (none (ap (λ (x : Move). x.state) (sym e)) (ap (λ (x : Move). x.input) (sym e)))
     later (inr k) none = k
 
 -- moves in range, one by one
-within : (s n k : ℕ) (ms : List Move) → ((v : Move) → IsMember v ms → (v.state < s) × (v.input < n) × (v.next < s) × (v.output < k)) → AreWithin s n k ms
+within : (s n k : ℕ) (ms : List Move) → ((v : Move) → Has ms v → (v.state < s) × (v.input < n) × (v.next < s) × (v.output < k)) → AreWithin s n k ms
 within s n k [] all = tt
 within s n k (m ∷ ms) all = let here = all m (inl refl) in (here.0, here.1, here.2, here.3, within s n k ms (λ v h. all v (inr h)))
 

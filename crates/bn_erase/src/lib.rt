@@ -10,7 +10,7 @@ mod refusal;
 
 pub use bn_erasing::ErasingName;
 pub use bn_quad::NoMemory;
-pub use erasing::{Erasing, MOST_QUADRUPLES, erase};
+pub use erasing::{Erasing, MOST_QUADRUPLES, erase, most_quadruples_are_stated};
 pub use joined::{Joined, join_letters};
 pub use laws::{
     erasings_are_uniform, erasings_erase, erasings_have_names, joined_are_judged_alike,

@@ -7,7 +7,7 @@ use Rattle.bn_theory.specs.declared.line.Wire.{Wire}
 use Rattle.bn_net.proofs.WireListLemmas.{line_tells}
 use Rattle.bn_column.specs.Wirings.{AreApart, AreWiresOf}
 use Rattle.bn_column.proofs.WiringsLemmas.{apart-IsOneToOne}
-use Rattle.bn_theory.proofs.MemberLemmas.{IsMember}
+use Rattle.bn_lists.specs.Lists.{Has}
 use Rattle.bn_controllaws.proofs.ListedLemmas.{Listing}
 
 -- each output line leads to one input line at most, and each input line comes from one output line at most
@@ -29,13 +29,13 @@ module _ (R : Line → Line → Type 0) (both : IsBothWays R) where
     wires : List Wire
     apart : AreApart wires
     sound : (from to : Line) → target wires from ≡ Some to → R from to
-    each : (w : Wire) → IsMember w items → target wires w.from ≡ Some w.to
+    each : (w : Wire) → Has items w → target wires w.from ≡ Some w.to
 
   -- one wire more, where its output line is free or not
   one_more : (v : Wire) (items : List Wire) (rest : HasWires items) → R v.from v.to → (o : Option Line) → target rest.wires v.from ≡ o → HasWires (v ∷ items)
   one_more v items rest is (Some to) e = record { wires = rest.wires; apart = rest.apart; sound = rest.sound; each = each }
     where
-      each : (w : Wire) → IsMember w (v ∷ items) → target rest.wires w.from ≡ Some w.to
+      each : (w : Wire) → Has (v ∷ items) w → target rest.wires w.from ≡ Some w.to
       each w (inl eq) = let same : to ≡ v.to = both.ahead v.from to v.to (rest.sound v.from to e) is in subst (λ (x : Wire). target rest.wires x.from ≡ Some x.to) (sym eq) (e ∙ ap (λ t. Some t) same)
       each w (inr h) = rest.each w h
   one_more v items rest is None e = record { wires = v ∷ rest.wires; apart = (e, no_source (source rest.wires v.to) refl, rest.apart); sound = sound; each = each }
@@ -54,14 +54,14 @@ module _ (R : Line → Line → Type 0) (both : IsBothWays R) where
         | inr there ↦ rest.sound from to (rw there.0 at h)
       ]
 
-      each : (w : Wire) → IsMember w (v ∷ items) → target (v ∷ rest.wires) w.from ≡ Some w.to
+      each : (w : Wire) → Has (v ∷ items) w → target (v ∷ rest.wires) w.from ≡ Some w.to
       each w (inl eq) = subst (λ (x : Wire). target (v ∷ rest.wires) x.from ≡ Some x.to) (sym eq) (first_target v rest.wires)
       each w (inr h) =
           let there = rest.each w h in
           other_target v rest.wires w.from (λ same. let here : target rest.wires v.from ≡ Some w.to = subst (λ x. target rest.wires x ≡ Some w.to) (sym same) there in cc) ∙ there
 
   -- each wire of a list that is of the relation
-  kept : (items : List Wire) → ((w : Wire) → IsMember w items → R w.from w.to) → HasWires items
+  kept : (items : List Wire) → ((w : Wire) → Has items w → R w.from w.to) → HasWires items
   kept [] all = record { wires = []; apart = tt; sound = λ from to h. absurd (cc); each = λ w h. absurd h }
   kept (v ∷ items) all = let rest = kept items (λ w h. all w (inr h)) in one_more v items rest (all v (inl refl)) (target rest.wires v.from) refl
 

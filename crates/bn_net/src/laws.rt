@@ -16,7 +16,7 @@ pub fn wires_stand_once()
     ensures { WiresStandOnce }
 {}
 
-/// The most elements of a circuit are 2^20.
+/// `MOST_ELEMENTS`, the limit of a circuit that is read, made or written, is 2^20.
 pub fn most_elements_are_stated()
     ensures { MOST_ELEMENTS ≡ 2 ^ 20 }
 {}

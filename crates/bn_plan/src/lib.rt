@@ -16,5 +16,5 @@ pub use laws::{
     plans_compute, tracks_are_needed, tracks_are_the_density, wires_of_one_track_fit,
 };
 pub use make::plan;
-pub use positions::MOST_ELEMENTS;
+pub use positions::{MOST_PLANNED, most_planned_is_stated};
 pub use tracked::Tracked;

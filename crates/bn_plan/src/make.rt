@@ -4,19 +4,19 @@ ghost use Rattle.std.specs.Prelude.{◌≤◌, length, IfOk};
 ghost use Rattle.bn_plan.specs.Plans.{IsFloorPlan};
 
 use crate::floor::Plan;
-use crate::positions::{MOST_ELEMENTS, POSITIONS};
+use crate::positions::{MOST_PLANNED, POSITIONS};
 use crate::sweep::Sweep;
 use bn_element::Rotary;
 use bn_net::{Net, NoMemory};
 use std::alloc::Global;
 
-/// The floor plan of a net of at most `MOST_ELEMENTS` elements. The elements stand in one line, and
+/// The floor plan of a net of at most `MOST_PLANNED` elements. The elements stand in one line, and
 /// element E takes the positions 8E to 8E + 7: its outputs north, east, south and west, and then its
 /// inputs in the same order. A wire covers all positions from its lesser to its greater end, and in
 /// the order of their lesser ends each wire takes the least track, from 1, on which every earlier
 /// wire ends before it. (This project's own profile.)
 pub fn plan(alloc: Global, net: &Net<Rotary>) -> Result<Plan, NoMemory>
-    requires { length net.now.elements ≤ MOST_ELEMENTS }
+    requires { length net.now.elements ≤ MOST_PLANNED }
     ensures { IfOk result (IsFloorPlan net.now.wires) }
 {
     let positions = POSITIONS * net.len();

@@ -1,6 +1,6 @@
 //! Positions of lines, and the wire that begins at a position.
 
-ghost use Rattle.std.specs.Prelude.{◌≡◌, ◌↔◌, ◌*◌, ◌<◌, ◌≤◌, length, map, IfSome, IfNone, IsTrue};
+ghost use Rattle.std.specs.Prelude.{◌≡◌, ◌↔◌, ◌*◌, ◌^◌, ◌<◌, ◌≤◌, length, map, IfSome, IfNone, IsTrue};
 ghost use Rattle.bn_theory.specs.Circuits.{IsInput, IsOutput};
 ghost use Rattle.bn_theory.specs.declared.line.Wire.{Wire};
 ghost use Rattle.bn_element.specs.Rotary.{rotary};
@@ -11,7 +11,12 @@ use bn_element::Rotary;
 use bn_net::{Line, Net, Wire};
 
 /// The greatest number of elements of a circuit that has a floor plan.
-pub const MOST_ELEMENTS: u32 = 4_194_304;
+pub const MOST_PLANNED: u32 = 4_194_304;
+
+/// A law: at most 2^22 elements have a floor plan.
+pub fn most_planned_is_stated()
+    ensures { MOST_PLANNED ≡ 2 ^ 22 }
+{}
 
 /// The number of positions that an element takes: its outputs, and then its inputs.
 pub(crate) const POSITIONS: u32 = 8;
@@ -21,7 +26,7 @@ const OUTPUTS: u32 = 4;
 
 /// The position of an output line.
 pub(crate) fn output_position(line: Line) -> u32
-    requires element { line.element < MOST_ELEMENTS }
+    requires element { line.element < MOST_PLANNED }
     requires line { line.line < 4 }
     ensures { result ≡ output_position line }
 {
@@ -30,7 +35,7 @@ pub(crate) fn output_position(line: Line) -> u32
 
 /// The position of an input line.
 pub(crate) fn input_position(line: Line) -> u32
-    requires element { line.element < MOST_ELEMENTS }
+    requires element { line.element < MOST_PLANNED }
     requires line { line.line < 4 }
     ensures { result ≡ input_position line }
 {
@@ -39,7 +44,7 @@ pub(crate) fn input_position(line: Line) -> u32
 
 /// The wire that begins at this position: its lesser end stands there. `None` where none does.
 pub(crate) fn wire_from(net: &Net<Rotary>, position: u32) -> Option<Wire>
-    requires few { length net.now.elements ≤ MOST_ELEMENTS }
+    requires few { length net.now.elements ≤ MOST_PLANNED }
     requires position { position < 8 * length net.now.elements }
     ensures begins { IfSome result (BeginsAt net.now.wires position) }
     ensures none { IfNone result ((w : Wire) → BeginsAt net.now.wires position w → ⊥) }
@@ -56,7 +61,7 @@ pub(crate) fn wire_from(net: &Net<Rotary>, position: u32) -> Option<Wire>
 
 // The wire that begins at this output line.
 fn wire_out_of(net: &Net<Rotary>, from: Line) -> Option<Wire>
-    requires few { length net.now.elements ≤ MOST_ELEMENTS }
+    requires few { length net.now.elements ≤ MOST_PLANNED }
     requires output { IsOutput (map (λ _. rotary) net.now.elements) from }
     ensures begins { IfSome result (BeginsAt net.now.wires (output_position from)) }
     ensures none { IfNone result ((w : Wire) → BeginsAt net.now.wires (output_position from) w → ⊥) }
@@ -74,7 +79,7 @@ fn wire_out_of(net: &Net<Rotary>, from: Line) -> Option<Wire>
 
 // The wire that begins at this input line.
 fn wire_into(net: &Net<Rotary>, to: Line) -> Option<Wire>
-    requires few { length net.now.elements ≤ MOST_ELEMENTS }
+    requires few { length net.now.elements ≤ MOST_PLANNED }
     requires input { IsInput (map (λ _. rotary) net.now.elements) to }
     ensures begins { IfSome result (BeginsAt net.now.wires (input_position to)) }
     ensures none { IfNone result ((w : Wire) → BeginsAt net.now.wires (input_position to) w → ⊥) }
@@ -92,8 +97,8 @@ fn wire_into(net: &Net<Rotary>, to: Line) -> Option<Wire>
 
 // Whether the wire begins at its output line: that has the lesser position.
 fn begins_at_output(wire: Wire) -> bool
-    requires from { wire.from.element < MOST_ELEMENTS }
-    requires to { wire.to.element < MOST_ELEMENTS }
+    requires from { wire.from.element < MOST_PLANNED }
+    requires to { wire.to.element < MOST_PLANNED }
     requires lines { HasFourLines wire }
     ensures { IsTrue result ↔ (output_position wire.from < input_position wire.to) }
 {

@@ -8,7 +8,7 @@ ghost use Rattle.bn_plan.specs.Sweeping.{Swept, IsSwept, BeginsAt, TakesTrack, f
 
 use crate::floor::Plan;
 use crate::free_tracks::FreeTracks;
-use crate::positions::{MOST_ELEMENTS, input_position, output_position, wire_from};
+use crate::positions::{MOST_PLANNED, input_position, output_position, wire_from};
 use crate::tracked::Tracked;
 use bn_element::Rotary;
 use bn_net::{Net, NoMemory, Wire};
@@ -58,7 +58,7 @@ impl Sweep {
 
     /// Goes past a position of a net.
     pub(crate) fn go_past(&mut self, net: &Net<Rotary>, position: u32) -> Result<(), NoMemory>
-        requires few { length net.now.elements ≤ MOST_ELEMENTS }
+        requires few { length net.now.elements ≤ MOST_PLANNED }
         requires position { position < 8 * length net.now.elements }
         requires positions { length self.old.ending ≡ 8 * length net.now.elements }
         requires swept { IsSwept net.now.wires position self.old }
@@ -99,8 +99,8 @@ impl Sweep {
 
     // Goes past the position at which this wire begins.
     fn begin(&mut self, wire: Wire) -> Result<(), NoMemory>
-        requires from { wire.from.element < MOST_ELEMENTS }
-        requires to { wire.to.element < MOST_ELEMENTS }
+        requires from { wire.from.element < MOST_PLANNED }
+        requires to { wire.to.element < MOST_PLANNED }
         requires lines { HasFourLines wire }
         requires position { greater wire < length self.old.ending }
         requires tracks { self.old.tracks + 1 < 2 ^ 32 }

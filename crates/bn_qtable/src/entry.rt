@@ -1,8 +1,7 @@
 //! One entry of a table of quadruples.
 
-ghost use Rattle.std.specs.Prelude.{◌≡◌, ◌∷◌, [], true, false, MatchOption, IfOk, IfSome, IfNone, bytes_eq};
+ghost use Rattle.std.specs.Prelude.{◌≡◌, ◌∷◌, [], true, false, IfOk, IfSome, IfNone, bytes_eq};
 ghost use Rattle.bn_qtable.specs.Entry.{HasForms, SaysHasForms, entry_of, slash, read_field};
-ghost use Rattle.bn_entries.specs.Shifts.{is_shift, shift_text};
 ghost use Rattle.bn_qtable.specs.Entry.{act_field};
 ghost use Rattle.bn_qtable.specs.Fields.{said, says, err_of};
 ghost use Rattle.bn_qtable.specs.Faults as fault;

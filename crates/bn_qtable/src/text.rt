@@ -8,7 +8,6 @@ ghost use Rattle.bn_lists.specs.Lists.{nth};
 ghost use Rattle.bn_quad.specs.Names.{symbols_on};
 ghost use Rattle.bn_quad.specs.Kept.{Agree, IsUnmixed, deed_of, rule_of};
 ghost use Rattle.bn_qtable.specs.Entry.{entry_of, read_field, act_field};
-ghost use Rattle.bn_entries.specs.Shifts.{shift_text};
 ghost use Rattle.bn_qtable.specs.Faults.{fault_of};
 ghost use Rattle.bn_qtable.specs.Named.{HasNames, RuleIsNamed, DeedIsNamed};
 ghost use Rattle.bn_qtable.specs.Reading.{Reads};

@@ -257,7 +257,7 @@ ready-can v c some ready =
     } in
     record { table = t; reversible = some.reversible; square = some.square; is_bank = some.is_bank; can = can }
 
--- and one that can make a move of a table is ready: what a caller has to show didn't grow
+-- and one that can make a move of a table is ready
 pub can-ready : (v : Banked) (c : Config) → CanMoveBank v c → IsReadyBank v c
 can-ready v c can =
     let u = can.table in

@@ -1,6 +1,7 @@
 //! What a command answers.
 
 use crate::status::Status;
+
 /// The text and the status of a command's answer.
 #[derive(Debug, Drop)]
 pub struct Reply {

@@ -3,7 +3,8 @@ use Rattle.std.proofs.Common.{◌≡◌, ◌⊎◌, inl, inr, slice_get, ℕ, ze
 use Rattle.std.proofs.lemmas.Bool.Decides.{eqb_tells}
 use Rattle.bn_quad.specs.Quadruples.{Quadruples}
 use Rattle.bn_modules.specs.Controls.{ControlState, Begin, End, Reads, Shifts, Writes, Occurs, IsNumbering}
-use Rattle.bn_theory.proofs.MemberLemmas.{IsMember, place_of, member_at, in_front, behind, of_two}
+use Rattle.bn_lists.specs.Lists.{Has}
+use Rattle.bn_lists.proofs.MemberLemmas.{place_of, member_at, in_front, behind, of_two}
 use Rattle.bn_controllaws.proofs.KeyLemmas.{by_key, keys_ordered}
 use Rattle.bn_controllaws.proofs.SortedLemmas.{one_place}
 use Rattle.bn_controlcount.proofs.ApartLemmas.{IsApart, same_length, joined, apart_places}
@@ -13,12 +14,12 @@ use Rattle.bn_statecount.specs.Shown.{IsCount}
 one_place_each : (l : List ControlState) → IsApart l → (i j : ℕ) (q : ControlState) → slice_get l i ≡ Some q → slice_get l j ≡ Some q → i ≡ j
 one_place_each [] a i j q e d = absurd (cc)
 one_place_each (x ∷ l) a zero zero q e d = refl
-one_place_each (x ∷ l) a zero (suc j) q e d = let same : x ≡ q = cc in absurd (a.0 (subst (λ y. IsMember y l) (sym same) (member_at l j q d)))
-one_place_each (x ∷ l) a (suc i) zero q e d = let same : x ≡ q = cc in absurd (a.0 (subst (λ y. IsMember y l) (sym same) (member_at l i q e)))
+one_place_each (x ∷ l) a zero (suc j) q e d = let same : x ≡ q = cc in absurd (a.0 (subst (λ y. Has l y) (sym same) (member_at l j q d)))
+one_place_each (x ∷ l) a (suc i) zero q e d = let same : x ≡ q = cc in absurd (a.0 (subst (λ y. Has l y) (sym same) (member_at l i q e)))
 one_place_each (x ∷ l) a (suc i) (suc j) q e d = ap suc (one_place_each l a.1 i j q e d)
 
 -- a list of all states of a kind counts them
-of_list : (P : ControlState → Type 0) (l : List ControlState) → IsApart l → ((q : ControlState) → P q → IsMember q l) → ((q : ControlState) → IsMember q l → P q) → IsCount P (length l)
+of_list : (P : ControlState → Type 0) (l : List ControlState) → IsApart l → ((q : ControlState) → P q → Has l q) → ((q : ControlState) → Has l q → P q) → IsCount P (length l)
 of_list P l a each only = record {
   names = l;
   each = λ q h. place_of l q (each q h);
@@ -34,7 +35,7 @@ none_count P none = of_list P [] tt (λ q h. absurd (none q h)) (λ q h. absurd 
 pub one_count : (P : ControlState → Type 0) (x : ControlState) → P x → ((q : ControlState) → P q → q ≡ x) → IsCount P 1
 one_count P x is only = of_list P (x ∷ []) ((λ h. h), tt) (λ q h. inl (only q h)) back
   where
-    back : (q : ControlState) → IsMember q (x ∷ []) → P q
+    back : (q : ControlState) → Has (x ∷ []) q → P q
     back q (inl e) = subst P (sym e) is
     back q (inr h) = absurd h
 
@@ -56,20 +57,20 @@ both_count P Q n k far a b =
     long : length (a.names ++ b.names) ≡ n + k
     long = length-append a.names b.names ∙ ap (λ v. v + length b.names) a.counted ∙ ap (λ v. n + v) b.counted
 
-    first : (q : ControlState) → IsMember q a.names → P q
+    first : (q : ControlState) → Has a.names q → P q
     first q h = let at = place_of a.names q h in a.only at.0 q at.1
 
-    second : (q : ControlState) → IsMember q b.names → Q q
+    second : (q : ControlState) → Has b.names q → Q q
     second q h = let at = place_of b.names q h in b.only at.0 q at.1
 
     apart : IsApart (a.names ++ b.names)
     apart = joined a.names b.names (apart_places a.names a.once) (apart_places b.names b.once) (λ q h g. far q (first q h) (second q g))
 
-    each : (q : ControlState) → P q ⊎ Q q → IsMember q (a.names ++ b.names)
+    each : (q : ControlState) → P q ⊎ Q q → Has (a.names ++ b.names) q
     each q (inl h) = let at = a.each q h in in_front a.names b.names q (member_at a.names at.0 q at.1)
     each q (inr h) = let at = b.each q h in behind a.names b.names q (member_at b.names at.0 q at.1)
 
-    only : (q : ControlState) → IsMember q (a.names ++ b.names) → P q ⊎ Q q
+    only : (q : ControlState) → Has (a.names ++ b.names) q → P q ⊎ Q q
     only q h = elim (of_two a.names b.names q h) [ inl x ↦ inl (first q x) | inr y ↦ inr (second q y) ]
 
 -- a numbering is as long as the states are many
@@ -116,14 +117,14 @@ decoded (Writes a t u) = refl
 states_same : (q r : ControlState) → (q ≡ r) ⊎ (q ≡ r → ⊥)
 states_same q r = elim (lists_same (code q) (code r)) [ inl e ↦ inl (sym (decoded q) ∙ ap decode e ∙ decoded r) | inr ne ↦ inr (λ e. ne (ap code e)) ]
 
-among : (q : ControlState) (l : List ControlState) → IsMember q l ⊎ (IsMember q l → ⊥)
+among : (q : ControlState) (l : List ControlState) → Has l q ⊎ (Has l q → ⊥)
 among q [] = inr (λ h. h)
 among q (x ∷ l) = elim (states_same q x) [
   | inl e ↦ inl (inl e)
   | inr ne ↦ elim (among q l) [ inl h ↦ inl (inr h) | inr not_in ↦ inr (neither ne not_in) ]
 ]
   where
-    neither : (q ≡ x → ⊥) → (IsMember q l → ⊥) → IsMember q (x ∷ l) → ⊥
+    neither : (q ≡ x → ⊥) → (Has l q → ⊥) → Has (x ∷ l) q → ⊥
     neither ne not_in (inl e) = ne e
     neither ne not_in (inr h) = not_in h
 

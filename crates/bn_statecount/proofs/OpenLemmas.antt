@@ -2,7 +2,7 @@
 use Rattle.std.proofs.Common.{◌≡◌, ◌⊎◌, inl, inr, slice_get, ℕ, zero, suc, ◌+◌, List, [], ◌∷◌, ◌++◌, length, map, Option, Some, None, refl, sym, ap, subst, ◌∙◌, arith, append_assoc, append-nil}
 use Rattle.std.proofs.lemmas.Bool.Decides.{eqb_tells}
 use Rattle.std.proofs.lemmas.Option.{slice_get-map, slice_get_within}
-use Rattle.bn_lists.specs.Lists.{nth}
+use Rattle.bn_lists.specs.Lists.{nth, Has}
 use Rattle.bn_machine.specs.declared.quint.Shift.TheVariants as way
 use Rattle.bn_machine.specs.declared.quint.Side.{Side}
 use Rattle.bn_machine.specs.declared.quint.Side.TheVariants as side
@@ -10,7 +10,7 @@ use Rattle.bn_quad.specs.Quadruples.{Deed, Rewrite, Move, Rule, Quadruples, fina
 use Rattle.bn_quad.specs.Kept.{quad_of, act_of}
 use Rattle.bn_quad.specs.declared.quad.Quad.{Quad}
 use Rattle.bn_modules.specs.Controls.{ControlState, Begin, End, Reads, Shifts, Writes, Occurs, is_begin, is_end, is_open, is_read, is_shift, is_write, IsNotLeft, IsNumbering, shifts, reads_of, shifts_of, writes_of, symbols_in}
-use Rattle.bn_theory.proofs.MemberLemmas.{IsMember, behind}
+use Rattle.bn_lists.proofs.MemberLemmas.{behind}
 use Rattle.bn_controlcount.proofs.ApartLemmas.{split_at}
 use Rattle.bn_statecount.specs.Shown.{IsCount, IsShiftState, ShowsRead, ShowsShift, ShowsWrite, Shows, IsShownBefore, IsOpenBelow, IsLeftBy}
 use Rattle.bn_statecount.proofs.ShownLemmas.{only_read, read_from, not_zero}
@@ -129,7 +129,7 @@ writes_show a (Move h) (Rewrite s v) (Move m) to = (inr (inl refl), tt)
 writes_show a (Move h) (Move k) (Rewrite t u) to = (inr (inr refl), tt)
 writes_show a (Move h) (Move k) (Move m) to = tt
 
-shift_here : (n t : ℕ) (d : Deed) (ds : List Deed) (s : ℕ × Side) → IsMember s (shifts t (d ∷ ds)) → IsShiftState n t (act_of d) (Shifts n s.0) ⊎ IsMember s (shifts (suc t) ds)
+shift_here : (n t : ℕ) (d : Deed) (ds : List Deed) (s : ℕ × Side) → Has (shifts t (d ∷ ds)) s → IsShiftState n t (act_of d) (Shifts n s.0) ⊎ Has (shifts (suc t) ds) s
 shift_here n t (Rewrite r w) ds s h = inr h
 shift_here n t (Move way.Left) ds s (inl e) = inl (ap (λ (v : ℕ × Side). Shifts n v.0) e)
 shift_here n t (Move way.Left) ds s (inr h) = inr h
@@ -137,7 +137,7 @@ shift_here n t (Move way.Stay) ds s h = inr h
 shift_here n t (Move way.Right) ds s (inl e) = inl (ap (λ (v : ℕ × Side). Shifts n v.0) e)
 shift_here n t (Move way.Right) ds s (inr h) = inr h
 
-shifts_show : (n : ℕ) (r : Rule ℕ) (s : ℕ × Side) → IsMember s (shifts_of r) → ShowsShift n (quad_of r) (Shifts n s.0)
+shifts_show : (n : ℕ) (r : Rule ℕ) (s : ℕ × Side) → Has (shifts_of r) s → ShowsShift n (quad_of r) (Shifts n s.0)
 shifts_show n r s h = elim (shift_here n 1 r.one (r.two ∷ r.three ∷ []) s h) [
   | inl a ↦ inl a
   | inr g ↦ elim (shift_here n 2 r.two (r.three ∷ []) s g) [
@@ -147,19 +147,19 @@ shifts_show n r s h = elim (shift_here n 1 r.one (r.two ∷ r.three ∷ []) s h)
 ]
 
 -- and back
-from_shift : (n t : ℕ) (d : Deed) (ds : List Deed) (q : ControlState) → IsShiftState n t (act_of d) q → (s : ℕ × Side) × IsMember s (shifts t (d ∷ ds)) × (q ≡ Shifts n s.0)
+from_shift : (n t : ℕ) (d : Deed) (ds : List Deed) (q : ControlState) → IsShiftState n t (act_of d) q → (s : ℕ × Side) × Has (shifts t (d ∷ ds)) s × (q ≡ Shifts n s.0)
 from_shift n t (Rewrite r w) ds q h = absurd h
 from_shift n t (Move way.Left) ds q h = ((t, side.Left), inl refl, h)
 from_shift n t (Move way.Stay) ds q h = absurd h
 from_shift n t (Move way.Right) ds q h = ((t, side.Right), inl refl, h)
 
-later_shift : (t : ℕ) (d : Deed) (ds : List Deed) (s : ℕ × Side) → IsMember s (shifts (suc t) ds) → IsMember s (shifts t (d ∷ ds))
+later_shift : (t : ℕ) (d : Deed) (ds : List Deed) (s : ℕ × Side) → Has (shifts (suc t) ds) s → Has (shifts t (d ∷ ds)) s
 later_shift t (Rewrite r w) ds s h = h
 later_shift t (Move way.Left) ds s h = inr h
 later_shift t (Move way.Stay) ds s h = h
 later_shift t (Move way.Right) ds s h = inr h
 
-shifted : (n : ℕ) (r : Rule ℕ) (q : ControlState) → ShowsShift n (quad_of r) q → (s : ℕ × Side) × IsMember s (shifts_of r) × (q ≡ Shifts n s.0)
+shifted : (n : ℕ) (r : Rule ℕ) (q : ControlState) → ShowsShift n (quad_of r) q → (s : ℕ × Side) × Has (shifts_of r) s × (q ≡ Shifts n s.0)
 shifted n r q (inl h) = from_shift n 1 r.one (r.two ∷ r.three ∷ []) q h
 shifted n r q (inr (inl h)) = let f = from_shift n 2 r.two (r.three ∷ []) q h in (f.0, later_shift 1 r.one (r.two ∷ r.three ∷ []) f.0 f.1, f.2)
 shifted n r q (inr (inr h)) = let f = from_shift n 3 r.three [] q h in (f.0, later_shift 1 r.one (r.two ∷ r.three ∷ []) f.0 (later_shift 2 r.two (r.three ∷ []) f.0 f.1), f.2)
@@ -233,7 +233,7 @@ module _ (m : Quadruples) (quads : List Quad) (kept : quads ≡ map quad_of m.ru
       inr (inr (subst (IsShownBefore quads (length quads)) (sym e) (shown_at i r _ here (inl (at_prefix (λ b. ShowsRead (quad_of r) (Reads r.from b)) [] (reads_of r) (reads_show r.from r.one r.two r.three r.to) before rest p split)))))
   back q (is_shift zero r here before rest p split e) = absurd (cc)
   back q (is_shift (suc i) r here before rest p split e) =
-      inr (inr (subst (IsShownBefore quads (length quads)) (sym e) (shown_at i r _ here (inr (inl (shifts_show (suc i) r p (subst (IsMember p) (sym split) (behind before (p ∷ rest) p (inl refl)))))))))
+      inr (inr (subst (IsShownBefore quads (length quads)) (sym e) (shown_at i r _ here (inr (inl (shifts_show (suc i) r p (subst (λ l. Has l p) (sym split) (behind before (p ∷ rest) p (inl refl)))))))))
   back q (is_write zero r here before rest p split e) = absurd (cc)
   back q (is_write (suc i) r here before rest p split e) =
       inr (inr (subst (IsShownBefore quads (length quads)) (sym e) (shown_at i r _ here (inr (inr (at_split (λ v l. ShowsWrite (quad_of r) (Writes r.to v.0 (symbols_in l))) (writes_of r) (writes_show r.from r.one r.two r.three r.to) before rest p split))))))

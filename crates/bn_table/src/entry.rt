@@ -3,7 +3,6 @@
 ghost use Rattle.std.specs.Prelude.{◌≡◌, ◌∷◌, [], true, false, MatchOption, IfOk};
 ghost use Rattle.bn_entries.specs.Forms.{is_letter as letter_form};
 ghost use Rattle.bn_table.specs.Entry.{entry_of};
-ghost use Rattle.bn_entries.specs.Shifts.{is_shift, shift_text};
 ghost use Rattle.bn_table.specs.Fields.{said, err_of};
 ghost use Rattle.bn_table.specs.Faults.{entry_fault, field_fault};
 

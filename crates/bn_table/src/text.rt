@@ -5,7 +5,6 @@ ghost use Rattle.bn_entries.specs.Entries.{entries_of};
 ghost use Rattle.bn_entries.specs.Lines.{is_plain_entry, line_of, lines_of};
 ghost use Rattle.bn_machine.specs.Machine.{IsInRange};
 ghost use Rattle.bn_table.specs.Entry.{HasForms, entry_of, said};
-ghost use Rattle.bn_entries.specs.Shifts.{shift_text};
 ghost use Rattle.bn_table.specs.Faults.{fault_of};
 ghost use Rattle.bn_table.specs.Reading.{Reads};
 ghost use Rattle.bn_table.specs.Rows.{IsTable, rows_of, said_of};

@@ -6,4 +6,3 @@ pub mod CountingLemmas
 pub mod SituationLemmas
 pub mod AlikeLemmas
 pub mod TableLemmas
-pub mod MemberLemmas

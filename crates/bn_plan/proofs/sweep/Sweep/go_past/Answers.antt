@@ -1,19 +1,19 @@
 use Rattle.std.proofs.Common.{◌+◌, subst, sym, arith}
 use Rattle.std.proofs.lemmas.Result.{on_ok_weaker}
-use Rattle.bn_plan.specs.declared.positions.TheConstants.{MOST_ELEMENTS}
+use Rattle.bn_plan.specs.declared.positions.TheConstants.{MOST_PLANNED}
 use Rattle.bn_plan.specs.Sweeping.{IsSwept}
 use Rattle.bn_plan.proofs.CircuitLemmas.{net_rotary, ends_near, ends_within}
 use Rattle.bn_plan.proofs.sweep.Sweep.go_past.Goals as goal
 
 pub begin-requires-clause-from : goal.begin-requires-clause-from
-begin-requires-clause-from c = (ends_near c.args.net.now c.len-count.ensures.circuit c.len-count.ensures.order MOST_ELEMENTS c.requires.few c.in-Some.wire c.in-Some.ensures.begins.0).0.element
+begin-requires-clause-from c = (ends_near c.args.net.now c.len-count.ensures.circuit c.len-count.ensures.order MOST_PLANNED c.requires.few c.in-Some.wire c.in-Some.ensures.begins.0).0.element
 
 pub begin-requires-clause-to : goal.begin-requires-clause-to
-begin-requires-clause-to c = (ends_near c.args.net.now c.len-count.ensures.circuit c.len-count.ensures.order MOST_ELEMENTS c.requires.few c.in-Some.wire c.in-Some.ensures.begins.0).1.element
+begin-requires-clause-to c = (ends_near c.args.net.now c.len-count.ensures.circuit c.len-count.ensures.order MOST_PLANNED c.requires.few c.in-Some.wire c.in-Some.ensures.begins.0).1.element
 
 pub begin-requires-clause-lines : goal.begin-requires-clause-lines
 begin-requires-clause-lines c =
-    let near = ends_near c.args.net.now c.len-count.ensures.circuit c.len-count.ensures.order MOST_ELEMENTS c.requires.few c.in-Some.wire c.in-Some.ensures.begins.0 in
+    let near = ends_near c.args.net.now c.len-count.ensures.circuit c.len-count.ensures.order MOST_PLANNED c.requires.few c.in-Some.wire c.in-Some.ensures.begins.0 in
     record { from = near.0.line; to = near.1.line }
 
 pub begin-requires-clause-position : goal.begin-requires-clause-position
