@@ -13,6 +13,7 @@ import tempfile
 
 TOP = os.path.dirname(os.path.dirname(os.path.abspath(__file__)))
 RING = 1048576
+RING_IN_TWO = 4194304
 
 
 def one_element():
@@ -20,13 +21,13 @@ def one_element():
     return b"rotary 1\nelements 1\nstart 0.e\nend 0.w\nsteps 0\nat 0.n\ne 0 V - - 0.n -\n"
 
 
-def ring(order):
-    """A ring of elements with upright bars, visited in this order by their north lines."""
+def ring(order, version=1):
+    """A ring of elements with upright bars, visited in this order by their north lines, as a text of this version."""
     count = len(order)
     target = [0] * count
     for place, element in enumerate(order):
         target[element] = order[(place + 1) % count]
-    lines = ["rotary 1", f"elements {count}", "start 0.e", "end 0.w", "steps 0", f"at {order[0]}.n"]
+    lines = [f"rotary {version}", f"elements {count}", "start 0.e", "end 0.w", "steps 0", f"at {order[0]}.n"]
     lines += [f"e {element} V - - {target[element]}.n -" for element in range(count)]
     return ("\n".join(lines) + "\n").encode()
 
@@ -62,7 +63,7 @@ def time_bank(program):
     moves.append((1024, 1023, 1024, 1023))
     table = "".join(f"{q},{i},{to},{out}\n" for q, i, to, out in moves).encode()
     seconds, memory, text = timed(program, ["realise", "1", "1"], table)
-    assert text.startswith(f"rotary 1\nelements {RING}\n".encode())
+    assert text.startswith(f"rotary 2\nelements {RING}\n".encode())
     print(f"bank of {RING} elements, realise: {seconds:.2f} s, peak {memory / RING:.0f} bytes an element")
 
 

@@ -3,7 +3,7 @@ import random
 
 from workbench_text import SIDES, Line, read_configuration
 
-# The bank of examples/two-moves.csv in state 1 with the signal at line 1, as `realise 1 1` prints it.
+# The bank of examples/two-moves.csv in state 1 with the signal at line 1, in version 1.
 BANK = """rotary 1
 elements 6
 start 0.w
@@ -16,6 +16,21 @@ e 2 H 1.s - 2.s 0.n
 e 3 V 5.e - 4.n -
 e 4 V 3.s - 5.n 0.e
 e 5 V 4.s - 5.s 3.n
+"""
+
+# The same in version 2, as `realise 1 1` prints it.
+BANK_OF_COLUMNS = """rotary 2
+elements 6
+start 0.w
+end 4.e
+steps 0
+at 0.w
+c 0 2 H
+r 3.w 4.e
+r 4.w -
+c 3 2 V
+r - -
+r - 0.e
 """
 
 

@@ -107,8 +107,20 @@ class Wires(unittest.TestCase):
 class Texts(unittest.TestCase):
     def test_faults_name_their_line(self):
         lines = samples.BANK.splitlines()
-        for number, wrong, wanted in ((1, "rotary 2", "line 1 isn't"), (3, "start 0", "line 3: '0' is no line"),
+        for number, wrong, wanted in ((1, "rotary 3", "line 1 isn't"), (3, "start 0", "line 3: '0' is no line"),
                                       (9, "e 2 X - - - -", "line 9 isn't that of element 2"), (2, "elements 7", "line 2 says 7")):
+            text = "\n".join([*lines[:number - 1], wrong, *lines[number:]]) + "\n"
+            with self.assertRaisesRegex(Fault, wanted):
+                read_configuration(text, "it")
+
+    def test_both_versions_spell_one_configuration(self):
+        one, two = read_configuration(samples.BANK), read_configuration(samples.BANK_OF_COLUMNS)
+        self.assertEqual((one.bars, one.targets, one.place_text), (two.bars, two.targets, two.place_text))
+
+    def test_faults_of_columns_name_their_line(self):
+        lines = samples.BANK_OF_COLUMNS.splitlines()
+        for number, wrong, wanted in ((7, "c 1 2 H", "line 7 isn't that of a column from element 0 on"),
+                                      (9, "r 4.w", "line 9 isn't that of a row"), (10, "e 3 V - - -", "line 10 isn't")):
             text = "\n".join([*lines[:number - 1], wrong, *lines[number:]]) + "\n"
             with self.assertRaisesRegex(Fault, wanted):
                 read_configuration(text, "it")

@@ -49,7 +49,7 @@ def parser_of(description, **more):
     """An argument parser with the option of every tool that runs the program."""
     parser = plain_parser_of(description, **more)
     parser.add_argument("--program", metavar="PATH", default=WORKBENCH,
-                        help="the program to run; without it, ./workbench at the top of the repository")
+                        help="the program to run; without it, the proved one, which ./workbench builds where it must")
     return parser
 
 
@@ -85,6 +85,15 @@ def name_of(path):
     return "standard input" if path == "-" else path
 
 
+def program_behind(path):
+    """The program itself in place of the script ./workbench, where it is proved and as new as its sources: a picture of
+    many frames then waits for one look at the sources, and not for one a frame."""
+    if path != WORKBENCH:
+        return path
+    found = subprocess.run([os.path.join(TOP, "tools", "program")], stdout=subprocess.PIPE, text=True)
+    return found.stdout.strip() or path
+
+
 class Program:
     """The program, by its path."""
 
@@ -93,6 +102,7 @@ class Program:
 
     def run(self, words, data, statuses=(0,)):
         """The text that one run prints. A refusal, or a status that isn't wanted, is a fault."""
+        self.path = program_behind(self.path)
         try:
             ran = subprocess.run([self.path, *words], input=data, stdout=subprocess.PIPE)
         except OSError as error:
@@ -178,7 +188,7 @@ def line_of(word, place):
 
 def head_of(lines, where):
     """The first six text lines of a configuration text, without its element lines."""
-    patterns = [r"rotary (1)", r"elements ([1-9][0-9]*)", r"start (\S+)", r"end (\S+)", r"steps (\d+)", r"(at|left) (\S+)"]
+    patterns = [r"rotary ([12])", r"elements ([1-9][0-9]*)", r"start (\S+)", r"end (\S+)", r"steps (\d+)", r"(at|left) (\S+)"]
     found = []
     for number, pattern in enumerate(patterns, 1):
         match = re.fullmatch(pattern, lines[number - 1]) if number <= len(lines) else None
@@ -188,20 +198,63 @@ def head_of(lines, where):
     return found
 
 
-def read_configuration(text, where="standard input"):
-    """The configuration that a text spells."""
-    lines = text.split("\n")[:-1]
-    _, count, start, end, steps, place = head_of(lines, where)
-    if len(lines) != 6 + int(count[1]):
-        raise Fault(f"{where}: {len(lines) - 6} element lines, and line 2 says {count[1]}")
+def inner_targets(top, rows):
+    """Where the outputs of a column's elements lead by the column's own wires, from the top row to the bottom."""
+    bottom = top + rows
+    targets = [[Line(top + row - 1, "s"), None, Line(top + row + 1, "n"), None] for row in range(rows)]
+    targets[0][0] = Line(bottom, "e")
+    return [*targets, [Line(bottom - 1, "s"), None, Line(bottom, "s"), Line(top, "n")]]
+
+
+def target_of(word, place):
+    """The input line that a word of an entry names, or None for a dash."""
+    return None if word == "-" else line_of(word, place)
+
+
+def column_of(lines, number, top, where):
+    """The bars and the targets of a column whose entry begins behind so many text lines, its top row this element."""
+    at = f"{where}: line {number + 1}"
+    words = lines[number].split(" ")
+    if len(words) != 4 or words[1] != str(top) or not re.fullmatch(r"[1-9][0-9]*", words[2]) or words[3] not in ("H", "V"):
+        raise Fault(f"{at} isn't that of a column from element {top} on")
+    rows = int(words[2])
+    targets = inner_targets(top, rows)
+    for row in range(rows):
+        at = f"{where}: line {number + row + 2}"
+        words_of_row = lines[number + row + 1].split(" ") if number + row + 1 < len(lines) else []
+        if len(words_of_row) != 3 or words_of_row[0] != "r":
+            raise Fault(f"{at} isn't that of a row")
+        targets[row][1] = target_of(words_of_row[1], at)
+        targets[row][3] = target_of(words_of_row[2], at)
+    return ["V"] * rows + [words[3]], targets
+
+
+def entries_of(lines, version, where):
+    """The bars and the targets that the text lines behind the first six say. Each of them names one element."""
     bars, targets = [], []
-    for number, line in enumerate(lines[6:]):
-        words = line.split(" ")
-        at = f"{where}: line {number + 7}"
-        if len(words) != 7 or words[:2] != ["e", str(number)] or words[2] not in ("H", "V"):
-            raise Fault(f"{at} isn't that of element {number}")
+    while 6 + len(bars) < len(lines):
+        number, element = 6 + len(bars), len(bars)
+        words = lines[number].split(" ")
+        if version == "2" and words[0] == "c":
+            more_bars, more_targets = column_of(lines, number, element, where)
+            bars += more_bars
+            targets += more_targets
+            continue
+        at = f"{where}: line {number + 1}"
+        if len(words) != 7 or words[:2] != ["e", str(element)] or words[2] not in ("H", "V"):
+            raise Fault(f"{at} isn't that of element {element}")
         bars.append(words[2])
-        targets.append([None if word == "-" else line_of(word, at) for word in words[3:]])
+        targets.append([target_of(word, at) for word in words[3:]])
+    return bars, targets
+
+
+def read_configuration(text, where="standard input"):
+    """The configuration that a text of either version spells."""
+    lines = text.split("\n")[:-1]
+    version, count, start, end, steps, place = head_of(lines, where)
+    if len(lines) != 6 + int(count[1]):
+        raise Fault(f"{where}: {len(lines) - 6} text lines of elements, and line 2 says {count[1]}")
+    bars, targets = entries_of(lines, version[1], where)
     return Configuration(line_of(start[1], f"{where}: line 3"), line_of(end[1], f"{where}: line 4"), int(steps[1]),
                          place[1] == "left", line_of(place[2], f"{where}: line 6"), bars, targets)
 
@@ -220,26 +273,21 @@ class Frame:
         return f"{'left' if self.has_left else 'at'} {self.place}"
 
 
-def frame_of(lines, before, where):
-    """The frame that a text's lines spell, with the elements whose bars differ from the lines before."""
-    _, _, _, _, steps, place = head_of(lines, where)
-    changed = []
-    for number, (old, new) in enumerate(zip(before[6:], lines[6:])):
-        if old != new:
-            changed.append((number, new.split(" ")[2]))
-    return Frame(int(steps[1]), place[1] == "left", line_of(place[2], f"{where}: line 6"), changed)
+def frame_of(configuration, before):
+    """The frame of a configuration, with the elements whose bars differ from those before."""
+    changed = [(number, new) for number, (old, new) in enumerate(zip(before.bars, configuration.bars)) if old != new]
+    return Frame(configuration.steps, configuration.has_left, configuration.place, changed)
 
 
 def frames_of(program, data, greatest):
     """The first configuration and the frames of a run: `step 0`, then `step 1` again and again, at most so often."""
     text = program.run(["step", "0"], data)
     first = read_configuration(text, "what step 0 prints")
-    lines = text.split("\n")
-    frames = [frame_of(lines, lines, "what step 0 prints")]
+    now, frames = first, [frame_of(first, first)]
     while len(frames) <= greatest and not frames[-1].has_left:
         text = program.run(["step", "1"], text.encode())
-        before, lines = lines, text.split("\n")
-        frames.append(frame_of(lines, before, "what step 1 prints"))
+        before, now = now, read_configuration(text, "what step 1 prints")
+        frames.append(frame_of(now, before))
     return first, frames
 
 

@@ -1,13 +1,13 @@
 -- Wires that are apart have no fault in a net of any tables.
 use Rattle.std.specs.Prelude.{◌≡◌, ℕ, true, List, Some, slice_get, refl}
 use Rattle.std.proofs.lemmas.Bool.{lt-ltb}
-use Rattle.bn_theory.specs.Tables.{Table}
-use Rattle.bn_theory.specs.Circuits.{inputs_of, outputs_of, IsInput, IsOutput}
-use Rattle.bn_theory.specs.declared.line.Line.{Line}
-use Rattle.bn_theory.specs.declared.line.Wire.{Wire}
+use Rattle.bn_element.specs.Tables.{Table}
+use Rattle.bn_circuits.specs.Circuits.{inputs_of, outputs_of, IsInputOf, IsOutputOf}
+use Rattle.bn_circuits.specs.declared.line.Line.{Line}
+use Rattle.bn_circuits.specs.declared.line.Wire.{Wire}
 use Rattle.bn_net.specs.Faults.{AreFaultless, is_within}
-use Rattle.bn_column.specs.Wirings.{AreApart, AreWiresOf}
-use Rattle.bn_column.proofs.WiringsLemmas.{apart-wire, earlier_target, earlier_source}
+use Rattle.bn_net.specs.Wirings.{AreApart, AreWiresOf}
+use Rattle.bn_net.proofs.WiringsLemmas.{apart-wire, earlier_target, earlier_source}
 
 -- whatever the elements
 pub apart-faultless : (ts : List Table) (ws : List Wire) → AreApart ws → ((n : ℕ) (w : Wire) → slice_get ws n ≡ Some w → is_within ts w ≡ true) → AreFaultless ts ws
@@ -15,7 +15,7 @@ apart-faultless ts ws apart within n below w h = rw (within n w h, earlier_targe
 
 -- wires of a relation that leads from output lines to input lines
 pub wires-faultless : (ts : List Table) (Leads : Line → Line → Type 0) (ws : List Wire) → AreWiresOf Leads ws
-    → ((from to : Line) → Leads from to → IsOutput ts from × IsInput ts to) → AreFaultless ts ws
+    → ((from to : Line) → Leads from to → IsOutputOf ts from × IsInputOf ts to) → AreFaultless ts ws
 wires-faultless ts Leads ws are wired =
     apart-faultless ts ws are.apart (λ n w h.
     let lines = wired w.from w.to (are.sound w.from w.to (apart-wire ws n w are.apart h)) in

@@ -3,19 +3,19 @@ use Rattle.std.specs.Prelude.{◌≡◌, ℕ, ◌+◌, ◌<◌, ◌≤◌, List,
 use Rattle.std.proofs.Common.{zero, suc, arith, sym, ap, subst, ◌∙◌, length-append}
 use Rattle.std.proofs.lemmas.List.{map-append}
 use Rattle.std.proofs.lemmas.List.Elements.{All-head, All-tail}
-use Rattle.bn_theory.specs.Circuits.{target, IsCircuit}
-use Rattle.bn_theory.specs.declared.line.Line.{Line}
-use Rattle.bn_theory.specs.declared.line.Wire.{Wire}
-use Rattle.bn_theory.specs.declared.config.Config.{Config}
-use Rattle.bn_theory.specs.declared.place.Place.TheVariants.{Enter}
+use Rattle.bn_circuits.specs.Circuits.{target, IsCircuit}
+use Rattle.bn_circuits.specs.declared.line.Line.{Line}
+use Rattle.bn_circuits.specs.declared.line.Wire.{Wire}
+use Rattle.bn_circuits.specs.declared.config.Config.{Config}
+use Rattle.bn_circuits.specs.declared.place.Place.TheVariants.{Enter}
 use Rattle.bn_net.specs.Parts.{Parts, circuit}
 use Rattle.bn_rsm.specs.Machines.{machine_table}
-use Rattle.bn_column.specs.Wirings.{AreWiresOf}
+use Rattle.bn_net.specs.Wirings.{AreWiresOf}
 use Rattle.bn_machine.specs.Outcome.{Limits}
 use Rattle.bn_quad.specs.Quadruples.{Quadruples}
-use Rattle.bn_modules.specs.Cells.{cell_table}
-use Rattle.bn_modules.specs.Controls.{ControlState, letters}
-use Rattle.bn_modules.specs.Networks.{IsTape, IsNetWire, module_tables, cells_in, first_cell, network_start, elements_by}
+use Rattle.bn_network.specs.Cells.{cell_table}
+use Rattle.bn_network.specs.Controls.{ControlState, symbol_count}
+use Rattle.bn_network.specs.Networks.{IsTape, IsNetWire, module_tables, cells_in, first_cell, network_start, elements_by}
 use Rattle.bn_cell.specs.declared.table.CellTable.{CellTable}
 use Rattle.bn_control.specs.Controlled.{Controlled, IsControlOf}
 use Rattle.bn_assembly.specs.WireLists.{network_wires}
@@ -91,14 +91,14 @@ module _ (m : Quadruples) (l : Limits) (v : Controlled) (items : List Module) (a
       ∙ ap (λ ts. ts ++ map module_table are.second.row ++ map module_table are.third.row) (ap (map module_table) one_is ∙ map-append module_table (Control v ∷ []) are.first.row)
       ∙ (λ i. machine_table v.machine ∷ first i ++ second i ++ third i)
     where
-      first : map module_table are.first.row ≡ replicate (cells_in l 1) (cell_table (letters m 1))
-      first = row_tables (letters m 1) (cells_in l 1) are.first.row are.first.count are.first.cells
+      first : map module_table are.first.row ≡ replicate (cells_in l 1) (cell_table (symbol_count m 1))
+      first = row_tables (symbol_count m 1) (cells_in l 1) are.first.row are.first.count are.first.cells
 
-      second : map module_table are.second.row ≡ replicate (cells_in l 2) (cell_table (letters m 2))
-      second = row_tables (letters m 2) (cells_in l 2) are.second.row are.second.count are.second.cells
+      second : map module_table are.second.row ≡ replicate (cells_in l 2) (cell_table (symbol_count m 2))
+      second = row_tables (symbol_count m 2) (cells_in l 2) are.second.row are.second.count are.second.cells
 
-      third : map module_table are.third.row ≡ replicate (cells_in l 3) (cell_table (letters m 3))
-      third = row_tables (letters m 3) (cells_in l 3) are.third.row are.third.count are.third.cells
+      third : map module_table are.third.row ≡ replicate (cells_in l 3) (cell_table (symbol_count m 3))
+      third = row_tables (symbol_count m 3) (cells_in l 3) are.third.row are.third.count are.third.cells
 
   -- the control, and each cell
   pub control_is : slice_get items 0 ≡ Some (Control v)
@@ -108,10 +108,10 @@ module _ (m : Quadruples) (l : Limits) (v : Controlled) (items : List Module) (a
       ∙ ap (λ xs. slice_get xs 0) two_is ∙ get_left are.one are.second.row 0 (omega arith)
       ∙ ap (λ xs. slice_get xs 0) one_is
 
-  found : (t : ℕ) (o : Option Module) (p : Option Module) → o ≡ p → IsCellAt (letters m t) p → (c : CellTable) × (o ≡ Some (Cell c)) × (c.symbols ≡ letters m t)
+  found : (t : ℕ) (o : Option Module) (p : Option Module) → o ≡ p → IsCellAt (symbol_count m t) p → (c : CellTable) × (o ≡ Some (Cell c)) × (c.symbols ≡ symbol_count m t)
   found t o p same at = (at.cell, same ∙ at.is, at.symbols)
 
-  pub cells_are : (t p : ℕ) → IsTape t → p < cells_in l t → (c : CellTable) × (slice_get items (first_cell l t + p) ≡ Some (Cell c)) × (c.symbols ≡ letters m t)
+  pub cells_are : (t p : ℕ) → IsTape t → p < cells_in l t → (c : CellTable) × (slice_get items (first_cell l t + p) ≡ Some (Cell c)) × (c.symbols ≡ symbol_count m t)
   cells_are zero p tape low = absurd (let some = tape.low in omega arith)
   cells_are (suc zero) p tape low =
       let a = one_count in let b = two_count in let n = are.first.count in
@@ -119,18 +119,18 @@ module _ (m : Quadruples) (l : Limits) (v : Controlled) (items : List Module) (a
       (ap (λ xs. slice_get xs (first_cell l 1 + p)) are.third.is ∙ get_left are.two are.third.row (first_cell l 1 + p) (omega arith)
       ∙ ap (λ xs. slice_get xs (first_cell l 1 + p)) two_is ∙ get_left are.one are.second.row (first_cell l 1 + p) (omega arith)
       ∙ ap (λ xs. slice_get xs (first_cell l 1 + p)) one_is ∙ get_right (Control v ∷ []) are.first.row p (first_cell l 1 + p) (omega arith))
-      (row_cell (letters m 1) are.first.row p (omega arith) are.first.cells)
+      (row_cell (symbol_count m 1) are.first.row p (omega arith) are.first.cells)
   cells_are (suc (suc zero)) p tape low =
       let a = one_count in let b = two_count in let n = are.second.count in
       found 2 (slice_get items (first_cell l 2 + p)) (slice_get are.second.row p)
       (ap (λ xs. slice_get xs (first_cell l 2 + p)) are.third.is ∙ get_left are.two are.third.row (first_cell l 2 + p) (omega arith)
       ∙ ap (λ xs. slice_get xs (first_cell l 2 + p)) two_is ∙ get_right are.one are.second.row p (first_cell l 2 + p) (omega arith))
-      (row_cell (letters m 2) are.second.row p (omega arith) are.second.cells)
+      (row_cell (symbol_count m 2) are.second.row p (omega arith) are.second.cells)
   cells_are (suc (suc (suc zero))) p tape low =
       let b = two_count in let n = are.third.count in
       found 3 (slice_get items (first_cell l 3 + p)) (slice_get are.third.row p)
       (ap (λ xs. slice_get xs (first_cell l 3 + p)) are.third.is ∙ get_right are.two are.third.row p (first_cell l 3 + p) (omega arith))
-      (row_cell (letters m 3) are.third.row p (omega arith) are.third.cells)
+      (row_cell (symbol_count m 3) are.third.row p (omega arith) are.third.cells)
   cells_are (suc (suc (suc (suc t)))) p tape low = absurd (let high = tape.high in omega arith)
 
 -- ---- all parts

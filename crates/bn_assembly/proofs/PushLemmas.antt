@@ -3,11 +3,11 @@ use Rattle.std.specs.Prelude.{◌≡◌, ℕ, ◌+◌, ◌-◌, ◌*◌, ◌<◌
 use Rattle.std.proofs.Common.{zero, suc, arith, sym, ap, ◌∙◌, append_assoc, add-one, suc-mul, length-append}
 use Rattle.std.proofs.lemmas.Nat.{mul-le}
 use Rattle.std.proofs.lemmas.List.{append-nil}
-use Rattle.bn_theory.specs.declared.line.Wire.{Wire}
+use Rattle.bn_circuits.specs.declared.line.Wire.{Wire}
 use Rattle.bn_machine.specs.Outcome.{Limits}
 use Rattle.bn_quad.specs.Quadruples.{Quadruples}
-use Rattle.bn_modules.specs.Controls.{letters, lines_before, control_lines}
-use Rattle.bn_modules.specs.Networks.{cells_in, first_cell, cell_size, bank_size, elements_by}
+use Rattle.bn_network.specs.Controls.{symbol_count, lines_before, control_lines}
+use Rattle.bn_network.specs.Networks.{cells_in, first_cell, cell_size, bank_size, elements_by}
 use Rattle.bn_assembly.specs.WireLists.{wire, bundle, joint, joints, tape_wires, wires_of_tape, network_wires}
 
 bundle_more : (e i f j n : ℕ) → bundle e i f j (n + 1) ≡ bundle e i f j n ++ (wire e (i + n) f (j + n) ∷ [])
@@ -73,16 +73,16 @@ some_cells : (l : Limits) → (0 < cells_in l 1) × (0 < cells_in l 2) × (0 < c
 some_cells l = (omega arith, omega arith, omega arith)
 
 -- no more than elements
-pub network_count : (m : Quadruples) (l : Limits) (states : ℕ) → 1 ≤ letters m 1 → 1 ≤ letters m 2 → 1 ≤ letters m 3 → length (network_wires m l) ≤ elements_by m l states
+pub network_count : (m : Quadruples) (l : Limits) (states : ℕ) → 1 ≤ symbol_count m 1 → 1 ≤ symbol_count m 2 → 1 ≤ symbol_count m 3 → length (network_wires m l) ≤ elements_by m l states
 network_count m l states a b c =
     let cells = some_cells l in
-    let one = tape_count (lines_before m.symbols (1 - 1)) (first_cell l 1) (cells_in l 1) (letters m 1) cells.0 a in
-    let two = tape_count (lines_before m.symbols (2 - 1)) (first_cell l 2) (cells_in l 2) (letters m 2) cells.1 b in
-    let three = tape_count (lines_before m.symbols (3 - 1)) (first_cell l 3) (cells_in l 3) (letters m 3) cells.2 c in
+    let one = tape_count (lines_before m.symbols (1 - 1)) (first_cell l 1) (cells_in l 1) (symbol_count m 1) cells.0 a in
+    let two = tape_count (lines_before m.symbols (2 - 1)) (first_cell l 2) (cells_in l 2) (symbol_count m 2) cells.1 b in
+    let three = tape_count (lines_before m.symbols (3 - 1)) (first_cell l 3) (cells_in l 3) (symbol_count m 3) cells.2 c in
     let e = length-append (wires_of_tape m l 1 ++ wires_of_tape m l 2) (wires_of_tape m l 3) in
     let f = length-append (wires_of_tape m l 1) (wires_of_tape m l 2) in
     count (length (network_wires m l)) (length (wires_of_tape m l 1 ++ wires_of_tape m l 2)) (length (wires_of_tape m l 1)) (length (wires_of_tape m l 2)) (length (wires_of_tape m l 3))
-    (cells_in l 1 * cell_size (letters m 1)) (cells_in l 2 * cell_size (letters m 2)) (cells_in l 3 * cell_size (letters m 3)) (bank_size states (control_lines m)) e f one two three
+    (cells_in l 1 * cell_size (symbol_count m 1)) (cells_in l 2 * cell_size (symbol_count m 2)) (cells_in l 3 * cell_size (symbol_count m 3)) (bank_size states (control_lines m)) e f one two three
   where
     count : (w ab x y u p q r s : ℕ) → w ≡ ab + u → ab ≡ x + y → x ≤ p → y ≤ q → u ≤ r → w ≤ s + p + q + r
     count w ab x y u p q r s e f one two three = omega arith

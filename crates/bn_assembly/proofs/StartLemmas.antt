@@ -10,8 +10,8 @@ use Rattle.std.proofs.lemmas.Bool.Decides.{Decides-int_eq}
 use Rattle.std.proofs.lemmas.List.FromFn.{map-range_with_len_more}
 use Rattle.bn_machine.specs.Tape.{word_tape, cell, letter_at}
 use Rattle.bn_machine.proofs.TapeLemmas.{cell-word}
-use Rattle.bn_modules.specs.Cells.{state_number}
-use Rattle.bn_modules.specs.Networks.{cell_of}
+use Rattle.bn_network.specs.Cells.{state_number}
+use Rattle.bn_network.specs.Networks.{cell_of}
 use Rattle.bn_assembly.specs.Starting.{start_state}
 
 at_head : (z : ℕ) (word : List ℕ) (p : ℤ) → p ≡ pos 0 → state_number z (cell_of (word_tape word) p) ≡ z

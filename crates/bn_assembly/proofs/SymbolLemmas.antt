@@ -6,16 +6,16 @@ use Rattle.bn_cell.specs.Sizes.{IsCellSize}
 use Rattle.bn_control.specs.Controlled.{Controlled, IsWithinLimits}
 use Rattle.std.proofs.Common.{zero, suc, arith, sym, ap, subst, ◌∙◌}
 use Rattle.bn_quad.specs.Quadruples.{Quadruples}
-use Rattle.bn_modules.specs.Controls.{ControlState, letters}
-use Rattle.bn_modules.specs.Networks.{IsTape, first_cell}
+use Rattle.bn_network.specs.Controls.{ControlState, symbol_count}
+use Rattle.bn_network.specs.Networks.{IsTape, first_cell}
 use Rattle.bn_cell.specs.declared.table.CellTable.{CellTable}
-use Rattle.bn_layout.proofs.AgreedLemmas.{some_cells}
+use Rattle.bn_network_laws.proofs.CarriedLemmas.{some_cells}
 use Rattle.bn_assembly.specs.Assembled.{Assembled, IsAssembled}
 use Rattle.bn_assembly.specs.declared.module.Module.TheVariants.{Control, Cell}
 
 -- the first cell of a tape has the tape's symbols
 pub first_symbols : (a : Assembled) (t e : ℕ) (c : CellTable) → IsTape t → e ≡ first_cell a.limits t → slice_get a.net.elements e ≡ Some (Cell c)
-    → (m : Quadruples) (word : List ℕ) (names : List ControlState) → IsAssembled m a.limits word names a → c.symbols ≡ letters m t
+    → (m : Quadruples) (word : List ℕ) (names : List ControlState) → IsAssembled m a.limits word names a → c.symbols ≡ symbol_count m t
 first_symbols a t e c tape first there m word names is =
     let cell = is.cells t 0 tape (some_cells a.limits t tape) in
     let place : e ≡ first_cell a.limits t + 0 = omega arith in
@@ -46,7 +46,7 @@ module _ (a : Assembled) (t e : ℕ) where
 at_place : (P : ℕ → Type 0) (zs : List ℕ) (i z : ℕ) → All P zs → slice_get zs i ≡ Some z → P z
 at_place P zs i z all at = subst P (get_or_from_slice_get zs i z 0 at) (all i 0 (slice_get_within zs i z at))
 
-pub letters_nth : (m : Quadruples) (t z : ℕ) → 1 ≤ t → nth m.symbols t ≡ Some z → z ≡ letters m t
+pub letters_nth : (m : Quadruples) (t z : ℕ) → 1 ≤ t → nth m.symbols t ≡ Some z → z ≡ symbol_count m t
 letters_nth m zero z low at = absurd (omega arith)
 letters_nth m (suc t) z low at = sym (get_or_from_slice_get m.symbols t z 0 at)
 
@@ -58,6 +58,6 @@ letters_size m (suc t) z within at = record {
 }
 
 -- each tape has a symbol
-pub some_letters : (m : Quadruples) → length m.symbols ≡ 3 → IsWithinLimits m → (t : ℕ) → IsTape t → 1 ≤ letters m t
+pub some_letters : (m : Quadruples) → length m.symbols ≡ 3 → IsWithinLimits m → (t : ℕ) → IsTape t → 1 ≤ symbol_count m t
 some_letters m three within zero tape = absurd (let low = tape.low in omega arith)
 some_letters m three within (suc t) tape = let high = tape.high in let low : t < length m.symbols = omega arith in within.some_symbols t 0 low

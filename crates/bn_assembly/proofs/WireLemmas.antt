@@ -3,17 +3,18 @@ use Rattle.std.specs.Prelude.{◌≡◌, ℕ, ◌+◌, ◌-◌, ◌<◌, ◌≤�
 use Rattle.std.proofs.Common.{zero, suc, arith, sym, ap, subst, ◌∙◌, inl, inr}
 use Rattle.std.proofs.lemmas.Bool.{cases_lt}
 use Rattle.std.proofs.lemmas.Bool.Decides.{eqb_tells}
-use Rattle.bn_theory.specs.declared.line.Line.{Line}
-use Rattle.bn_column.specs.Wirings.{AreWiresOf}
-use Rattle.bn_column.proofs.WiringsLemmas.{IsWire, no_wires, more_wire, joined_wires, same_wires}
+use Rattle.bn_circuits.specs.declared.line.Line.{Line}
+use Rattle.bn_net.specs.Wirings.{AreWiresOf}
+use Rattle.bn_net.proofs.WiringsLemmas.{IsWire, no_wires, more_wire, joined_wires, same_wires}
 use Rattle.bn_machine.specs.Outcome.{Limits}
 use Rattle.bn_quad.specs.Quadruples.{Quadruples}
-use Rattle.bn_modules.specs.declared.cell_line.CellLine.{CellLine}
-use Rattle.bn_modules.specs.declared.cell_line.CellLine.TheVariants.{Read, Write, ShiftRight, ShiftLeft, TakeRight, Answer, DoneWrite, DoneRight, DoneLeft, TakeLeft}
-use Rattle.bn_modules.specs.Cells.{IsLineOf, line_number}
-use Rattle.bn_modules.specs.Controls.{Tape as to_tape, letters, lines_before, in_number, out_number, command_offset, answer_offset}
-use Rattle.bn_modules.specs.Networks.{IsTape, IsCommand, IsReply, GoesRight, GoesLeft, IsNetWire, commands, replies, rightward, leftward, cells_in, first_cell, line_at}
-use Rattle.bn_layout.proofs.AgreedLemmas.{some_cells}
+use Rattle.bn_network.specs.declared.cell_line.CellLine.{CellLine}
+use Rattle.bn_network.specs.declared.cell_line.CellLine.TheVariants.{Read, Write, ShiftRight, ShiftLeft, TakeRight, Answer, DoneWrite, DoneRight, DoneLeft, TakeLeft}
+use Rattle.bn_network.specs.Cells.{IsLineOf, line_number}
+use Rattle.bn_network.specs.Controls.{Tape as to_tape, symbol_count, lines_before, in_number, out_number, command_offset, answer_offset}
+use Rattle.bn_network.specs.Networks.{IsTape, IsCommand, IsReply, GoesRight, GoesLeft, IsNetWire, commands, replies, rightward, leftward, cells_in, first_cell}
+use Rattle.bn_circuits.specs.Circuits.{line_at}
+use Rattle.bn_network_laws.proofs.CarriedLemmas.{some_cells}
 use Rattle.bn_assembly.specs.WireLists.{wire, bundle, joint, joints, tape_wires, wires_of_tape, network_wires}
 
 -- ---- bundles
@@ -258,7 +259,7 @@ reply_low z _ h v = absurd h
 
 module _ (m : Quadruples) (l : Limits) (t : ℕ) (tape : IsTape t) where
   abbrev z : ℕ
-  z = letters m t
+  z = symbol_count m t
 
   abbrev b : ℕ
   b = lines_before m.symbols (t - 1)
@@ -341,13 +342,13 @@ module _ (m : Quadruples) (l : Limits) (t : ℕ) (tape : IsTape t) where
 
 module _ (m : Quadruples) (l : Limits) (three : length m.symbols ≡ 3) where
   abbrev OfTape : ℕ → Line → Line → Type 0
-  OfTape t = IsTaped (lines_before m.symbols (t - 1)) (first_cell l t) (cells_in l t) (letters m t)
+  OfTape t = IsTaped (lines_before m.symbols (t - 1)) (first_cell l t) (cells_in l t) (symbol_count m t)
 
   abbrev OfAny : Line → Line → Type 0
   OfAny from to = (OfTape 1 from to ⊎ OfTape 2 from to) ⊎ OfTape 3 from to
 
   abbrev InTape : ℕ → Line → Type 0
-  InTape t = IsOfTape (lines_before m.symbols (t - 1)) (first_cell l t) (cells_in l t) (letters m t)
+  InTape t = IsOfTape (lines_before m.symbols (t - 1)) (first_cell l t) (cells_in l t) (symbol_count m t)
 
   tape_one : IsTape 1
   tape_one = record { low = omega arith; high = omega arith }
@@ -394,25 +395,25 @@ module _ (m : Quadruples) (l : Limits) (three : length m.symbols ≡ 3) where
       forth back
     where
       are : (t : ℕ) → IsTape t → 0 < first_cell l t → AreWiresOf (OfTape t) (wires_of_tape m l t)
-      are t tape some = tape_wires-are (lines_before m.symbols (t - 1)) (first_cell l t) (cells_in l t) (letters m t) some (some_cells l t tape)
+      are t tape some = tape_wires-are (lines_before m.symbols (t - 1)) (first_cell l t) (cells_in l t) (symbol_count m t) some (some_cells l t tape)
 
       leaves : (t : ℕ) → IsTape t → 0 < first_cell l t → (from to : Line) → OfTape t from to → InTape t from
-      leaves t tape some = leaves_tape (lines_before m.symbols (t - 1)) (first_cell l t) (cells_in l t) (letters m t) some (some_cells l t tape)
+      leaves t tape some = leaves_tape (lines_before m.symbols (t - 1)) (first_cell l t) (cells_in l t) (symbol_count m t) some (some_cells l t tape)
 
       ends : (t : ℕ) → IsTape t → 0 < first_cell l t → (from to : Line) → OfTape t from to → InTape t to
-      ends t tape some = ends_tape (lines_before m.symbols (t - 1)) (first_cell l t) (cells_in l t) (letters m t) some (some_cells l t tape)
+      ends t tape some = ends_tape (lines_before m.symbols (t - 1)) (first_cell l t) (cells_in l t) (symbol_count m t) some (some_cells l t tape)
 
       lines : HasLines m.symbols
       lines = has_lines m.symbols three
 
       one_two : (x : Line) → InTape 1 x → InTape 2 x → ⊥
-      one_two x = let second = lines.second in tapes_apart (lines_before m.symbols 0) (first_cell l 1) (cells_in l 1) (letters m 1) (lines_before m.symbols 1) (first_cell l 2) (cells_in l 2) (letters m 2) x (omega arith) (omega arith) (omega arith) (omega arith)
+      one_two x = let second = lines.second in tapes_apart (lines_before m.symbols 0) (first_cell l 1) (cells_in l 1) (symbol_count m 1) (lines_before m.symbols 1) (first_cell l 2) (cells_in l 2) (symbol_count m 2) x (omega arith) (omega arith) (omega arith) (omega arith)
 
       two_three : (x : Line) → InTape 2 x → InTape 3 x → ⊥
-      two_three x = let third = lines.third in tapes_apart (lines_before m.symbols 1) (first_cell l 2) (cells_in l 2) (letters m 2) (lines_before m.symbols 2) (first_cell l 3) (cells_in l 3) (letters m 3) x (omega arith) (omega arith) (omega arith) (omega arith)
+      two_three x = let third = lines.third in tapes_apart (lines_before m.symbols 1) (first_cell l 2) (cells_in l 2) (symbol_count m 2) (lines_before m.symbols 2) (first_cell l 3) (cells_in l 3) (symbol_count m 3) x (omega arith) (omega arith) (omega arith) (omega arith)
 
       one_three : (x : Line) → InTape 1 x → InTape 3 x → ⊥
-      one_three x = let second = lines.second in let third = lines.third in tapes_apart (lines_before m.symbols 0) (first_cell l 1) (cells_in l 1) (letters m 1) (lines_before m.symbols 2) (first_cell l 3) (cells_in l 3) (letters m 3) x (omega arith) (omega arith) (omega arith) (omega arith)
+      one_three x = let second = lines.second in let third = lines.third in tapes_apart (lines_before m.symbols 0) (first_cell l 1) (cells_in l 1) (symbol_count m 1) (lines_before m.symbols 2) (first_cell l 3) (cells_in l 3) (symbol_count m 3) x (omega arith) (omega arith) (omega arith) (omega arith)
 
       forth : (from to : Line) → OfAny from to → IsNetWire m l from to
       forth from to (inl (inl h)) = taped_wire m l 1 tape_one from to h

@@ -1,14 +1,14 @@
 -- A network of the control and the tape cells, assembled for a machine, a window and a word.
 use Rattle.std.specs.Prelude.{◌≡◌, ℕ, ◌+◌, ◌<◌, ◌≤◌, List, All, length, Some, slice_get, refl}
-use Rattle.bn_theory.specs.Circuits.{Circuit}
-use Rattle.bn_theory.specs.Situations.{counted}
-use Rattle.bn_theory.specs.declared.config.Config.{Config}
+use Rattle.bn_circuits.specs.Circuits.{Circuit}
+use Rattle.bn_circuits.specs.Situations.{counted}
+use Rattle.bn_circuits.specs.declared.config.Config.{Config}
 use Rattle.bn_net.specs.Parts.{Parts, circuit}
 use Rattle.bn_machine.specs.Outcome.{Limits}
 use Rattle.bn_quad.specs.Quadruples.{Quadruples, IsQuadMachine}
 use Rattle.bn_quad.specs.Calls.{IsUniformMachine}
-use Rattle.bn_modules.specs.Controls.{ControlState, IsNumbering, letters}
-use Rattle.bn_modules.specs.Networks.{IsNetwork, IsTape, cells_in, first_cell, network_start, elements_by}
+use Rattle.bn_network.specs.Controls.{ControlState, IsNumbering, symbol_count}
+use Rattle.bn_network.specs.Networks.{IsNetwork, IsTape, cells_in, first_cell, network_start, elements_by}
 use Rattle.bn_cell.specs.declared.table.CellTable.{CellTable}
 use Rattle.bn_control.specs.Controlled.{Controlled, IsControlOf, IsWithinLimits}
 use Rattle.std.specs.Coded.{Coded, coded×, code_by}
@@ -56,7 +56,8 @@ pub record IsAssembled (m : Quadruples) (l : Limits) (word : List ℕ) (names : 
   pub first : slice_get a.net.elements 0 ≡ Some (Control control)
   pub is_control : IsControlOf m names control
   pub cells : (t p : ℕ) → IsTape t → p < cells_in l t
-      → (c : CellTable) × (slice_get a.net.elements (first_cell l t + p) ≡ Some (Cell c)) × (c.symbols ≡ letters m t)
+      → (c : CellTable) × (slice_get a.net.elements (first_cell l t + p) ≡ Some (Cell c))
+      × (c.symbols ≡ symbol_count m t)
   pub network : IsNetwork m l names (network_of a)
   pub few : elements_by m l (length names) ≤ MOST_ELEMENTS
   pub config : a.config ≡ counted (network_start m l word) 0
@@ -64,7 +65,7 @@ pub record IsAssembled (m : Quadruples) (l : Limits) (word : List ℕ) (names : 
 
 -- the word's symbols are tape 1's, and none is blank
 abbrev pub IsWordOf : Quadruples → List ℕ → Type 0
-IsWordOf m word = All (λ s. (0 < s) × (s < letters m 1)) word
+IsWordOf m word = All (λ s. (0 < s) × (s < symbol_count m 1)) word
 
 -- What every assembly keeps: there is a machine with its control's states in order and a word for which it is
 -- assembled.

@@ -3,10 +3,10 @@
 use Rattle.std.specs.Prelude.{◌≡◌, ◌⊎◌, ℕ, List, refl}
 use Rattle.std.specs.Coded.{Coded, coded_ℕ, coded_list, coded×, coded⊎, code_by}
 use Rattle.std.proofs.Common.{inl, inr}
-use Rattle.bn_theory.specs.declared.line.Wire.{Wire}
-use Rattle.bn_theory.specs.declared.place.Place.{Place}
-use Rattle.bn_theory.specs.declared.place.Place.TheVariants.{Enter, Left}
-use Rattle.bn_theory.specs.declared.config.Config.{Config}
+use Rattle.bn_circuits.specs.declared.line.Wire.{Wire}
+use Rattle.bn_circuits.specs.declared.place.Place.{Place}
+use Rattle.bn_circuits.specs.declared.place.Place.TheVariants.{Enter, Left}
+use Rattle.bn_circuits.specs.declared.config.Config.{Config}
 use Rattle.bn_net.specs.Parts.{Parts}
 use Rattle.bn_machine.specs.Outcome.{Limits}
 use Rattle.bn_cell.specs.declared.table.CellTable.{CellTable}

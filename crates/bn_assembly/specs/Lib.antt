@@ -5,3 +5,4 @@ pub mod WireLists
 pub mod Starting
 pub mod Rows
 pub mod Assembled
+pub mod Widening

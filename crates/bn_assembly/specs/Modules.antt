@@ -1,7 +1,7 @@
 -- The modules of a network as elements: the control or a tape cell.
-use Rattle.bn_theory.specs.Tables.{Table}
+use Rattle.bn_element.specs.Tables.{Table}
 use Rattle.bn_rsm.specs.Machines.{machine_table}
-use Rattle.bn_modules.specs.Cells.{cell_table}
+use Rattle.bn_network.specs.Cells.{cell_table}
 use Rattle.bn_assembly.specs.declared.module.Module.{Module}
 use Rattle.bn_assembly.specs.declared.module.Module.TheVariants.{Control, Cell}
 

@@ -1,5 +1,5 @@
 -- That each module's table is reversible, which each element hands to the trait.
-use Rattle.bn_theory.specs.Tables.{IsReversible}
+use Rattle.bn_element.specs.Tables.{IsReversible}
 use Rattle.bn_rsm.specs.Machines.{machine_table-IsReversible}
 use Rattle.bn_cell.specs.Reversible.{cells-reversible}
 use Rattle.bn_assembly.specs.Modules.{module_table}

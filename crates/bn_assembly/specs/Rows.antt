@@ -2,8 +2,8 @@
 use Rattle.std.specs.Prelude.{◌≡◌, ℕ, List, [], ◌∷◌, ◌++◌, All, length}
 use Rattle.bn_machine.specs.Outcome.{Limits}
 use Rattle.bn_quad.specs.Quadruples.{Quadruples}
-use Rattle.bn_modules.specs.Controls.{letters}
-use Rattle.bn_modules.specs.Networks.{cells_in}
+use Rattle.bn_network.specs.Controls.{symbol_count}
+use Rattle.bn_network.specs.Networks.{cells_in}
 use Rattle.bn_control.specs.Controlled.{Controlled}
 use Rattle.bn_assembly.specs.declared.module.Module.{Module}
 use Rattle.bn_assembly.specs.declared.module.Module.TheVariants.{Control, Cell}
@@ -24,6 +24,6 @@ pub record IsRow (old : List Module) (z n : ℕ) (new : List Module) : Type 0 wh
 pub record AreModules (m : Quadruples) (l : Limits) (v : Controlled) (modules : List Module) : Type 0 where
   pub one : List Module
   pub two : List Module
-  pub first : IsRow (Control v ∷ []) (letters m 1) (cells_in l 1) one
-  pub second : IsRow one (letters m 2) (cells_in l 2) two
-  pub third : IsRow two (letters m 3) (cells_in l 3) modules
+  pub first : IsRow (Control v ∷ []) (symbol_count m 1) (cells_in l 1) one
+  pub second : IsRow one (symbol_count m 2) (cells_in l 2) two
+  pub third : IsRow two (symbol_count m 3) (cells_in l 3) modules

@@ -1,11 +1,11 @@
 -- The wires of a network as lists, tape by tape: the words in which the functions that push them are said.
 use Rattle.std.specs.Prelude.{ℕ, ◌+◌, ◌-◌, List, [], ◌∷◌, ◌++◌}
 use Rattle.std.proofs.Common.{zero, suc}
-use Rattle.bn_theory.specs.declared.line.Wire.{Wire}
+use Rattle.bn_circuits.specs.declared.line.Wire.{Wire}
 use Rattle.bn_machine.specs.Outcome.{Limits}
 use Rattle.bn_quad.specs.Quadruples.{Quadruples}
-use Rattle.bn_modules.specs.Controls.{letters, lines_before}
-use Rattle.bn_modules.specs.Networks.{cells_in, first_cell}
+use Rattle.bn_network.specs.Controls.{symbol_count, lines_before}
+use Rattle.bn_network.specs.Networks.{cells_in, first_cell}
 
 abbrev pub wire : ℕ → ℕ → ℕ → ℕ → Wire
 wire e i f j = record { from = record { element = e; line = i }; to = record { element = f; line = j } }
@@ -29,7 +29,7 @@ abbrev pub tape_wires : ℕ → ℕ → ℕ → ℕ → List Wire
 tape_wires b f n z = (bundle 0 b f 0 (z + 3) ++ bundle f (z + 4) 0 b (z + 3)) ++ joints f z (n - 1)
 
 abbrev pub wires_of_tape : Quadruples → Limits → ℕ → List Wire
-wires_of_tape m l t = tape_wires (lines_before m.symbols (t - 1)) (first_cell l t) (cells_in l t) (letters m t)
+wires_of_tape m l t = tape_wires (lines_before m.symbols (t - 1)) (first_cell l t) (cells_in l t) (symbol_count m t)
 
 -- all of them
 abbrev pub network_wires : Quadruples → Limits → List Wire

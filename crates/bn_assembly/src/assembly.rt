@@ -30,7 +30,7 @@ impl Model for Assembly {
 impl Assembly {
     ghost use Rattle.std.specs.Prelude.{◌≡◌, ℕ, ◌≤◌, List};
     ghost use Rattle.bn_quad.specs.Quadruples.{Quadruples};
-    ghost use Rattle.bn_modules.specs.Controls.{ControlState, letters};
+    ghost use Rattle.bn_network.specs.Controls.{ControlState, symbol_count};
     ghost use Rattle.bn_assembly.specs.Assembled.{IsKept, IsAssembled, limits_of};
 
     // The network with these parts.
@@ -75,7 +75,7 @@ impl Assembly {
         requires first { 1 ≤ tape }
         requires last { tape ≤ 3 }
         ensures { (m : Quadruples) (word : List ℕ) (names : List ControlState)
-            → IsAssembled m self.now.limits word names self.now → result ≡ letters m tape }
+            → IsAssembled m self.now.limits word names self.now → result ≡ symbol_count m tape }
     {
         match self.net.element(self.windows.first_cell(tape)) {
             Module::Control(_) => 0,

@@ -7,6 +7,7 @@ mod module;
 mod modules;
 mod refusal;
 mod start;
+mod widening;
 mod windows;
 mod wires;
 
@@ -14,6 +15,7 @@ pub use assembly::Assembly;
 pub use make::{assemble, element_count};
 pub use module::Module;
 pub use refusal::AssembleRefusal;
+pub use widening::{first_windows, widen};
 pub use windows::Windows;
 
 #[cfg(test)]

@@ -2,8 +2,8 @@
 ghost use Rattle.std.specs.Prelude.{◌≡◌, ℕ, ◌*◌, ◌^◌, ◌<◌, ◌≤◌, List, IfOk, IfErr, length};
 ghost use Rattle.bn_quad.specs.Quadruples.{IsQuadMachine};
 ghost use Rattle.bn_quad.specs.Calls.{IsUniformMachine};
-ghost use Rattle.bn_modules.specs.Controls.{ControlState, IsNumbering};
-ghost use Rattle.bn_modules.specs.Networks.{bank_size, cell_size, elements_by};
+ghost use Rattle.bn_network.specs.Controls.{ControlState, IsNumbering};
+ghost use Rattle.bn_network.specs.Networks.{bank_size, cell_size, elements_by};
 ghost use Rattle.bn_control.specs.Controlled.{IsControlOf, IsWithinLimits};
 ghost use Rattle.bn_assembly.specs.Assembled.{AreSmall, IsAssembled, IsRefusal, IsWordOf, limits_of};
 
@@ -14,12 +14,12 @@ use crate::refusal::AssembleRefusal;
 use crate::start::start_states;
 use crate::windows::Windows;
 use crate::wires::network_wires;
-use bn_cell::MOST_SYMBOLS;
 use bn_control::{Control, NoMemory, control};
+use bn_control_count::state_count;
 use bn_element::Element;
 use bn_net::{Config, MOST_ELEMENTS, Net, Place, States};
+use bn_network::MOST_SYMBOLS;
 use bn_quad::{QuadMachine, Uniform};
-use bn_statecount::state_count;
 use std::alloc::Global;
 
 /// The network of a uniform machine for these windows, at the start with this word. `WordOutside` comes exactly where

@@ -1,7 +1,7 @@
 //! The modules of a network.
 ghost use Rattle.std.specs.Prelude.{◌≡◌, ℕ, ◌≤◌, [], ◌∷◌, ◌++◌, List, All, length, IfOk, OnOk};
 ghost use Rattle.bn_cell.specs.Sizes.{IsCellSize};
-ghost use Rattle.bn_modules.specs.Controls.{letters};
+ghost use Rattle.bn_network.specs.Controls.{symbol_count};
 ghost use Rattle.bn_control.specs.Controlled.{IsWithinLimits};
 ghost use Rattle.bn_assembly.specs.Assembled.{AreSmall, limits_of};
 ghost use Rattle.bn_assembly.specs.Rows.{IsRow, AreModules};
@@ -37,7 +37,7 @@ pub(crate) fn letters(machine: &QuadMachine, tape: u32) -> u32
     requires machine { IsWithinLimits machine.now }
     requires first { 1 ≤ tape }
     requires last { tape ≤ 3 }
-    ensures letters { result ≡ letters machine.now tape }
+    ensures letters { result ≡ symbol_count machine.now tape }
     ensures size { IsCellSize result }
 {
     machine.symbols(tape)

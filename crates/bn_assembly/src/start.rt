@@ -1,15 +1,15 @@
 //! The states in which a network starts.
 ghost use Rattle.std.specs.Prelude.{◌≡◌, ◌+◌, ◌-◌, ◌^◌, ◌<◌, ◌≤◌, [], ◌∷◌, ◌++◌, length, IfOk, OnOk};
 ghost use Rattle.bn_control.specs.Controlled.{IsWithinLimits};
-ghost use Rattle.bn_modules.specs.Controls.{letters};
-ghost use Rattle.bn_modules.specs.Networks.{network_start, start_cells};
+ghost use Rattle.bn_network.specs.Controls.{symbol_count};
+ghost use Rattle.bn_network.specs.Networks.{network_start, start_cells};
 ghost use Rattle.bn_assembly.specs.Assembled.{AreSmall, IsWordOf, limits_of};
 ghost use Rattle.bn_assembly.specs.Starting.{start_state};
 
 use crate::windows::Windows;
 use bn_base::MOST_COUNT;
-use bn_cell::MOST_SYMBOLS;
 use bn_control::NoMemory;
+use bn_network::MOST_SYMBOLS;
 use bn_quad::QuadMachine;
 use std::alloc::Global;
 

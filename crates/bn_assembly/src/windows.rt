@@ -17,7 +17,7 @@ pub struct Windows {
 
 impl Windows {
     ghost use Rattle.std.specs.Prelude.{◌≡◌, ◌≤◌};
-    ghost use Rattle.bn_modules.specs.Networks.{cells_in, first_cell};
+    ghost use Rattle.bn_network.specs.Networks.{cells_in, first_cell};
     ghost use Rattle.bn_assembly.specs.Assembled.{AreSmall, limits_of};
 
     /// How many cells a tape, counted from 1 to 3, has. It takes no memory.

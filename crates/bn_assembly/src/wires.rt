@@ -1,15 +1,15 @@
 //! The wires of a network.
 ghost use Rattle.std.specs.Prelude.{◌≡◌, ℕ, ◌+◌, ◌-◌, ◌^◌, ◌<◌, ◌≤◌, List, [], ◌∷◌, ◌++◌, length, IfOk, OnOk};
 ghost use Rattle.bn_control.specs.Controlled.{IsWithinLimits};
-ghost use Rattle.bn_modules.specs.Controls.{lines_before};
-ghost use Rattle.bn_modules.specs.Networks.{line_at};
+ghost use Rattle.bn_network.specs.Controls.{lines_before};
+ghost use Rattle.bn_circuits.specs.Circuits.{line_at};
 ghost use Rattle.bn_assembly.specs.Assembled.{AreSmall, limits_of};
 ghost use Rattle.bn_assembly.specs.WireLists.{bundle, joint, joints, tape_wires, wires_of_tape, network_wires};
 
 use crate::windows::Windows;
-use bn_cell::MOST_SYMBOLS;
 use bn_control::NoMemory;
 use bn_net::{Line, Wire};
+use bn_network::MOST_SYMBOLS;
 use bn_quad::QuadMachine;
 use std::alloc::Global;
 

@@ -1,24 +1,24 @@
 -- The machine of a translation makes the runs of Bennett's list.
 use Rattle.std.proofs.Common.{◌≡◌, ◌<◌, ◌+◌, ◌*◌, ◌∙◌, ℕ, suc, zero, List, length, sym, ap, subst, arith}
-use Rattle.bn_theory.specs.Runs.{Reaches}
+use Rattle.bn_lists.specs.Runs.{Reaches}
 use Rattle.bn_machine.specs.Machine.{Program}
-use Rattle.bn_quad.specs.Quadruples.{Admits, Configuration, Goes, Quadruples, everywhere, Rooms, Rule, final_of, initial_of}
+use Rattle.bn_quad.specs.Quadruples.{DeedApplies, Configuration, QuadruplesRunTo, Quadruples, everywhere, Rooms, Rule, final_state_of, initial_of}
 use Rattle.bn_quad.proofs.QuadStepLemmas.{goes_leads}
 use Rattle.bn_machine.specs.Tape.{blank_tape, scanned, word_tape}
 use Rattle.bn_machine.specs.Outcome as outcome
 use Rattle.bn_machine.specs.Outcome.{HasOutcome, Limits, Outcome}
 use Rattle.std.specs.Prelude.{◌↔◌}
 use Rattle.bn_lists.specs.Lists.{IsIn}
-use Rattle.bn_stages.proofs.InsideLemmas.{begins_in, ends_in, state_below}
-use Rattle.bn_stages.specs.Laws.{BennettsTheorem, BoundedRunsAgree, HaltsAfter, NumbersPassTests, NumbersRunAlike}
-use Rattle.bn_stages.specs.List.{bennett, initial_name, final_name}
-use Rattle.bn_stages.specs.Names.{states_in}
-use Rattle.bn_stages.specs.Renamed.{KeepsApart, in_state, rename}
-use Rattle.bn_stages.proofs.RenamedLemmas.{first_read_before, from_in, names_kept_apart, nth_before, reached_in}
-use Rattle.bn_stages.specs.Stages.{Comes as NamedComes, EndsAs, IsAfter, IsSpelledBy, IsStandardMachine, StepsOf, beginning, ending, rooms_of}
-use Rattle.bn_stages.specs.Steps.{EndsAt, Exit, Finished, HasNoFirstRead, Leaving, Stopped}
-use Rattle.bn_stages.specs.declared.name.Name.{Name}
-use Rattle.bn_stages.specs.declared.name.Name.TheVariants.{GoRight}
+use Rattle.bn_bennett_laws.proofs.InsideLemmas.{begins_in, ends_in, state_below}
+use Rattle.bn_bennett_laws.specs.Laws.{BennettsTheorem, BoundedRunsAgree, HaltsAfter, NumbersPassTests, NumbersRunAlike}
+use Rattle.bn_bennett_laws.specs.List.{bennett, initial_name, final_name}
+use Rattle.bn_bennett_laws.specs.Names.{states_in}
+use Rattle.bn_bennett_laws.specs.Renamed.{KeepsApart, in_state, rename}
+use Rattle.bn_bennett_laws.proofs.RenamedLemmas.{first_read_before, from_in, names_kept_apart, nth_before, reached_in}
+use Rattle.bn_bennett_laws.specs.Stages.{Comes as NamedComes, EndsAs, IsAfter, IsSpelledBy, IsStandardMachine, StepsOf, beginning, ending, rooms_of}
+use Rattle.bn_bennett_laws.specs.Steps.{EndsAt, Exit, Finished, HasNoFirstRead, Leaving, Stopped}
+use Rattle.bn_bennett_laws.specs.declared.name.Name.{Name}
+use Rattle.bn_bennett_laws.specs.declared.name.Name.TheVariants.{GoRight}
 use Rattle.bn_bennett.specs.Translation.{IsTranslation, Translation, name_of}
 use Rattle.bn_bennett.specs.Runs.{Comes, MachineEndsAs, Runs, beginning_of, ending_of}
 use Rattle.bn_bennett.proofs.Counting.{numbers_states}
@@ -26,7 +26,7 @@ use Rattle.bn_bennett.proofs.Counting.{numbers_states}
 -- ---- any machine
 
 -- the states along a run are states of the quadruples
-pub run_inside : (q : Quadruples) (rooms : Rooms) (n : ℕ) (c d : Configuration ℕ) → IsIn (states_in q.rules) c.state → Reaches (Goes rooms q) n c d → IsIn (states_in q.rules) d.state
+pub run_inside : (q : Quadruples) (rooms : Rooms) (n : ℕ) (c d : Configuration ℕ) → IsIn (states_in q.rules) c.state → Reaches (QuadruplesRunTo rooms q) n c d → IsIn (states_in q.rules) d.state
 run_inside q rooms zero c d here run = subst (λ (x : Configuration ℕ). IsIn (states_in q.rules) x.state) run here
 run_inside q rooms (suc n) c d here run =
     run_inside q rooms n run.0 d (reached_in (λ (k : ℕ). k) q.rules c run.0 (record { number = run.1.0; leads = goes_leads rooms q run.1.0 c run.0 run.1.1 })) run.2
@@ -38,7 +38,7 @@ first_read_named f rs keeps c here none = record {
       let found = nth_before f rs n s e in
       let r = found.0 in
       let state : c.state ≡ r.from = keeps.apart c.state r.from here (from_in rs r (record { place = n; stands = found.1 })) (from ∙ ap (λ (x : Rule Name). x.from) (sym found.2)) in
-      none.none n r found.1 state (subst (λ (x : Rule Name). Admits x.one c.one) (sym found.2) reads);
+      none.none n r found.1 state (subst (λ (x : Rule Name). DeedApplies x.one c.one) (sym found.2) reads);
 }
 
 -- ---- the machine of a translation
@@ -53,14 +53,14 @@ module _ (p : Program) (t : Translation) (h : IsTranslation p t) where
   pub begins_inside : IsIn (states_in t.machine.rules) (initial_of t.machine.rules)
   begins_inside = begins_in t.machine h.machine
 
-  ends_inside : IsIn (states_in t.machine.rules) (final_of t.machine.rules)
+  ends_inside : IsIn (states_in t.machine.rules) (final_state_of t.machine.rules)
   ends_inside = ends_in t.machine h.machine
 
   module _ (standard : IsStandardMachine p) (tests : NumbersPassTests) where
     pub begins_named : name_of t (initial_of t.machine.rules) ≡ initial_name p
     begins_named = (tests p standard (name_of t) t.machine.rules h.rules).3
 
-    pub ends_named : name_of t (final_of t.machine.rules) ≡ final_name p
+    pub ends_named : name_of t (final_state_of t.machine.rules) ≡ final_name p
     ends_named = (tests p standard (name_of t) t.machine.rules h.rules).4
 
     pub beginning_named : (word : List ℕ) → in_state (name_of t) (beginning_of t word) ≡ beginning p word
@@ -72,7 +72,7 @@ module _ (p : Program) (t : Translation) (h : IsTranslation p t) where
     -- a configuration that is named as the end is the end
     same_ending : (word y : List ℕ) (d : Configuration ℕ) → IsIn (states_in t.machine.rules) d.state → in_state (name_of t) d ≡ ending p word y → d ≡ ending_of t word y
     same_ending word y d inside e =
-        let state : d.state ≡ final_of t.machine.rules = names_apart.apart d.state (final_of t.machine.rules) inside ends_inside (ap (λ (x : Configuration Name). x.state) e ∙ sym ends_named) in
+        let state : d.state ≡ final_state_of t.machine.rules = names_apart.apart d.state (final_state_of t.machine.rules) inside ends_inside (ap (λ (x : Configuration Name). x.state) e ∙ sym ends_named) in
         λ i. record { state = state i; one = (e i).one; two = (e i).two; three = (e i).three }
 
     module _ (alike : NumbersRunAlike) (word : List ℕ) where
@@ -92,7 +92,7 @@ module _ (p : Program) (t : Translation) (h : IsTranslation p t) where
           let found = run_numbered everywhere (4 * v + 4 * length y + 5) (ending p word y) ((theorem p word standard letters).0 v y halts) in
           subst (λ d. Runs t word everywhere (4 * v + 4 * length y + 5) d) (same_ending word y found.0 found.3 (sym found.2)) found.1
 
-      pub halts_back : BennettsTheorem → IsSpelledBy p word → (n : ℕ) (c : Configuration ℕ) → Runs t word everywhere n c → c.state ≡ final_of t.machine.rules → (v : ℕ) × (y : List ℕ) × HaltsAfter p word v y × (n ≡ 4 * v + 4 * length y + 5) × (c ≡ ending_of t word y)
+      pub halts_back : BennettsTheorem → IsSpelledBy p word → (n : ℕ) (c : Configuration ℕ) → Runs t word everywhere n c → c.state ≡ final_state_of t.machine.rules → (v : ℕ) × (y : List ℕ) × HaltsAfter p word v y × (n ≡ 4 * v + 4 * length y + 5) × (c ≡ ending_of t word y)
       halts_back theorem letters n c run final =
           let found = (theorem p word standard letters).1 n (named c) (run_named everywhere n c run) (ap (name_of t) final ∙ ends_named) in
           (found.0, found.1, found.2, found.3, same_ending word found.1 c (subst (IsIn (states_in t.machine.rules)) (sym final) ends_inside) found.4)
@@ -117,7 +117,7 @@ module _ (p : Program) (t : Translation) (h : IsTranslation p t) where
 
       no_read_numbered : (l : Limits) (d : Configuration ℕ) → HasNoFirstRead (bennett p) (named d) → HasNoFirstRead t.machine.rules d
       no_read_numbered l d none =
-          first_read_before (name_of t) t.machine.rules names_apart (rooms_of l) (final_of t.machine.rules) ends_inside d (subst (λ rs. HasNoFirstRead rs (named d)) (sym h.rules) none)
+          first_read_before (name_of t) t.machine.rules names_apart (rooms_of l) (final_state_of t.machine.rules) ends_inside d (subst (λ rs. HasNoFirstRead rs (named d)) (sym h.rules) none)
 
       ends_forth : (l : Limits) (i : ℕ) (o : Outcome) → EndsAs p word l i o → MachineEndsAs t word l i o
       ends_forth l i (outcome.Halted y) (all, c) =

@@ -4,15 +4,15 @@ use Rattle.std.specs.Bool.{Decides}
 use Rattle.std.specs.List.{list_any}
 use Rattle.std.proofs.lemmas.Bool.{cases_Bool, false≢true}
 use Rattle.std.proofs.lemmas.Bool.Decides.{Decides-eqb}
-use Rattle.bn_entries.specs.Numbering.{firsts_by, numbers_from}
-use Rattle.bn_entries.proofs.NumberingLemmas.{any-at, any-firsts, apart-firsts, one_number, some_number}
+use Rattle.bn_csv.specs.Numbering.{firsts_by, numbers_from}
+use Rattle.bn_csv.proofs.NumberingLemmas.{any-at, any-firsts, apart-firsts, one_number, some_number}
 use Rattle.bn_machine.specs.Machine.{Program}
 use Rattle.bn_lists.specs.Lists.{nth, IsIn}
 use Rattle.bn_machine.specs.declared.quint.Quint.{Quint}
 use Rattle.bn_quad.specs.Quadruples.{Rule}
-use Rattle.bn_stages.proofs.MembershipLemmas.{in_head, in_tail, each_of_two, from_flat_map}
-use Rattle.bn_stages.specs.Names.{states_in, NumbersStates, Mentions}
-use Rattle.bn_stages.specs.declared.name.Name.{Name}
+use Rattle.bn_bennett_laws.proofs.MembershipLemmas.{in_head, in_tail, each_of_two, from_flat_map}
+use Rattle.bn_bennett_laws.specs.Names.{states_in, NumbersStates, Mentions}
+use Rattle.bn_bennett_laws.specs.declared.name.Name.{Name}
 use Rattle.bn_table.specs.Rows.{FitsTable, states_in as states_of}
 use Rattle.bn_bennett.specs.Translation.{is_same}
 use Rattle.bn_bennett.proofs.NameLemmas.{is_same-Decides}

@@ -8,17 +8,17 @@ use Rattle.std.proofs.lemmas.List.{length-map}
 use Rattle.std.proofs.lemmas.List.Folds.{list_all-append}
 use Rattle.std.proofs.lemmas.Option.{slice_get-get_or}
 use Rattle.bn_base.specs.Number.{AreDigits}
-use Rattle.bn_entries.specs.Forms.{is_name_byte, is_state_name, is_symbol, is_symbol_byte}
-use Rattle.bn_entries.proofs.FormsLemmas.{all-at}
-use Rattle.bn_entries.proofs.NumberingLemmas.{both_true}
+use Rattle.bn_csv.specs.Forms.{is_name_byte, is_state_name, is_symbol, is_symbol_byte}
+use Rattle.bn_csv.proofs.FormsLemmas.{all-at}
+use Rattle.bn_csv.proofs.NumberingLemmas.{both_true}
 use Rattle.bn_machine.specs.Machine.{IsMachine}
 use Rattle.bn_lists.specs.Lists.{nth}
 use Rattle.bn_qtable.specs.Named.{AreNamed, HasNames}
-use Rattle.bn_stages.specs.Laws.{ListHasNames}
-use Rattle.bn_stages.specs.declared.name.Name.{Name}
-use Rattle.bn_stages.specs.declared.name.Name.TheVariants.{Compute, ComputeWithin, GoRight, CopyLetter, GoLeft, PassLetter, Retrace, RetraceWithin}
+use Rattle.bn_bennett_laws.specs.Laws.{ListHasNames}
+use Rattle.bn_bennett_laws.specs.declared.name.Name.{Name}
+use Rattle.bn_bennett_laws.specs.declared.name.Name.TheVariants.{Compute, ComputeWithin, GoRight, CopyLetter, GoLeft, PassLetter, Retrace, RetraceWithin}
 use Rattle.bn_table.specs.Rows.{FitsTable, IsTable, Named}
-use Rattle.bn_bennett.specs.Printed.{mark, names_of, number_names, one_byte, print_of, state_text}
+use Rattle.bn_bennett.specs.Printed.{mark, translation_names, number_names, one_byte, print_of, bennett_state_text}
 use Rattle.bn_bennett.specs.Translation.{IsTranslation, Translation}
 use Rattle.bn_bennett.proofs.Printable.{name_bound}
 use Rattle.bn_bennett.proofs.Texts.{decimal_digits, length-number_names}
@@ -61,18 +61,18 @@ letter_byte (RetraceWithin m) = refl
 three_true : (a b c : Bool) → a ≡ true → b ≡ true → c ≡ true → (a && b && c) ≡ true
 three_true a b c e f g = rw (e, f, g) refl
 
-state_form : (name : Name) → (print_of name).number ≤ 12002 → is_state_name (state_text name) ≡ true
+state_form : (name : Name) → (print_of name).number ≤ 12002 → is_state_name (bennett_state_text name) ≡ true
 state_form name low =
     let n = (print_of name).number in
     let p = (print_of name).primed in
     let short : length (decimal n) ≤ 5 = length-decimal-le 5 n (omega arith) (omega arith) (omega arith) in
     let m : length (mark p) ≤ 1 = (name_mark p).1 in
     let long : length (decimal n ++ mark p) ≡ length (decimal n) + length (mark p) = length-append (decimal n) (mark p) in
-    let bytes : list_all is_name_byte (state_text name) ≡ true =
+    let bytes : list_all is_name_byte (bennett_state_text name) ≡ true =
     rw (letter_byte name, list_all-append is_name_byte (decimal n) (mark p), name_digits (decimal n) (decimal_digits n (omega arith)), (name_mark p).0) refl
     in
-    let least : nat_le 1 (length (state_text name)) ≡ true = grind (arith, nat_tests) in
-    let most : nat_le (length (state_text name)) 32 ≡ true = grind (arith, nat_tests) in
+    let least : nat_le 1 (length (bennett_state_text name)) ≡ true = grind (arith, nat_tests) in
+    let most : nat_le (length (bennett_state_text name)) 32 ≡ true = grind (arith, nat_tests) in
     three_true _ _ _ least most bytes
 
 number_form : (n : ℕ) → n ≤ 4000 → is_symbol (decimal n) ≡ true
@@ -85,7 +85,7 @@ number_form n low =
 
 -- ---- all names of a kind
 
-pub states_form : (names : List Name) → ((n : ℕ) (q : Name) → slice_get names n ≡ Some q → (print_of q).number ≤ 12002) → list_all is_state_name (map state_text names) ≡ true
+pub states_form : (names : List Name) → ((n : ℕ) (q : Name) → slice_get names n ≡ Some q → (print_of q).number ≤ 12002) → list_all is_state_name (map bennett_state_text names) ≡ true
 states_form [] all = refl
 states_form (q ∷ qs) all = rw (state_form q (all 0 q refl)) (states_form qs (λ n r at. all (suc n) r at))
 
@@ -113,22 +113,22 @@ some_once : {m n : ℕ} → Some m ≡ Some n → m ≡ n
 some_once e = cc
 
 module _ (t : Named) (s : Translation) (machine : IsMachine t.machine) (table : IsTable t) (fits : FitsTable t.machine) (listed : ListHasNames) (h : IsTranslation t.machine s) where
-  pub all_states_form : list_all is_state_name (names_of t s).states ≡ true
+  pub all_states_form : list_all is_state_name (translation_names t s).states ≡ true
   all_states_form = states_form s.names (λ n q at. name_bound t.machine s n q machine fits listed h at)
 
-  pub all_letters_form : list_all is_symbol (names_of t s).one ≡ true
+  pub all_letters_form : list_all is_symbol (translation_names t s).one ≡ true
   all_letters_form = letters_form t.letters table.spelled.letters_form
 
-  pub all_numbers_form : list_all is_symbol (names_of t s).two ≡ true
+  pub all_numbers_form : list_all is_symbol (translation_names t s).two ≡ true
   all_numbers_form = numbers_form (length t.machine.quints) fits.quints
 
   pub count_letters : t.machine.symbols ≡ length (map one_byte t.letters)
   count_letters = table.symbols ∙ sym (length-map t.letters one_byte)
 
-  pub has_names : HasNames s.machine (names_of t s)
+  pub has_names : HasNames s.machine (translation_names t s)
   has_names = record {
-    states = named_all is_state_name (names_of t s).states s.machine.states (h.states ∙ sym (length-map s.names state_text)) all_states_form;
-    one = λ z at. named_all is_symbol (names_of t s).one z (some_once (sym at ∙ ap (λ (zs : List ℕ). nth zs 1) h.symbols) ∙ count_letters) all_letters_form;
-    two = λ z at. named_all is_symbol (names_of t s).two z (some_once (sym at ∙ ap (λ (zs : List ℕ). nth zs 2) h.symbols) ∙ sym (length-number_names (length t.machine.quints))) all_numbers_form;
-    three = λ z at. named_all is_symbol (names_of t s).three z (some_once (sym at ∙ ap (λ (zs : List ℕ). nth zs 3) h.symbols) ∙ count_letters) all_letters_form;
+    states = named_all is_state_name (translation_names t s).states s.machine.states (h.states ∙ sym (length-map s.names bennett_state_text)) all_states_form;
+    one = λ z at. named_all is_symbol (translation_names t s).one z (some_once (sym at ∙ ap (λ (zs : List ℕ). nth zs 1) h.symbols) ∙ count_letters) all_letters_form;
+    two = λ z at. named_all is_symbol (translation_names t s).two z (some_once (sym at ∙ ap (λ (zs : List ℕ). nth zs 2) h.symbols) ∙ sym (length-number_names (length t.machine.quints))) all_numbers_form;
+    three = λ z at. named_all is_symbol (translation_names t s).three z (some_once (sym at ∙ ap (λ (zs : List ℕ). nth zs 3) h.symbols) ∙ count_letters) all_letters_form;
   }

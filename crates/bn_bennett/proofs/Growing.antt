@@ -7,16 +7,16 @@ use Rattle.std.proofs.lemmas.List.Elements.{All-append}
 use Rattle.std.proofs.lemmas.Grind.{flat_map-append}
 use Rattle.std.proofs.lemmas.Option.{get_or_from_slice_get, slice_get_within}
 use Rattle.std.proofs.Math.ListN.{get_or-append}
-use Rattle.bn_entries.specs.Numbering.{firsts_by}
-use Rattle.bn_entries.proofs.NumberingLemmas.{firsts-push, length-firsts, number_stays}
+use Rattle.bn_csv.specs.Numbering.{firsts_by}
+use Rattle.bn_csv.proofs.NumberingLemmas.{firsts-push, length-firsts, number_stays}
 use Rattle.bn_quad.specs.Quadruples.{Rule}
 use Rattle.bn_quad.specs.Kept.{quad_of, rule_of, rules_of}
 use Rattle.bn_quad.proofs.KeptLemmas.{rule_of-quad_of}
 use Rattle.bn_quad.specs.declared.quad.Quad.{Quad}
-use Rattle.bn_stages.specs.Names.{states_in}
-use Rattle.bn_stages.specs.Renamed.{renamed, name_at}
-use Rattle.bn_stages.specs.declared.name.Name.{Name}
-use Rattle.bn_stages.specs.declared.name.Name.TheVariants.{GoRight}
+use Rattle.bn_bennett_laws.specs.Names.{states_in}
+use Rattle.bn_bennett_laws.specs.Renamed.{renamed, name_at}
+use Rattle.bn_bennett_laws.specs.declared.name.Name.{Name}
+use Rattle.bn_bennett_laws.specs.declared.name.Name.TheVariants.{GoRight}
 use Rattle.bn_bennett.specs.Translation.{is_same, with_name}
 use Rattle.bn_bennett.proofs.NameLemmas.{is_same-Decides}
 use Rattle.bn_bennett.specs.Made.{numbered_quad}

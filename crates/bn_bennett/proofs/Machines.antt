@@ -4,7 +4,7 @@ use Rattle.std.specs.List.{All}
 use Rattle.std.specs.Option.{option_map}
 use Rattle.std.proofs.lemmas.List.{length-map}
 use Rattle.std.proofs.lemmas.Option.{get_or_from_slice_get, slice_get-map, slice_get_within}
-use Rattle.bn_entries.specs.Numbering.{firsts_by}
+use Rattle.bn_csv.specs.Numbering.{firsts_by}
 use Rattle.bn_machine.specs.declared.quint.Shift.TheVariants.{Stay}
 use Rattle.bn_machine.specs.Machine.{Program, IsMachine, final_of}
 use Rattle.bn_lists.specs.Lists.{nth, IsIn}
@@ -16,17 +16,17 @@ use Rattle.bn_quad.specs.Calls.{IsMadeOf, IsUniformMachine, IsQuadRefusal}
 use Rattle.bn_quad.specs.declared.quad.Quad.{Quad}
 use Rattle.bn_quad.specs.declared.refusal.QuadRefusal.{QuadRefusal}
 use Rattle.bn_quad.specs.declared.refusal.QuadRefusal.TheVariants as refusal
-use Rattle.bn_stages.proofs.MembershipLemmas.{in_map}
-use Rattle.bn_stages.specs.Laws.{ListCountsNames, ListHasLength, ListIsInRange, NumbersPassTests}
-use Rattle.bn_stages.specs.Names.{states_in}
+use Rattle.bn_bennett_laws.proofs.MembershipLemmas.{in_map}
+use Rattle.bn_bennett_laws.specs.Laws.{ListCountsNames, ListHasLength, ListIsInRange, NumbersPassTests}
+use Rattle.bn_bennett_laws.specs.Names.{states_in}
 use Rattle.bn_standard.specs.Standard.{IsStandard}
 use Rattle.bn_table.specs.Rows.{FitsTable}
 use Rattle.bn_bennett.specs.Translation.{IsTranslation, is_same, translation_of}
 use Rattle.bn_bennett.proofs.Counting.{each_mentioned, numbers_states}
-use Rattle.bn_stages.specs.List.{bennett, symbols_of}
-use Rattle.bn_stages.specs.Renamed.{renamed, rename, name_at}
-use Rattle.bn_stages.specs.declared.name.Name.{Name}
-use Rattle.bn_stages.specs.declared.name.Name.TheVariants.{GoRight}
+use Rattle.bn_bennett_laws.specs.List.{bennett, symbols_of}
+use Rattle.bn_bennett_laws.specs.Renamed.{renamed, rename, name_at}
+use Rattle.bn_bennett_laws.specs.declared.name.Name.{Name}
+use Rattle.bn_bennett_laws.specs.declared.name.Name.TheVariants.{GoRight}
 use Rattle.bn_bennett.specs.Draft.{AreDrafted, IsBelow, renamed_back}
 
 -- ---- a kept rule in range is sound

@@ -3,8 +3,8 @@ use Rattle.std.proofs.Common.{◌≡◌, refl, ap}
 use Rattle.std.specs.Bool.{Decides}
 use Rattle.std.proofs.lemmas.Bool.{false≢true}
 use Rattle.std.proofs.lemmas.Bool.Decides.{Decides-eqb}
-use Rattle.bn_stages.specs.declared.name.Name.{Name}
-use Rattle.bn_stages.specs.declared.name.Name.TheVariants.{Compute, ComputeWithin, GoRight, CopyLetter, GoLeft, PassLetter, Retrace, RetraceWithin}
+use Rattle.bn_bennett_laws.specs.declared.name.Name.{Name}
+use Rattle.bn_bennett_laws.specs.declared.name.Name.TheVariants.{Compute, ComputeWithin, GoRight, CopyLetter, GoLeft, PassLetter, Retrace, RetraceWithin}
 use Rattle.bn_bennett.specs.Translation.{is_same}
 
 pub is_same-Decides : (a b : Name) → Decides (is_same a b) (a ≡ b)

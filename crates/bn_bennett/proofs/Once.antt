@@ -3,10 +3,10 @@ use Rattle.std.proofs.Common.{◌≡◌, ◌<◌, ◌∷◌, ◌∙◌, ℕ, suc
 use Rattle.std.specs.List.{All}
 use Rattle.std.proofs.lemmas.Option.{slice_get-get_or}
 use Rattle.bn_quad.specs.Quadruples.{IsRuleInRange, Rule}
-use Rattle.bn_stages.specs.List.{bennett}
-use Rattle.bn_stages.specs.Renamed.{name_at, rename, renamed}
-use Rattle.bn_stages.specs.declared.name.Name.{Name}
-use Rattle.bn_stages.specs.declared.name.Name.TheVariants.{GoRight}
+use Rattle.bn_bennett_laws.specs.List.{bennett}
+use Rattle.bn_bennett_laws.specs.Renamed.{name_at, rename, renamed}
+use Rattle.bn_bennett_laws.specs.declared.name.Name.{Name}
+use Rattle.bn_bennett_laws.specs.declared.name.Name.TheVariants.{GoRight}
 use Rattle.bn_bennett.specs.Laws.{TranslationsAreOne}
 use Rattle.bn_bennett.proofs.Counting.{numbers_states}
 

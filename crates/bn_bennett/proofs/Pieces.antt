@@ -6,8 +6,8 @@ use Rattle.std.proofs.lemmas.List.FromFn.{get_or-enumerate_from, length-enumerat
 use Rattle.std.proofs.lemmas.Grind.{flat_map-append}
 use Rattle.bn_machine.specs.declared.quint.Quint.{Quint}
 use Rattle.bn_quad.specs.Quadruples.{Rule}
-use Rattle.bn_stages.specs.declared.name.Name.{Name}
-use Rattle.bn_stages.specs.List.{numbered, compute_pair, compute_rules, copy_rules, begins_copy, goes_right, copies_letter, turns_left, goes_left, passes_letter, ends_copy, letters}
+use Rattle.bn_bennett_laws.specs.declared.name.Name.{Name}
+use Rattle.bn_bennett_laws.specs.List.{numbered_quints, compute_pair, compute_rules, copy_rules, begins_copy, goes_right, copies_letter, turns_left, goes_left, passes_letter, ends_copy, nonblank_symbols}
 use Rattle.bn_bennett.specs.Draft.{IsDraft, Grows, drafted}
 use Rattle.bn_bennett.specs.declared.draft.Draft.{Draft}
 
@@ -43,12 +43,12 @@ module _ {X : Type 0} (f : X → List (Rule Name)) (xs : List X) (i : ℕ) (d : 
       ∙ sym (ap (flat_map f) turned ∙ flat_map-append f (reverse (drop (i + 1) xs)) (get_or xs i d ∷ []))
 
 -- the quintuple at a place with its number
-pub numbered_at : (qs : List Quint) (i : ℕ) (q : Quint) → i < length qs → get_or (numbered qs) i (0, q) ≡ (i + 1, get_or qs i q)
+pub numbered_at : (qs : List Quint) (i : ℕ) (q : Quint) → i < length qs → get_or (numbered_quints qs) i (0, q) ≡ (i + 1, get_or qs i q)
 numbered_at qs i q h =
     let number : 1 + i ≡ i + 1 = omega arith in
     get_or-enumerate_from 1 qs i (0, q) h ∙ ap (λ (n : ℕ). (n, get_or qs i q)) number
 
-pub length-numbered : (qs : List Quint) → length (numbered qs) ≡ length qs
+pub length-numbered : (qs : List Quint) → length (numbered_quints qs) ≡ length qs
 length-numbered qs = length-enumerate_from 1 qs
 
 length-two : {X : Type 0} (pair : X → List (Rule Name)) → ((x : X) → length (pair x) ≡ 2) → (xs : List X) → length (flat_map pair xs) ≡ 2 * length xs
@@ -61,41 +61,41 @@ length-two pair two (x ∷ xs) =
 -- ---- the loops over the quintuples
 
 module _ (pair : ℕ × Quint → List (Rule Name)) (two : (e : ℕ × Quint) → length (pair e) ≡ 2) (a b : Draft) (qs : List Quint) (i : ℕ) where
-  pub start_forth : IsDraft a → Grows a (flat_map pair (take 0 (numbered qs))) a
+  pub start_forth : IsDraft a → Grows a (flat_map pair (take 0 (numbered_quints qs))) a
   start_forth h = grows_none a h
 
-  pub room_forth : i ≤ length qs → Grows a (flat_map pair (take i (numbered qs))) b → length (drafted b) ≡ length (drafted a) + 2 * i
+  pub room_forth : i ≤ length qs → Grows a (flat_map pair (take i (numbered_quints qs))) b → length (drafted b) ≡ length (drafted a) + 2 * i
   room_forth h g =
-      let n : length (numbered qs) ≡ length qs = length-numbered qs in
-      length-grown a b _ g ∙ ap (λ k. length (drafted a) + k) (length-two pair two (take i (numbered qs)) ∙ ap (λ k. 2 * k) (length-take-le i (numbered qs) (omega arith)))
+      let n : length (numbered_quints qs) ≡ length qs = length-numbered qs in
+      length-grown a b _ g ∙ ap (λ k. length (drafted a) + k) (length-two pair two (take i (numbered_quints qs)) ∙ ap (λ k. 2 * k) (length-take-le i (numbered_quints qs) (omega arith)))
 
-  pub room_back : i ≤ length qs → Grows a (flat_map pair (reverse (drop i (numbered qs)))) b → length (drafted b) ≡ length (drafted a) + 2 * (length qs - i)
+  pub room_back : i ≤ length qs → Grows a (flat_map pair (reverse (drop i (numbered_quints qs)))) b → length (drafted b) ≡ length (drafted a) + 2 * (length qs - i)
   room_back h g =
-      length-grown a b _ g ∙ ap (λ k. length (drafted a) + k) (length-two pair two (reverse (drop i (numbered qs)))
-      ∙ ap (λ k. 2 * k) (length-reverse (drop i (numbered qs)) ∙ length-drop i (numbered qs) ∙ ap (λ k. k - i) (length-numbered qs)))
+      length-grown a b _ g ∙ ap (λ k. length (drafted a) + k) (length-two pair two (reverse (drop i (numbered_quints qs)))
+      ∙ ap (λ k. 2 * k) (length-reverse (drop i (numbered_quints qs)) ∙ length-drop i (numbered_quints qs) ∙ ap (λ k. k - i) (length-numbered qs)))
 
-  pub step_forth : (c : Draft) (q : Quint) → i < length qs → Grows a (flat_map pair (take i (numbered qs))) b → Grows b (pair (i + 1, get_or qs i q)) c → Grows a (flat_map pair (take (i + 1) (numbered qs))) c
+  pub step_forth : (c : Draft) (q : Quint) → i < length qs → Grows a (flat_map pair (take i (numbered_quints qs))) b → Grows b (pair (i + 1, get_or qs i q)) c → Grows a (flat_map pair (take (i + 1) (numbered_quints qs))) c
   step_forth c q h g k =
-      let n : length (numbered qs) ≡ length qs = length-numbered qs in
-      let here : pair (i + 1, get_or qs i q) ≡ pair (get_or (numbered qs) i (0, q)) = ap pair (sym (numbered_at qs i q h)) in
-      grows_to a c _ _ (piece_more pair (numbered qs) i (0, q) (omega arith)) (grows_on a b c _ _ g (grows_to b c _ _ here k))
+      let n : length (numbered_quints qs) ≡ length qs = length-numbered qs in
+      let here : pair (i + 1, get_or qs i q) ≡ pair (get_or (numbered_quints qs) i (0, q)) = ap pair (sym (numbered_at qs i q h)) in
+      grows_to a c _ _ (piece_more pair (numbered_quints qs) i (0, q) (omega arith)) (grows_on a b c _ _ g (grows_to b c _ _ here k))
 
-  pub step_back : (c : Draft) (q : Quint) (j : ℕ) → i + 1 ≡ j → j ≤ length qs → Grows a (flat_map pair (reverse (drop j (numbered qs)))) b → Grows b (pair (i + 1, get_or qs i q)) c → Grows a (flat_map pair (reverse (drop i (numbered qs)))) c
+  pub step_back : (c : Draft) (q : Quint) (j : ℕ) → i + 1 ≡ j → j ≤ length qs → Grows a (flat_map pair (reverse (drop j (numbered_quints qs)))) b → Grows b (pair (i + 1, get_or qs i q)) c → Grows a (flat_map pair (reverse (drop i (numbered_quints qs)))) c
   step_back c q j e h g k =
-      let n : length (numbered qs) ≡ length qs = length-numbered qs in
-      let here : pair (i + 1, get_or qs i q) ≡ pair (get_or (numbered qs) i (0, q)) = ap pair (sym (numbered_at qs i q (omega arith))) in
-      let P : ℕ → Type 0 = λ m. Grows a (flat_map pair (reverse (drop m (numbered qs)))) b in
-      grows_to a c _ _ (piece_back pair (numbered qs) i (0, q) (omega arith)) (grows_on a b c _ _ (subst P (sym e) g) (grows_to b c _ _ here k))
+      let n : length (numbered_quints qs) ≡ length qs = length-numbered qs in
+      let here : pair (i + 1, get_or qs i q) ≡ pair (get_or (numbered_quints qs) i (0, q)) = ap pair (sym (numbered_at qs i q (omega arith))) in
+      let P : ℕ → Type 0 = λ m. Grows a (flat_map pair (reverse (drop m (numbered_quints qs)))) b in
+      grows_to a c _ _ (piece_back pair (numbered_quints qs) i (0, q) (omega arith)) (grows_on a b c _ _ (subst P (sym e) g) (grows_to b c _ _ here k))
 
-  pub all_forth : length qs ≤ i → Grows a (flat_map pair (take i (numbered qs))) b → Grows a (flat_map pair (numbered qs)) b
+  pub all_forth : length qs ≤ i → Grows a (flat_map pair (take i (numbered_quints qs))) b → Grows a (flat_map pair (numbered_quints qs)) b
   all_forth h g =
-      let n : length (numbered qs) ≡ length qs = length-numbered qs in
-      grows_to a b _ _ (ap (flat_map pair) (take_all i (numbered qs) (omega arith))) g
+      let n : length (numbered_quints qs) ≡ length qs = length-numbered qs in
+      grows_to a b _ _ (ap (flat_map pair) (take_all i (numbered_quints qs) (omega arith))) g
 
-  pub start_back : IsDraft a → length qs ≤ i → Grows a (flat_map pair (reverse (drop i (numbered qs)))) a
+  pub start_back : IsDraft a → length qs ≤ i → Grows a (flat_map pair (reverse (drop i (numbered_quints qs)))) a
   start_back d h =
-      let n : length (numbered qs) ≡ length qs = length-numbered qs in
-      grows_to a a _ _ (ap (λ ys. flat_map pair (reverse ys)) (sym (drop_all i (numbered qs) (omega arith)))) (grows_none a d)
+      let n : length (numbered_quints qs) ≡ length qs = length-numbered qs in
+      grows_to a a _ _ (ap (λ ys. flat_map pair (reverse ys)) (sym (drop_all i (numbered_quints qs) (omega arith)))) (grows_none a d)
 
 -- ---- the loops over the letters
 
@@ -112,14 +112,14 @@ module _ (kind : ℕ → Rule Name) (a b : Draft) (x : ℕ) where
 -- ---- how long the first two stages are
 
 pub length-compute : (qs : List Quint) → length (compute_rules qs) ≡ 2 * length qs
-length-compute qs = length-two compute_pair (λ e. refl) (numbered qs) ∙ ap (λ k. 2 * k) (length-numbered qs)
+length-compute qs = length-two compute_pair (λ e. refl) (numbered_quints qs) ∙ ap (λ k. 2 * k) (length-numbered qs)
 
 pub length-copy : (f n z : ℕ) → 0 < z → length (copy_rules f n z) ≡ 2 * z + 3
 length-copy f n z some =
     let a : List (Rule Name) = begins_copy f n ∷ goes_right ∷ [] in
-    let b : List (Rule Name) = map (copies_letter n) (letters z) in
+    let b : List (Rule Name) = map (copies_letter n) (nonblank_symbols z) in
     let c : List (Rule Name) = turns_left n ∷ goes_left ∷ [] in
-    let d : List (Rule Name) = map (passes_letter n) (letters z) in
+    let d : List (Rule Name) = map (passes_letter n) (nonblank_symbols z) in
     let first : length b ≡ z - 1 = length-map-range_with_len (copies_letter n) 1 (z - 1) in
     let second : length d ≡ z - 1 = length-map-range_with_len (passes_letter n) 1 (z - 1) in
     let sum : length (a ++ b ++ c ++ d ++ ends_copy f n ∷ []) ≡ 2 + length b + 2 + length d + 1 = simp length-append (omega arith) in

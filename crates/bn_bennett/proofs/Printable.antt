@@ -5,11 +5,11 @@ use Rattle.std.proofs.Common.{zero}
 use Rattle.bn_machine.specs.Machine.{Program, IsInRange, IsMachine}
 use Rattle.bn_lists.specs.Lists.{nth}
 use Rattle.bn_machine.specs.declared.quint.Quint.{Quint}
-use Rattle.bn_stages.specs.Laws.{ListCountsNames, ListHasNames}
-use Rattle.bn_stages.specs.List.{bennett}
-use Rattle.bn_stages.specs.Names.{IsNameOf, Mentions, NumbersStates}
-use Rattle.bn_stages.specs.declared.name.Name.{Name}
-use Rattle.bn_stages.specs.declared.name.Name.TheVariants.{Compute, ComputeWithin, GoRight, CopyLetter, GoLeft, PassLetter, Retrace, RetraceWithin}
+use Rattle.bn_bennett_laws.specs.Laws.{ListCountsNames, ListHasNames}
+use Rattle.bn_bennett_laws.specs.List.{bennett}
+use Rattle.bn_bennett_laws.specs.Names.{IsNameOf, Mentions, NumbersStates}
+use Rattle.bn_bennett_laws.specs.declared.name.Name.{Name}
+use Rattle.bn_bennett_laws.specs.declared.name.Name.TheVariants.{Compute, ComputeWithin, GoRight, CopyLetter, GoLeft, PassLetter, Retrace, RetraceWithin}
 use Rattle.bn_table.specs.Rows.{FitsTable}
 use Rattle.bn_bennett.specs.Printed.{ArePrintable, print_of}
 use Rattle.bn_bennett.specs.Translation.{IsTranslation, Translation}

@@ -10,37 +10,37 @@ use Rattle.std.proofs.lemmas.List.FromFn.{get_or-map-range_with_len, map-range_w
 use Rattle.std.proofs.lemmas.Grind.{flat_map-append}
 use Rattle.std.proofs.lemmas.Option.{get_or_from_slice_get, slice_get-get_or}
 use Rattle.std.proofs.lemmas.Slice.Eq.{bytes_eq-Decides}
-use Rattle.bn_entries.specs.Numbering.{firsts, firsts_by}
-use Rattle.bn_entries.proofs.NumberingLemmas.{any-firsts, firsts-push}
+use Rattle.bn_csv.specs.Numbering.{firsts, firsts_by}
+use Rattle.bn_csv.proofs.NumberingLemmas.{any-firsts, firsts-push}
 use Rattle.bn_lists.specs.Lists.{nth, IsIn}
-use Rattle.bn_stages.proofs.MembershipLemmas.{each_of_two, in_head, in_tail, in_left, in_cases, not_in_empty}
-use Rattle.bn_entries.specs.Forms.{is_symbol}
-use Rattle.bn_entries.proofs.FormsLemmas.{all-at}
+use Rattle.bn_bennett_laws.proofs.MembershipLemmas.{each_of_two, in_head, in_tail, in_left, in_cases, not_in_empty}
+use Rattle.bn_csv.specs.Forms.{is_symbol}
+use Rattle.bn_csv.proofs.FormsLemmas.{all-at}
 use Rattle.std.proofs.Math.Seq.{get_or-append_seam}
 use Rattle.bn_quad.specs.Names.{Naming}
 use Rattle.bn_quad.specs.Quadruples.{Deed, Rewrite, Move, IsDeedInRange, IsRuleInRange, Rule}
-use Rattle.bn_qtable.specs.Entry.{act_field, entry_of, read_field, slash}
-use Rattle.bn_qtable.specs.Rows.{counts_of, rows_by, said_deed, said_of, states_in as states_in_rows, symbols_in, table_of}
+use Rattle.bn_qtable.specs.Entry.{act_field, quadruple_entry, read_field, slash}
+use Rattle.bn_qtable.specs.Rows.{counts_of, quadruple_rows_by, said_deed, said_of_quadruple, state_names_in as states_in_rows, symbol_names_in, table_of}
 use Rattle.bn_qtable.specs.Rows as QuadTables
-use Rattle.bn_stages.specs.Renamed.{rename, renamed}
-use Rattle.bn_stages.specs.declared.name.Name.{Name}
+use Rattle.bn_bennett_laws.specs.Renamed.{rename, renamed}
+use Rattle.bn_bennett_laws.specs.declared.name.Name.{Name}
 use Rattle.bn_machine.specs.Machine.{IsInRange, IsMachine, Program, final_of}
 use Rattle.bn_machine.specs.declared.quint.Quint.{Quint}
-use Rattle.bn_stages.proofs.MembershipLemmas.{from_flat_map, in_append, in_right, in_map, from_map}
-use Rattle.bn_stages.specs.List.{bennett, begins_copy, compute_pair, compute_rules, copies_letter, copy_rules, ends_copy, goes_left, goes_right, letters, passes_letter, retrace_rules, turns_left}
+use Rattle.bn_bennett_laws.proofs.MembershipLemmas.{from_flat_map, in_append, in_right, in_map, from_map}
+use Rattle.bn_bennett_laws.specs.List.{bennett, begins_copy, compute_pair, compute_rules, copies_letter, copy_rules, ends_copy, goes_left, goes_right, nonblank_symbols, passes_letter, retrace_rules, turns_left}
 use Rattle.bn_table.specs.Rows.{FitsTable, IsTable, Named, letters_in, rows_by as table_rows}
 use Rattle.bn_table.proofs.RowsLemmas.{blank_first, one_symbol}
-use Rattle.bn_qtable.specs.Rows.{blank}
-use Rattle.bn_bennett.specs.Printed.{names_of, number_names, one_byte, print_of, state_text}
+use Rattle.bn_qtable.specs.Rows.{blank_name}
+use Rattle.bn_bennett.specs.Printed.{translation_names, number_names, one_byte, print_of, bennett_state_text}
 use Rattle.bn_bennett.specs.Translation.{IsTranslation, Translation, is_same, name_of}
 use Rattle.bn_bennett.proofs.NameLemmas.{is_same-Decides}
 use Rattle.bn_bennett.proofs.Forms.{all_letters_form, all_numbers_form, all_states_form, count_letters}
 use Rattle.bn_bennett.proofs.Machines.{some_symbols}
 use Rattle.bn_bennett.proofs.Printable.{number_bound}
 use Rattle.bn_bennett.proofs.Texts.{length-number_names, no_blank, state_text-once}
-use Rattle.bn_stages.specs.Laws.{ListHasLength, ListHasNames, ListIsInRange}
-use Rattle.bn_stages.specs.Names.{states_in}
-use Rattle.bn_stages.specs.declared.name.Name.TheVariants.{GoRight}
+use Rattle.bn_bennett_laws.specs.Laws.{ListHasLength, ListHasNames, ListIsInRange}
+use Rattle.bn_bennett_laws.specs.Names.{states_in}
+use Rattle.bn_bennett_laws.specs.declared.name.Name.TheVariants.{GoRight}
 use Rattle.std.proofs.lemmas.Fmt.{decimal_injective}
 use Rattle.bn_bennett.proofs.Counting.{any_from_in, in_from_any, in_from_firsts}
 
@@ -184,15 +184,15 @@ module _ (names : Naming) (states : ℕ) (one_forms : list_all is_symbol names.o
   tail_range : (r : Rule ℕ) (rs : List (Rule ℕ)) → All (IsRuleInRange states (counts_of names)) (r ∷ rs) → All (IsRuleInRange states (counts_of names)) rs
   tail_range r rs h = λ k d inside. h (suc k) d (omega arith)
 
-  entries_one : (rs : List (Rule ℕ)) → All (IsRuleInRange states (counts_of names)) rs → symbols_in 1 (rows_by names rs) ≡ flat_map (λ (r : Rule ℕ). texts names.one r.one) rs
+  entries_one : (rs : List (Rule ℕ)) → All (IsRuleInRange states (counts_of names)) rs → symbol_names_in 1 (quadruple_rows_by names rs) ≡ flat_map (λ (r : Rule ℕ). texts names.one r.one) rs
   entries_one [] h = refl
   entries_one (r ∷ rs) h = let first = h 0 r (omega arith) in λ i. said_texts names.one r.one first.deeds.0 one_forms i ++ entries_one rs (tail_range r rs h) i
 
-  entries_two : (rs : List (Rule ℕ)) → All (IsRuleInRange states (counts_of names)) rs → symbols_in 2 (rows_by names rs) ≡ flat_map (λ (r : Rule ℕ). texts names.two r.two) rs
+  entries_two : (rs : List (Rule ℕ)) → All (IsRuleInRange states (counts_of names)) rs → symbol_names_in 2 (quadruple_rows_by names rs) ≡ flat_map (λ (r : Rule ℕ). texts names.two r.two) rs
   entries_two [] h = refl
   entries_two (r ∷ rs) h = let first = h 0 r (omega arith) in λ i. said_texts names.two r.two first.deeds.1.0 two_forms i ++ entries_two rs (tail_range r rs h) i
 
-  entries_three : (rs : List (Rule ℕ)) → All (IsRuleInRange states (counts_of names)) rs → symbols_in 3 (rows_by names rs) ≡ flat_map (λ (r : Rule ℕ). texts names.three r.three) rs
+  entries_three : (rs : List (Rule ℕ)) → All (IsRuleInRange states (counts_of names)) rs → symbol_names_in 3 (quadruple_rows_by names rs) ≡ flat_map (λ (r : Rule ℕ). texts names.three r.three) rs
   entries_three [] h = refl
   entries_three (r ∷ rs) h = let first = h 0 r (omega arith) in λ i. said_texts names.three r.three first.deeds.1.1.0 three_forms i ++ entries_three rs (tail_range r rs h) i
 
@@ -211,14 +211,14 @@ module _ (p : Program) where
   front = compute_rules p.quints ++ (begins_copy (final_of p.quints) (length p.quints) ∷ goes_right ∷ [])
 
   abbrev copied : List (Rule Name)
-  copied = map (copies_letter (length p.quints)) (letters p.symbols)
+  copied = map (copies_letter (length p.quints)) (nonblank_symbols p.symbols)
 
   abbrev back : List (Rule Name)
-  back = (((turns_left (length p.quints) ∷ goes_left ∷ []) ++ map (passes_letter (length p.quints)) (letters p.symbols)) ++ (ends_copy (final_of p.quints) (length p.quints) ∷ [])) ++ retrace_rules p.quints
+  back = (((turns_left (length p.quints) ∷ goes_left ∷ []) ++ map (passes_letter (length p.quints)) (nonblank_symbols p.symbols)) ++ (ends_copy (final_of p.quints) (length p.quints) ∷ [])) ++ retrace_rules p.quints
 
   in_pieces : bennett p ≡ (front ++ copied) ++ back
   unfolding bennett
-  in_pieces = regroup (compute_rules p.quints) (begins_copy (final_of p.quints) (length p.quints) ∷ goes_right ∷ []) copied (turns_left (length p.quints) ∷ goes_left ∷ []) (map (passes_letter (length p.quints)) (letters p.symbols)) (ends_copy (final_of p.quints) (length p.quints) ∷ []) (retrace_rules p.quints)
+  in_pieces = regroup (compute_rules p.quints) (begins_copy (final_of p.quints) (length p.quints) ∷ goes_right ∷ []) copied (turns_left (length p.quints) ∷ goes_left ∷ []) (map (passes_letter (length p.quints)) (nonblank_symbols p.symbols)) (ends_copy (final_of p.quints) (length p.quints) ∷ []) (retrace_rules p.quints)
 
   abbrev after_compute : List (Rule Name)
   after_compute = copy_rules (final_of p.quints) (length p.quints) p.symbols ++ retrace_rules p.quints
@@ -265,12 +265,12 @@ only_first names k (q ∷ qs) y h = elim (in_cases (get_or names 0 []) y _ h) [
 ]
 
 -- the texts of states
-states_read : (names : Naming) (s : Translation) (states : ℕ) (symbols : List ℕ) → names.states ≡ map state_text s.names → states ≡ length s.names → (rs : List (Rule ℕ)) → All (IsRuleInRange states symbols) rs → states_in_rows (rows_by names rs) ≡ map state_text (states_in (rename (name_of s) rs))
+states_read : (names : Naming) (s : Translation) (states : ℕ) (symbols : List ℕ) → names.states ≡ map bennett_state_text s.names → states ≡ length s.names → (rs : List (Rule ℕ)) → All (IsRuleInRange states symbols) rs → states_in_rows (quadruple_rows_by names rs) ≡ map bennett_state_text (states_in (rename (name_of s) rs))
 states_read names s states symbols e count [] h = refl
 states_read names s states symbols e count (r ∷ rs) h =
     let range = h 0 r (omega arith) in
-    let from : get_or names.states r.from [] ≡ state_text (name_of s r.from) = ap (λ (ns : List (List ℕ)). get_or ns r.from []) e ∙ get_or-map state_text s.names r.from GoRight [] (omega (arith, range.from)) in
-    let to : get_or names.states r.to [] ≡ state_text (name_of s r.to) = ap (λ (ns : List (List ℕ)). get_or ns r.to []) e ∙ get_or-map state_text s.names r.to GoRight [] (omega (arith, range.to)) in
+    let from : get_or names.states r.from [] ≡ bennett_state_text (name_of s r.from) = ap (λ (ns : List (List ℕ)). get_or ns r.from []) e ∙ get_or-map bennett_state_text s.names r.from GoRight [] (omega (arith, range.from)) in
+    let to : get_or names.states r.to [] ≡ bennett_state_text (name_of s r.to) = ap (λ (ns : List (List ℕ)). get_or ns r.to []) e ∙ get_or-map bennett_state_text s.names r.to GoRight [] (omega (arith, range.to)) in
     λ i. from i ∷ to i ∷ states_read names s states symbols e count rs (λ k d inside. h (suc k) d (omega arith)) i
 
 numbers_once : (count j k : ℕ) → count ≤ 4000 → j < count + 1 → k < count + 1 → get_or (number_names count) j [] ≡ get_or (number_names count) k [] → j ≡ k
@@ -292,10 +292,10 @@ module _ (t : Named) (s : Translation) (machine : IsMachine t.machine) (table : 
   p = t.machine
 
   abbrev n : Naming
-  n = names_of t s
+  n = translation_names t s
 
   same_states : s.machine.states ≡ length n.states
-  same_states = h.states ∙ sym (length-map s.names state_text)
+  same_states = h.states ∙ sym (length-map s.names bennett_state_text)
 
   letter_count : p.symbols ≡ length n.one
   letter_count = count_letters t s machine table fits listed h
@@ -320,11 +320,11 @@ module _ (t : Named) (s : Translation) (machine : IsMachine t.machine) (table : 
   name_small : (q : Name) → IsIn (states_in (bennett p)) q → (print_of q).number < 2 ^ 62
   name_small q k = let bound = number_bound p q machine ((listed p machine.some q).0 k) in omega (arith, fits.states, fits.quints)
 
-  states_first : n.states ≡ firsts (states_in_rows (rows_by n s.machine.rules))
+  states_first : n.states ≡ firsts (states_in_rows (quadruple_rows_by n s.machine.rules))
   states_first =
-      ap (map state_text) h.names
-      ∙ sym (firsts-map is_same is_same-Decides bytes_eq bytes_eq-Decides state_text (states_in (bennett p)) (λ a b k m e. state_text-once a b (name_small a k) (name_small b m) e))
-      ∙ ap firsts (sym (states_read n s (length n.states) (counts_of n) refl (length-map s.names state_text) s.machine.rules rules_range ∙ ap (λ rs. map state_text (states_in rs)) h.rules))
+      ap (map bennett_state_text) h.names
+      ∙ sym (firsts-map is_same is_same-Decides bytes_eq bytes_eq-Decides bennett_state_text (states_in (bennett p)) (λ a b k m e. state_text-once a b (name_small a k) (name_small b m) e))
+      ∙ ap firsts (sym (states_read n s (length n.states) (counts_of n) refl (length-map s.names bennett_state_text) s.machine.rules rules_range ∙ ap (λ rs. map bennett_state_text (states_in rs)) h.rules))
 
   -- ---- tape 1
 
@@ -340,11 +340,11 @@ module _ (t : Named) (s : Translation) (machine : IsMachine t.machine) (table : 
   one_compute : flat_map on_one (compute_rules p.quints) ≡ map one_byte read_letters
   one_compute = letters_read t.letters 1 p.quints (length t.names) table.spelled.in_range ∙ ap (map one_byte) (sym (letters_of_rows t.names t.letters p.quints))
 
-  one_first : n.one ≡ firsts (blank ∷ symbols_in 1 (rows_by n s.machine.rules))
+  one_first : n.one ≡ firsts (blank_name ∷ symbol_names_in 1 (quadruple_rows_by n s.machine.rules))
   one_first =
       let R : List (List ℕ) = flat_map on_one (after_compute p) in
       let L : List (List ℕ) = map one_byte (95 ∷ read_letters) in
-      let rows : symbols_in 1 (rows_by n s.machine.rules) ≡ map one_byte read_letters ++ R =
+      let rows : symbol_names_in 1 (quadruple_rows_by n s.machine.rules) ≡ map one_byte read_letters ++ R =
       entries_one n (length n.states) one_forms two_forms one_forms s.machine.rules rules_range
       ∙ flat_map-renamed (name_of s) (λ (r : Rule ℕ). texts n.one r.one) on_one (λ r. refl) s.machine.rules
       ∙ ap (flat_map on_one) (h.rules ∙ in_two p) ∙ flat_map-append on_one (compute_rules p.quints) (after_compute p)
@@ -359,7 +359,7 @@ module _ (t : Named) (s : Translation) (machine : IsMachine t.machine) (table : 
       ap (map one_byte) table.spelled.letters_by_first
       ∙ sym (firsts-map nat_eq Decides-eqb bytes_eq bytes_eq-Decides one_byte (95 ∷ read_letters) (λ a b k m e. cc))
       ∙ sym (firsts-stay bytes_eq bytes_eq-Decides L R known)
-      ∙ ap (λ xs. firsts (blank ∷ xs)) (sym rows)
+      ∙ ap (λ xs. firsts (blank_name ∷ xs)) (sym rows)
 
   -- ---- tape 2
 
@@ -369,28 +369,28 @@ module _ (t : Named) (s : Translation) (machine : IsMachine t.machine) (table : 
   two_inside : (r : Rule Name) → IsIn (bennett p) r → (y : List ℕ) → IsIn (on_two r) y → IsIn n.two y
   two_inside r k y there = texts_inside n.two r.two (subst (λ z. IsDeedInRange z r.two) (sym (length-number_names (length p.quints))) (ranges p machine r k).1.0) y there
 
-  two_first : n.two ≡ firsts (blank ∷ symbols_in 2 (rows_by n s.machine.rules))
+  two_first : n.two ≡ firsts (blank_name ∷ symbol_names_in 2 (quadruple_rows_by n s.machine.rules))
   two_first =
       let N : ℕ = length p.quints in
       let text : ℕ → List ℕ = λ k. get_or n.two k [] in
       let R : List (List ℕ) = flat_map on_two (after_compute p) in
       let C : List (List ℕ) = flat_map on_two (compute_rules p.quints) in
-      let rows : symbols_in 2 (rows_by n s.machine.rules) ≡ C ++ R =
+      let rows : symbol_names_in 2 (quadruple_rows_by n s.machine.rules) ≡ C ++ R =
       entries_two n (length n.states) one_forms two_forms one_forms s.machine.rules rules_range
       ∙ flat_map-renamed (name_of s) (λ (r : Rule ℕ). texts n.two r.two) on_two (λ r. refl) s.machine.rules
       ∙ ap (flat_map on_two) (h.rules ∙ in_two p) ∙ flat_map-append on_two (compute_rules p.quints) (after_compute p)
       in
       let count : 1 + N ≡ length n.two = sym (length-number_names N ∙ omega arith) in
-      let whole : firsts (blank ∷ C) ≡ n.two =
-      ap (λ xs. firsts (blank ∷ xs)) (numbers_read n.two 1 p.quints)
-      ∙ firsts-pairs text (1 + N) (λ j k low high e. numbers_once N j k fits.quints (omega arith) (omega arith) e) N 1 (blank ∷ []) (omega arith) (omega arith) (first_blank blank)
+      let whole : firsts (blank_name ∷ C) ≡ n.two =
+      ap (λ xs. firsts (blank_name ∷ xs)) (numbers_read n.two 1 p.quints)
+      ∙ firsts-pairs text (1 + N) (λ j k low high e. numbers_once N j k fits.quints (omega arith) (omega arith) e) N 1 (blank_name ∷ []) (omega arith) (omega arith) (first_blank blank_name)
       ∙ ap (λ m. map text (range_with_len 0 m)) count ∙ all_texts n.two
       in
-      let known : (y : List ℕ) → IsIn R y → IsIn (blank ∷ C) y = λ y k.
+      let known : (y : List ℕ) → IsIn R y → IsIn (blank_name ∷ C) y = λ y k.
       let inside : IsIn n.two y = list_inside p on_two n.two two_inside (after_compute p) (λ r m. subst (λ rs. IsIn rs r) (sym (in_two p)) (in_right (compute_rules p.quints) (after_compute p) r m)) y k in
-      in_firsts bytes_eq bytes_eq-Decides (blank ∷ C) y (subst (λ ns. IsIn ns y) (sym whole) inside)
+      in_firsts bytes_eq bytes_eq-Decides (blank_name ∷ C) y (subst (λ ns. IsIn ns y) (sym whole) inside)
       in
-      sym whole ∙ sym (firsts-stay bytes_eq bytes_eq-Decides (blank ∷ C) R known) ∙ ap (λ xs. firsts (blank ∷ xs)) (sym rows)
+      sym whole ∙ sym (firsts-stay bytes_eq bytes_eq-Decides (blank_name ∷ C) R known) ∙ ap (λ xs. firsts (blank_name ∷ xs)) (sym rows)
 
   -- ---- tape 3
 
@@ -407,46 +407,46 @@ module _ (t : Named) (s : Translation) (machine : IsMachine t.machine) (table : 
       let same : get_or t.letters j 0 ≡ get_or t.letters k 0 = cc in
       one_symbol t table j k (get_or t.letters k 0) (slice_get-get_or t.letters j 0 (omega arith) ∙ ap Some same) (slice_get-get_or t.letters k 0 (omega arith))
 
-  three_first : n.three ≡ firsts (blank ∷ symbols_in 3 (rows_by n s.machine.rules))
+  three_first : n.three ≡ firsts (blank_name ∷ symbol_names_in 3 (quadruple_rows_by n s.machine.rules))
   three_first =
       let text : ℕ → List ℕ = λ k. get_or n.three k [] in
       let some : 0 < p.symbols = some_symbols p machine in
-      let zero_blank : text 0 ≡ blank = get_or-map one_byte t.letters 0 0 [] (omega (arith, letter_count, length-map t.letters one_byte)) ∙ ap one_byte (get_or_from_slice_get t.letters 0 95 0 (blank_first t table)) in
+      let zero_blank : text 0 ≡ blank_name = get_or-map one_byte t.letters 0 0 [] (omega (arith, letter_count, length-map t.letters one_byte)) ∙ ap one_byte (get_or_from_slice_get t.letters 0 95 0 (blank_first t table)) in
       let F : List (List ℕ) = flat_map on_three (front p) in
       let L : List (List ℕ) = flat_map on_three (copied p) in
       let R : List (List ℕ) = flat_map on_three (back p) in
-      let rows : symbols_in 3 (rows_by n s.machine.rules) ≡ (F ++ L) ++ R =
+      let rows : symbol_names_in 3 (quadruple_rows_by n s.machine.rules) ≡ (F ++ L) ++ R =
       entries_three n (length n.states) one_forms two_forms one_forms s.machine.rules rules_range
       ∙ flat_map-renamed (name_of s) (λ (r : Rule ℕ). texts n.three r.three) on_three (λ r. refl) s.machine.rules
       ∙ ap (flat_map on_three) (h.rules ∙ in_pieces p) ∙ flat_map-append on_three (front p ++ copied p) (back p)
       ∙ ap (λ xs. xs ++ R) (flat_map-append on_three (front p) (copied p))
       in
-      let blanks : (y : List ℕ) → IsIn F y → IsIn (blank ∷ []) y = λ y k.
+      let blanks : (y : List ℕ) → IsIn F y → IsIn (blank_name ∷ []) y = λ y k.
       let same : text 0 ≡ y = elim (in_append (flat_map on_three (compute_rules p.quints)) (text 0 ∷ text 0 ∷ []) y (subst (λ xs. IsIn xs y) (flat_map-append on_three (compute_rules p.quints) (begins_copy (final_of p.quints) (length p.quints) ∷ goes_right ∷ [])) k)) [
         | inl computes ↦ only_first n.three 1 p.quints y computes
         | inr begins ↦ each_of_two (λ z. text 0 ≡ z) (text 0) (text 0) refl refl y begins
       ] in
-      subst (IsIn (blank ∷ [])) (sym zero_blank ∙ same) (in_head blank [])
+      subst (IsIn (blank_name ∷ [])) (sym zero_blank ∙ same) (in_head blank_name [])
       in
-      let start : firsts (blank ∷ F) ≡ map text (range_with_len 0 1) = firsts-stay bytes_eq bytes_eq-Decides (blank ∷ []) F blanks ∙ first_blank blank ∙ ap (λ (b : List ℕ). b ∷ []) (sym zero_blank) in
+      let start : firsts (blank_name ∷ F) ≡ map text (range_with_len 0 1) = firsts-stay bytes_eq bytes_eq-Decides (blank_name ∷ []) F blanks ∙ first_blank blank_name ∙ ap (λ (b : List ℕ). b ∷ []) (sym zero_blank) in
       let sum : 1 + (p.symbols - 1) ≡ length n.three = omega (arith, letter_count) in
-      let whole : firsts ((blank ∷ F) ++ L) ≡ n.three =
-      ap (λ xs. firsts ((blank ∷ F) ++ xs)) (copies_read n.three (length p.quints) (letters p.symbols))
-      ∙ firsts-pairs text (length n.three) letters_once (p.symbols - 1) 1 (blank ∷ F) (omega arith) (omega arith) start
+      let whole : firsts ((blank_name ∷ F) ++ L) ≡ n.three =
+      ap (λ xs. firsts ((blank_name ∷ F) ++ xs)) (copies_read n.three (length p.quints) (nonblank_symbols p.symbols))
+      ∙ firsts-pairs text (length n.three) letters_once (p.symbols - 1) 1 (blank_name ∷ F) (omega arith) (omega arith) start
       ∙ ap (λ m. map text (range_with_len 0 m)) sum ∙ all_texts n.three
       in
-      let known : (y : List ℕ) → IsIn R y → IsIn ((blank ∷ F) ++ L) y = λ y k.
+      let known : (y : List ℕ) → IsIn R y → IsIn ((blank_name ∷ F) ++ L) y = λ y k.
       let inside : IsIn n.three y = list_inside p on_three n.three three_inside (back p) (λ r m. subst (λ rs. IsIn rs r) (sym (in_pieces p)) (in_right (front p ++ copied p) (back p) r m)) y k in
-      in_firsts bytes_eq bytes_eq-Decides ((blank ∷ F) ++ L) y (subst (λ ns. IsIn ns y) (sym whole) inside)
+      in_firsts bytes_eq bytes_eq-Decides ((blank_name ∷ F) ++ L) y (subst (λ ns. IsIn ns y) (sym whole) inside)
       in
-      sym whole ∙ sym (firsts-stay bytes_eq bytes_eq-Decides ((blank ∷ F) ++ L) R known) ∙ ap (λ xs. firsts (blank ∷ xs)) (sym rows)
+      sym whole ∙ sym (firsts-stay bytes_eq bytes_eq-Decides ((blank_name ∷ F) ++ L) R known) ∙ ap (λ xs. firsts (blank_name ∷ xs)) (sym rows)
 
   -- ---- the table
 
   pub is_table : QuadTables.IsTable (table_of s.machine n)
   is_table =
       let rules : length s.machine.rules ≡ 4 * length p.quints + 2 * p.symbols + 3 = sym (length-map s.machine.rules (renamed (name_of s))) ∙ ap length h.rules ∙ has_length p (some_symbols p machine) in
-      let long : length (rows_by n s.machine.rules) ≡ length s.machine.rules = length-map s.machine.rules (λ r. entry_of (said_of n r)) in
+      let long : length (quadruple_rows_by n s.machine.rules) ≡ length s.machine.rules = length-map s.machine.rules (λ r. quadruple_entry (said_of_quadruple n r)) in
       record {
         spelled = record {
           rows = refl;

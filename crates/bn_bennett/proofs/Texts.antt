@@ -16,9 +16,9 @@ use Rattle.bn_base.proofs.NumberLemmas.{read_number-again}
 use Rattle.bn_table.specs.Rows.{IsTable, Named, blank}
 use Rattle.bn_table.proofs.RowsLemmas.{one_symbol}
 use Rattle.bn_quad.specs.Names.{Naming, naming_of, symbols_on, with_state, with_symbol}
-use Rattle.bn_stages.specs.declared.name.Name.{Name}
-use Rattle.bn_stages.specs.declared.name.Name.TheVariants.{Compute, ComputeWithin, GoRight, CopyLetter, GoLeft, PassLetter, Retrace, RetraceWithin}
-use Rattle.bn_bennett.specs.Printed.{ArePrintable, mark, number_names, one_byte, printed, print_of, state_text, with_states, on_tape}
+use Rattle.bn_bennett_laws.specs.declared.name.Name.{Name}
+use Rattle.bn_bennett_laws.specs.declared.name.Name.TheVariants.{Compute, ComputeWithin, GoRight, CopyLetter, GoLeft, PassLetter, Retrace, RetraceWithin}
+use Rattle.bn_bennett.specs.Printed.{ArePrintable, mark, number_names, one_byte, printed, print_of, bennett_state_text, with_states, on_tape}
 use Rattle.bn_bennett.specs.declared.naming.Print.{Print}
 
 -- ---- a text tells its letter, its number and its prime
@@ -79,7 +79,7 @@ test_apart a b e = absurd (false≢true e)
 test_same : (p q : Print) → (p.letter ≡ q.letter) × (p.number ≡ q.number) × (p.primed ≡ q.primed) → is_same_print p q ≡ true
 test_same p q same = rw ((Decides-eqb p.letter q.letter).1 same.0, (Decides-eqb p.number q.number).1 same.1, same.2, same_mark_is q.primed) refl
 
-pub state_text-once : (a b : Name) → (print_of a).number < 2 ^ 62 → (print_of b).number < 2 ^ 62 → state_text a ≡ state_text b → a ≡ b
+pub state_text-once : (a b : Name) → (print_of a).number < 2 ^ 62 → (print_of b).number < 2 ^ 62 → bennett_state_text a ≡ bennett_state_text b → a ≡ b
 state_text-once a b low high e = test_apart a b (test_same (print_of a) (print_of b) (printed_once (print_of a) (print_of b) low high e))
 
 -- ---- what isn't among the texts before it
@@ -139,12 +139,12 @@ on_tape_none n (suc (suc (suc tape))) h e = λ i. naming_of n.states n.one n.two
 
 -- ---- what each loop adds is new
 
-module _ (names : List Name) (all : ArePrintable names) (i : ℕ) (d : Name) (old : Naming) (text : List ℕ) (inside : i < length names) (before : old ≡ with_states (map state_text (take i names))) (is : text ≡ state_text (get_or names i d)) where
+module _ (names : List Name) (all : ArePrintable names) (i : ℕ) (d : Name) (old : Naming) (text : List ℕ) (inside : i < length names) (before : old ≡ with_states (map bennett_state_text (take i names))) (is : text ≡ bennett_state_text (get_or names i d)) where
   pub state_new : Contains old.states text → ⊥
-  state_new = text_new state_text names i d old text inside before is (λ j k a b at_a at_b e. all.apart j k b (at_a ∙ ap Some (state_text-once a b (all.small j a at_a) (all.small k b at_b) e)) at_b)
+  state_new = text_new bennett_state_text names i d old text inside before is (λ j k a b at_a at_b e. all.apart j k b (at_a ∙ ap Some (state_text-once a b (all.small j a at_a) (all.small k b at_b) e)) at_b)
 
   pub state_room : length old.states < 2 ^ 32 - 1
-  state_room = text_room state_text names i d old text inside before is all.few
+  state_room = text_room bennett_state_text names i d old text inside before is all.few
 
 -- ---- the symbols of a tape
 

@@ -1,12 +1,12 @@
 -- A list of quadruples over names that is being numbered.
 use Rattle.std.specs.Prelude.{◌≡◌, ℕ, ◌<◌, List, ◌++◌, length, map, All}
-use Rattle.bn_entries.specs.Numbering.{firsts_by}
+use Rattle.bn_csv.specs.Numbering.{firsts_by}
 use Rattle.bn_quad.specs.Quadruples.{Rule}
 use Rattle.bn_quad.specs.Kept.{quad_of, rules_of}
-use Rattle.bn_stages.specs.Names.{states_in}
-use Rattle.bn_stages.specs.Renamed.{rename, name_at}
-use Rattle.bn_stages.specs.declared.name.Name.{Name}
-use Rattle.bn_stages.specs.declared.name.Name.TheVariants.{GoRight}
+use Rattle.bn_bennett_laws.specs.Names.{states_in}
+use Rattle.bn_bennett_laws.specs.Renamed.{rename, name_at}
+use Rattle.bn_bennett_laws.specs.declared.name.Name.{Name}
+use Rattle.bn_bennett_laws.specs.declared.name.Name.TheVariants.{GoRight}
 use Rattle.bn_quad.specs.declared.quad.Quad.{Quad}
 use Rattle.bn_bennett.specs.Translation.{is_same}
 use Rattle.bn_bennett.specs.declared.draft.Draft.{Draft}

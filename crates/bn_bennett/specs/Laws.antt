@@ -2,16 +2,16 @@
 use Rattle.std.specs.Prelude.{◌≡◌, ◌↔◌, ℕ, ◌+◌, ◌*◌, ◌≤◌, List, length}
 use Rattle.bn_machine.specs.Machine.{IsMachine, Program}
 use Rattle.bn_machine.specs.Outcome.{Limits, Outcome, HasOutcome}
-use Rattle.bn_quad.specs.Quadruples.{Configuration, Rooms, everywhere, final_of, initial_of}
+use Rattle.bn_quad.specs.Quadruples.{Configuration, Rooms, everywhere, final_state_of, initial_of}
 use Rattle.bn_quad.specs.Calls.{IsUniformMachine}
-use Rattle.bn_stages.specs.Laws.{HaltsAfter}
-use Rattle.bn_stages.specs.List.{initial_name, final_name}
-use Rattle.bn_stages.specs.Renamed.{KeepsApart, in_state}
-use Rattle.bn_stages.specs.Stages.{IsStandardMachine, IsSpelledBy, Stands, rooms_of}
+use Rattle.bn_bennett_laws.specs.Laws.{HaltsAfter}
+use Rattle.bn_bennett_laws.specs.List.{initial_name, final_name}
+use Rattle.bn_bennett_laws.specs.Renamed.{KeepsApart, in_state}
+use Rattle.bn_bennett_laws.specs.Stages.{IsStandardMachine, IsSpelledBy, Stands, rooms_of}
 use Rattle.bn_qtable.specs.Named.{HasNames}
 use Rattle.bn_qtable.specs.Rows as QuadTables
 use Rattle.bn_table.specs.Rows.{FitsTable, IsTable, Named}
-use Rattle.bn_bennett.specs.Printed.{names_of}
+use Rattle.bn_bennett.specs.Printed.{translation_names}
 use Rattle.bn_bennett.specs.Translation.{IsTranslation, Translation, name_of}
 use Rattle.bn_bennett.specs.Runs.{CallsEndAs, MachineEndsAs, Runs, ending_of}
 
@@ -29,7 +29,7 @@ abbrev pub TranslationsAreUniform : Type 0
 TranslationsAreUniform =
     (p : Program) (t : Translation) → IsStandardMachine p → IsTranslation p t
     → IsUniformMachine t.machine × (name_of t (initial_of t.machine.rules) ≡ initial_name p)
-    × (name_of t (final_of t.machine.rules) ≡ final_name p) × KeepsApart (name_of t) t.machine.rules
+    × (name_of t (final_state_of t.machine.rules) ≡ final_name p) × KeepsApart (name_of t) t.machine.rules
 
 -- Bennett's theorem: where the one-tape machine halts after v steps with an output y of L letters, the machine of its
 -- translation comes from (word, blank, blank) to (word, blank, y) in 4v + 4L + 5 steps, all heads at 0 again and the
@@ -39,7 +39,7 @@ TranslationsHaltAlike =
     (p : Program) (t : Translation) (word : List ℕ) → IsStandardMachine p → IsTranslation p t → IsSpelledBy p word
     → ((v : ℕ) (y : List ℕ) → HaltsAfter p word v y
     → Runs t word everywhere (4 * v + 4 * length y + 5) (ending_of t word y))
-    × ((n : ℕ) (c : Configuration ℕ) → Runs t word everywhere n c → c.state ≡ final_of t.machine.rules → (v : ℕ)
+    × ((n : ℕ) (c : Configuration ℕ) → Runs t word everywhere n c → c.state ≡ final_state_of t.machine.rules → (v : ℕ)
     × (y : List ℕ) × HaltsAfter p word v y × (n ≡ 4 * v + 4 * length y + 5) × (c ≡ ending_of t word y))
 
 -- within limits the one-tape machine's own run comes out so after i steps exactly where the run of its translation's
@@ -67,9 +67,9 @@ TranslationsStand =
 -- quadruples can be written as a table
 abbrev pub TranslationsHaveNames : Type 0
 TranslationsHaveNames = (t : Named) (s : Translation) → IsMachine t.machine → IsTable t → FitsTable t.machine
-    → IsTranslation t.machine s → HasNames s.machine (names_of t s)
+    → IsTranslation t.machine s → HasNames s.machine (translation_names t s)
 
 -- a table's translation with its names is a table of quadruples: what is written of it is read as it again
 abbrev pub TranslationsAreTables : Type 0
 TranslationsAreTables = (t : Named) (s : Translation) → IsMachine t.machine → IsTable t → FitsTable t.machine
-    → IsTranslation t.machine s → QuadTables.IsTable (QuadTables.table_of s.machine (names_of t s))
+    → IsTranslation t.machine s → QuadTables.IsTable (QuadTables.table_of s.machine (translation_names t s))

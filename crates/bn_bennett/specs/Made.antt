@@ -1,7 +1,7 @@
 -- Quadruples over names as the code makes them.
 use Rattle.std.specs.Prelude.{ℕ}
 use Rattle.bn_quad.specs.Quadruples.{Deed, Rewrite, Move, Rule}
-use Rattle.bn_stages.specs.declared.name.Name.{Name}
+use Rattle.bn_bennett_laws.specs.declared.name.Name.{Name}
 use Rattle.bn_bennett.specs.declared.rule.Deed.{Deed as DeedMade}
 use Rattle.bn_bennett.specs.declared.rule.Deed.TheVariants as kind
 use Rattle.bn_bennett.specs.declared.rule.NamedQuad.{NamedQuad}

@@ -1,8 +1,8 @@
 -- What a state of the reversible machine says of the one-tape machine (Bennett 1973; the names are this project's own).
 use Rattle.std.specs.Prelude.{ℕ}
-use Rattle.bn_stages.specs.declared.name.Name.{Name}
-use Rattle.bn_stages.specs.declared.name.Name.TheVariants.{Compute, ComputeWithin, GoRight, CopyLetter, GoLeft}
-use Rattle.bn_stages.specs.declared.name.Name.TheVariants.{PassLetter, Retrace, RetraceWithin}
+use Rattle.bn_bennett_laws.specs.declared.name.Name.{Name}
+use Rattle.bn_bennett_laws.specs.declared.name.Name.TheVariants.{Compute, ComputeWithin, GoRight, CopyLetter, GoLeft}
+use Rattle.bn_bennett_laws.specs.declared.name.Name.TheVariants.{PassLetter, Retrace, RetraceWithin}
 use Rattle.bn_bennett.specs.declared.translated.Stage.{Stage}
 use Rattle.bn_bennett.specs.declared.translated.Stage.TheVariants as stage
 use Rattle.bn_bennett.specs.declared.translated.MachineState.{MachineState}

@@ -3,9 +3,9 @@ use Rattle.std.specs.Prelude.{◌≡◌, ℕ, zero, suc, ◌+◌, ◌^◌, ◌<�
 use Rattle.std.specs.Prelude.{Some, slice_get, decimal, if◌then◌else◌}
 use Rattle.std.specs.List.{range_with_len}
 use Rattle.bn_quad.specs.Names.{Naming, naming_of}
-use Rattle.bn_stages.specs.declared.name.Name.{Name}
-use Rattle.bn_stages.specs.declared.name.Name.TheVariants.{Compute, ComputeWithin, GoRight, CopyLetter, GoLeft}
-use Rattle.bn_stages.specs.declared.name.Name.TheVariants.{PassLetter, Retrace, RetraceWithin}
+use Rattle.bn_bennett_laws.specs.declared.name.Name.{Name}
+use Rattle.bn_bennett_laws.specs.declared.name.Name.TheVariants.{Compute, ComputeWithin, GoRight, CopyLetter, GoLeft}
+use Rattle.bn_bennett_laws.specs.declared.name.Name.TheVariants.{PassLetter, Retrace, RetraceWithin}
 use Rattle.bn_table.specs.Rows.{Named, blank}
 use Rattle.bn_bennett.specs.Translation.{Translation}
 use Rattle.bn_bennett.specs.declared.naming.Print.{Print}
@@ -33,8 +33,8 @@ mark primed = if primed then 39 ∷ [] else []
 abbrev pub printed : Print → List ℕ
 printed p = p.letter ∷ decimal p.number ++ mark p.primed
 
-abbrev pub state_text : Name → List ℕ
-state_text name = printed (print_of name)
+abbrev pub bennett_state_text : Name → List ℕ
+bennett_state_text name = printed (print_of name)
 
 -- no two of these names are one, and none is printed with a number of 2^62 or more
 pub record ArePrintable (names : List Name) : Type 0 where
@@ -67,6 +67,6 @@ on_tape n (suc (suc (suc tape))) names = naming_of n.states n.one n.two names
 
 -- the names of a table's translation: its states' texts; on tapes 1 and 3 the table's letters; on tape 2 the history's
 -- symbols
-abbrev pub names_of : Named → Translation → Naming
-names_of table t = naming_of (map state_text t.names) (map one_byte table.letters)
+abbrev pub translation_names : Named → Translation → Naming
+translation_names table t = naming_of (map bennett_state_text t.names) (map one_byte table.letters)
     (number_names (length table.machine.quints)) (map one_byte table.letters)

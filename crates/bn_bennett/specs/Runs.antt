@@ -1,18 +1,18 @@
 -- Runs of a translation's machine from a word, and how they end.
 use Rattle.std.specs.Prelude.{◌≡◌, ◌≢◌, ℕ, ◌+◌, ◌*◌, List, [], length, All}
-use Rattle.bn_theory.specs.Runs.{Reaches}
+use Rattle.bn_lists.specs.Runs.{Reaches}
 use Rattle.bn_machine.specs.Tape.{scanned, word_tape, blank_tape}
 use Rattle.bn_machine.specs.Window.{new_window}
 use Rattle.bn_machine.specs.Outcome as outcome
 use Rattle.bn_machine.specs.Outcome.{Limits, Outcome}
-use Rattle.bn_quad.specs.Quadruples.{Configuration, Goes, Quadruples, Rooms, final_of, initial_of}
+use Rattle.bn_quad.specs.Quadruples.{Configuration, QuadruplesRunTo, Quadruples, Rooms, final_state_of, initial_of}
 use Rattle.bn_quad.specs.Calls.{IsQuadTurn, configuration}
 use Rattle.bn_quad.specs.declared.tapes.Tapes.{Tapes}
 use Rattle.bn_quad.specs.declared.tapes.QuadTurn.{QuadTurn}
 use Rattle.bn_quad.specs.declared.tapes.QuadTurn.TheVariants as turn
-use Rattle.bn_stages.specs.Stages.{IsAfter, rooms_of}
-use Rattle.bn_stages.specs.Steps.{EndsAt, Exit, Finished, Stopped, Leaving, HasNoFirstRead}
-use Rattle.bn_stages.specs.declared.name.Name.TheVariants.{Compute}
+use Rattle.bn_bennett_laws.specs.Stages.{IsAfter, rooms_of}
+use Rattle.bn_bennett_laws.specs.Steps.{EndsAt, Exit, Finished, Stopped, Leaving, HasNoFirstRead}
+use Rattle.bn_bennett_laws.specs.declared.name.Name.TheVariants.{Compute}
 use Rattle.bn_bennett.specs.Translation.{Translation, name_of}
 
 -- ---- on tapes without ends, or in rooms
@@ -29,7 +29,7 @@ beginning_of t word = record {
 -- the end: the final state, the word on tape 1 again, tape 2 blank, y on tape 3, all heads at 0
 abbrev pub ending_of : Translation → List ℕ → List ℕ → Configuration ℕ
 ending_of t word y = record {
-  state = final_of t.machine.rules;
+  state = final_state_of t.machine.rules;
   one = word_tape word;
   two = blank_tape;
   three = word_tape y;
@@ -37,12 +37,12 @@ ending_of t word y = record {
 
 -- from the word exactly n steps in these rooms lead to d
 abbrev pub Runs : Translation → List ℕ → Rooms → ℕ → Configuration ℕ → Type 0
-Runs t word rooms n d = Reaches (Goes rooms t.machine) n (beginning_of t word) d
+Runs t word rooms n d = Reaches (QuadruplesRunTo rooms t.machine) n (beginning_of t word) d
 
 -- from the word, in these limits, the machine makes n steps to d, and there its run ends so
 pub record Comes (t : Translation) (word : List ℕ) (l : Limits) (n : ℕ) (d : Configuration ℕ) (e : Exit) : Type 0 where
   pub run : Runs t word (rooms_of l) n d
-  pub ends : EndsAt (rooms_of l) t.machine.rules (final_of t.machine.rules) d e
+  pub ends : EndsAt (rooms_of l) t.machine.rules (final_state_of t.machine.rules) d e
 
 -- The machine's run from the word, in these limits, ends as the outcome says: halted with the output y, stuck in a
 -- state at a symbol, which no quadruple of that state reads, or where a head would leave its tape. The number i is that
@@ -99,7 +99,8 @@ pub record Answered (t : Translation) (word : List ℕ) (l : Limits) (n : ℕ) (
 -- a state at a symbol, which no quadruple of that state reads; or `Left`, at this tape and this end.
 abbrev pub CallsEndAs : Translation → List ℕ → Limits → ℕ → Outcome → Type 0
 CallsEndAs t word l i (outcome.Halted y) = All (λ s. s ≢ 0) y
-    × Answered t word l (4 * i + 4 * length y + 5) (stand (final_of t.machine.rules) (ended_tapes l word y)) turn.Final
+    × Answered t word l (4 * i + 4 * length y + 5) (stand (final_state_of t.machine.rules) (ended_tapes l word y))
+    turn.Final
 CallsEndAs t word l i (outcome.Stuck state symbol) = (b : Stand) × Answered t word l (2 * i) b turn.Stuck
     × (name_of t b.state ≡ Compute state) × (scanned b.tapes.one.tape ≡ symbol)
     × HasNoFirstRead t.machine.rules (configuration b.state b.tapes)

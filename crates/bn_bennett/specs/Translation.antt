@@ -1,15 +1,15 @@
 -- Bennett's translation of a machine in standard form (Bennett 1973).
 use Rattle.std.specs.Prelude.{◌≡◌, ℕ, Bool, true, false, ◌==◌, List, ◌∷◌, ◌++◌, [], length, if◌then◌else◌}
 use Rattle.std.specs.List.{list_any}
-use Rattle.bn_entries.specs.Numbering.{firsts_by}
+use Rattle.bn_csv.specs.Numbering.{firsts_by}
 use Rattle.bn_machine.specs.Machine.{Program, final_of}
 use Rattle.bn_quad.specs.Quadruples.{Quadruples, IsQuadMachine}
-use Rattle.bn_stages.specs.List.{bennett, symbols_of}
-use Rattle.bn_stages.specs.Names.{states_in}
-use Rattle.bn_stages.specs.Renamed.{rename, name_at}
-use Rattle.bn_stages.specs.declared.name.Name.{Name}
-use Rattle.bn_stages.specs.declared.name.Name.TheVariants.{Compute, ComputeWithin, GoRight, CopyLetter, GoLeft}
-use Rattle.bn_stages.specs.declared.name.Name.TheVariants.{PassLetter, Retrace, RetraceWithin}
+use Rattle.bn_bennett_laws.specs.List.{bennett, symbols_of}
+use Rattle.bn_bennett_laws.specs.Names.{states_in}
+use Rattle.bn_bennett_laws.specs.Renamed.{rename, name_at}
+use Rattle.bn_bennett_laws.specs.declared.name.Name.{Name}
+use Rattle.bn_bennett_laws.specs.declared.name.Name.TheVariants.{Compute, ComputeWithin, GoRight, CopyLetter, GoLeft}
+use Rattle.bn_bennett_laws.specs.declared.name.Name.TheVariants.{PassLetter, Retrace, RetraceWithin}
 
 -- whether two names are one
 abbrev pub is_same : Name → Name → Bool

@@ -6,8 +6,8 @@ ghost use Rattle.bn_bennett.specs.Made.{deed_made, made, numbered_quad};
 ghost use Rattle.bn_bennett.specs.Draft.{IsDraft, drafted, Grows};
 
 use crate::rule::{Deed, NamedQuad};
+use bn_bennett_laws::Name;
 use bn_quad::{Act, NoMemory, Quad};
-use bn_stages::Name;
 use indexmap::IndexSet;
 use std::alloc::Global;
 

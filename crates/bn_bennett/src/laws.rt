@@ -3,7 +3,7 @@ ghost use Rattle.bn_bennett.specs.Laws.{CallsEndAlike, TranslationsAreOne, Trans
 ghost use Rattle.bn_bennett.specs.Laws.{TranslationsAreUniform, TranslationsEndAlike, TranslationsHaltAlike};
 ghost use Rattle.bn_bennett.specs.Laws.{TranslationsHaveNames, TranslationsStand};
 
-use bn_stages::{
+use bn_bennett_laws::{
     bennetts_theorem, bounded_runs_agree, bounded_runs_are_short, every_moment_stands,
     list_has_length, list_has_names, list_is_in_range, numbers_pass_tests, numbers_run_alike,
 };

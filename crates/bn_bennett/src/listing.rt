@@ -1,7 +1,7 @@
 //! Bennett's list, stage by stage.
 ghost use Rattle.std.specs.Prelude.{◌≡◌, ◌+◌, ◌*◌, ◌^◌, ◌<◌, ◌≤◌, OnOk, length, map};
 ghost use Rattle.bn_machine.specs.Machine.{final_of};
-ghost use Rattle.bn_stages.specs.List as list;
+ghost use Rattle.bn_bennett_laws.specs.List as list;
 ghost use Rattle.bn_bennett.specs.Draft.{IsDraft, drafted, Grows};
 
 use crate::draft::{Draft, add, add_two};
@@ -30,7 +30,7 @@ fn add_copied_letters(draft: &mut Draft, n: u32, z: u32) -> Result<(), NoMemory>
     requires draft { IsDraft draft.old }
     requires some { 0 < z }
     requires room { length (drafted draft.old) + z < 2 ^ 30 }
-    ensures { OnOk result (Grows draft.old (map (list.copies_letter n) (list.letters z)) draft.new) }
+    ensures { OnOk result (Grows draft.old (map (list.copies_letter n) (list.nonblank_symbols z)) draft.new) }
 {
     for x in 1..z {
         add(draft, &copies_letter(n, x))?;
@@ -43,7 +43,7 @@ fn add_passed_letters(draft: &mut Draft, n: u32, z: u32) -> Result<(), NoMemory>
     requires draft { IsDraft draft.old }
     requires some { 0 < z }
     requires room { length (drafted draft.old) + z < 2 ^ 30 }
-    ensures { OnOk result (Grows draft.old (map (list.passes_letter n) (list.letters z)) draft.new) }
+    ensures { OnOk result (Grows draft.old (map (list.passes_letter n) (list.nonblank_symbols z)) draft.new) }
 {
     for x in 1..z {
         add(draft, &passes_letter(n, x))?;

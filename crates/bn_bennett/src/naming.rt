@@ -5,14 +5,14 @@ ghost use Rattle.bn_quad.specs.Names.{nameless, symbols_on};
 ghost use Rattle.bn_qtable.specs.Named.{HasNames};
 ghost use Rattle.bn_qtable.specs.Rows.{IsTable, table_of};
 ghost use Rattle.bn_bennett.specs.Translation.{IsTranslation};
-ghost use Rattle.bn_bennett.specs.Printed.{print_of, state_text, one_byte, number_names, ArePrintable, with_states};
-ghost use Rattle.bn_bennett.specs.Printed.{on_tape, names_of};
+ghost use Rattle.bn_bennett.specs.Printed.{print_of, bennett_state_text, one_byte, number_names, ArePrintable, with_states};
+ghost use Rattle.bn_bennett.specs.Printed.{on_tape, translation_names};
 
 use crate::laws::{translations_are_tables, translations_have_names};
 use crate::translated::Translated;
 use bn_base::push_u64;
+use bn_bennett_laws::Name;
 use bn_quad::{NoMemory, QuadNames};
-use bn_stages::{Name, list_counts_names, list_has_names};
 use bn_table::Table;
 use std::alloc::Global;
 
@@ -48,7 +48,7 @@ fn print_of(name: Name) -> Print
 /// The printed text of a state's name: `A` and the state's number counted from 1, `A`, the quintuple's number and a
 /// prime, `B1'`, `B1`, `B2'`, `B2`, and `C` likewise (this project's own profile).
 pub fn name_text(alloc: Global, name: Name) -> Result<Vec<u8>, NoMemory>
-    ensures { IfOk result (λ text. text.items ≡ state_text name) }
+    ensures { IfOk result (λ text. text.items ≡ bennett_state_text name) }
 {
     let print = print_of(name);
     let mut text = Vec::new(alloc);
@@ -75,7 +75,7 @@ fn number_text(alloc: Global, number: u32) -> Result<Vec<u8>, NoMemory>
 fn add_states(alloc: Global, names: &mut QuadNames, states: &[Name]) -> Result<(), NoMemory>
     requires empty { names.old ≡ nameless }
     requires printable { ArePrintable states.now }
-    ensures { OnOk result (names.new ≡ with_states (map state_text states.now)) }
+    ensures { OnOk result (names.new ≡ with_states (map bennett_state_text states.now)) }
 {
     for name in states {
         let text = name_text(alloc, *name)?;
@@ -116,10 +116,8 @@ pub fn add_history_symbols(alloc: Global, names: &mut QuadNames, count: u32) -> 
 // All names.
 fn all_names(alloc: Global, table: &Table, translated: &Translated) -> Result<QuadNames, NoMemory>
     requires { IsTranslation table.now.machine translated.now }
-    ensures { IfOk result (λ names. names ≡ names_of table.now translated.now) }
+    ensures { IfOk result (λ names. names ≡ translation_names table.now translated.now) }
 {
-    list_has_names();
-    list_counts_names();
     let mut names = QuadNames::empty(alloc);
     let count = table.machine().quints().len() as u32;
     add_states(alloc, &mut names, translated.names())?;
@@ -135,7 +133,7 @@ fn all_names(alloc: Global, table: &Table, translated: &Translated) -> Result<Qu
 /// machine is written as a table of quadruples, and what is written is read as it again.
 pub fn names(alloc: Global, table: &Table, translated: &Translated) -> Result<QuadNames, NoMemory>
     requires { IsTranslation table.now.machine translated.now }
-    ensures names { IfOk result (λ names. names ≡ names_of table.now translated.now) }
+    ensures names { IfOk result (λ names. names ≡ translation_names table.now translated.now) }
     ensures forms { IfOk result (HasNames translated.now.machine) }
     ensures table { IfOk result (λ names. IsTable (table_of translated.now.machine names)) }
 {

@@ -1,11 +1,11 @@
 //! The quadruples of Bennett's list, over the names of their states. Each kind is a function.
 ghost use Rattle.std.specs.Prelude.{◌≡◌};
 ghost use Rattle.bn_machine.specs.Tape.{opposite};
-ghost use Rattle.bn_stages.specs.List as list;
+ghost use Rattle.bn_bennett_laws.specs.List as list;
 ghost use Rattle.bn_bennett.specs.Made.{deed_made, made};
 
+use bn_bennett_laws::Name;
 use bn_machine::{Quint, Shift};
-use bn_stages::Name;
 
 /// What a quadruple does on a tape.
 #[derive(Clone, Copy)]

@@ -2,16 +2,16 @@
 ghost use Rattle.std.specs.Prelude.{◌≡◌, ◌+◌, ◌*◌, ◌^◌, ◌<◌, ◌≤◌, IfOk, length};
 ghost use Rattle.bn_machine.specs.Machine.{final_of, IsMachine};
 ghost use Rattle.bn_quad.specs.Calls.{IsUniformMachine};
-ghost use Rattle.bn_stages.specs.List.{bennett, symbols_of};
+ghost use Rattle.bn_bennett_laws.specs.List.{bennett, symbols_of};
 ghost use Rattle.bn_table.specs.Rows.{FitsTable};
 ghost use Rattle.bn_bennett.specs.Translation.{IsTranslation, translation_of};
 ghost use Rattle.bn_bennett.specs.Draft.{AreDrafted, IsDraft, drafted, renamed_back};
 
 use crate::draft::{Draft, new_draft};
 use crate::listing::add_list;
+use bn_bennett_laws::Name;
 use bn_machine::Machine;
 use bn_quad::{NoMemory, Quad, QuadMachine, Uniform};
-use bn_stages::{Name, list_counts_names, list_has_length, list_is_in_range, numbers_pass_tests};
 use bn_standard::Standard;
 use bn_table::MOST_ENTRIES;
 use std::alloc::Global;
@@ -134,10 +134,6 @@ fn uniform_of(names: &[Name], quads: Vec<Quad>, standard: &Standard) -> Uniform
     ensures states { result.states ≡ 2 * standard.now.states + 2 * length standard.now.quints + 4 }
     ensures quadruples { length result.rules ≡ 4 * length standard.now.quints + 2 * standard.now.symbols + 3 }
 {
-    list_is_in_range();
-    list_has_length();
-    list_counts_names();
-    numbers_pass_tests();
     let symbols = symbols_of(standard.machine());
     match QuadMachine::try_new(quads, names.len() as u32, symbols) {
         Ok(machine) => Uniform::new(machine),

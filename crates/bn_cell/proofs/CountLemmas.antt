@@ -2,15 +2,15 @@
 use Rattle.std.proofs.Common.{◌≡◌, inl, inr, ℕ, zero, suc, ◌+◌, ◌-◌, ◌*◌, ◌<◌, ◌≤◌, length, refl, ap, sym, ◌∙◌, arith, length-append}
 use Rattle.std.proofs.lemmas.Bool.{lt-ltb, cases_lt}
 use Rattle.std.proofs.lemmas.Bool.Decides.{nat_tests}
-use Rattle.bn_modules.specs.declared.cell_line.CellLine.{CellLine}
-use Rattle.bn_modules.specs.declared.cell_line.CellLine.TheVariants.{Read, Write, ShiftRight, ShiftLeft, TakeRight, Answer, DoneWrite, DoneRight, DoneLeft, TakeLeft}
-use Rattle.bn_modules.specs.Cells.{Plain, Head, cell_go, cell_table, numbered, line_number, line_of, lines_of, state_of, IsLineOf}
+use Rattle.bn_network.specs.declared.cell_line.CellLine.{CellLine}
+use Rattle.bn_network.specs.declared.cell_line.CellLine.TheVariants.{Read, Write, ShiftRight, ShiftLeft, TakeRight, Answer, DoneWrite, DoneRight, DoneLeft, TakeLeft}
+use Rattle.bn_network.specs.Cells.{Plain, Head, cell_go, cell_table, by_numbers, line_number, cell_line, cell_line_count, state_of, IsLineOf}
 use Rattle.bn_cell.specs.Reversible.{numbers, valid_line}
 use Rattle.bn_cell.specs.Rows.{row, rows}
 use Rattle.bn_cell.proofs.RowLemmas.{row_length, count, count_all, count_none, one_if_some}
 
 -- without the head each line has a move
-plain_moves : (z t : ℕ) (l : CellLine) → one_if_some (cell_table z) (numbered z (cell_go (Plain t) l)) ≡ 1
+plain_moves : (z t : ℕ) (l : CellLine) → one_if_some (cell_table z) (by_numbers z (cell_go (Plain t) l)) ≡ 1
 plain_moves z t Read = refl
 plain_moves z t (Write u) = refl
 plain_moves z t ShiftRight = refl
@@ -24,8 +24,8 @@ plain_moves z t TakeLeft = refl
 
 module _ (z : ℕ) where
   -- the moves of a pair in range
-  in_range : (q i : ℕ) → q < 2 * z → i < lines_of z → (cell_table z).go q i ≡ numbered z (cell_go (state_of z q) (line_of z i))
-  in_range q i state line = rw (lt-ltb q (2 * z) state, lt-ltb i (lines_of z) line) refl
+  in_range : (q i : ℕ) → q < 2 * z → i < cell_line_count z → (cell_table z).go q i ≡ by_numbers z (cell_go (state_of z q) (cell_line z i))
+  in_range q i state line = rw (lt-ltb q (2 * z) state, lt-ltb i (cell_line_count z) line) refl
 
   plain_state : (q : ℕ) → q < z → state_of z q ≡ Plain q
   plain_state q low = rw (lt-ltb q z low) refl
@@ -33,28 +33,28 @@ module _ (z : ℕ) where
   head_state : (t : ℕ) → state_of z (z + t) ≡ Head t
   head_state t = grind (arith, nat_tests)
 
-  plain_some : (q i : ℕ) → q < z → i < lines_of z → one_if_some (cell_table z) ((cell_table z).go q i) ≡ 1
-  plain_some q i low line = rw (in_range q i (omega arith) line, plain_state q low) (plain_moves z q (line_of z i))
+  plain_some : (q i : ℕ) → q < z → i < cell_line_count z → one_if_some (cell_table z) ((cell_table z).go q i) ≡ 1
+  plain_some q i low line = rw (in_range q i (omega arith) line, plain_state q low) (plain_moves z q (cell_line z i))
 
   -- a state without the head has a move by each line
-  plain_count : (q : ℕ) → q < z → length (row (cell_table z) q (lines_of z)) ≡ 2 * z + 8
-  plain_count q low = let all = count_all (cell_table z) q 0 (lines_of z) (lines_of z) (omega arith) (λ i _ line. plain_some q i low line) in omega (arith, row_length (cell_table z) q (lines_of z))
+  plain_count : (q : ℕ) → q < z → length (row (cell_table z) q (cell_line_count z)) ≡ 2 * z + 8
+  plain_count q low = let all = count_all (cell_table z) q 0 (cell_line_count z) (cell_line_count z) (omega arith) (λ i _ line. plain_some q i low line) in omega (arith, row_length (cell_table z) q (cell_line_count z))
 
   -- how many moves a pair with the head has
-  head_by : (t i : ℕ) (l : CellLine) (n : ℕ) → t < z → i < lines_of z → line_of z i ≡ l → one_if_some (cell_table z) (numbered z (cell_go (Head t) l)) ≡ n → one_if_some (cell_table z) ((cell_table z).go (z + t) i) ≡ n
+  head_by : (t i : ℕ) (l : CellLine) (n : ℕ) → t < z → i < cell_line_count z → cell_line z i ≡ l → one_if_some (cell_table z) (by_numbers z (cell_go (Head t) l)) ≡ n → one_if_some (cell_table z) ((cell_table z).go (z + t) i) ≡ n
   head_by t i l n low line e f = rw (in_range (z + t) i (omega arith) line, head_state t, e) f
 
-  line_write : (u i : ℕ) → i ≡ 1 + u → u < z → line_of z i ≡ Write u
+  line_write : (u i : ℕ) → i ≡ 1 + u → u < z → cell_line z i ≡ Write u
   line_write u i e low = grind (arith, nat_tests)
 
-  line_right : (i : ℕ) → i ≡ z + 1 → line_of z i ≡ ShiftRight
+  line_right : (i : ℕ) → i ≡ z + 1 → cell_line z i ≡ ShiftRight
   line_right i e = grind (arith, nat_tests)
 
-  line_left : (i : ℕ) → i ≡ z + 2 → line_of z i ≡ ShiftLeft
+  line_left : (i : ℕ) → i ≡ z + 2 → cell_line z i ≡ ShiftLeft
   line_left i e = grind (arith, nat_tests)
 
   -- by the lines from TakeRight on a cell with the head never moves
-  idle : (t i : ℕ) (l : CellLine) → z + 3 ≤ i → line_number z l ≡ i → IsLineOf z l → one_if_some (cell_table z) (numbered z (cell_go (Head t) l)) ≡ 0
+  idle : (t i : ℕ) (l : CellLine) → z + 3 ≤ i → line_number z l ≡ i → IsLineOf z l → one_if_some (cell_table z) (by_numbers z (cell_go (Head t) l)) ≡ 0
   idle t i TakeRight high e line = refl
   idle t i TakeLeft high e line = refl
   idle t i (Answer u) high e line = refl
@@ -66,8 +66,8 @@ module _ (z : ℕ) where
   idle t i ShiftRight high e line = absurd (omega arith)
   idle t i ShiftLeft high e line = absurd (omega arith)
 
-  head_idle : (t i : ℕ) → t < z → z + 3 ≤ i → i < lines_of z → one_if_some (cell_table z) ((cell_table z).go (z + t) i) ≡ 0
-  head_idle t i low high line = head_by t i (line_of z i) 0 low line refl (idle t i (line_of z i) high (numbers z i line) (valid_line z i line))
+  head_idle : (t i : ℕ) → t < z → z + 3 ≤ i → i < cell_line_count z → one_if_some (cell_table z) ((cell_table z).go (z + t) i) ≡ 0
+  head_idle t i low high line = head_by t i (cell_line z i) 0 low line refl (idle t i (cell_line z i) high (numbers z i line) (valid_line z i line))
 
   head_read : (t i : ℕ) → t < z → i < 1 → one_if_some (cell_table z) ((cell_table z).go (z + t) i) ≡ 1
   head_read t i low first = let e : i ≡ 0 = omega arith in head_by t i Read 1 low (omega arith) (rw e refl) refl
@@ -85,23 +85,23 @@ module _ (z : ℕ) where
   write_full t i low first few = head_by (suc t) i (Write (i - 1)) 0 low (omega arith) (line_write (i - 1) i (omega arith) (omega arith)) refl
 
   -- a state with the head reads and shifts
-  head_count : (t written : ℕ) → t < z → count (cell_table z) (z + t) (z + 1) ≡ 1 + written → length (row (cell_table z) (z + t) (lines_of z)) ≡ 3 + written
+  head_count : (t written : ℕ) → t < z → count (cell_table z) (z + t) (z + 1) ≡ 1 + written → length (row (cell_table z) (z + t) (cell_line_count z)) ≡ 3 + written
   head_count t written low before =
       let shifts = count_all (cell_table z) (z + t) (z + 1) 2 (z + 3) (omega arith) (λ i high few. head_shift t i low high few) in
-      let rest = count_none (cell_table z) (z + t) (z + 3) (z + 5) (lines_of z) (omega arith) (λ i high line. head_idle t i low high line) in
-      omega (arith, row_length (cell_table z) (z + t) (lines_of z))
+      let rest = count_none (cell_table z) (z + t) (z + 3) (z + 5) (cell_line_count z) (omega arith) (λ i high line. head_idle t i low high line) in
+      omega (arith, row_length (cell_table z) (z + t) (cell_line_count z))
 
   one_read : (t : ℕ) → t < z → count (cell_table z) (z + t) 1 ≡ 1
   one_read t low = let one = count_all (cell_table z) (z + t) 0 1 1 (omega arith) (λ i _ few. head_read t i low few) in omega arith
 
   -- with the blank it is also written
-  blank_count : 0 < z → length (row (cell_table z) (z + 0) (lines_of z)) ≡ 3 + z
+  blank_count : 0 < z → length (row (cell_table z) (z + 0) (cell_line_count z)) ≡ 3 + z
   blank_count some =
       let first = one_read 0 some in
       let writes = count_all (cell_table z) (z + 0) 1 z (z + 1) (omega arith) (λ i high few. write_blank i some high few) in
       head_count 0 z some (omega arith)
 
-  full_count : (t : ℕ) → suc t < z → length (row (cell_table z) (z + suc t) (lines_of z)) ≡ 3
+  full_count : (t : ℕ) → suc t < z → length (row (cell_table z) (z + suc t) (cell_line_count z)) ≡ 3
   full_count t low =
       let first = one_read (suc t) low in
       let writes = count_none (cell_table z) (z + suc t) 1 z (z + 1) (omega arith) (λ i high few. write_full t i low high few) in
@@ -112,16 +112,16 @@ module _ (z : ℕ) where
   plain_rows zero low = omega arith
   plain_rows (suc n) low =
       let rest = plain_rows n (omega arith) in let more = plain_count n (omega arith) in
-      omega (arith, length-append (rows (cell_table z) n) (row (cell_table z) n (lines_of z)))
+      omega (arith, length-append (rows (cell_table z) n) (row (cell_table z) n (cell_line_count z)))
 
   -- and those with it
   head_rows : (n : ℕ) → n < z → length (rows (cell_table z) (suc (z + n))) ≡ z * (2 * z + 8) + (3 + z) + 3 * n
   head_rows zero low =
       let rest = plain_rows z (omega arith) in let more = blank_count low in let e : z + 0 ≡ z = omega arith in
-      rw e (let more' = rw e at more in omega (arith, length-append (rows (cell_table z) z) (row (cell_table z) z (lines_of z))))
+      rw e (let more' = rw e at more in omega (arith, length-append (rows (cell_table z) z) (row (cell_table z) z (cell_line_count z))))
   head_rows (suc n) low =
       let rest = head_rows n (omega arith) in let more = full_count n low in let e : z + suc n ≡ suc (z + n) = omega arith in
-      rw e (let more' = rw e at more in omega (arith, length-append (rows (cell_table z) (suc (z + n))) (row (cell_table z) (suc (z + n)) (lines_of z))))
+      rw e (let more' = rw e at more in omega (arith, length-append (rows (cell_table z) (suc (z + n))) (row (cell_table z) (suc (z + n)) (cell_line_count z))))
 
   -- so a cell has so many moves
   pub moves_counted : 0 < z → length (rows (cell_table z) (2 * z)) ≡ z * (2 * z + 8) + 4 * z

@@ -1,4 +1,3 @@
-pub mod ListingLemmas
 pub mod RowLemmas
 pub mod CountLemmas
 pub mod MadeLemmas

@@ -1,14 +1,14 @@
 -- The machine that is made of a cell's moves.
 use Rattle.std.proofs.Common.{◌≡◌, ℕ, ◌+◌, ◌*◌, ◌<◌, ◌≤◌, ◌^◌, List, length, map, refl, sym, ap, subst, ◌∙◌, arith}
 use Rattle.std.proofs.Math.Nat.{mul-le-mul}
-use Rattle.bn_theory.specs.Tables.{go_by}
+use Rattle.bn_element.specs.Tables.{go_by}
 use Rattle.bn_rsm.specs.Machines.{Machine, move_of, AreSound, IsMadeOf}
 use Rattle.bn_rsm.specs.declared.rsm_move.RsmMove.{RsmMove}
-use Rattle.bn_modules.specs.Cells.{cell_table}
+use Rattle.bn_network.specs.Cells.{cell_table}
 use Rattle.bn_cell.specs.Sizes.{IsCellSize, IsCellOf}
 use Rattle.bn_cell.specs.Reversible.{cells-reversible}
 use Rattle.bn_cell.specs.Rows.{rows}
-use Rattle.bn_cell.proofs.ListingLemmas.{moves_sound, moves_go}
+use Rattle.bn_rsm.proofs.ListingLemmas.{moves_sound, moves_go}
 use Rattle.bn_cell.proofs.RowLemmas.{rows_moves}
 use Rattle.bn_cell.proofs.CountLemmas.{moves_counted}
 

@@ -1,12 +1,12 @@
 -- The moves of a table, row by row: state by state, and in each by rising line.
 use Rattle.std.proofs.Common.{◌≡◌, inl, inr, ℕ, zero, suc, ◌+◌, ◌<◌, ◌≤◌, List, [], ◌∷◌, ◌++◌, length, Option, Some, None, refl, sym, ap, subst, ◌∙◌, arith, append_assoc, append-nil, length-append}
 use Rattle.std.proofs.lemmas.Bool.{cases_lt}
-use Rattle.bn_theory.specs.Tables.{Table, IsReversible}
+use Rattle.bn_element.specs.Tables.{Table, IsReversible}
 use Rattle.bn_rsm.specs.declared.rsm_move.RsmMove.{RsmMove}
 use Rattle.bn_cell.specs.Rows.{move_at, row, rows}
 use Rattle.bn_lists.specs.Lists.{Has}
 use Rattle.bn_lists.proofs.MemberLemmas.{in_front, behind, of_two}
-use Rattle.bn_cell.proofs.ListingLemmas.{AreApart, apart_joined, AreMovesOf}
+use Rattle.bn_rsm.proofs.ListingLemmas.{AreApart, apart_joined, AreMovesOf}
 
 pub row_more : (t : Table) (q n : ℕ) → row t q (n + 1) ≡ row t q n ++ move_at q n (t.go q n)
 row_more t q n = let e : n + 1 ≡ suc n = omega arith in rw e refl

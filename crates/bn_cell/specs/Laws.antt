@@ -1,9 +1,9 @@
 -- Laws on cells.
 use Rattle.std.specs.Prelude.{◌≡◌, ℕ, ◌*◌, ◌<◌}
-use Rattle.bn_theory.specs.Tables.{IsReversible}
-use Rattle.bn_modules.specs.Cells.{CellState, Plain, Head, IsLineOf, cell_table, line_number, line_of, lines_of}
-use Rattle.bn_modules.specs.Cells.{state_number, state_of}
-use Rattle.bn_modules.specs.declared.cell_line.CellLine.{CellLine}
+use Rattle.bn_element.specs.Tables.{IsReversible}
+use Rattle.bn_network.specs.Cells.{CellState, Plain, Head, IsLineOf, cell_table, line_number, cell_line, cell_line_count}
+use Rattle.bn_network.specs.Cells.{state_number, state_of}
+use Rattle.bn_network.specs.declared.cell_line.CellLine.{CellLine}
 
 -- a cell's moves are one to one and in range, also for no symbols
 abbrev pub CellsAreReversible : Type 0
@@ -17,8 +17,9 @@ IsStateOf z (Head t) = t < z
 -- the lines of z symbols and the numbers below so many stand for each other, one to one
 abbrev pub CellLinesAreNumbered : Type 0
 CellLinesAreNumbered =
-    ((z : ℕ) (l : CellLine) → IsLineOf z l → (line_number z l < lines_of z) × (line_of z (line_number z l) ≡ l))
-    × ((z n : ℕ) → n < lines_of z → IsLineOf z (line_of z n) × (line_number z (line_of z n) ≡ n))
+    ((z : ℕ) (l : CellLine) → IsLineOf z l
+    → (line_number z l < cell_line_count z) × (cell_line z (line_number z l) ≡ l))
+    × ((z n : ℕ) → n < cell_line_count z → IsLineOf z (cell_line z n) × (line_number z (cell_line z n) ≡ n))
 
 -- so do the states
 abbrev pub CellStatesAreNumbered : Type 0

@@ -4,11 +4,11 @@ use Rattle.std.proofs.Common.{◌≡◌, inl, inr, ℕ, zero, suc, ◌*◌, ◌<
 use Rattle.std.proofs.lemmas.Bool.{cases_Bool, lt-ltb, ltb-true, ltb-false}
 use Rattle.std.proofs.lemmas.Bool.Decides.{nat_tests}
 use Rattle.std.proofs.lemmas.Option.{some_pair_parts}
-use Rattle.bn_modules.specs.declared.cell_line.CellLine.{CellLine}
-use Rattle.bn_modules.specs.declared.cell_line.CellLine.TheVariants.{Read, Write, ShiftRight, ShiftLeft, TakeRight}
-use Rattle.bn_modules.specs.declared.cell_line.CellLine.TheVariants.{Answer, DoneWrite, DoneRight, DoneLeft, TakeLeft}
-use Rattle.bn_modules.specs.Cells.{CellState, Plain, Head, cell_go, cell_back, IsLineOf, numbered, within, line_number}
-use Rattle.bn_modules.specs.Cells.{line_of, lines_of, state_number, state_of}
+use Rattle.bn_network.specs.declared.cell_line.CellLine.{CellLine}
+use Rattle.bn_network.specs.declared.cell_line.CellLine.TheVariants.{Read, Write, ShiftRight, ShiftLeft, TakeRight}
+use Rattle.bn_network.specs.declared.cell_line.CellLine.TheVariants.{Answer, DoneWrite, DoneRight, DoneLeft, TakeLeft}
+use Rattle.bn_network.specs.Cells.{CellState, Plain, Head, cell_go, cell_back, IsLineOf, by_numbers, within_cell, line_number}
+use Rattle.bn_network.specs.Cells.{cell_line, cell_line_count, state_number, state_of}
 use Rattle.bn_cell.specs.Laws.{CellsAreReversible, IsStateOf}
 
 -- ---- moves by names
@@ -48,13 +48,13 @@ pub states : (z : ℕ) (q : CellState) → IsStateOf z q → state_of z (state_n
 states z (Plain t) lt = grind (arith, nat_tests)
 states z (Head t) lt = grind (arith, nat_tests)
 
-pub lines : (z : ℕ) (l : CellLine) → IsLineOf z l → line_of z (line_number z l) ≡ l
+pub lines : (z : ℕ) (l : CellLine) → IsLineOf z l → cell_line z (line_number z l) ≡ l
 lines z Read lt = refl
 lines z (Write u) lt = grind (arith, nat_tests)
 lines z (Answer u) lt = grind (arith, nat_tests)
 lines z _ lt = grind (arith, nat_tests)
 
-pub line_within : (z : ℕ) (l : CellLine) → IsLineOf z l → line_number z l < lines_of z
+pub line_within : (z : ℕ) (l : CellLine) → IsLineOf z l → line_number z l < cell_line_count z
 line_within z Read lt = omega arith
 line_within z (Write u) lt = omega arith
 line_within z (Answer u) lt = omega arith
@@ -64,7 +64,7 @@ pub state_within : (z : ℕ) (q : CellState) → IsStateOf z q → state_number 
 state_within z (Plain t) lt = omega arith
 state_within z (Head t) lt = omega arith
 
-pub numbers : (z n : ℕ) → n < lines_of z → line_number z (line_of z n) ≡ n
+pub numbers : (z n : ℕ) → n < cell_line_count z → line_number z (cell_line z n) ≡ n
 numbers z n lt = grind (arith, nat_tests)
 
 pub state_numbers : (z n : ℕ) → n < 2 * z → state_number z (state_of z n) ≡ n
@@ -76,10 +76,10 @@ valid_state z n lt = elim (cases_Bool (nat_lt n z)) [
   | inr more ↦ let ge = ltb-false n z more in rw more (omega arith)
 ]
 
-pub valid_line : (z n : ℕ) → n < lines_of z → IsLineOf z (line_of z n)
-valid_line z n lt = go (line_of z n) (numbers z n lt) refl
+pub valid_line : (z n : ℕ) → n < cell_line_count z → IsLineOf z (cell_line z n)
+valid_line z n lt = go (cell_line z n) (numbers z n lt) refl
   where
-    go : (l : CellLine) → line_number z l ≡ n → line_of z n ≡ l → IsLineOf z l
+    go : (l : CellLine) → line_number z l ≡ n → cell_line z n ≡ l → IsLineOf z l
     go (Write u) e f = grind (arith, nat_tests)
     go (Answer u) e f = grind (arith, nat_tests)
     go _ e f = tt
@@ -91,16 +91,17 @@ module _ (z : ℕ) (go back_go : CellState → CellLine → Option (CellState ×
     → Whole (go q l) (λ m. IsStateOf z m.0 × IsLineOf z m.1)) where
   record Both (q i r o : ℕ) : Type 0 where
     state : q < 2 * z
-    line : i < lines_of z
+    line : i < cell_line_count z
     next : r < 2 * z
-    out : o < lines_of z
-    turned : within z r o (numbered z (back_go (state_of z r) (line_of z o))) ≡ Some (q, i)
+    out : o < cell_line_count z
+    turned : within_cell z r o (by_numbers z (back_go (state_of z r) (cell_line z o))) ≡ Some (q, i)
 
-  both : (q i r o : ℕ) → within z q i (numbered z (go (state_of z q) (line_of z i))) ≡ Some (r, o) → Both q i r o
+  both : (q i r o : ℕ) → within_cell z q i (by_numbers z (go (state_of z q) (cell_line z i))) ≡ Some (r, o)
+      → Both q i r o
   both q i r o e = elim (cases_Bool (nat_lt q (2 * z))) [
-    | inl a ↦ elim (cases_Bool (nat_lt i (lines_of z))) [
-      | inl b ↦ found (go (state_of z q) (line_of z i)) refl (rw (a, b) at e) (ltb-true q (2 * z) a)
-          (ltb-true i (lines_of z) b)
+    | inl a ↦ elim (cases_Bool (nat_lt i (cell_line_count z))) [
+      | inl b ↦ found (go (state_of z q) (cell_line z i)) refl (rw (a, b) at e) (ltb-true q (2 * z) a)
+          (ltb-true i (cell_line_count z) b)
       | inr b ↦ absurd (none None refl (rw (a, b) at e))
     ]
     | inr a ↦ absurd (none None refl (rw a at e))
@@ -109,16 +110,16 @@ module _ (z : ℕ) (go back_go : CellState → CellLine → Option (CellState ×
       none : (m : Option (ℕ × ℕ)) → m ≡ None → m ≡ Some (r, o) → ⊥
       none m d e = cc
 
-      found : (m : Option (CellState × CellLine)) → go (state_of z q) (line_of z i) ≡ m → numbered z m ≡ Some (r, o)
-          → q < 2 * z → i < lines_of z → Both q i r o
+      found : (m : Option (CellState × CellLine)) → go (state_of z q) (cell_line z i) ≡ m → by_numbers z m ≡ Some (r, o)
+          → q < 2 * z → i < cell_line_count z → Both q i r o
       found None f g qn inn = absurd (cc)
       found (Some m) f g qn inn =
-          let valid = whole (go (state_of z q) (line_of z i)) (λ m. IsStateOf z m.0 × IsLineOf z m.1) m
-          (keeps (state_of z q) (line_of z i) (omega arith) (valid_state z q qn) (valid_line z i inn)) f in
+          let valid = whole (go (state_of z q) (cell_line z i)) (λ m. IsStateOf z m.0 × IsLineOf z m.1) m
+          (keeps (state_of z q) (cell_line z i) (omega arith) (valid_state z q qn) (valid_line z i inn)) f in
           let parts = some_pair_parts (state_number z m.0) r (line_number z m.1) o g in
-          let there = whole (go (state_of z q) (line_of z i))
-          (λ m. back_go m.0 m.1 ≡ Some (state_of z q, line_of z i)) m
-          (turns (state_of z q) (line_of z i)) f in
+          let there = whole (go (state_of z q) (cell_line z i))
+          (λ m. back_go m.0 m.1 ≡ Some (state_of z q, cell_line z i)) m
+          (turns (state_of z q) (cell_line z i)) f in
           let rn = state_within z m.0 valid.0 in
           let on = line_within z m.1 valid.1 in
           record {
@@ -130,7 +131,7 @@ module _ (z : ℕ) (go back_go : CellState → CellLine → Option (CellState ×
               ← parts.0,
               ← parts.1,
               lt-ltb (state_number z m.0) (2 * z) rn,
-              lt-ltb (line_number z m.1) (lines_of z) on,
+              lt-ltb (line_number z m.1) (cell_line_count z) on,
               states z m.0 valid.0,
               lines z m.1 valid.1,
               there,

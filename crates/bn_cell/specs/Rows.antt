@@ -1,6 +1,6 @@
 -- The moves of a table, state by state, and from each state by rising line.
 use Rattle.std.specs.Prelude.{ℕ, zero, suc, List, [], ◌∷◌, ◌++◌, Option, Some, None}
-use Rattle.bn_theory.specs.Tables.{Table}
+use Rattle.bn_element.specs.Tables.{Table}
 use Rattle.bn_rsm.specs.declared.rsm_move.RsmMove.{RsmMove}
 
 -- the move from this pair, where there is one

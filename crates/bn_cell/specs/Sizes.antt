@@ -2,8 +2,8 @@
 use Rattle.std.specs.Prelude.{◌≡◌, ℕ, ◌+◌, ◌*◌, ◌≤◌, Bool, true, false, length}
 use Rattle.std.specs.Coded.{le_prop}
 use Rattle.bn_rsm.specs.Machines.{Machine, machine_table}
-use Rattle.bn_modules.specs.Cells.{CellState, Plain, Head, cell_table}
-use Rattle.bn_cell.specs.declared.numbers.TheConstants.{MOST_SYMBOLS}
+use Rattle.bn_network.specs.Cells.{CellState, Plain, Head, cell_table}
+use Rattle.bn_network.specs.declared.limits.TheConstants.{MOST_SYMBOLS}
 
 -- there is a symbol, the blank, and there are not too many
 pub record IsCellSize (z : ℕ) : Type 0 where

@@ -6,11 +6,11 @@ mod make;
 mod numbers;
 mod table;
 
-pub use bn_modules::CellLine;
+pub use bn_network::{CellLine, MOST_SYMBOLS};
 pub use bn_rsm::NoMemory;
 pub use laws::{cell_lines_are_numbered, cell_states_are_numbered, cells_are_reversible};
 pub use make::cell;
-pub use numbers::{MOST_SYMBOLS, line_number, line_of, state_number};
+pub use numbers::{line_number, line_of, state_number};
 pub use table::CellTable;
 
 #[cfg(test)]

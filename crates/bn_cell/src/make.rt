@@ -1,13 +1,13 @@
 //! Cells are made here.
 ghost use Rattle.std.specs.Prelude.{◌≡◌, ◌<◌, ◌*◌, ◌++◌, IfOk, OnOk};
 ghost use Rattle.bn_rsm.specs.Machines.{AreSound};
-ghost use Rattle.bn_modules.specs.Cells.{cell_table, lines_of};
+ghost use Rattle.bn_network.specs.Cells.{cell_table, cell_line_count};
 ghost use Rattle.bn_cell.specs.Sizes.{IsCellSize, IsCellOf};
 ghost use Rattle.bn_cell.specs.Rows.{row, rows};
 
 use crate::table::CellTable;
 use bn_element::Element;
-use bn_rsm::{NoMemory, Rsm, RsmMove, RsmRefusal, sound_moves_are_taken};
+use bn_rsm::{NoMemory, Rsm, RsmMove, RsmRefusal};
 use std::alloc::{AllocError, Global};
 
 /// The tape cell for so many symbols as a machine given by its moves, state by state and in each by rising line. `Err`
@@ -19,7 +19,6 @@ pub fn cell(alloc: Global, symbols: u32) -> Result<Rsm, NoMemory>
     let Ok(moves) = moves_of(alloc, &CellTable { symbols }) else {
         return Err(NoMemory);
     };
-    sound_moves_are_taken();
     match Rsm::try_new(alloc, 2 * symbols, 2 * symbols + 8, moves) {
         Ok(cell) => Ok(cell),
         Err(refusal) => Err(want_of_memory(refusal)),
@@ -48,7 +47,7 @@ fn moves_of(alloc: Global, cell: &CellTable) -> Result<Vec<RsmMove>, AllocError>
 fn push_row(moves: &mut Vec<RsmMove>, cell: &CellTable, state: u32) -> Result<(), AllocError>
     requires { state < 2 * cell.now.symbols }
     ensures { OnOk result (moves.new.items
-        ≡ moves.old.items ++ row (cell_table cell.now.symbols) state (lines_of cell.now.symbols)) }
+        ≡ moves.old.items ++ row (cell_table cell.now.symbols) state (cell_line_count cell.now.symbols)) }
 {
     for line in 0..cell.lines_in() {
         if let Some((next, out)) = cell.go(state, line) {

@@ -1,12 +1,9 @@
 //! The numbers of a cell's lines and states.
 ghost use Rattle.std.specs.Prelude.{◌≡◌, ◌<◌};
-ghost use Rattle.bn_modules.specs.Cells.{line_number, line_of, lines_of, IsLineOf, state_number};
+ghost use Rattle.bn_network.specs.Cells.{line_number, cell_line, cell_line_count, IsLineOf, state_number};
 ghost use Rattle.bn_cell.specs.Sizes.{IsCellSize, cell_state};
 
-use bn_modules::CellLine;
-
-/// The most symbols that a cell may have, the blank among them.
-pub const MOST_SYMBOLS: u32 = 4_001;
+use bn_network::CellLine;
 
 /// The number of a line, in or out, of a cell for so many symbols; lines and symbols are counted from 0. It takes no
 /// memory. (The order of the lines is this project's own profile.)
@@ -32,8 +29,8 @@ pub fn line_number(symbols: u32, line: CellLine) -> u32
 /// The line with this number, counted from 0, of a cell for so many symbols. It takes no memory.
 pub fn line_of(symbols: u32, number: u32) -> CellLine
     requires size { IsCellSize symbols }
-    requires number { number < lines_of symbols }
-    ensures line { result ≡ line_of symbols number }
+    requires number { number < cell_line_count symbols }
+    ensures line { result ≡ cell_line symbols number }
     ensures valid { IsLineOf symbols result }
 {
     if number == 0 {

@@ -2,7 +2,7 @@
 
 use crate::numbers::{line_number, line_of, state_number};
 use bn_element::Element;
-use bn_modules::CellLine;
+use bn_network::CellLine;
 
 /// The tape cell for so many symbols, from 1 to 4,001, the blank, number 0, among them (this project's own profile). It
 /// has two states a symbol: the symbols without the head, then the symbols with it. Its 2 * `symbols` + 8 lines, both
@@ -15,7 +15,7 @@ pub struct CellTable {
 }
 
 ghost use Rattle.std.specs.Prelude.{◌≡◌, ◌<◌, ◌*◌};
-ghost use Rattle.bn_modules.specs.Cells.{cell_go, cell_back, numbered, state_of, lines_of, IsLineOf};
+ghost use Rattle.bn_network.specs.Cells.{cell_go, cell_back, by_numbers, state_of, cell_line_count, IsLineOf};
 ghost use Rattle.bn_cell.specs.Sizes.{IsCellSize, IsCellSize-prop, cell_state};
 
 impl CellTable {
@@ -36,7 +36,7 @@ impl CellTable {
     fn numbered(&self, head: bool, symbol: u32, line: CellLine) -> Option<(u32, u32)>
         requires symbol { symbol < self.now.symbols }
         requires line { IsLineOf self.now.symbols line }
-        ensures { result ≡ numbered self.now.symbols (Some (cell_state head symbol, line)) }
+        ensures { result ≡ by_numbers self.now.symbols (Some (cell_state head symbol, line)) }
     {
         Some((
             state_number(self.symbols, head, symbol),
@@ -46,7 +46,7 @@ impl CellTable {
 }
 
 impl Element for CellTable {
-    ghost use Rattle.bn_modules.specs.Cells.{cell_table};
+    ghost use Rattle.bn_network.specs.Cells.{cell_table};
     ghost use Rattle.bn_cell.specs.Reversible.{cells-reversible};
 
     ghost table = { λ c. cell_table c.symbols };

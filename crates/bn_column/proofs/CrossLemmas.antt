@@ -1,11 +1,11 @@
 -- What the numbers of a configuration say of the crossing that begins there.
 use Rattle.std.proofs.Common.{◌≡◌, ℕ, ◌+◌, ◌-◌, ◌≤◌, ◌==◌, Bool, true, false, Some, slice_get, refl, sym, ap, subst, ◌∙◌, arith}
-use Rattle.bn_theory.specs.Runs.{Reaches}
-use Rattle.bn_theory.proofs.RunsLemmas.{passes_run}
-use Rattle.bn_theory.specs.Circuits.{Circuit, clock, Goes}
-use Rattle.bn_theory.specs.Stepping.{run}
-use Rattle.bn_theory.specs.declared.place.Place.TheVariants.{Enter}
-use Rattle.bn_theory.specs.declared.config.Config.{Config}
+use Rattle.bn_lists.specs.Runs.{Reaches}
+use Rattle.bn_lists.proofs.RunsLemmas.{passes_run}
+use Rattle.bn_circuits.specs.Circuits.{Circuit, clock, Goes}
+use Rattle.bn_circuits.specs.Stepping.{run}
+use Rattle.bn_circuits.specs.declared.place.Place.TheVariants.{Enter}
+use Rattle.bn_circuits.specs.declared.config.Config.{Config}
 use Rattle.bn_column.specs.Columns.{IsColumn, bar, entry_side, crossing_cost, IsEntering, CanCross, crossed, IsCrossing}
 use Rattle.bn_column.proofs.CrossingLemmas.{column_crosses}
 use Rattle.bn_column.proofs.NetLemmas.{ran}

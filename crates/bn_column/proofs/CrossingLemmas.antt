@@ -2,25 +2,22 @@
 use Rattle.std.specs.Prelude.{◌≡◌, ◌≢◌, ℕ, ◌+◌, ◌-◌, ◌*◌, ◌<◌, ◌≤◌, Bool, true, false, List, [], ◌∷◌, Some, slice_get, slice_set, refl}
 use Rattle.std.proofs.Common.{zero, suc, arith, sym, ap, subst, ◌∙◌, inl, inr}
 use Rattle.std.proofs.lemmas.Option.{slice_get_within}
-use Rattle.bn_theory.specs.Runs.{Reaches, Passes, Before}
-use Rattle.bn_theory.proofs.RunsLemmas.{passes_join}
-use Rattle.bn_theory.specs.Circuits.{Circuit, clock, target, place_after, Goes}
-use Rattle.bn_theory.proofs.StepLemmas.{slice_get-set_same, slice_get-set_other, set-set_back}
-use Rattle.bn_theory.specs.declared.line.Line.{Line}
-use Rattle.bn_theory.specs.declared.place.Place.{Place}
-use Rattle.bn_theory.specs.declared.place.Place.TheVariants.{Enter}
-use Rattle.bn_theory.specs.declared.config.Config.{Config}
+use Rattle.bn_lists.specs.Runs.{Reaches, Passes, Before}
+use Rattle.bn_lists.proofs.RunsLemmas.{passes_join}
+use Rattle.bn_circuits.specs.Circuits.{Circuit, clock, target, place_after, Goes}
+use Rattle.bn_circuits.proofs.StepLemmas.{slice_get-set_same, slice_get-set_other, set-set_back}
+use Rattle.bn_circuits.specs.declared.line.Line.{Line}
+use Rattle.bn_circuits.specs.declared.place.Place.{Place}
+use Rattle.bn_circuits.specs.declared.place.Place.TheVariants.{Enter}
+use Rattle.bn_circuits.specs.declared.config.Config.{Config}
 use Rattle.bn_element.specs.Rotary.{rotary, horizontal, vertical, north, east, south, west}
-use Rattle.bn_column.specs.Columns.{line_at, IsInner, down, up, under, over, top, IsColumn, bar, IsAtRest, entry_side, crossing_cost, IsEntering, crossed, IsBeside, IsWithin}
+use Rattle.bn_net.proofs.RotaryNetLemmas.{set_same}
+use Rattle.bn_column.specs.Columns.{IsInner, down, up, under, over, top, IsColumn, bar, IsAtRest, entry_side, crossing_cost, IsEntering, crossed, IsBeside, IsWithin}
+use Rattle.bn_circuits.specs.Circuits.{line_at}
 
 -- a configuration by its parts
 abbrev at_place : List ℕ → Place → ℕ → Config
 at_place s p n = record { states = s; place = p; steps = n }
-
-pub set_same : (s : List ℕ) (e v : ℕ) → slice_get s e ≡ Some v → slice_set s e v ≡ s
-set_same [] e v h = refl
-set_same (x ∷ s) zero v h = ap (λ y. y ∷ s) (cc)
-set_same (x ∷ s) (suc e) v h = ap (λ t. x ∷ t) (set_same s e v h)
 
 set_apart : (s : List ℕ) (e f v w : ℕ) → e ≢ f → slice_set (slice_set s e v) f w ≡ slice_set (slice_set s f w) e v
 set_apart [] e f v w h = refl

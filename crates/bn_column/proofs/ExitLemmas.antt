@@ -1,14 +1,16 @@
 -- A column by itself has no wire at its exits: the signal has left when it is crossed.
 use Rattle.std.specs.Prelude.{◌≡◌, ℕ, ◌+◌, ◌<◌, Bool, true, false, Option, Some, None, refl}
 use Rattle.std.proofs.Common.{arith, ap, ◌∙◌}
-use Rattle.bn_theory.specs.Circuits.{target, place_at, place_after}
-use Rattle.bn_theory.specs.declared.line.Line.{Line}
-use Rattle.bn_theory.specs.declared.place.Place.TheVariants.{Left}
-use Rattle.bn_theory.specs.declared.config.Config.{Config}
+use Rattle.bn_circuits.specs.Circuits.{target, place_at, place_after}
+use Rattle.bn_circuits.specs.declared.line.Line.{Line}
+use Rattle.bn_circuits.specs.declared.place.Place.TheVariants.{Left}
+use Rattle.bn_circuits.specs.declared.config.Config.{Config}
 use Rattle.bn_element.specs.declared.rotary.Rotary.{Rotary}
 use Rattle.bn_net.specs.Parts.{Parts}
-use Rattle.bn_column.specs.Columns.{line_at, IsInner, down, up, under, over, top, exit_side, IsEntering, IsCrossing}
-use Rattle.bn_column.specs.Nets.{rotary_circuit, IsColumnNet}
+use Rattle.bn_column.specs.Columns.{IsInner, down, up, under, over, top, exit_side, IsEntering, IsCrossing}
+use Rattle.bn_circuits.specs.Circuits.{line_at}
+use Rattle.bn_net.specs.RotaryNets.{rotary_circuit}
+use Rattle.bn_column.specs.Nets.{IsColumnNet}
 
 -- the number of the line, and of its element
 of_line : (a b : Line) → a ≡ b → a.line ≡ b.line

@@ -2,7 +2,6 @@ pub mod CrossingLemmas
 pub mod LadderLemmas
 pub mod NetLemmas
 pub mod Rungs
-pub mod WiringsLemmas
 pub mod CrossLemmas
 pub mod RestLemmas
 pub mod ExitLemmas

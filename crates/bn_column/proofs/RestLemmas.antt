@@ -1,13 +1,14 @@
 -- The bars of a column at rest.
 use Rattle.std.proofs.Common.{◌≡◌, ℕ, zero, suc, ◌+◌, ◌-◌, ◌<◌, ◌≤◌, Bool, true, false, List, [], ◌∷◌, ◌++◌, length, replicate, Some, slice_get, refl, sym, ap, subst, ◌∙◌, arith}
-use Rattle.bn_theory.specs.Circuits.{IsConfig}
-use Rattle.bn_theory.specs.declared.place.Place.TheVariants.{Enter}
+use Rattle.bn_circuits.specs.Circuits.{IsConfig}
+use Rattle.bn_circuits.specs.declared.place.Place.TheVariants.{Enter}
 use Rattle.bn_element.specs.Rotary.{vertical}
 use Rattle.bn_element.specs.declared.rotary.Rotary.{Rotary}
 use Rattle.bn_net.specs.Parts.{Parts}
 use Rattle.bn_column.specs.Columns.{bar, IsAtRest}
-use Rattle.bn_column.specs.Nets.{rotary_circuit, IsColumnNet}
-use Rattle.bn_column.proofs.NetLemmas.{bars-IsConfig, rotary-table_at}
+use Rattle.bn_net.specs.RotaryNets.{rotary_circuit}
+use Rattle.bn_column.specs.Nets.{IsColumnNet}
+use Rattle.bn_net.proofs.RotaryNetLemmas.{bars-IsConfig, rotary-table_at}
 
 abbrev resting : ℕ → Bool → List ℕ
 resting k marked = replicate k vertical ++ bar marked ∷ []

@@ -1,8 +1,8 @@
 -- Nets of rotary elements, and the net that is one column.
 use Rattle.std.specs.Prelude.{◌≡◌, ℕ, ◌+◌, ◌<◌}
-use Rattle.bn_theory.specs.declared.line.Line.{Line}
+use Rattle.bn_circuits.specs.declared.line.Line.{Line}
 use Rattle.bn_element.specs.Rotary.{north, south}
-use Rattle.bn_column.specs.Columns.{line_at}
+use Rattle.bn_circuits.specs.Circuits.{line_at}
 
 -- the wires between the first r rows and what is below each
 pub data IsRung (b r : ℕ) (from to : Line) : Type 0 where

@@ -4,15 +4,13 @@
 -- k. A column at rest with all its bars vertical is unmarked; it is marked where the bottom's bar alone is horizontal.
 use Rattle.std.specs.Prelude.{◌≡◌, ℕ, ◌+◌, ◌-◌, ◌*◌, ◌<◌, ◌≤◌, Bool, true, false, if◌then◌else◌, List, Some, slice_get}
 use Rattle.std.specs.Prelude.{slice_set, ◌⊎◌}
-use Rattle.bn_theory.specs.Runs.{Reaches}
-use Rattle.bn_theory.specs.Circuits.{Circuit, clock, target, place_after, Goes}
-use Rattle.bn_theory.specs.declared.line.Line.{Line}
-use Rattle.bn_theory.specs.declared.place.Place.TheVariants.{Enter}
-use Rattle.bn_theory.specs.declared.config.Config.{Config}
+use Rattle.bn_lists.specs.Runs.{Reaches}
+use Rattle.bn_circuits.specs.Circuits.{Circuit, clock, target, place_after, Goes}
+use Rattle.bn_circuits.specs.declared.line.Line.{Line}
+use Rattle.bn_circuits.specs.declared.place.Place.TheVariants.{Enter}
+use Rattle.bn_circuits.specs.declared.config.Config.{Config}
 use Rattle.bn_element.specs.Rotary.{rotary, horizontal, vertical, north, east, south, west}
-
-abbrev pub line_at : ℕ → ℕ → Line
-line_at e l = record { element = e; line = l }
+use Rattle.bn_circuits.specs.Circuits.{line_at}
 
 -- A column's own wires: from this output line to this input line. Each row leads down to the next one, and the last row
 -- to the bottom; each of these leads up again; and three wires lead from the bottom to itself, over to the top row, and

@@ -1,8 +1,8 @@
 -- Laws on columns in any circuit.
 use Rattle.std.specs.Prelude.{◌≡◌, ℕ, ◌+◌, ◌≤◌, Bool, true, slice_get}
-use Rattle.bn_theory.specs.Runs.{Passes}
-use Rattle.bn_theory.specs.Circuits.{Circuit, clock, Goes}
-use Rattle.bn_theory.specs.declared.config.Config.{Config}
+use Rattle.bn_lists.specs.Runs.{Passes}
+use Rattle.bn_circuits.specs.Circuits.{Circuit, clock, Goes}
+use Rattle.bn_circuits.specs.declared.config.Config.{Config}
 use Rattle.bn_column.specs.Columns.{IsColumn, IsEntering, IsAtRest, IsBeside, IsWithin, crossing_cost, crossed}
 
 -- In any circuit, where the signal enters row i of a column at rest, counted from 0, and the clock has room: exactly

@@ -1,4 +1,3 @@
-pub mod Wirings
 pub mod Columns
 pub mod Nets
 pub mod Laws

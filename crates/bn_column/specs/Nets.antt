@@ -1,23 +1,16 @@
--- Nets of rotary elements, and the net that is one column.
-use Rattle.std.specs.Prelude.{◌≡◌, ℕ, ◌+◌, ◌-◌, ◌<◌, Bool, List, [], ◌∷◌, ◌++◌, length, replicate, Some, ◌⊎◌}
-use Rattle.bn_theory.specs.Circuits.{Circuit, target}
-use Rattle.bn_theory.specs.declared.line.Line.{Line}
-use Rattle.bn_theory.specs.declared.line.Wire.{Wire}
-use Rattle.bn_theory.specs.declared.place.Place.TheVariants.{Enter}
-use Rattle.bn_theory.specs.declared.config.Config.{Config}
-use Rattle.bn_element.specs.Rotary.{rotary, vertical}
+-- The net that is one column.
+use Rattle.std.specs.Prelude.{◌≡◌, ℕ, ◌+◌, ◌-◌, ◌<◌, Bool, [], ◌∷◌, ◌++◌, length, replicate, Some, ◌⊎◌}
+use Rattle.bn_circuits.specs.Circuits.{target}
+use Rattle.bn_circuits.specs.declared.line.Line.{Line}
+use Rattle.bn_circuits.specs.declared.line.Wire.{Wire}
+use Rattle.bn_circuits.specs.declared.place.Place.TheVariants.{Enter}
+use Rattle.bn_circuits.specs.declared.config.Config.{Config}
+use Rattle.bn_element.specs.Rotary.{vertical}
 use Rattle.bn_element.specs.declared.rotary.Rotary.{Rotary}
-use Rattle.bn_net.specs.Parts.{Parts, circuit}
-use Rattle.bn_column.specs.Columns.{line_at, IsInner, IsColumn, bar}
-
--- the circuit of a net of rotary elements
-abbrev pub rotary_circuit : Parts Rotary → Circuit
-rotary_circuit net = circuit (λ _. rotary) net
-
--- the net has so many elements, and an output line leads where these wires lead it
-pub record IsNetOf (net : Parts Rotary) (count : ℕ) (wires : List Wire) : Type 0 where
-  pub elements : length net.elements ≡ count
-  pub targets : (from : Line) → target net.wires from ≡ target wires from
+use Rattle.bn_net.specs.Parts.{Parts}
+use Rattle.bn_net.specs.RotaryNets.{rotary_circuit}
+use Rattle.bn_column.specs.Columns.{IsInner, IsColumn, bar}
+use Rattle.bn_circuits.specs.Circuits.{line_at}
 
 -- The net is a column of so many rows: its elements are those of the column, and its wires are the column's own and no
 -- others.

@@ -1,8 +1,8 @@
 //! The crossings of a column in a net, and what they cost.
 ghost use Rattle.std.specs.Prelude.{◌≡◌, ℕ, ◌≤◌, Bool};
-ghost use Rattle.bn_theory.specs.Circuits.{IsConfig};
+ghost use Rattle.bn_circuits.specs.Circuits.{IsConfig};
 ghost use Rattle.bn_column.specs.Columns.{crossing_cost, IsColumn, IsEntering, CanCross, IsCrossing};
-ghost use Rattle.bn_column.specs.Nets.{rotary_circuit};
+ghost use Rattle.bn_net.specs.RotaryNets.{rotary_circuit};
 
 use bn_element::{EAST, HORIZONTAL, Rotary};
 use bn_net::{Config, Net, Place};

@@ -9,12 +9,13 @@ mod standing;
 mod wires;
 
 pub use bn_lists::NoMemory;
+pub use bn_net::rotary_net;
 pub use cross::{cost, cross_in};
 pub use laws::{columns_are_crossed, crossed_columns_rest, crossings_stay_within};
 pub use make::column;
 pub use refusal::ColumnRefusal;
 pub use standing::Column;
-pub use wires::{column_wires, rotary_net, wire};
+pub use wires::{column_wires, wire};
 
 #[cfg(test)]
 mod tests;

@@ -1,7 +1,7 @@
 //! A column by itself.
 ghost use Rattle.std.specs.Prelude.{◌≡◌, ℕ, ◌-◌, ◌<◌, ◌≤◌, Bool, true, false, IfOk, replicate, [], ◌∷◌, ◌++◌};
 ghost use Rattle.bn_column.specs.Columns.{bar};
-ghost use Rattle.bn_theory.specs.Circuits.{IsConfig};
+ghost use Rattle.bn_circuits.specs.Circuits.{IsConfig};
 
 use crate::cross::cross_in;
 use bn_element::{EAST, HORIZONTAL, Rotary, VERTICAL, WEST};
@@ -31,9 +31,10 @@ impl Model for Column {
 }
 
 impl Column {
-    ghost use Rattle.bn_theory.specs.declared.place.Place.TheVariants.{Left};
+    ghost use Rattle.bn_circuits.specs.declared.place.Place.TheVariants.{Left};
     ghost use Rattle.bn_column.specs.Columns.{IsEntering, CanCross, IsCrossing, exit_side};
-    ghost use Rattle.bn_column.specs.Nets.{rotary_circuit, IsColumnNet, IsStanding, start_at};
+    ghost use Rattle.bn_net.specs.RotaryNets.{rotary_circuit};
+    ghost use Rattle.bn_column.specs.Nets.{IsColumnNet, IsStanding, start_at};
 
     // The column that this net is.
     pub(crate) fn of(net: Net<Rotary>, rows: u32, marked: bool) -> Column

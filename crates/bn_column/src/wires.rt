@@ -1,12 +1,12 @@
-//! The wires of a column, and nets of rotary elements with given wires.
+//! The wires of a column.
 ghost use Rattle.std.specs.Prelude.{◌≡◌, ◌+◌, ◌*◌, ◌^◌, ◌<◌, ◌≤◌, ◌++◌, ◌∷◌, [], length, IfOk, OnOk};
-ghost use Rattle.bn_column.specs.Wirings.{AreWiresOf, AreApart, AreFitting};
+ghost use Rattle.bn_net.specs.Wirings.{AreWiresOf};
 ghost use Rattle.bn_column.specs.Columns.{IsInner};
-ghost use Rattle.bn_column.specs.Nets.{IsNetOf, wire_of};
+ghost use Rattle.bn_column.specs.Nets.{wire_of};
 
-use bn_element::{EAST, NORTH, Rotary, SOUTH, WEST};
+use bn_element::{EAST, NORTH, SOUTH, WEST};
 use bn_lists::NoMemory;
-use bn_net::{Line, Net, Wire};
+use bn_net::{Line, Wire};
 use std::alloc::Global;
 
 /// The inner wires of a column of `rows` rows whose top row is element `first`.
@@ -27,17 +27,6 @@ pub fn column_wires(alloc: Global, first: u32, rows: u32) -> Result<Vec<Wire>, N
     push(&mut wires, wire(bottom, WEST, first, NORTH))?;
     push(&mut wires, wire(first, NORTH, bottom, EAST))?;
     Ok(wires)
-}
-
-/// The net of `count` rotary elements with these wires.
-pub fn rotary_net(alloc: Global, count: u32, wires: &[Wire]) -> Result<Net<Rotary>, NoMemory>
-    requires few { length wires.now < 2 ^ 32 }
-    requires apart { AreApart wires.now }
-    requires fitting { AreFitting count wires.now }
-    ensures { IfOk result (λ net. IsNetOf net count wires.now) }
-{
-    let elements = vec![in alloc; Rotary; count as usize]?;
-    Net::new(alloc, elements, wires)
 }
 
 // The wires between this row and the next element, down and up.

@@ -7,8 +7,8 @@ use Rattle.bn_machine.specs.declared.quint.Side.{Side}
 use Rattle.bn_machine.specs.declared.quint.Side.TheVariants as side
 use Rattle.bn_quad.specs.Quadruples.{Deed, Rewrite, Move, Rule, Quadruples}
 use Rattle.bn_quad.specs.Kept.{act_of}
-use Rattle.bn_modules.specs.declared.cell_line.CellLine.TheVariants.{Answer, DoneWrite}
-use Rattle.bn_modules.specs.Controls.{ControlMove, Reads, Shifts, Writes, Tape, IsEntry, ControlGoes, reads_on, shifts_on, writes_on, reads, shifts, reads_of, shifts_of, writes_of, symbols_in, to_shift, to_reads, to_shifts, to_writes, done_line}
+use Rattle.bn_network.specs.declared.cell_line.CellLine.TheVariants.{Answer, DoneWrite}
+use Rattle.bn_network.specs.Controls.{ControlMove, Reads, Shifts, Writes, Tape, IsEntry, ControlGoes, reads_on, shifts_on, writes_on, reads, shifts, reads_of, shifts_of, writes_of, symbols_read, to_shift, to_reads, to_shifts, to_writes, done_line}
 use Rattle.bn_control.specs.declared.command.Command.{Command}
 use Rattle.bn_control.specs.declared.line.Sending.{Sending}
 use Rattle.bn_control.specs.Commands.{line_of, sending_of, commands_by, read_commands, shift_commands, shift_command, write_commands, moves_by}
@@ -88,7 +88,7 @@ module _ (m : Quadruples) (n : ℕ) (r : Rule ℕ) (here : nth m.rules n ≡ Som
   write_goes : (before rest : List (ℕ × ℕ)) → writes_of r ≡ before ++ rest → (g : Going) → Has (goings e (write_names r.to rest)) g → Goes g
   write_goes before [] split g h = absurd h
   write_goes before (p ∷ rest) split g (inl is) =
-      let first : Goes (Writes r.to p.0 (symbols_in rest), Tape p.0 DoneWrite, next_name e (write_names r.to rest)) = writes_on n r here e entry before rest p split refl refl (next_write rest) in
+      let first : Goes (Writes r.to p.0 (symbols_read rest), Tape p.0 DoneWrite, next_name e (write_names r.to rest)) = writes_on n r here e entry before rest p split refl refl (next_write rest) in
       subst Goes (sym is) first
   write_goes before (p ∷ rest) split g (inr h) = write_goes (before ++ (p ∷ [])) rest (split ∙ sym (append_assoc before (p ∷ []) rest)) g h
 
@@ -102,7 +102,7 @@ module _ (m : Quadruples) (n : ℕ) (r : Rule ℕ) (here : nth m.rules n ≡ Som
   read_goes : (before rest : List (ℕ × ℕ)) → reads_of r ≡ before ++ rest → (g : Going) → Has (goings e (read_names r.from before rest ++ later_names n r)) g → Goes g
   read_goes before [] split g h = shift_goes [] (shifts_of r) refl g h
   read_goes before (p ∷ rest) split g (inl is) =
-      let first : Goes (Reads r.from (symbols_in before), Tape p.0 (Answer p.1), next_name e (read_names r.from (before ++ (p ∷ [])) rest ++ later_names n r)) = reads_on n r here e entry before rest p split refl refl (next_read (before ++ (p ∷ [])) rest) in
+      let first : Goes (Reads r.from (symbols_read before), Tape p.0 (Answer p.1), next_name e (read_names r.from (before ++ (p ∷ [])) rest ++ later_names n r)) = reads_on n r here e entry before rest p split refl refl (next_read (before ++ (p ∷ [])) rest) in
       subst Goes (sym is) first
   read_goes before (p ∷ rest) split g (inr h) = read_goes (before ++ (p ∷ [])) rest (split ∙ sym (append_assoc before (p ∷ []) rest)) g h
 
@@ -111,8 +111,8 @@ module _ (m : Quadruples) (n : ℕ) (r : Rule ℕ) (here : nth m.rules n ≡ Som
 
   -- ---- and the control's moves along this quadruple are among them
 
-  write_stands : (before rest : List (ℕ × ℕ)) (p : ℕ × ℕ) → Has (goings e (write_names r.to (before ++ (p ∷ rest)))) (Writes r.to p.0 (symbols_in rest), Tape p.0 DoneWrite, to_writes e r.to rest)
-  write_stands [] rest p = inl (λ i. (Writes r.to p.0 (symbols_in rest), Tape p.0 DoneWrite, sym (next_write rest) i))
+  write_stands : (before rest : List (ℕ × ℕ)) (p : ℕ × ℕ) → Has (goings e (write_names r.to (before ++ (p ∷ rest)))) (Writes r.to p.0 (symbols_read rest), Tape p.0 DoneWrite, to_writes e r.to rest)
+  write_stands [] rest p = inl (λ i. (Writes r.to p.0 (symbols_read rest), Tape p.0 DoneWrite, sym (next_write rest) i))
   write_stands (b ∷ before) rest p = inr (write_stands before rest p)
 
   write_later : (ss : List (ℕ × Side)) (g : Going) → Has (goings e (write_names r.to (writes_of r))) g → Has (goings e (shift_names n ss ++ write_names r.to (writes_of r))) g
@@ -128,25 +128,25 @@ module _ (m : Quadruples) (n : ℕ) (r : Rule ℕ) (here : nth m.rules n ≡ Som
   later before (p ∷ rs) g h = inr (later (before ++ (p ∷ [])) rs g h)
 
   read_stands : (done before rest : List (ℕ × ℕ)) (p : ℕ × ℕ)
-      → Has (goings e (read_names r.from done (before ++ (p ∷ rest)) ++ later_names n r)) (Reads r.from (symbols_in (done ++ before)), Tape p.0 (Answer p.1), to_reads e n r ((done ++ before) ++ (p ∷ [])) rest)
+      → Has (goings e (read_names r.from done (before ++ (p ∷ rest)) ++ later_names n r)) (Reads r.from (symbols_read (done ++ before)), Tape p.0 (Answer p.1), to_reads e n r ((done ++ before) ++ (p ∷ [])) rest)
   read_stands done [] rest p =
       let none = append-nil done in
-      inl (λ i. (Reads r.from (symbols_in (none i)), Tape p.0 (Answer p.1), (ap (λ l. to_reads e n r (l ++ (p ∷ [])) rest) none ∙ sym (next_read (done ++ (p ∷ [])) rest)) i))
+      inl (λ i. (Reads r.from (symbols_read (none i)), Tape p.0 (Answer p.1), (ap (λ l. to_reads e n r (l ++ (p ∷ [])) rest) none ∙ sym (next_read (done ++ (p ∷ [])) rest)) i))
   read_stands done (b ∷ before) rest p =
       let one = append_assoc done (b ∷ []) before in
-      inr (subst (λ l. Has (goings e (read_names r.from (done ++ (b ∷ [])) (before ++ (p ∷ rest)) ++ later_names n r)) (Reads r.from (symbols_in l), Tape p.0 (Answer p.1), to_reads e n r (l ++ (p ∷ [])) rest)) one (read_stands (done ++ (b ∷ [])) before rest p))
+      inr (subst (λ l. Has (goings e (read_names r.from (done ++ (b ∷ [])) (before ++ (p ∷ rest)) ++ later_names n r)) (Reads r.from (symbols_read l), Tape p.0 (Answer p.1), to_reads e n r (l ++ (p ∷ [])) rest)) one (read_stands (done ++ (b ∷ [])) before rest p))
 
-  pub reads_stand : (before rest : List (ℕ × ℕ)) (p : ℕ × ℕ) → reads_of r ≡ before ++ (p ∷ rest) → Has (goings e (names_by n r)) (Reads r.from (symbols_in before), Tape p.0 (Answer p.1), to_reads e n r (before ++ (p ∷ [])) rest)
+  pub reads_stand : (before rest : List (ℕ × ℕ)) (p : ℕ × ℕ) → reads_of r ≡ before ++ (p ∷ rest) → Has (goings e (names_by n r)) (Reads r.from (symbols_read before), Tape p.0 (Answer p.1), to_reads e n r (before ++ (p ∷ [])) rest)
   reads_stand before rest p split =
-      subst (λ l. Has (goings e (read_names r.from [] l ++ later_names n r)) (Reads r.from (symbols_in before), Tape p.0 (Answer p.1), to_reads e n r (before ++ (p ∷ [])) rest)) (sym split) (read_stands [] before rest p)
+      subst (λ l. Has (goings e (read_names r.from [] l ++ later_names n r)) (Reads r.from (symbols_read before), Tape p.0 (Answer p.1), to_reads e n r (before ++ (p ∷ [])) rest)) (sym split) (read_stands [] before rest p)
 
   pub shifts_stand : (before rest : List (ℕ × Side)) (p : ℕ × Side) → shifts_of r ≡ before ++ (p ∷ rest) → Has (goings e (names_by n r)) (Shifts n p.0, Tape p.0 (done_line p.1), to_shifts e n r rest)
   shifts_stand before rest p split =
       later [] (reads_of r) (Shifts n p.0, Tape p.0 (done_line p.1), to_shifts e n r rest)
       (subst (λ l. Has (goings e (shift_names n l ++ write_names r.to (writes_of r))) (Shifts n p.0, Tape p.0 (done_line p.1), to_shifts e n r rest)) (sym split) (shift_stands before rest p))
 
-  pub writes_stand : (before rest : List (ℕ × ℕ)) (p : ℕ × ℕ) → writes_of r ≡ before ++ (p ∷ rest) → Has (goings e (names_by n r)) (Writes r.to p.0 (symbols_in rest), Tape p.0 DoneWrite, to_writes e r.to rest)
+  pub writes_stand : (before rest : List (ℕ × ℕ)) (p : ℕ × ℕ) → writes_of r ≡ before ++ (p ∷ rest) → Has (goings e (names_by n r)) (Writes r.to p.0 (symbols_read rest), Tape p.0 DoneWrite, to_writes e r.to rest)
   writes_stand before rest p split =
-      later [] (reads_of r) (Writes r.to p.0 (symbols_in rest), Tape p.0 DoneWrite, to_writes e r.to rest)
-      (write_later (shifts_of r) (Writes r.to p.0 (symbols_in rest), Tape p.0 DoneWrite, to_writes e r.to rest)
-      (subst (λ l. Has (goings e (write_names r.to l)) (Writes r.to p.0 (symbols_in rest), Tape p.0 DoneWrite, to_writes e r.to rest)) (sym split) (write_stands before rest p)))
+      later [] (reads_of r) (Writes r.to p.0 (symbols_read rest), Tape p.0 DoneWrite, to_writes e r.to rest)
+      (write_later (shifts_of r) (Writes r.to p.0 (symbols_read rest), Tape p.0 DoneWrite, to_writes e r.to rest)
+      (subst (λ l. Has (goings e (write_names r.to l)) (Writes r.to p.0 (symbols_read rest), Tape p.0 DoneWrite, to_writes e r.to rest)) (sym split) (write_stands before rest p)))

@@ -2,14 +2,14 @@
 use Rattle.std.proofs.Common.{◌≡◌, ◌≢◌, ◌⊎◌, inl, inr, get_or, slice_get, ℕ, zero, suc, ◌+◌, ◌<◌, ◌≤◌, List, [], ◌∷◌, ◌++◌, length, map, take, Option, Some, None, refl, sym, ap, subst, ◌∙◌, arith, length-append}
 use Rattle.std.proofs.lemmas.List.{take_more}
 use Rattle.std.proofs.lemmas.Option.{some_pair_parts, slice_get-get_or, slice_get_within}
-use Rattle.bn_quad.specs.Quadruples.{Quadruples, final_of}
-use Rattle.bn_modules.specs.declared.cell_line.CellLine.{CellLine}
-use Rattle.bn_modules.specs.declared.cell_line.CellLine.TheVariants.{Read}
-use Rattle.bn_modules.specs.Controls as control
-use Rattle.bn_modules.specs.Controls.{ControlState, ControlLine, ControlMove, IsEntry, finishes, leaves, waits, IsFirstOf, to_read, to_shift, reads_of, shifts_of, Occurs, is_begin, is_end, is_open, is_read, is_shift, is_write, symbols_in, out_number}
-use Rattle.bn_controllaws.proofs.EntryLemmas.{one_entry}
-use Rattle.bn_controllaws.proofs.GoingLemmas.{end_entry}
-use Rattle.bn_controllaws.proofs.RangeLemmas.{rule_in_range}
+use Rattle.bn_quad.specs.Quadruples.{Quadruples, final_state_of}
+use Rattle.bn_network.specs.declared.cell_line.CellLine.{CellLine}
+use Rattle.bn_network.specs.declared.cell_line.CellLine.TheVariants.{Read}
+use Rattle.bn_network.specs.Controls as control
+use Rattle.bn_network.specs.Controls.{ControlState, ControlLine, ControlMove, IsEntry, finishes, leaves, waits, IsFirstOf, to_read, to_shift, reads_of, shifts_of, Occurs, is_begin, is_end, is_open, is_read, is_shift, is_write, symbols_read, out_number}
+use Rattle.bn_network.proofs.EntryLemmas.{one_entry}
+use Rattle.bn_network.proofs.GoingLemmas.{end_entry}
+use Rattle.bn_network.proofs.RangeLemmas.{rule_in_range}
 use Rattle.bn_control.specs.declared.draft.Draft.{Draft}
 use Rattle.bn_control.specs.declared.line.Line.TheVariants.{Outside, Tape}
 use Rattle.bn_control.specs.declared.line.Sending.{Sending}
@@ -30,7 +30,7 @@ use Rattle.bn_control.proofs.WithinLemmas.{out_within}
 -- ---- first commands
 
 -- the end is where the final state's first command leads, and no other's
-end_final : (m : Quadruples) (a : ℕ) (k : ControlMove) → IsEntry m a k → k.0 ≡ control.End → a ≡ final_of m.rules
+end_final : (m : Quadruples) (a : ℕ) (k : ControlMove) → IsEntry m a k → k.0 ≡ control.End → a ≡ final_state_of m.rules
 end_final m a k (finishes here e) is = here
 end_final m a k (leaves n r here from first) is = absurd (go (reads_of r) (shifts_of r) first)
   where
@@ -54,7 +54,7 @@ module _ (m : Quadruples) (d : Draft) (draft : IsDraft m d) where
 
   pub other_first : (a : ℕ) (s : Sending) (n o : ℕ) → IsFirstSent m a s → s.state ≢ End → slice_get (map name_of d.states.items) n ≡ Some (name_of s.state) → o ≡ out_number m (line_of s.line) → IsFirstKept m (map name_of d.states.items) a (Some (n, o))
   other_first a s n o sent other number line =
-      let not_final : a ≢ final_of m.rules = λ e. other (is_end_name s.state (ap (λ (x : ControlMove). x.0) (one_entry m draft.uniform a (sending_of s) (control.End, control.Outside) sent.entry (finishes e refl)))) in
+      let not_final : a ≢ final_state_of m.rules = λ e. other (is_end_name s.state (ap (λ (x : ControlMove). x.0) (one_entry m draft.uniform a (sending_of s) (control.End, control.Outside) sent.entry (finishes e refl)))) in
       subst (λ v. IsFirstKept m (map name_of d.states.items) a (Some (n, v))) (sym line) (sent_kept not_final (sending_of s) n sent.entry number)
 
   pub entry_number : (a : ℕ) (s : Sending) → IsFirstSent m a s → HasNumber d.states.items s.state
@@ -82,7 +82,7 @@ module _ (m : Quadruples) (d : Draft) (draft : IsDraft m d) where
       let f : control.Reads r.from [] ≡ control.Reads a [] = sym e ∙ is in
       let same : r.from ≡ a = cc in
       subst Awaits same (record { low = (rule_in_range m draft.valid n r here).from; tape = p.0; entry = leaves n r here refl (subst (λ rs. IsFirstOf n r rs (shifts_of r) (control.Reads r.from [], control.Tape p.0 Read)) (sym split) refl) })
-  awaits_first a q (is_read n r here (b ∷ before) rest p split e) is = absurd (let f : control.Reads r.from (symbols_in (b ∷ before)) ≡ control.Reads a [] = sym e ∙ is in cc)
+  awaits_first a q (is_read n r here (b ∷ before) rest p split e) is = absurd (let f : control.Reads r.from (symbols_read (b ∷ before)) ≡ control.Reads a [] = sym e ∙ is in cc)
   awaits_first a q (is_shift n r here before rest p split e) is = absurd (let f = sym e ∙ is in cc)
   awaits_first a q (is_write n r here before rest p split e) is = absurd (let f = sym e ∙ is in cc)
 

@@ -5,15 +5,15 @@ use Rattle.std.proofs.lemmas.Bool.Decides.{eqb_tells}
 use Rattle.std.proofs.lemmas.List.{length-map, length-set}
 use Rattle.std.proofs.lemmas.List.FromFn.{get_or-map-range_with_len, length-range_with_len}
 use Rattle.std.proofs.lemmas.Option.{slice_get_within, get_or_from_slice_get}
-use Rattle.bn_theory.proofs.StepLemmas.{slice_get-set_same, slice_get-set_other}
+use Rattle.bn_circuits.proofs.StepLemmas.{slice_get-set_same, slice_get-set_other}
 use Rattle.bn_lists.specs.Lists.{nth}
 use Rattle.bn_lists.proofs.ListLemmas.{nth_within, nth_once}
-use Rattle.bn_quad.specs.Quadruples.{Rule, Quadruples, IsQuadMachine, final_of}
+use Rattle.bn_quad.specs.Quadruples.{Rule, Quadruples, IsQuadMachine, final_state_of}
 use Rattle.bn_quad.specs.Calls.{IsUniformMachine}
 use Rattle.bn_quad.specs.Kept.{quad_of}
 use Rattle.bn_quad.specs.declared.quad.Quad.{Quad}
-use Rattle.bn_modules.specs.Controls.{finishes, waits}
-use Rattle.bn_controllaws.proofs.RangeLemmas.{rule_in_range}
+use Rattle.bn_network.specs.Controls.{finishes, waits}
+use Rattle.bn_network.proofs.RangeLemmas.{rule_in_range}
 use Rattle.bn_control.specs.declared.line.Sending.{Sending}
 use Rattle.bn_control.specs.declared.command.Command.{Command}
 use Rattle.bn_control.specs.Commands.{commands_by}
@@ -23,9 +23,9 @@ use Rattle.bn_control.proofs.EntriesSoFar.{IsSoFar, left, not_left, AreSoFar}
 
 module _ (m : Quadruples) where
   -- before the first quadruple
-  pub none_yet : (es : List Sending) → es ≡ map (waiting (final_of m.rules)) (range_with_len 0 m.states) → AreSoFar m 0 es
+  pub none_yet : (es : List Sending) → es ≡ map (waiting (final_state_of m.rules)) (range_with_len 0 m.states) → AreSoFar m 0 es
   none_yet es is =
-      let count : length es ≡ m.states = ap length is ∙ length-map (range_with_len 0 m.states) (waiting (final_of m.rules)) ∙ length-range_with_len 0 m.states in
+      let count : length es ≡ m.states = ap length is ∙ length-map (range_with_len 0 m.states) (waiting (final_state_of m.rules)) ∙ length-range_with_len 0 m.states in
       record { counted = count; each = each count }
     where
       at_zero : (n : ℕ) (r : Rule ℕ) → n ≤ 0 → nth m.rules n ≡ Some r → ⊥
@@ -35,7 +35,7 @@ module _ (m : Quadruples) where
       each : length es ≡ m.states → (a : ℕ) (s : Sending) → slice_get es a ≡ Some s → IsSoFar m 0 a s
       each count a s e =
           let low = slice_get_within es a s e in
-          let value : s ≡ waiting (final_of m.rules) a = sym (get_or_from_slice_get es a s s e) ∙ ap (λ l. get_or l a s) is ∙ get_or-map-range_with_len (waiting (final_of m.rules)) 0 m.states a a s (omega arith) (omega arith) in
+          let value : s ≡ waiting (final_state_of m.rules) a = sym (get_or_from_slice_get es a s s e) ∙ ap (λ l. get_or l a s) is ∙ get_or-map-range_with_len (waiting (final_state_of m.rules)) 0 m.states a a s (omega arith) (omega arith) in
           not_left (λ n r low e from. at_zero n r low e) value
 
   -- after one quadruple more
@@ -69,8 +69,8 @@ module _ (m : Quadruples) where
           let count = far.counted in
           subst (IsFirstSent m a) (sym value) (by a (omega arith) (λ n r e from. none n r (let few = nth_within m.rules n r e in omega arith) e from))
         where
-          by : (a : ℕ) → a < m.states → ((n : ℕ) (r : Rule ℕ) → nth m.rules n ≡ Some r → r.from ≡ a → ⊥) → IsFirstSent m a (waiting (final_of m.rules) a)
-          by a low none = elim (eqb_tells a (final_of m.rules)) [
+          by : (a : ℕ) → a < m.states → ((n : ℕ) (r : Rule ℕ) → nth m.rules n ≡ Some r → r.from ≡ a → ⊥) → IsFirstSent m a (waiting (final_state_of m.rules) a)
+          by a low none = elim (eqb_tells a (final_state_of m.rules)) [
             | inl same ↦ rw same.0 (record { entry = finishes same.1 refl; proper = tt })
             | inr other ↦ rw other.0 (record { entry = waits other.1 low (record { none = none }) refl; proper = refl })
           ]

@@ -5,7 +5,7 @@ use Rattle.std.specs.Cmp.Lexicographic.{slice_cmp}
 use Rattle.std.specs.Ordering.{nat_cmp, ordering_then}
 use Rattle.std.specs.declared.cmp.Ordering.{Ordering}
 use Rattle.std.specs.declared.cmp.Ordering.TheVariants.{Less, Equal, Greater}
-use Rattle.bn_controllaws.proofs.KeyLemmas.{by_key}
+use Rattle.bn_network.proofs.KeyLemmas.{by_key}
 use Rattle.bn_control.specs.contracts.state.StateOrd.TheImpl as impl
 use Rattle.bn_control.specs.contracts.state.SymbolsOrd.TheImpl as symbols
 use Rattle.bn_control.specs.declared.state.Symbols.{Symbols}

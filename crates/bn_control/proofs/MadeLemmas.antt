@@ -4,7 +4,7 @@ use Rattle.std.proofs.lemmas.List.{length-map}
 use Rattle.std.proofs.lemmas.Option.{slice_get_within}
 use Rattle.bn_quad.specs.Quadruples.{Quadruples}
 use Rattle.bn_rsm.specs.Machines.{Machine, machine_table}
-use Rattle.bn_modules.specs.Controls.{ControlState, IsControlTable}
+use Rattle.bn_network.specs.Controls.{ControlState, IsControlTable}
 use Rattle.bn_control.specs.declared.draft.Draft.{Draft}
 use Rattle.bn_control.specs.declared.state.State.{State}
 use Rattle.bn_control.specs.States.{name_of}

@@ -2,7 +2,7 @@
 use Rattle.std.specs.Prelude.{◌≡◌, ℕ, ◌≤◌, List, Some}
 use Rattle.bn_lists.specs.Lists.{nth, Has}
 use Rattle.bn_quad.specs.Quadruples.{Quadruples, Rule, initial_of}
-use Rattle.bn_modules.specs.Controls.{ControlMove, Begin, Outside, IsEntry}
+use Rattle.bn_network.specs.Controls.{ControlMove, Begin, Outside, IsEntry}
 use Rattle.bn_control.specs.declared.named.NamedMove.{NamedMove}
 use Rattle.bn_control.proofs.NamesLemmas.{Going, names_by, goings}
 use Rattle.bn_control.specs.Named.{IsGoing, IsKeptAmong}

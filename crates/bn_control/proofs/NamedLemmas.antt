@@ -8,9 +8,9 @@ use Rattle.bn_quad.specs.Quadruples.{Rule, Quadruples, IsQuadMachine, initial_of
 use Rattle.bn_quad.specs.Calls.{IsUniformMachine}
 use Rattle.bn_quad.specs.Kept.{quad_of}
 use Rattle.bn_quad.specs.declared.quad.Quad.{Quad}
-use Rattle.bn_modules.specs.Controls.{ControlState, ControlLine, ControlMove, Begin as begin_name, Outside as outside_name, IsEntry, ControlGoes, begins, reads_on, shifts_on, writes_on}
-use Rattle.bn_controllaws.proofs.EntryLemmas.{one_entry}
-use Rattle.bn_controllaws.proofs.RangeLemmas.{rule_in_range, initial_in_range}
+use Rattle.bn_network.specs.Controls.{ControlState, ControlLine, ControlMove, Begin as begin_name, Outside as outside_name, IsEntry, ControlGoes, begins, reads_on, shifts_on, writes_on}
+use Rattle.bn_network.proofs.EntryLemmas.{one_entry}
+use Rattle.bn_network.proofs.RangeLemmas.{rule_in_range, initial_in_range}
 use Rattle.bn_lists.proofs.MemberLemmas.{in_front, behind, of_two}
 use Rattle.bn_control.specs.declared.command.Command.{Command}
 use Rattle.bn_control.specs.declared.line.Line.TheVariants.{Outside}

@@ -11,8 +11,8 @@ use Rattle.bn_quad.specs.Kept.{quad_of, read_of, act_of}
 use Rattle.bn_quad.specs.declared.quad.Quad.{Quad}
 use Rattle.bn_quad.specs.declared.quad.Act.{Act}
 use Rattle.bn_quad.specs.declared.quad.Act.TheVariants.{Write, Shift}
-use Rattle.bn_modules.specs.Controls.{leaves, IsFirstOf, reads_of, shifts_of, writes_of}
-use Rattle.bn_controllaws.proofs.UniformLemmas.{silent}
+use Rattle.bn_network.specs.Controls.{leaves, IsFirstOf, reads_of, shifts_of, writes_of}
+use Rattle.bn_network.proofs.UniformLemmas.{silent}
 use Rattle.bn_control.specs.declared.command.Command.{Command}
 use Rattle.bn_control.specs.declared.state.Symbols.{Symbols}
 use Rattle.bn_control.specs.States.{IsProper, symbols_of}

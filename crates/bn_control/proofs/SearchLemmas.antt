@@ -8,9 +8,9 @@ use Rattle.std.specs.declared.cmp.Ordering.TheVariants.{Less, Equal, Greater}
 use Rattle.std.proofs.lemmas.Bool.{cases_lt}
 use Rattle.std.proofs.lemmas.Cmp.{alike_right, tied_itself}
 use Rattle.std.proofs.lemmas.Option.{slice_get-map, slice_get-get_or, slice_get_within, get_or_from_slice_get}
-use Rattle.bn_modules.specs.Controls.{ControlState, Occurs}
+use Rattle.bn_network.specs.Controls.{ControlState, Occurs}
 use Rattle.bn_quad.specs.Quadruples.{Quadruples}
-use Rattle.bn_controllaws.proofs.KeyLemmas.{by_key, keys_ordered, ties_one}
+use Rattle.bn_network.proofs.KeyLemmas.{by_key, keys_ordered, ties_one}
 use Rattle.bn_control.specs.declared.state.State.{State}
 use Rattle.bn_control.specs.States.{name_of, IsProper}
 use Rattle.bn_control.specs.Ordered.{AreOrdered}

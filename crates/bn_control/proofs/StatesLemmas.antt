@@ -7,12 +7,12 @@ use Rattle.std.proofs.lemmas.Map.Keys.{Less-from_sorted}
 use Rattle.std.proofs.lemmas.Option.{slice_get-get_or, slice_get_within, get_or_from_slice_get}
 use Rattle.bn_quad.specs.Quadruples.{Quadruples, IsQuadMachine, initial_of}
 use Rattle.bn_quad.specs.Calls.{IsUniformMachine}
-use Rattle.bn_modules.specs.Controls.{ControlState, ControlLine, ControlMove, waits, ControlGoes, begins, reads_on, shifts_on, writes_on, Occurs, is_begin, is_end, is_open, is_read, is_shift, is_write, to_read}
-use Rattle.bn_controllaws.proofs.EntryLemmas.{one_entry}
-use Rattle.bn_controllaws.proofs.ExistingLemmas.{some_entry}
-use Rattle.bn_controllaws.proofs.GoingLemmas.{sound, end_entry}
-use Rattle.bn_controllaws.proofs.KeyLemmas.{by_key, ties_one}
-use Rattle.bn_controllaws.proofs.RangeLemmas.{rule_in_range, initial_in_range}
+use Rattle.bn_network.specs.Controls.{ControlState, ControlLine, ControlMove, waits, ControlGoes, begins, reads_on, shifts_on, writes_on, Occurs, is_begin, is_end, is_open, is_read, is_shift, is_write, to_read}
+use Rattle.bn_network.proofs.EntryLemmas.{one_entry}
+use Rattle.bn_network.proofs.ExistingLemmas.{some_entry}
+use Rattle.bn_network.proofs.GoingLemmas.{sound, end_entry}
+use Rattle.bn_network.proofs.KeyLemmas.{by_key, ties_one}
+use Rattle.bn_network.proofs.RangeLemmas.{rule_in_range, initial_in_range}
 use Rattle.bn_lists.specs.Lists.{Has}
 use Rattle.bn_lists.proofs.MemberLemmas.{place_of, member_at, in_front, behind, of_two}
 use Rattle.bn_control.specs.declared.line.Sending.{Sending}

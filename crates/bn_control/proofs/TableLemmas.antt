@@ -9,18 +9,18 @@ use Rattle.std.proofs.lemmas.Cmp.{tied_itself, ranked}
 use Rattle.std.proofs.lemmas.List.{length-map}
 use Rattle.std.proofs.lemmas.Map.Keys.{Less-from_sorted}
 use Rattle.std.proofs.lemmas.Option.{some_pair_parts, slice_get-get_or, slice_get_within, get_or_from_slice_get}
-use Rattle.bn_theory.specs.Tables.{Table, go_by}
+use Rattle.bn_element.specs.Tables.{Table, go_by}
 use Rattle.bn_quad.specs.Quadruples.{Quadruples, IsQuadMachine}
 use Rattle.bn_quad.specs.Calls.{IsUniformMachine}
 use Rattle.bn_rsm.specs.Machines.{Machine, move_of, machine_table, machine_table-IsReversible, AreSound, IsMadeOf}
 use Rattle.bn_rsm.specs.declared.rsm_move.RsmMove.{RsmMove}
-use Rattle.bn_modules.specs.Controls.{ControlState, NumberedGoes, IsControlTable, control_lines, in_number, out_number}
-use Rattle.bn_controllaws.proofs.KeyLemmas.{by_key, keys_ordered}
-use Rattle.bn_controllaws.proofs.SortedLemmas.{one_place}
-use Rattle.bn_controllaws.proofs.TabledLemmas.{table_there}
+use Rattle.bn_network.specs.Controls.{ControlState, NumberedGoes, IsControlTable, control_lines, in_number, out_number}
+use Rattle.bn_network.proofs.KeyLemmas.{by_key, keys_ordered}
+use Rattle.bn_network.proofs.SortedLemmas.{one_place}
+use Rattle.bn_network.proofs.TabledLemmas.{table_there}
 use Rattle.bn_lists.specs.Lists.{Has}
 use Rattle.bn_lists.proofs.MemberLemmas.{place_of, member_at}
-use Rattle.bn_cell.proofs.ListingLemmas.{LeaveApart, AreApart, AreMovesOf, moves_sound, moves_go}
+use Rattle.bn_rsm.proofs.ListingLemmas.{LeaveApart, AreApart, AreMovesOf, moves_sound, moves_go}
 use Rattle.bn_control.specs.contracts.numbered.MoveOrd.TheImpl as impl
 use Rattle.bn_control.specs.contracts.numbered.MoveOrd.TheImpl.Laws.{total-law}
 use Rattle.bn_control.specs.declared.named.NamedMove.{NamedMove}

@@ -1,11 +1,11 @@
 -- The states and lines of a control's moves have numbers.
 use Rattle.std.proofs.Common.{◌≡◌, get_or, slice_get, ℕ, suc, ◌-◌, List, length, Some, sym, subst, arith}
 use Rattle.bn_quad.specs.Quadruples.{Quadruples, IsQuadMachine}
-use Rattle.bn_modules.specs.declared.cell_line.CellLine.{CellLine}
-use Rattle.bn_modules.specs.declared.cell_line.CellLine.TheVariants.{Read, Write, ShiftRight, ShiftLeft, Answer, DoneWrite, DoneRight, DoneLeft}
-use Rattle.bn_modules.specs.Cells.{IsLineOf}
-use Rattle.bn_controllaws.proofs.LineLemmas.{IsLine, outside, tape, IsReply, IsCommand, IsInLine, IsOutLine}
-use Rattle.bn_controllaws.proofs.GoingLemmas.{sound}
+use Rattle.bn_network.specs.declared.cell_line.CellLine.{CellLine}
+use Rattle.bn_network.specs.declared.cell_line.CellLine.TheVariants.{Read, Write, ShiftRight, ShiftLeft, Answer, DoneWrite, DoneRight, DoneLeft}
+use Rattle.bn_network.specs.Cells.{IsLineOf}
+use Rattle.bn_network.proofs.LineLemmas.{IsLine, outside, tape, IsReply, IsCommand, IsInLine, IsOutLine}
+use Rattle.bn_network.proofs.GoingLemmas.{sound}
 use Rattle.bn_lists.proofs.MemberLemmas.{member_at}
 use Rattle.bn_control.specs.declared.line.Line.{Line}
 use Rattle.bn_control.specs.declared.line.Line.TheVariants.{Outside, Tape}

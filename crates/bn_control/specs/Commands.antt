@@ -6,9 +6,9 @@ use Rattle.bn_quad.specs.Quadruples.{Rule}
 use Rattle.bn_quad.specs.Kept.{read_of, act_of}
 use Rattle.bn_quad.specs.declared.quad.Act.{Act}
 use Rattle.bn_quad.specs.declared.quad.Act.TheVariants.{Write, Shift}
-use Rattle.bn_modules.specs.Controls as control
-use Rattle.bn_modules.specs.declared.cell_line.CellLine.{CellLine}
-use Rattle.bn_modules.specs.declared.cell_line.CellLine.TheVariants as line
+use Rattle.bn_network.specs.Controls as control
+use Rattle.bn_network.specs.declared.cell_line.CellLine.{CellLine}
+use Rattle.bn_network.specs.declared.cell_line.CellLine.TheVariants as line
 use Rattle.bn_control.specs.declared.state.State.{State}
 use Rattle.bn_control.specs.declared.state.State.TheVariants.{Reads, Shifts, Writes}
 use Rattle.bn_control.specs.declared.state.Symbols.{Symbols}

@@ -2,12 +2,12 @@
 use Rattle.std.specs.Prelude.{◌≡◌, ◌≢◌, ◌↔◌, ℕ, ◌+◌, ◌-◌, ◌<◌, ◌≤◌, ◌^◌, List, [], All, length, Option, Some, None}
 use Rattle.std.specs.Prelude.{slice_get, slice_index, refl}
 use Rattle.std.specs.Coded.{Coded, coded_ℕ, coded_list, coded_option, coded×, code_by}
-use Rattle.bn_quad.specs.Quadruples.{Quadruples, final_of}
+use Rattle.bn_quad.specs.Quadruples.{Quadruples, final_state_of}
 use Rattle.bn_rsm.specs.Machines.{Machine, machine_code, machine_table}
-use Rattle.bn_modules.specs.declared.cell_line.CellLine.TheVariants.{Read}
-use Rattle.bn_modules.specs.Controls.{ControlState, Reads, ControlMove, Tape, IsEntry, IsNumbering, IsControlTable}
-use Rattle.bn_modules.specs.Controls.{lines_before, out_number}
-use Rattle.bn_cell.specs.declared.numbers.TheConstants.{MOST_SYMBOLS}
+use Rattle.bn_network.specs.declared.cell_line.CellLine.TheVariants.{Read}
+use Rattle.bn_network.specs.Controls.{ControlState, Reads, ControlMove, Tape, IsEntry, IsNumbering, IsControlTable}
+use Rattle.bn_network.specs.Controls.{lines_before, out_number}
+use Rattle.bn_network.specs.declared.limits.TheConstants.{MOST_SYMBOLS}
 use Rattle.bn_control.specs.declared.make.TheConstants.{MOST_QUADRUPLES, MOST_STATES}
 
 -- The control as a sequential machine; how many symbols each tape has, tape 1 first; for each state of the machine of
@@ -44,8 +44,8 @@ pub record IsWithinLimits (m : Quadruples) : Type 0 where
 
 -- what is kept of the first command of a state of the machine
 pub data IsFirstKept (m : Quadruples) (names : List ControlState) (a : ℕ) : Option (ℕ × ℕ) → Type 0 where
-  final_kept : a ≡ final_of m.rules → IsFirstKept m names a None
-  sent_kept : a ≢ final_of m.rules → (k : ControlMove) (q : ℕ) → IsEntry m a k → slice_get names q ≡ Some k.0
+  final_kept : a ≡ final_state_of m.rules → IsFirstKept m names a None
+  sent_kept : a ≢ final_state_of m.rules → (k : ControlMove) (q : ℕ) → IsEntry m a k → slice_get names q ≡ Some k.0
       → IsFirstKept m names a (Some (q, out_number m k.1))
 
 -- the state of the control is the one that awaits the first read of this state of the machine, on this tape

@@ -1,8 +1,8 @@
 -- The first commands of a machine's states as the program keeps them.
 use Rattle.std.specs.Prelude.{◌≡◌, ℕ, ◌==◌, List, length, Some, slice_get, if◌then◌else◌}
 use Rattle.bn_quad.specs.Quadruples.{Quadruples}
-use Rattle.bn_modules.specs.Controls.{IsEntry}
-use Rattle.bn_modules.specs.declared.cell_line.CellLine.TheVariants as line
+use Rattle.bn_network.specs.Controls.{IsEntry}
+use Rattle.bn_network.specs.declared.cell_line.CellLine.TheVariants as line
 use Rattle.bn_control.specs.declared.state.State.TheVariants.{End, Reads}
 use Rattle.bn_control.specs.declared.state.Symbols.TheVariants.{Empty}
 use Rattle.bn_control.specs.declared.line.Line.TheVariants.{Outside, Tape}

@@ -1,7 +1,7 @@
 -- The moves of a control by names as the program keeps them.
 use Rattle.std.specs.Prelude.{◌≡◌, List}
 use Rattle.bn_quad.specs.Quadruples.{Quadruples}
-use Rattle.bn_modules.specs.Controls.{ControlState, ControlLine, ControlMove, ControlGoes}
+use Rattle.bn_network.specs.Controls.{ControlState, ControlLine, ControlMove, ControlGoes}
 use Rattle.bn_lists.specs.Lists.{Has}
 use Rattle.bn_control.specs.declared.named.NamedMove.{NamedMove}
 use Rattle.bn_control.specs.States.{name_of, IsProper}

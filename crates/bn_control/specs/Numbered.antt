@@ -2,8 +2,8 @@
 use Rattle.std.specs.Prelude.{◌≡◌, ℕ, ◌-◌, ◌≤◌, List, map, Some, slice_get, slice_index}
 use Rattle.bn_rsm.specs.declared.rsm_move.RsmMove.{RsmMove}
 use Rattle.bn_quad.specs.Quadruples.{Quadruples}
-use Rattle.bn_modules.specs.Cells.{IsLineOf}
-use Rattle.bn_modules.specs.Controls.{in_number, out_number}
+use Rattle.bn_network.specs.Cells.{IsLineOf}
+use Rattle.bn_network.specs.Controls.{in_number, out_number}
 use Rattle.bn_lists.specs.Lists.{Has}
 use Rattle.bn_control.specs.declared.line.Line.{Line}
 use Rattle.bn_control.specs.declared.line.Line.TheVariants.{Outside, Tape}

@@ -1,7 +1,7 @@
 -- The states of a control in order as the program keeps them.
 use Rattle.std.specs.Prelude.{◌≡◌, ℕ, List, map, Some, slice_get}
 use Rattle.bn_quad.specs.Quadruples.{Quadruples}
-use Rattle.bn_modules.specs.Controls.{ControlState, Occurs, IsNumbering}
+use Rattle.bn_network.specs.Controls.{ControlState, Occurs, IsNumbering}
 use Rattle.bn_lists.specs.Lists.{Has}
 use Rattle.bn_control.specs.declared.state.State.{State}
 use Rattle.bn_control.specs.States.{name_of, IsProper}

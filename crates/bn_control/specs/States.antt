@@ -1,6 +1,6 @@
 -- The states of a control as the program keeps them, and what they stand for.
 use Rattle.std.specs.Prelude.{◌≡◌, ℕ, ◌≤◌, List, [], ◌∷◌, length, Option, Some, None}
-use Rattle.bn_modules.specs.Controls as control
+use Rattle.bn_network.specs.Controls as control
 use Rattle.bn_control.specs.declared.state.Symbols.{Symbols}
 use Rattle.bn_control.specs.declared.state.Symbols.TheVariants.{Empty, Leading}
 use Rattle.bn_control.specs.declared.state.State.{State}

@@ -9,7 +9,7 @@ ghost use Rattle.bn_control.specs.Commands.{shift_command, write_command, writte
 use crate::line::{Line, Sending};
 use crate::state::{State, Symbols};
 use bn_machine::Shift;
-use bn_modules::CellLine;
+use bn_network::CellLine;
 use bn_quad::{Act, Quad};
 use std::alloc::{AllocError, Global};
 use std::cmp::Reverse;

@@ -8,7 +8,7 @@ use crate::numbered::{numbered, rsm_moves};
 use crate::order::in_order;
 use crate::state::State;
 use crate::states::number_of;
-use bn_rsm::{Rsm, RsmRefusal, sound_moves_are_taken};
+use bn_rsm::{Rsm, RsmRefusal};
 use std::alloc::{AllocError, Global};
 
 /// What a control is made of: the numbers of symbols of a machine of quadruples, what is sent first in each of its
@@ -25,7 +25,7 @@ impl Draft {
     ghost use Rattle.std.specs.Prelude.{◌↔◌, ℕ, Some, map, All, IfOk};
     ghost use Rattle.bn_quad.specs.Quadruples.{Quadruples};
     ghost use Rattle.bn_rsm.specs.Machines.{machine_table};
-    ghost use Rattle.bn_modules.specs.Controls.{IsControlTable, Occurs};
+    ghost use Rattle.bn_network.specs.Controls.{IsControlTable, Occurs};
     ghost use Rattle.bn_control.specs.Controlled.{IsTapeAwaited, IsFirstKept};
     ghost use Rattle.bn_control.specs.Entries.{IsFirstSent};
     ghost use Rattle.bn_control.specs.States.{name_of, IsProper};
@@ -43,7 +43,6 @@ impl Draft {
         let ordered = in_order(numbered)?;
         let moves = rsm_moves(alloc, ordered.as_slice())?;
         let lines = lines_before(&self.symbols, 3);
-        sound_moves_are_taken();
         match Rsm::try_new(alloc, states.len() as u32, lines, moves) {
             Ok(rsm) => Ok(rsm),
             Err(refusal) => Err(want_of_memory(refusal)),

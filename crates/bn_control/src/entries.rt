@@ -8,7 +8,7 @@ ghost use Rattle.bn_control.specs.Entries.{AreEntries, waiting};
 use crate::command::commands_of;
 use crate::line::{Line, Sending};
 use crate::state::{State, Symbols};
-use bn_modules::CellLine;
+use bn_network::CellLine;
 use bn_quad::QuadMachine;
 use std::alloc::{AllocError, Global};
 

@@ -1,10 +1,10 @@
 //! A control: a sequential machine, with what its states stand for.
 
 ghost use Rattle.std.specs.Prelude.{◌≡◌, ◌<◌, ◌≤◌, All};
-ghost use Rattle.bn_modules.specs.Controls.{lines_before};
+ghost use Rattle.bn_network.specs.Controls.{lines_before};
 
-use bn_cell::MOST_SYMBOLS;
 use bn_element::Element;
+use bn_network::MOST_SYMBOLS;
 use bn_rsm::Rsm;
 use std::marker::Model;
 

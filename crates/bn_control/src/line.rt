@@ -2,8 +2,7 @@
 
 use crate::finite::lines_before;
 use crate::state::State;
-use bn_cell::MOST_SYMBOLS;
-use bn_modules::CellLine;
+use bn_network::{CellLine, MOST_SYMBOLS};
 
 /// A line of a control, in or out.
 #[derive(Clone, Copy, PartialEq, Eq, Debug)]
@@ -26,7 +25,7 @@ pub(crate) struct Sending {
 impl Line {
     ghost use Rattle.std.specs.Prelude.{◌≡◌, ◌≤◌, All};
     ghost use Rattle.bn_quad.specs.Quadruples.{Quadruples};
-    ghost use Rattle.bn_modules.specs.Controls.{in_number, out_number};
+    ghost use Rattle.bn_network.specs.Controls.{in_number, out_number};
     ghost use Rattle.bn_control.specs.Commands.{line_of};
     ghost use Rattle.bn_control.specs.Numbered.{IsWithin};
 

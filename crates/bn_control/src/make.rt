@@ -2,7 +2,7 @@
 ghost use Rattle.std.specs.Prelude.{◌≡◌, ℕ, List, IfOk};
 ghost use Rattle.bn_quad.specs.Quadruples.{IsQuadMachine};
 ghost use Rattle.bn_quad.specs.Calls.{IsUniformMachine};
-ghost use Rattle.bn_modules.specs.Controls.{ControlState};
+ghost use Rattle.bn_network.specs.Controls.{ControlState};
 ghost use Rattle.bn_control.specs.Controlled.{IsControlOf, IsWithinLimits};
 ghost use Rattle.bn_control.specs.Made.{IsDraft};
 
@@ -20,6 +20,12 @@ pub const MOST_QUADRUPLES: u32 = 20_000;
 
 /// The most states that such a machine may have.
 pub const MOST_STATES: u32 = 40_000;
+
+/// A law: the most quadruples are 20,000, and the most states 40,000.
+pub fn most_quadruples_are_stated()
+    ensures quadruples { MOST_QUADRUPLES ≡ 20000 }
+    ensures states { MOST_STATES ≡ 40000 }
+{}
 
 /// The finite control of a uniform machine of quadruples, with its states in their order and its lines tape by tape.
 /// `Err` comes only for want of memory.

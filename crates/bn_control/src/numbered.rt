@@ -3,7 +3,7 @@ ghost use Rattle.std.specs.Prelude.{◌≡◌, ℕ, ◌^◌, ◌<◌, ◌≤◌,
 ghost use Rattle.bn_quad.specs.Quadruples.{Quadruples, IsQuadMachine};
 ghost use Rattle.bn_quad.specs.Calls.{IsUniformMachine};
 ghost use Rattle.bn_rsm.specs.Machines.{machine_table};
-ghost use Rattle.bn_modules.specs.Controls.{IsControlTable};
+ghost use Rattle.bn_network.specs.Controls.{IsControlTable};
 ghost use Rattle.bn_control.specs.States.{name_of};
 ghost use Rattle.bn_control.specs.Named.{AreMoves};
 ghost use Rattle.bn_control.specs.Ordered.{AreOrdered};
@@ -14,7 +14,7 @@ use crate::finite::lines_before;
 use crate::named::NamedMove;
 use crate::state::State;
 use crate::states::number_of;
-use bn_cell::MOST_SYMBOLS;
+use bn_network::MOST_SYMBOLS;
 use bn_rsm::RsmMove;
 use std::alloc::{AllocError, Global};
 

@@ -1,2 +1,3 @@
 pub mod Rotary
 pub mod Inverse
+pub mod Tables

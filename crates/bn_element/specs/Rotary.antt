@@ -3,7 +3,7 @@
 -- the bar. The idea and the name are Morita's (2017); the names of lines and states are this project's own profile.
 use Rattle.std.specs.Prelude.{ℕ, List, [], ◌∷◌, refl}
 use Rattle.std.proofs.Common.{arith}
-use Rattle.bn_theory.specs.Tables.{Table, IsReversible, Move, table_by, table_by-IsReversible}
+use Rattle.bn_element.specs.Tables.{Table, IsReversible, Move, table_by, table_by-IsReversible}
 
 -- the two states of the bar
 abbrev pub horizontal : ℕ

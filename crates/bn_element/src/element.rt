@@ -8,7 +8,7 @@ ghost use Rattle.std.specs.Prelude.{◌≡◌, ◌<◌};
 ///
 /// No call takes memory.
 pub trait Element: Drop {
-    ghost use Rattle.bn_theory.specs.Tables.{Table, IsReversible};
+    ghost use Rattle.bn_element.specs.Tables.{Table, IsReversible};
 
     /// The element as a table.
     ghost table: { Self → Table };

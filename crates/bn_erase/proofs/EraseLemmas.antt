@@ -6,30 +6,30 @@ use Rattle.std.proofs.lemmas.List.Elements.{All-map}
 use Rattle.std.proofs.lemmas.Option.{slice_get-get_or}
 use Rattle.bn_machine.specs.Machine.{IsMachine, Program}
 use Rattle.bn_quad.specs.Kept.{quad_of}
-use Rattle.bn_quad.specs.Quadruples.{IsRuleInRange, Rule, final_of, turned_list}
+use Rattle.bn_quad.specs.Quadruples.{IsRuleInRange, Rule, final_state_of, turned_list}
 use Rattle.bn_quad.proofs.KeptLemmas.{rules_of-quads}
 use Rattle.bn_quad.specs.declared.quad.Quad.{Quad}
 use Rattle.bn_lists.specs.Lists.{IsIn}
-use Rattle.bn_stages.proofs.MembershipLemmas.{from_map, in_append, in_left, in_map, in_right}
-use Rattle.bn_stages.proofs.Apart.{Apart, apart_append, apart_map, apart_weaker}
-use Rattle.bn_stages.specs.Laws.{ListCountsNames, ListHasNames, NumbersPassTests}
-use Rattle.bn_stages.specs.List.{bennett, final_name}
-use Rattle.bn_stages.specs.Names.{NumbersStates}
-use Rattle.bn_stages.specs.Renamed.{renamed, rename, name_at}
-use Rattle.bn_stages.specs.Stages.{IsStandardMachine}
-use Rattle.bn_stages.specs.declared.name.Name.{Name}
-use Rattle.bn_stages.specs.declared.name.Name.TheVariants.{GoRight}
+use Rattle.bn_bennett_laws.proofs.MembershipLemmas.{from_map, in_append, in_left, in_map, in_right}
+use Rattle.bn_bennett_laws.proofs.Apart.{Apart, apart_append, apart_map, apart_weaker}
+use Rattle.bn_bennett_laws.specs.Laws.{ListCountsNames, ListHasNames, NumbersPassTests}
+use Rattle.bn_bennett_laws.specs.List.{bennett, final_name}
+use Rattle.bn_bennett_laws.specs.Names.{NumbersStates}
+use Rattle.bn_bennett_laws.specs.Renamed.{renamed, rename, name_at}
+use Rattle.bn_bennett_laws.specs.Stages.{IsStandardMachine}
+use Rattle.bn_bennett_laws.specs.declared.name.Name.{Name}
+use Rattle.bn_bennett_laws.specs.declared.name.Name.TheVariants.{GoRight}
 use Rattle.bn_table.specs.Rows.{FitsTable}
 use Rattle.bn_bennett.specs.Draft.{IsBelow}
 use Rattle.bn_bennett.specs.Translation.{IsTranslation, Translation, name_of}
 use Rattle.bn_bennett.proofs.Counting.{each_mentioned, numbers_states}
-use Rattle.bn_quadlists.specs.Lists.{exchanged_list}
-use Rattle.bn_erasing.specs.Erasing.{IsErasingName, backward, erasing, first_half, second_half, second_name}
-use Rattle.bn_erasing.specs.Laws.{ErasingHasNames}
-use Rattle.bn_erasing.specs.declared.name.ErasingName.{ErasingName}
-use Rattle.bn_erasing.specs.declared.name.ErasingName.TheVariants.{First, Second}
-use Rattle.bn_erasing.proofs.DistinctLemmas.{distinct_numbers, in_numbers, numbers_apart, numbers_in}
-use Rattle.bn_erasing.proofs.ErasingLemmas.{second_final, second_own}
+use Rattle.bn_erase_laws.specs.Lists.{exchanged_list}
+use Rattle.bn_erase_laws.specs.Erasing.{IsErasingName, backward, erasing, first_half, second_half, second_name}
+use Rattle.bn_erase_laws.specs.ErasingLaws.{ErasingHasNames}
+use Rattle.bn_erase_laws.specs.declared.name.ErasingName.{ErasingName}
+use Rattle.bn_erase_laws.specs.declared.name.ErasingName.TheVariants.{First, Second}
+use Rattle.bn_erase_laws.proofs.DistinctLemmas.{distinct_numbers, in_numbers, numbers_apart, numbers_in}
+use Rattle.bn_erase_laws.proofs.ErasingLemmas.{second_final, second_own}
 use Rattle.bn_erase.specs.Numbered.{AreErasing, joint_names, joint_quads, meeting_of, new_state}
 use Rattle.bn_erase.specs.declared.erasing.Meeting.{Meeting}
 use Rattle.bn_erase.proofs.ListLemmas.{all_from, final_low, from_backward, holds_of, joint_kept, joint_rules, rename_backward, rename_same, rename_twice}
@@ -45,15 +45,15 @@ few_states p t machine fits counts h =
     omega (arith, long, h.states, fits.states, fits.quints)
 
 -- its final state has the name of the list's
-pub final_named : (p : Program) (t : Translation) → IsStandardMachine p → NumbersPassTests → IsTranslation p t → name_of t (final_of t.machine.rules) ≡ final_name p
+pub final_named : (p : Program) (t : Translation) → IsStandardMachine p → NumbersPassTests → IsTranslation p t → name_of t (final_state_of t.machine.rules) ≡ final_name p
 final_named p t standard tests h = (tests p standard (name_of t) t.machine.rules h.rules).4
 
-pub final_below : (p : Program) (t : Translation) → IsTranslation p t → final_of t.machine.rules < t.machine.states
+pub final_below : (p : Program) (t : Translation) → IsTranslation p t → final_state_of t.machine.rules < t.machine.states
 final_below p t h = final_low t.machine.states t.machine.symbols t.machine.rules h.machine.some h.machine.in_range
 
 -- ---- two translations
 
-module _ (p q : Program) (t u : Translation) (h : IsTranslation p t) (k : IsTranslation q u) (middle : name_of t (final_of t.machine.rules) ≡ final_name p) (ends : name_of u (final_of u.machine.rules) ≡ final_name q) where
+module _ (p q : Program) (t u : Translation) (h : IsTranslation p t) (k : IsTranslation q u) (middle : name_of t (final_state_of t.machine.rules) ≡ final_name p) (ends : name_of u (final_state_of u.machine.rules) ≡ final_name q) where
   abbrev m : Meeting
   m = meeting_of t.machine u.machine
 

@@ -3,14 +3,14 @@ use Rattle.std.specs.Prelude.{◌≡◌, ℕ, suc, ◌<◌, ◌≤◌, ◌==◌,
 use Rattle.std.specs.List.{list_all, list_any}
 use Rattle.std.proofs.Common.{sym, ap, ◌∙◌, subst, arith, get_or, true, refl, filter, length-append}
 use Rattle.std.proofs.lemmas.Option.{get_or_from_slice_get, slice_get_within, slice_get-get_or}
-use Rattle.bn_entries.specs.Forms.{is_symbol_byte}
+use Rattle.bn_csv.specs.Forms.{is_symbol_byte}
 use Rattle.bn_machine.specs.Machine.{IsMachine, Program, program_of}
 use Rattle.bn_machine.specs.MachineCalls.{IsMachineRefusal}
 use Rattle.bn_machine.specs.declared.quint.Quint.{Quint}
 use Rattle.bn_machine.specs.declared.machine.MachineRefusal.{MachineRefusal}
 use Rattle.bn_machine.specs.declared.machine.MachineRefusal.TheVariants.{Empty, Range}
 use Rattle.bn_lists.specs.Lists.{IsIn}
-use Rattle.bn_stages.proofs.Halted.{quint_in_range}
+use Rattle.bn_bennett_laws.proofs.Halted.{quint_in_range}
 use Rattle.bn_table.specs.Rows.{IsTable, Named, blank}
 use Rattle.bn_table.proofs.Bounds.{fits_table}
 use Rattle.bn_table.proofs.MachineLemmas.{table_machine}

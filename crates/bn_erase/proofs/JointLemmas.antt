@@ -5,10 +5,10 @@ use Rattle.std.proofs.Common.{refl, sym, ap, ◌∙◌, subst, arith, get_or, in
 use Rattle.std.proofs.lemmas.Bool.{cases_lt}
 use Rattle.std.proofs.lemmas.Bool.Decides.{eqb_tells}
 use Rattle.std.proofs.lemmas.Option.{slice_get_within, slice_get-get_or}
-use Rattle.bn_entries.proofs.NumberingLemmas.{number_stays}
+use Rattle.bn_csv.proofs.NumberingLemmas.{number_stays}
 use Rattle.bn_lists.specs.Lists.{nth, IsIn}
-use Rattle.bn_stages.proofs.Apart.{Apart, apart_append, apart_places, apart_from_places}
-use Rattle.bn_stages.proofs.MembershipLemmas.{in_head, in_tail, in_cases, not_in_empty, in_left, in_right}
+use Rattle.bn_bennett_laws.proofs.Apart.{Apart, apart_append, apart_places, apart_from_places}
+use Rattle.bn_bennett_laws.proofs.MembershipLemmas.{in_head, in_tail, in_cases, not_in_empty, in_left, in_right}
 use Rattle.bn_erase.specs.Joint.{joint_letters, IsAlphabet}
 use Rattle.bn_erase.specs.Laws.{CodesKeepSymbols, JointAlphabet}
 

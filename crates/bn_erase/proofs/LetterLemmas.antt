@@ -9,13 +9,13 @@ use Rattle.std.proofs.lemmas.List.{append-nil, take_more}
 use Rattle.std.proofs.lemmas.List.Elements.{filter_more}
 use Rattle.std.proofs.lemmas.List.Folds.{list_all-append}
 use Rattle.std.proofs.lemmas.Option.{cond_some, get_or_from_slice_get, slice_get_within}
-use Rattle.bn_entries.specs.Forms.{is_symbol_byte}
-use Rattle.bn_entries.specs.NumberingLaws.{AreApart}
-use Rattle.bn_entries.proofs.NumberingLemmas.{both_true, no_more_than}
+use Rattle.bn_csv.specs.Forms.{is_symbol_byte}
+use Rattle.bn_csv.specs.NumberingLaws.{AreApart}
+use Rattle.bn_csv.proofs.NumberingLemmas.{both_true, no_more_than}
 use Rattle.bn_lists.specs.Lists.{nth, IsIn}
-use Rattle.bn_stages.proofs.Apart.{Apart}
-use Rattle.bn_stages.proofs.ListLemmas.{in_range}
-use Rattle.bn_stages.proofs.MembershipLemmas.{in_head, in_tail, in_cases, not_in_empty}
+use Rattle.bn_bennett_laws.proofs.Apart.{Apart}
+use Rattle.bn_bennett_laws.proofs.ListLemmas.{in_range}
+use Rattle.bn_bennett_laws.proofs.MembershipLemmas.{in_head, in_tail, in_cases, not_in_empty}
 use Rattle.bn_erase.specs.Joint.{number_in}
 use Rattle.bn_erase.proofs.JointLemmas.{among_in, in_among, in_filter, is_among}
 

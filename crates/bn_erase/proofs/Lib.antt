@@ -10,3 +10,4 @@ pub mod ListLemmas
 pub mod EraseLemmas
 pub mod MachineLemmas
 pub mod PrintedLemmas
+pub mod ClosedLemmas

@@ -6,13 +6,13 @@ use Rattle.std.proofs.lemmas.List.Elements.{All-map, All-same, All-tail}
 use Rattle.std.proofs.lemmas.Option.{get_or_from_slice_get, slice_get-get_or, slice_get_within}
 use Rattle.bn_lists.specs.Lists.{nth, IsIn}
 use Rattle.bn_quad.specs.Kept.{quad_of}
-use Rattle.bn_quad.specs.Quadruples.{IsQuadMachine, IsRuleInRange, Quadruples, Rule, final_of, inverse_of, turned, turned_list}
+use Rattle.bn_quad.specs.Quadruples.{IsQuadMachine, IsRuleInRange, Quadruples, Rule, final_state_of, inverse_of, turned, turned_list}
 use Rattle.bn_quad.specs.declared.quad.Quad.{Quad}
 use Rattle.bn_bennett.specs.Draft.{IsBelow}
-use Rattle.bn_stages.proofs.MembershipLemmas.{in_head, in_tail, from_map}
-use Rattle.bn_stages.specs.Renamed.{renamed, rename}
-use Rattle.bn_quadlists.specs.Lists.{exchanged, exchanged_list}
-use Rattle.bn_quadlists.proofs.TurnedLemmas.{from_turned}
+use Rattle.bn_bennett_laws.proofs.MembershipLemmas.{in_head, in_tail, from_map}
+use Rattle.bn_bennett_laws.specs.Renamed.{renamed, rename}
+use Rattle.bn_erase_laws.specs.Lists.{exchanged, exchanged_list}
+use Rattle.bn_erase_laws.proofs.TurnedLemmas.{from_turned}
 use Rattle.bn_erase.specs.Numbered.{backward_quad, joint_quads, new_state}
 use Rattle.bn_erase.specs.declared.erasing.Meeting.{Meeting}
 
@@ -30,7 +30,7 @@ module _ {X : Type 0} (P : X → Type 0) (xs : List X) where
   all_from each = λ k d inside. each (get_or xs k d) (record { place = suc k; stands = slice_get-get_or xs k d inside })
 
 -- the final state is in range
-pub final_low : (states : ℕ) (symbols : List ℕ) (rs : List (Rule ℕ)) → 0 < length rs → All (IsRuleInRange states symbols) rs → final_of rs < states
+pub final_low : (states : ℕ) (symbols : List ℕ) (rs : List (Rule ℕ)) → 0 < length rs → All (IsRuleInRange states symbols) rs → final_state_of rs < states
 final_low states symbols [] some all = absurd (omega arith)
 final_low states symbols (r ∷ []) some all = (all 0 r (omega arith)).to
 final_low states symbols (r ∷ s ∷ rs) some all = final_low states symbols (s ∷ rs) (omega arith) (All-tail (IsRuleInRange states symbols) r (s ∷ rs) all)

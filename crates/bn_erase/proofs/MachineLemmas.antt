@@ -13,17 +13,17 @@ use Rattle.bn_quad.specs.Quadruples.{AreDeedsInRange, IsQuadMachine, Quadruples,
 use Rattle.bn_quad.proofs.KeptLemmas.{nth-rules_of, quads-apart}
 use Rattle.bn_quad.specs.declared.quad.Quad.{Quad}
 use Rattle.bn_quad.specs.declared.refusal.QuadRefusal.{QuadRefusal}
-use Rattle.bn_stages.proofs.MembershipLemmas.{in_map}
-use Rattle.bn_stages.specs.Renamed.{rename, renamed, name_at}
-use Rattle.bn_stages.specs.Stages.{IsStandardMachine}
-use Rattle.bn_stages.specs.declared.name.Name.TheVariants.{GoRight}
+use Rattle.bn_bennett_laws.proofs.MembershipLemmas.{in_map}
+use Rattle.bn_bennett_laws.specs.Renamed.{rename, renamed, name_at}
+use Rattle.bn_bennett_laws.specs.Stages.{IsStandardMachine}
+use Rattle.bn_bennett_laws.specs.declared.name.Name.TheVariants.{GoRight}
 use Rattle.bn_table.specs.Rows.{FitsTable}
 use Rattle.bn_bennett.specs.Draft.{IsBelow}
 use Rattle.bn_bennett.proofs.Machines.{no_quad_refusal, some_symbols, sound_kept}
-use Rattle.bn_erasing.specs.Erasing.{erasing, erasing_symbols}
-use Rattle.bn_erasing.specs.Laws.{ErasingHasLength, ErasingIsInRange, ErasingNumbersPassTests}
-use Rattle.bn_erasing.specs.declared.name.ErasingName.{ErasingName}
-use Rattle.bn_erasing.specs.declared.name.ErasingName.TheVariants.{First}
+use Rattle.bn_erase_laws.specs.Erasing.{erasing, erasing_symbols}
+use Rattle.bn_erase_laws.specs.ErasingLaws.{ErasingHasLength, ErasingIsInRange, ErasingNumbersPassTests}
+use Rattle.bn_erase_laws.specs.declared.name.ErasingName.{ErasingName}
+use Rattle.bn_erase_laws.specs.declared.name.ErasingName.TheVariants.{First}
 use Rattle.bn_erase.specs.Made.{IsErasing, erasure_of}
 use Rattle.bn_erase.specs.Numbered.{AreErasing}
 

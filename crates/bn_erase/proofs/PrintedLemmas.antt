@@ -7,23 +7,23 @@ use Rattle.std.proofs.lemmas.Bool.Decides.{nat_tests}
 use Rattle.std.proofs.lemmas.Fmt.{length-decimal-le}
 use Rattle.std.proofs.lemmas.List.{length-map, map-append, take_more}
 use Rattle.std.proofs.lemmas.Option.{get_or_from_slice_get, same_Some, slice_get-get_or}
-use Rattle.bn_entries.specs.Forms.{is_name_byte, is_state_name, is_symbol}
-use Rattle.bn_entries.proofs.FormsLemmas.{all-at}
+use Rattle.bn_csv.specs.Forms.{is_name_byte, is_state_name, is_symbol}
+use Rattle.bn_csv.proofs.FormsLemmas.{all-at}
 use Rattle.bn_machine.specs.Machine.{IsMachine, Program}
 use Rattle.bn_lists.specs.Lists.{nth}
 use Rattle.bn_qtable.specs.Named.{AreNamed}
 use Rattle.bn_quad.specs.Names.{Naming}
-use Rattle.bn_stages.specs.declared.name.Name.{Name}
+use Rattle.bn_bennett_laws.specs.declared.name.Name.{Name}
 use Rattle.bn_table.specs.Rows.{FitsTable}
-use Rattle.bn_bennett.specs.Printed.{mark, one_byte, print_of, state_text, with_states}
+use Rattle.bn_bennett.specs.Printed.{mark, one_byte, print_of, bennett_state_text, with_states}
 use Rattle.bn_bennett.proofs.Counting.{each_mentioned}
 use Rattle.bn_bennett.proofs.Forms.{letters_form, numbers_form, states_form}
 use Rattle.bn_bennett.proofs.Printable.{number_bound}
 use Rattle.bn_bennett.proofs.Texts.{length-number_names, not_among_front, state_text-once, text_new, text_room}
-use Rattle.bn_erasing.specs.Erasing.{IsErasingName}
-use Rattle.bn_erasing.specs.Laws.{ErasingCountsNames, ErasingHasNames}
-use Rattle.bn_erasing.specs.declared.name.ErasingName.{ErasingName}
-use Rattle.bn_erasing.specs.declared.name.ErasingName.TheVariants.{First, Second}
+use Rattle.bn_erase_laws.specs.Erasing.{IsErasingName}
+use Rattle.bn_erase_laws.specs.ErasingLaws.{ErasingCountsNames, ErasingHasNames}
+use Rattle.bn_erase_laws.specs.declared.name.ErasingName.{ErasingName}
+use Rattle.bn_erase_laws.specs.declared.name.ErasingName.TheVariants.{First, Second}
 use Rattle.bn_erase.specs.Joint.{IsAlphabet}
 use Rattle.bn_erase.specs.Laws.{ErasingsHaveNames}
 use Rattle.bn_erase.specs.Made.{Erasure, IsErasing}
@@ -33,10 +33,10 @@ use Rattle.bn_erase.specs.Printed.{erasing_text, names_of}
 -- ---- a text tells its name
 
 pub erasing_text-once : (a b : ErasingName) → (print_of (own_name a)).number < 2 ^ 62 → (print_of (own_name b)).number < 2 ^ 62 → erasing_text a ≡ erasing_text b → a ≡ b
-erasing_text-once (First x) (First y) low high e = let rest : state_text x ≡ state_text y = cc in ap First (state_text-once x y low high rest)
+erasing_text-once (First x) (First y) low high e = let rest : bennett_state_text x ≡ bennett_state_text y = cc in ap First (state_text-once x y low high rest)
 erasing_text-once (First x) (Second y) low high e = let first : ◌≡◌ {A = ℕ} 70 71 = ap (λ (text : List ℕ). get_or text 0 0) e in absurd (omega arith)
 erasing_text-once (Second x) (First y) low high e = let first : ◌≡◌ {A = ℕ} 71 70 = ap (λ (text : List ℕ). get_or text 0 0) e in absurd (omega arith)
-erasing_text-once (Second x) (Second y) low high e = let rest : state_text x ≡ state_text y = cc in ap Second (state_text-once x y low high rest)
+erasing_text-once (Second x) (Second y) low high e = let rest : bennett_state_text x ≡ bennett_state_text y = cc in ap Second (state_text-once x y low high rest)
 
 -- ---- the next state's text is new
 
@@ -95,17 +95,17 @@ one_low name low zero q at = subst (λ z. (print_of z).number ≤ 12002) (same_S
 one_low name low (suc n) q at = absurd (cc)
 
 -- a letter before a name is a name
-text_form : (letter : ℕ) (name : Name) → is_name_byte letter ≡ true → (print_of name).number ≤ 12002 → is_state_name (letter ∷ state_text name) ≡ true
+text_form : (letter : ℕ) (name : Name) → is_name_byte letter ≡ true → (print_of name).number ≤ 12002 → is_state_name (letter ∷ bennett_state_text name) ≡ true
 text_form letter name byte low =
     let n = (print_of name).number in
     let p = (print_of name).primed in
-    let own : (is_state_name (state_text name) && true) ≡ true = states_form (name ∷ []) (one_low name low) in
-    let bytes : list_all is_name_byte (state_text name) ≡ true = (and_parts _ (list_all is_name_byte (state_text name)) (and_parts (is_state_name (state_text name)) true own).0).1 in
+    let own : (is_state_name (bennett_state_text name) && true) ≡ true = states_form (name ∷ []) (one_low name low) in
+    let bytes : list_all is_name_byte (bennett_state_text name) ≡ true = (and_parts _ (list_all is_name_byte (bennett_state_text name)) (and_parts (is_state_name (bennett_state_text name)) true own).0).1 in
     let short : length (decimal n) ≤ 5 = length-decimal-le 5 n (omega arith) (omega arith) (omega arith) in
     let long : length (decimal n ++ mark p) ≡ length (decimal n) + length (mark p) = length-append (decimal n) (mark p) in
     let prime : length (mark p) ≤ 1 = mark_short p in
-    let least : nat_le 1 (length (letter ∷ state_text name)) ≡ true = grind (arith, nat_tests) in
-    let most : nat_le (length (letter ∷ state_text name)) 32 ≡ true = grind (arith, nat_tests) in
+    let least : nat_le 1 (length (letter ∷ bennett_state_text name)) ≡ true = grind (arith, nat_tests) in
+    let most : nat_le (length (letter ∷ bennett_state_text name)) 32 ≡ true = grind (arith, nat_tests) in
     and_from _ _ (and_from _ _ least most) (and_from _ _ byte bytes)
 
 erasing_form : (name : ErasingName) → (print_of (own_name name)).number ≤ 12002 → is_state_name (erasing_text name) ≡ true

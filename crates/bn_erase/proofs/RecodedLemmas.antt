@@ -4,12 +4,12 @@ use Rattle.std.proofs.Common.{refl, sym, ap, ◌∙◌, subst, arith, get_or}
 use Rattle.std.proofs.lemmas.List.{length-map}
 use Rattle.std.proofs.lemmas.List.Elements.{All-map}
 use Rattle.std.proofs.lemmas.List.Folds.{flat_map-map}
-use Rattle.bn_entries.specs.Numbering.{AreNumberedByFirst}
+use Rattle.bn_csv.specs.Numbering.{AreNumberedByFirst}
 use Rattle.bn_machine.specs.Machine.{Program, IsMachine, IsInRange, start_of, final_of}
 use Rattle.bn_lists.specs.Lists.{nth}
 use Rattle.bn_machine.specs.declared.quint.Quint.{Quint}
-use Rattle.bn_quadlists.proofs.MappedLemmas.{mapped_before, nth_mapped}
-use Rattle.bn_stages.proofs.Halted.{quint_in_range, some_symbol}
+use Rattle.bn_erase_laws.proofs.MappedLemmas.{mapped_before, nth_mapped}
+use Rattle.bn_bennett_laws.proofs.Halted.{quint_in_range, some_symbol}
 use Rattle.bn_standard.specs.Standard.{Repeats, BeginsWell, UsesStart, EndsWell, UsesFinal, NamesStart, NamesFinal}
 use Rattle.bn_table.specs.Rows.{FitsTable, states_in}
 use Rattle.bn_erase.specs.Recoded.{recoded_quint, recoded, widened, KeepsSymbols}

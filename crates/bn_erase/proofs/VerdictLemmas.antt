@@ -2,7 +2,7 @@
 use Rattle.std.specs.Prelude.{◌↔◌, ℕ, List}
 use Rattle.bn_machine.specs.declared.quint.Quint.{Quint}
 use Rattle.bn_standard.specs.Standard.{BeginsWell, EndsWell, HasLoneFinal, HasLoneStart, IsStandard, IsUnambiguous, Repeats, UsesFinal, UsesStart}
-use Rattle.bn_standard.specs.Verdict.{IsRefusal}
+use Rattle.bn_standard.specs.Verdict.{IsStandardRefusal}
 use Rattle.bn_standard.specs.declared.why.Why.{Why}
 use Rattle.bn_standard.specs.declared.why.Why.TheVariants.{Repeat, First, StartUsed, Last, FinalUsed, NoMemory}
 
@@ -42,7 +42,7 @@ module _ (qs rs : List Quint) (a : AreAlike qs rs) where
     lone_final = lone_final_too h.lone_final;
   }
 
-  refused_too : (why : Why) → IsRefusal qs why → IsRefusal rs why
+  refused_too : (why : Why) → IsStandardRefusal qs why → IsStandardRefusal rs why
   refused_too (Repeat i j) h = record {
     repeats = (a.repeats i j).0 h.repeats;
     least_first = λ m n low k. h.least_first m n low ((a.repeats m n).1 k);
@@ -68,5 +68,5 @@ module _ (qs rs : List Quint) (a : AreAlike qs rs) where
 pub alike_standard : (qs rs : List Quint) → AreAlike qs rs → IsStandard qs ↔ IsStandard rs
 alike_standard qs rs a = (standard_too qs rs a, standard_too rs qs (alike_again qs rs a))
 
-pub alike_refused : (qs rs : List Quint) → AreAlike qs rs → (why : Why) → IsRefusal qs why ↔ IsRefusal rs why
+pub alike_refused : (qs rs : List Quint) → AreAlike qs rs → (why : Why) → IsStandardRefusal qs why ↔ IsStandardRefusal rs why
 alike_refused qs rs a why = (refused_too qs rs a why, refused_too rs qs (alike_again qs rs a) why)

@@ -3,8 +3,8 @@ use Rattle.std.specs.Prelude.{◌≡◌, ◌≢◌, ℕ, zero, suc, ◌+◌, ◌
 use Rattle.std.proofs.Common.{refl, sym, ap, ◌∙◌, subst, arith, inl, inr, get_or, add-one}
 use Rattle.std.proofs.lemmas.Option.{same_Some}
 use Rattle.bn_lists.specs.Lists.{IsIn}
-use Rattle.bn_stages.proofs.MembershipLemmas.{in_head, in_tail, in_cases, not_in_empty}
-use Rattle.bn_stages.proofs.Apart.{Apart}
+use Rattle.bn_bennett_laws.proofs.MembershipLemmas.{in_head, in_tail, in_cases, not_in_empty}
+use Rattle.bn_bennett_laws.proofs.Apart.{Apart}
 
 -- the list without the entry at k, counted from 0
 abbrev pub without : {X : Type 0} → ℕ → List X → List X

@@ -3,7 +3,7 @@
 use Rattle.std.specs.Prelude.{◌≡◌, ℕ, zero, suc, ◌==◌, List, [], ◌∷◌, ◌++◌, true, not, filter, length, Some}
 use Rattle.std.specs.Prelude.{if◌then◌else◌, slice_get, slice_index}
 use Rattle.std.specs.List.{list_all, list_any}
-use Rattle.bn_entries.specs.Forms.{is_symbol_byte}
+use Rattle.bn_csv.specs.Forms.{is_symbol_byte}
 use Rattle.bn_machine.specs.Machine.{IsMachine, Program}
 use Rattle.bn_table.specs.Rows.{FitsTable, Named, blank}
 use Rattle.bn_erase.specs.Recoded.{recoded, widened}

@@ -1,20 +1,20 @@
 -- What the laws of this crate say, each the contract of a function with an empty body.
 use Rattle.std.specs.Prelude.{◌≡◌, ◌↔◌, ℕ, ◌+◌, ◌*◌, List, length}
-use Rattle.bn_theory.specs.Runs.{Reaches}
+use Rattle.bn_lists.specs.Runs.{Reaches}
 use Rattle.bn_machine.specs.Machine.{Program}
 use Rattle.bn_machine.specs.Tape.{word_tape, blank_tape}
-use Rattle.bn_quad.specs.Quadruples.{Configuration, Goes, everywhere, final_of, initial_of}
+use Rattle.bn_quad.specs.Quadruples.{Configuration, QuadruplesRunTo, everywhere, final_state_of, initial_of}
 use Rattle.bn_quad.specs.Calls.{IsUniformMachine}
 use Rattle.bn_qtable.specs.Named.{HasNames}
 use Rattle.bn_standard.specs.Standard.{IsStandard}
-use Rattle.bn_standard.specs.Verdict.{IsRefusal}
+use Rattle.bn_standard.specs.Verdict.{IsStandardRefusal}
 use Rattle.bn_standard.specs.declared.why.Why.{Why}
 use Rattle.bn_lists.specs.Lists.{IsIn}
-use Rattle.bn_stages.specs.Laws.{HaltsAfter}
-use Rattle.bn_stages.specs.Renamed.{KeepsApart}
-use Rattle.bn_stages.specs.Stages.{IsStandardMachine, IsSpelledBy}
+use Rattle.bn_bennett_laws.specs.Laws.{HaltsAfter}
+use Rattle.bn_bennett_laws.specs.Renamed.{KeepsApart}
+use Rattle.bn_bennett_laws.specs.Stages.{IsStandardMachine, IsSpelledBy}
 use Rattle.bn_table.specs.Rows.{IsTable, Named}
-use Rattle.bn_erasing.specs.Erasing.{IsWord, erasing_final, erasing_initial}
+use Rattle.bn_erase_laws.specs.Erasing.{IsWord, erasing_final, erasing_initial}
 use Rattle.bn_erase.specs.Joint.{IsAlphabet, IsCode, IsJoint, Joint, joined, joint_letters}
 use Rattle.bn_erase.specs.Made.{Erasure, IsErasing, name_of}
 use Rattle.bn_erase.specs.Printed.{names_of}
@@ -51,8 +51,8 @@ JoinedAreJudgedAlike =
     → IsJoint (joined t u)
     × (IsStandard (joined t u).first.quints ↔ IsStandard t.machine.quints)
     × (IsStandard (joined t u).second.quints ↔ IsStandard u.machine.quints)
-    × ((why : Why) → IsRefusal (joined t u).first.quints why ↔ IsRefusal t.machine.quints why)
-    × ((why : Why) → IsRefusal (joined t u).second.quints why ↔ IsRefusal u.machine.quints why)
+    × ((why : Why) → IsStandardRefusal (joined t u).first.quints why ↔ IsStandardRefusal t.machine.quints why)
+    × ((why : Why) → IsStandardRefusal (joined t u).second.quints why ↔ IsStandardRefusal u.machine.quints why)
 
 -- ---- the erasing machine
 
@@ -62,7 +62,7 @@ abbrev pub ErasingsAreUniform : Type 0
 ErasingsAreUniform =
     (p q : Program) (e : Erasure) → IsStandardMachine p → IsStandardMachine q → IsErasing p q e
     → IsUniformMachine e.machine × (name_of e (initial_of e.machine.rules) ≡ erasing_initial p)
-    × (name_of e (final_of e.machine.rules) ≡ erasing_final q) × KeepsApart (name_of e) e.machine.rules
+    × (name_of e (final_state_of e.machine.rules) ≡ erasing_final q) × KeepsApart (name_of e) e.machine.rules
 
 -- the start: the initial state, x on tape 1, tapes 2 and 3 blank, all heads at 0; and the end: the final state, tapes 1
 -- and 2 blank, y on tape 3, all heads at 0
@@ -76,7 +76,7 @@ start_of e x = record {
 
 abbrev pub end_of : Erasure → List ℕ → Configuration ℕ
 end_of e y = record {
-  state = final_of e.machine.rules;
+  state = final_state_of e.machine.rules;
   one = blank_tape;
   two = blank_tape;
   three = word_tape y;
@@ -90,9 +90,10 @@ ErasingsErase =
     (p q : Program) (e : Erasure) (x : List ℕ) → IsStandardMachine p → IsStandardMachine q → p.symbols ≡ q.symbols
     → IsErasing p q e → IsSpelledBy p x → IsWord x
     → ((v w : ℕ) (y : List ℕ) → HaltsAfter p x v y → HaltsAfter q y w x
-    → Reaches (Goes everywhere e.machine) (4 * (v + w) + 4 * (length x + length y) + 10) (start_of e x) (end_of e y))
-    × ((n : ℕ) (c : Configuration ℕ) → Reaches (Goes everywhere e.machine) n (start_of e x) c
-    → c.state ≡ final_of e.machine.rules → (v w : ℕ) × (y : List ℕ) × HaltsAfter p x v y × HaltsAfter q y w x
+    → Reaches (QuadruplesRunTo everywhere e.machine) (4 * (v + w) + 4 * (length x + length y) + 10) (start_of e x)
+    (end_of e y))
+    × ((n : ℕ) (c : Configuration ℕ) → Reaches (QuadruplesRunTo everywhere e.machine) n (start_of e x) c
+    → c.state ≡ final_state_of e.machine.rules → (v w : ℕ) × (y : List ℕ) × HaltsAfter p x v y × HaltsAfter q y w x
     × (n ≡ 4 * (v + w) + 4 * (length x + length y) + 10) × (c ≡ end_of e y))
 
 -- every state and every symbol has a printed name in the form of its kind

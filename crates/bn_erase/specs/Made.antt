@@ -2,12 +2,12 @@
 use Rattle.std.specs.Prelude.{◌≡◌, ℕ, ◌<◌, List, length}
 use Rattle.bn_machine.specs.Machine.{Program}
 use Rattle.bn_quad.specs.Quadruples.{Quadruples, IsQuadMachine}
-use Rattle.bn_stages.specs.Names.{NumbersStates}
-use Rattle.bn_stages.specs.Renamed.{rename, name_at}
-use Rattle.bn_stages.specs.declared.name.Name.TheVariants.{GoRight}
-use Rattle.bn_erasing.specs.Erasing.{erasing, erasing_symbols}
-use Rattle.bn_erasing.specs.declared.name.ErasingName.{ErasingName}
-use Rattle.bn_erasing.specs.declared.name.ErasingName.TheVariants.{First}
+use Rattle.bn_bennett_laws.specs.Names.{NumbersStates}
+use Rattle.bn_bennett_laws.specs.Renamed.{rename, name_at}
+use Rattle.bn_bennett_laws.specs.declared.name.Name.TheVariants.{GoRight}
+use Rattle.bn_erase_laws.specs.Erasing.{erasing, erasing_symbols}
+use Rattle.bn_erase_laws.specs.declared.name.ErasingName.{ErasingName}
+use Rattle.bn_erase_laws.specs.declared.name.ErasingName.TheVariants.{First}
 use Rattle.bn_erase.specs.declared.refusal.EraseRefusal.{EraseRefusal}
 use Rattle.bn_erase.specs.declared.refusal.EraseRefusal.TheVariants.{Many, NoMemory}
 use Rattle.bn_erase.specs.declared.erasing.TheConstants.{MOST_QUADRUPLES}

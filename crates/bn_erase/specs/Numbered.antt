@@ -4,15 +4,15 @@ use Rattle.std.specs.Prelude.{All, if◌then◌else◌}
 use Rattle.bn_bennett.specs.Draft.{IsBelow}
 use Rattle.bn_machine.specs.Machine.{Program}
 use Rattle.bn_quad.specs.Kept.{act_at, quad_of, read_at, rules_of}
-use Rattle.bn_quad.specs.Quadruples.{Quadruples, Rule, final_of, turned_list}
+use Rattle.bn_quad.specs.Quadruples.{Quadruples, Rule, final_state_of, turned_list}
 use Rattle.bn_quad.specs.declared.quad.Quad.{Quad}
-use Rattle.bn_stages.specs.Names.{NumbersStates}
-use Rattle.bn_stages.specs.Renamed.{rename, name_at}
-use Rattle.bn_stages.specs.declared.name.Name.{Name}
-use Rattle.bn_stages.specs.declared.name.Name.TheVariants.{GoRight}
-use Rattle.bn_erasing.specs.Erasing.{erasing}
-use Rattle.bn_erasing.specs.declared.name.ErasingName.{ErasingName}
-use Rattle.bn_erasing.specs.declared.name.ErasingName.TheVariants.{First, Second}
+use Rattle.bn_bennett_laws.specs.Names.{NumbersStates}
+use Rattle.bn_bennett_laws.specs.Renamed.{rename, name_at}
+use Rattle.bn_bennett_laws.specs.declared.name.Name.{Name}
+use Rattle.bn_bennett_laws.specs.declared.name.Name.TheVariants.{GoRight}
+use Rattle.bn_erase_laws.specs.Erasing.{erasing}
+use Rattle.bn_erase_laws.specs.declared.name.ErasingName.{ErasingName}
+use Rattle.bn_erase_laws.specs.declared.name.ErasingName.TheVariants.{First, Second}
 use Rattle.bn_erase.specs.declared.erasing.Meeting.{Meeting}
 
 -- ---- numbers
@@ -22,8 +22,8 @@ use Rattle.bn_erase.specs.declared.erasing.Meeting.{Meeting}
 abbrev pub meeting_of : Quadruples → Quadruples → Meeting
 meeting_of first second = record {
   states = first.states;
-  middle = final_of first.rules;
-  end = final_of second.rules;
+  middle = final_state_of first.rules;
+  end = final_state_of second.rules;
 }
 
 -- the number that a state of the second one gets: its final state is the first one's, and its others, in their order,

@@ -1,9 +1,9 @@
 -- Which names of the erasing machine's states can be printed.
 use Rattle.std.specs.Prelude.{◌≡◌, ℕ, ◌<◌, ◌^◌, List, length, Some, slice_get}
 use Rattle.bn_bennett.specs.Printed.{print_of}
-use Rattle.bn_stages.specs.declared.name.Name.{Name}
-use Rattle.bn_erasing.specs.declared.name.ErasingName.{ErasingName}
-use Rattle.bn_erasing.specs.declared.name.ErasingName.TheVariants.{First, Second}
+use Rattle.bn_bennett_laws.specs.declared.name.Name.{Name}
+use Rattle.bn_erase_laws.specs.declared.name.ErasingName.{ErasingName}
+use Rattle.bn_erase_laws.specs.declared.name.ErasingName.TheVariants.{First, Second}
 
 -- the name in its own machine
 abbrev pub own_name : ErasingName → Name

@@ -1,16 +1,16 @@
 -- The printed names of the erasing machine's states and symbols (this project's own profile).
 use Rattle.std.specs.Prelude.{ℕ, List, ◌∷◌, length, map, max}
 use Rattle.bn_quad.specs.Names.{Naming, naming_of}
-use Rattle.bn_bennett.specs.Printed.{number_names, one_byte, state_text}
-use Rattle.bn_erasing.specs.declared.name.ErasingName.{ErasingName}
-use Rattle.bn_erasing.specs.declared.name.ErasingName.TheVariants.{First, Second}
+use Rattle.bn_bennett.specs.Printed.{number_names, one_byte, bennett_state_text}
+use Rattle.bn_erase_laws.specs.declared.name.ErasingName.{ErasingName}
+use Rattle.bn_erase_laws.specs.declared.name.ErasingName.TheVariants.{First, Second}
 use Rattle.bn_erase.specs.Joint.{Joint}
 use Rattle.bn_erase.specs.Made.{Erasure}
 
 -- the name of a state of the first machine has `F` before it, that of the second `G`
 abbrev pub erasing_text : ErasingName → List ℕ
-erasing_text (First name) = 70 ∷ state_text name
-erasing_text (Second name) = 71 ∷ state_text name
+erasing_text (First name) = 70 ∷ bennett_state_text name
+erasing_text (Second name) = 71 ∷ bennett_state_text name
 
 -- the names of the symbols of tapes 1 and 3, the letters, and of those of tape 2: the blank, and the numbers from 1 to
 -- the greater number of quintuples

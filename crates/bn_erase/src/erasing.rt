@@ -2,22 +2,20 @@
 ghost use Rattle.std.specs.Prelude.{◌≡◌, ◌+◌, ◌*◌, ◌-◌, ◌^◌, ◌<◌, ◌≤◌, ◌++◌, All, IfOk, IfErr, OnOk, length, map};
 ghost use Rattle.bn_bennett.specs.Draft.{IsBelow};
 ghost use Rattle.bn_bennett.specs.Translation.{IsTranslation};
-ghost use Rattle.bn_erasing.specs.Erasing.{erasing, erasing_symbols};
-ghost use Rattle.bn_erasing.specs.declared.name.ErasingName.TheVariants as kind;
+ghost use Rattle.bn_erase_laws.specs.Erasing.{erasing, erasing_symbols};
+ghost use Rattle.bn_erase_laws.specs.declared.name.ErasingName.TheVariants as kind;
 ghost use Rattle.bn_machine.specs.Machine.{IsMachine};
 ghost use Rattle.bn_quad.specs.Quadruples.{inverse_of};
-ghost use Rattle.bn_stages.specs.Stages.{IsStandardMachine};
+ghost use Rattle.bn_bennett_laws.specs.Stages.{IsStandardMachine};
 ghost use Rattle.bn_table.specs.Rows.{FitsTable};
 ghost use Rattle.bn_erase.specs.Made.{IsErasing, IsEraseRefusal, erasure_of};
 ghost use Rattle.bn_erase.specs.Numbered.{AreErasing, backward_quad, joint_names, joint_quads, meeting_of, new_state};
 
 use crate::refusal::EraseRefusal;
 use bn_bennett::{Translated, translate};
-use bn_erasing::{
-    ErasingName, erasing_counts, erasing_names as erasing_has_names, erasing_numbers,
-};
+use bn_bennett_laws::Name;
+use bn_erase_laws::ErasingName;
 use bn_quad::{NoMemory, Quad, QuadMachine, Uniform};
-use bn_stages::{Name, list_counts_names, list_has_names, numbers_pass_tests};
 use bn_standard::Standard;
 use bn_table::MOST_ENTRIES;
 use std::alloc::Global;
@@ -81,7 +79,6 @@ pub fn erase(alloc: Global, first: &Standard, second: &Standard) -> Result<Erasi
     ensures few { OnOk result (length (erasing first.now second.now) ≤ MOST_QUADRUPLES) }
     ensures refused { IfErr result (IsEraseRefusal first.now second.now) }
 {
-    erasing_counts();
     let count = quadruples_of(first) + quadruples_of(second);
     if count > MOST_QUADRUPLES {
         return Err(EraseRefusal::Many { count });
@@ -126,10 +123,6 @@ fn join_translated(
     requires other { IsTranslation second.now other.now }
     ensures { IfOk result (IsErasing first.now second.now) }
 {
-    list_has_names();
-    list_counts_names();
-    numbers_pass_tests();
-    erasing_has_names();
     // (for the prover: the contract of this call tells what the type keeps. So below.)
     let _left = first.machine().quints();
     let _right = second.machine().quints();
@@ -302,8 +295,6 @@ fn uniform_of(
     requires list { AreErasing first.now second.now names.now quads.items }
     ensures { IsErasing first.now second.now (erasure_of names.now result) }
 {
-    erasing_counts();
-    erasing_numbers();
     let symbols = symbols_of(first, second);
     match QuadMachine::try_new(quads, names.len() as u32, symbols) {
         Ok(machine) => Uniform::new(machine),

@@ -3,7 +3,7 @@
 ghost use Rattle.bn_erase.specs.Laws.{CodesKeepSymbols, ErasingsAreUniform, ErasingsErase, ErasingsHaveNames};
 ghost use Rattle.bn_erase.specs.Laws.{JoinedAreJudgedAlike, JointAlphabet, RecodedIsStandard};
 
-use bn_erasing::{erasing_erases, erasing_names as erasing_has_names, erasing_numbers};
+use bn_erase_laws::{erasing_erases, erasing_names as erasing_has_names, erasing_numbers};
 
 /// Two machines over one alphabet: the joint letters are an alphabet, numbers by letter keep symbols apart, and a
 /// machine in standard form stays one where its symbols are numbered anew.
@@ -22,9 +22,7 @@ pub fn joined_are_judged_alike()
 /// The erasing machine (Bennett 1973) is deterministic, reversible and uniform.
 pub fn erasings_are_uniform()
     ensures { ErasingsAreUniform }
-{
-    erasing_numbers();
-}
+{}
 
 /// From x the erasing machine comes to its final state exactly where the first machine halts on x with some output y,
 /// and the second one halts on y with the output x; and then only y is left (Bennett 1973).

@@ -8,7 +8,7 @@ mod laws;
 mod naming;
 mod refusal;
 
-pub use bn_erasing::ErasingName;
+pub use bn_erase_laws::ErasingName;
 pub use bn_quad::NoMemory;
 pub use erasing::{Erasing, MOST_QUADRUPLES, erase, most_quadruples_are_stated};
 pub use joined::{Joined, join_letters};

@@ -2,7 +2,7 @@
 ghost use Rattle.std.specs.Prelude.{◌≡◌, ◌<◌, ◌≤◌, [], ◌∷◌, IfOk, OnOk, length, map};
 ghost use Rattle.bn_quad.specs.Names.{nameless, symbols_on};
 ghost use Rattle.bn_qtable.specs.Named.{HasNames};
-ghost use Rattle.bn_bennett.specs.Printed.{on_tape, state_text, with_states};
+ghost use Rattle.bn_bennett.specs.Printed.{on_tape, bennett_state_text, with_states};
 ghost use Rattle.bn_erase.specs.Made.{IsErasing};
 ghost use Rattle.bn_erase.specs.Printable.{ArePrintable};
 ghost use Rattle.bn_erase.specs.Printed.{erasing_text, letter_names, names_of};
@@ -11,9 +11,9 @@ use crate::erasing::Erasing;
 use crate::joined::Joined;
 use crate::laws::erasings_have_names;
 use bn_bennett::{add_history_symbols, name_text};
-use bn_erasing::{ErasingName, erasing_names as erasing_has_names};
+use bn_bennett_laws::Name;
+use bn_erase_laws::{ErasingName, erasing_names as erasing_has_names};
 use bn_quad::{NoMemory, QuadNames};
-use bn_stages::Name;
 use std::alloc::Global;
 
 /// The names of an erasing machine's states and symbols: each state of the first machine has `F` and its name, each of
@@ -75,7 +75,7 @@ fn text_of(alloc: Global, name: ErasingName) -> Result<Vec<u8>, NoMemory>
 
 // The text of a name of one machine, with a letter before it.
 fn marked_text(alloc: Global, letter: u8, name: Name) -> Result<Vec<u8>, NoMemory>
-    ensures { IfOk result (λ text. text.items ≡ letter ∷ state_text name) }
+    ensures { IfOk result (λ text. text.items ≡ letter ∷ bennett_state_text name) }
 {
     let own = name_text(alloc, name)?;
     let mut text = Vec::new(alloc);

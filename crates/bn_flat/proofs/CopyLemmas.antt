@@ -1,10 +1,10 @@
 -- Lists that are copied item by item, and bars that are written bank by bank.
 use Rattle.std.specs.Prelude.{◌≡◌, ℕ, ◌+◌, List, [], ◌∷◌, ◌++◌, length, replicate, take, Some, slice_get, slice_set, refl}
 use Rattle.std.proofs.Common.{zero, suc, arith, sym, ap, ◌∙◌, append-nil, append_assoc}
-use Rattle.bn_theory.specs.Tables.{Table}
+use Rattle.bn_element.specs.Tables.{Table}
 use Rattle.bn_element.specs.Rotary.{horizontal, vertical}
 use Rattle.bn_realise.specs.Banks.{bottom_at}
-use Rattle.bn_boards.specs.Boards.{bars_of, size_of}
+use Rattle.bn_board.specs.Boards.{bars_of, size_of}
 
 -- one item more
 pub take_next : {X : Type 0} (xs : List X) (n : ℕ) (x : X) → slice_get xs n ≡ Some x → take (n + 1) xs ≡ take n xs ++ x ∷ []

@@ -1,24 +1,24 @@
 -- The moments of a run, counted step by step.
 use Rattle.std.specs.Prelude.{◌≡◌, ℕ, ◌+◌, ◌-◌, ◌<◌, ◌≤◌, Bool, true, false, not, ◌&&◌, ◌||◌, ◌==◌, nat_lt, is_some, List, [], ◌∷◌, ◌++◌, Option, None, refl}
 use Rattle.std.proofs.Common.{zero, suc, arith, sym, ap, subst, ◌∙◌, inl, inr, append-nil}
-use Rattle.bn_theory.specs.Runs.{Reaches, Passes}
-use Rattle.bn_theory.proofs.RunsLemmas.{passes_run, runs_join}
-use Rattle.bn_theory.proofs.RunPartLemmas.{passes_weaker}
-use Rattle.bn_theory.specs.Circuits.{Circuit, IsCircuit, IsConfig, Goes, IsStuck}
-use Rattle.bn_theory.specs.Stepping.{run, places}
-use Rattle.bn_theory.proofs.RunLemmas.{run_stops, next-stuck, places-zero, places-Goes}
-use Rattle.bn_theory.proofs.StepLemmas.{next-IsConfig}
-use Rattle.bn_theory.specs.Counting.{tally, one_if}
-use Rattle.bn_theory.specs.declared.place.Place.{Place}
-use Rattle.bn_theory.specs.declared.place.Place.TheVariants.{Enter, Left}
-use Rattle.bn_theory.specs.declared.config.Config.{Config}
-use Rattle.bn_theory.proofs.CountingLemmas.{tally-zero, tally-more, tallies-add}
+use Rattle.bn_lists.specs.Runs.{Reaches, Passes}
+use Rattle.bn_lists.proofs.RunsLemmas.{passes_run, runs_join}
+use Rattle.bn_circuits.proofs.RunPartLemmas.{passes_weaker}
+use Rattle.bn_circuits.specs.Circuits.{Circuit, IsCircuit, IsConfig, Goes, IsStuck}
+use Rattle.bn_circuits.specs.Stepping.{run, places}
+use Rattle.bn_circuits.proofs.RunLemmas.{run_stops, next-stuck, places-zero, places-Goes}
+use Rattle.bn_circuits.proofs.StepLemmas.{next-IsConfig}
+use Rattle.bn_circuits.specs.Counting.{tally, one_if}
+use Rattle.bn_circuits.specs.declared.place.Place.{Place}
+use Rattle.bn_circuits.specs.declared.place.Place.TheVariants.{Enter, Left}
+use Rattle.bn_circuits.specs.declared.config.Config.{Config}
+use Rattle.bn_circuits.proofs.CountingLemmas.{tally-zero, tally-more, tallies-add}
 use Rattle.bn_net.specs.Watching.{Hears}
 use Rattle.bn_net.specs.Walking.{HasWalked}
 use Rattle.bn_net.proofs.WalkLemmas.{hears-joins, walk_starts, walk_goes, walk_ends}
-use Rattle.bn_column.specs.Nets.{rotary_circuit}
-use Rattle.bn_layout.specs.Layouts.{Layout, is_moment, moment_at, first_element, letters_at}
-use Rattle.bn_layout.proofs.FirstLemmas.{below, not_below}
+use Rattle.bn_net.specs.RotaryNets.{rotary_circuit}
+use Rattle.bn_board.specs.Layouts.{Layout, is_moment, moment_at, first_element, symbol_count_at}
+use Rattle.bn_board.proofs.FirstLemmas.{below, not_below}
 use Rattle.bn_element.specs.Rotary.{west}
 use Rattle.std.proofs.lemmas.Bool.Decides.{eqb_tells}
 use Rattle.bn_packed.specs.Stopping.{PassesBy, passes_by}
@@ -174,10 +174,10 @@ quiet_between b kept rows first x quiet = by_place x.place refl
             → (o : ℕ) → IsCommandOf b e o → ⊥
         in_none one two three o by = by_tape by.tape refl
           where
-            at_tape : (t : ℕ) → by.tape ≡ t → (begin count : ℕ) → begin ≡ first_element b t → count ≡ letters_at b t + 3 → is_among begin count e ≡ false → ⊥
+            at_tape : (t : ℕ) → by.tape ≡ t → (begin count : ℕ) → begin ≡ first_element b t → count ≡ symbol_count_at b t + 3 → is_among begin count e ≡ false → ⊥
             at_tape t is begin count begins counted none =
                 let element : e ≡ first_element b t + by.line = subst (λ u. e ≡ first_element b u + by.line) is by.element in
-                let low : by.line < letters_at b t + 3 = subst (λ u. by.line < letters_at b u + 3) is by.within in
+                let low : by.line < symbol_count_at b t + 3 = subst (λ u. by.line < symbol_count_at b u + 3) is by.within in
                 among begin count e none (omega arith) (omega arith)
 
             by_tape : (t : ℕ) → by.tape ≡ t → ⊥

@@ -6,21 +6,21 @@ use Rattle.std.proofs.Math.Nat.{mul-le-mul_right}
 use Rattle.std.proofs.lemmas.Option.{same_Some, some_pair_parts, slice_get_within}
 use Rattle.std.proofs.lemmas.Bool.Decides.{nat_tests}
 use Rattle.std.proofs.lemmas.Nat.{same_from_place, div-add-mod'}
-use Rattle.bn_theory.specs.declared.line.Line.{Line}
-use Rattle.bn_theory.specs.declared.place.Place.{Place}
-use Rattle.bn_theory.specs.declared.place.Place.TheVariants.{Enter, Left}
+use Rattle.bn_circuits.specs.declared.line.Line.{Line}
+use Rattle.bn_circuits.specs.declared.place.Place.{Place}
+use Rattle.bn_circuits.specs.declared.place.Place.TheVariants.{Enter, Left}
 use Rattle.bn_element.specs.Rotary.{west}
 use Rattle.bn_machine.specs.declared.quint.Side.{Side}
 use Rattle.bn_machine.specs.declared.quint.Side.TheVariants as side
 use Rattle.bn_realise.specs.Banks.{column_at}
-use Rattle.bn_modules.specs.declared.cell_line.CellLine.TheVariants.{TakeRight, TakeLeft}
-use Rattle.bn_modules.specs.Cells.{line_number, lines_of}
-use Rattle.bn_modules.specs.Controls.{lines_before}
-use Rattle.bn_modules.specs.Networks.{cells_in}
-use Rattle.bn_layout.specs.declared.exit.Exit.{Exit}
-use Rattle.bn_layout.specs.declared.exit.Exit.TheVariants as exit
-use Rattle.bn_layout.specs.Layouts.{Layout, letters_at, lines_at, cell_element, cell_output, end_place, IsNamedExit, inside, ends, stuck, right, left}
-use Rattle.bn_layout.proofs.PlaceLemmas.{output-within}
+use Rattle.bn_network.specs.declared.cell_line.CellLine.TheVariants.{TakeRight, TakeLeft}
+use Rattle.bn_network.specs.Cells.{line_number, cell_line_count}
+use Rattle.bn_network.specs.Controls.{lines_before}
+use Rattle.bn_network.specs.Networks.{cells_in}
+use Rattle.bn_board.specs.declared.exit.Exit.{Exit}
+use Rattle.bn_board.specs.declared.exit.Exit.TheVariants as exit
+use Rattle.bn_board.specs.Layouts.{Layout, symbol_count_at, lines_at, cell_element, cell_output, end_place, IsNamedExit, inside, ends, stuck, right, left}
+use Rattle.bn_board.proofs.PlaceLemmas.{output-within}
 use Rattle.bn_net.specs.declared.net.TheConstants.{MOST_ELEMENTS}
 use Rattle.bn_flat.specs.Flattened.{IsLayoutKept}
 use Rattle.bn_flat.proofs.LayoutLemmas.{control_within, cell_within}
@@ -73,7 +73,7 @@ pub record IsStuckBy (b : Layout) (e l a c : ℕ) : Type 0 where
   pub west_is : l ≡ west
   pub tape : ℕ
   pub awaits : slice_get b.awaited (e / (lines_at b + 1)) ≡ Some (Some (a, tape))
-  pub low : c < letters_at b tape
+  pub low : c < symbol_count_at b tape
   pub row : e % (lines_at b + 1) ≡ lines_before b.symbols (tape - 1) + c
 
 module _ (b : Layout) (kept : IsLayoutKept b) where
@@ -83,15 +83,15 @@ module _ (b : Layout) (kept : IsLayoutKept b) where
       let few = control_within b kept in
       omega arith
 
-  pub output_few : (t p l : ℕ) → 1 ≤ t → t ≤ 3 → p < cells_in b.limits t → 1 ≤ letters_at b t → l < lines_of (letters_at b t)
-      → cell_element b t p + (2 * letters_at b t - 1) * (lines_of (letters_at b t) + 1) + l ≤ MOST_ELEMENTS
+  pub output_few : (t p l : ℕ) → 1 ≤ t → t ≤ 3 → p < cells_in b.limits t → 1 ≤ symbol_count_at b t → l < cell_line_count (symbol_count_at b t)
+      → cell_element b t p + (2 * symbol_count_at b t - 1) * (cell_line_count (symbol_count_at b t) + 1) + l ≤ MOST_ELEMENTS
   output_few t p l low high cell some line =
       let one = cell_within b kept t p low high cell in
-      let two = output-within (letters_at b t) l some line in
+      let two = output-within (symbol_count_at b t) l some line in
       let few = kept.few_elements in
       omega arith
 
-  answer_low : (t c : ℕ) → c < letters_at b t → lines_before b.symbols (t - 1) + c < lines_at b
+  answer_low : (t c : ℕ) → c < symbol_count_at b t → lines_before b.symbols (t - 1) + c < lines_at b
   answer_low zero c low = absurd (omega arith)
   answer_low (suc t) c low =
       let h = answer_in b.symbols t c kept.tapes low in
@@ -161,17 +161,17 @@ module _ (b : Layout) (kept : IsLayoutKept b) where
           let kept : ◌≡◌ {A = Option (Option (ℕ × ℕ))} (Some (Some (from, t))) (Some (Some (a, u))) = sym awaits_here ∙ other in
           some_pair_parts from a t u (same_Some (Some (from, t)) (Some (a, u)) kept)
 
-      row_is : (a c : ℕ) → (by : IsStuckBy b e l a c) → (c < letters_at b t) × (e % (n + 1) ≡ lines_before b.symbols (t - 1) + c)
+      row_is : (a c : ℕ) → (by : IsStuckBy b e l a c) → (c < symbol_count_at b t) × (e % (n + 1) ≡ lines_before b.symbols (t - 1) + c)
       row_is a c by =
           let same = (same_awaited a by.tape by.awaits).1 in
-          subst (λ k. (c < letters_at b t) × (e % (k + 1) ≡ lines_before b.symbols (t - 1) + c)) (sym n_is)
-          (subst (λ u. (c < letters_at b u) × (e % (lines_at b + 1) ≡ lines_before b.symbols (u - 1) + c)) (sym same) (by.low, by.row))
+          subst (λ k. (c < symbol_count_at b t) × (e % (k + 1) ≡ lines_before b.symbols (t - 1) + c)) (sym n_is)
+          (subst (λ u. (c < symbol_count_at b u) × (e % (lines_at b + 1) ≡ lines_before b.symbols (u - 1) + c)) (sym same) (by.low, by.row))
 
-      pub off_letters : ((c : ℕ) → (None ≡ Some c) ↔ ((c < letters_at b t) × (e % (n + 1) ≡ lines_before b.symbols (t - 1) + c)))
+      pub off_letters : ((c : ℕ) → (None ≡ Some c) ↔ ((c < symbol_count_at b t) × (e % (n + 1) ≡ lines_before b.symbols (t - 1) + c)))
           → (a c : ℕ) → (◌≡◌ {A = Option (ℕ × ℕ)} None (Some (a, c))) ↔ IsNamedExit b (Left e l) (exit.Stuck a c)
       off_letters none = none_by e l (λ a c by. absurd (let h : ◌≡◌ {A = Option ℕ} None (Some c) = (none c).1 (row_is a c by) in cc))
 
-      pub by_letter : (s : ℕ) → l ≡ west → ((c : ℕ) → (Some s ≡ Some c) ↔ ((c < letters_at b t) × (e % (n + 1) ≡ lines_before b.symbols (t - 1) + c)))
+      pub by_letter : (s : ℕ) → l ≡ west → ((c : ℕ) → (Some s ≡ Some c) ↔ ((c < symbol_count_at b t) × (e % (n + 1) ≡ lines_before b.symbols (t - 1) + c)))
           → (a c : ℕ) → (◌≡◌ {A = Option (ℕ × ℕ)} (Some (from, s)) (Some (a, c))) ↔ IsNamedExit b (Left e l) (exit.Stuck a c)
       by_letter s is_west some a c = (
         λ h. (
@@ -190,31 +190,31 @@ module _ (b : Layout) (kept : IsLayoutKept b) where
 
 module _ (b : Layout) where
   window_by : (t : ℕ) (s : Side) (p : Place) (x : Exit) → IsNamedExit b p x → x ≡ exit.Window t s
-      → (p ≡ cell_output b t (cells_in b.limits t - 1) (line_number (letters_at b t) TakeRight) → ⊥)
-      → (p ≡ cell_output b t 0 (line_number (letters_at b t) TakeLeft) → ⊥) → ⊥
+      → (p ≡ cell_output b t (cells_in b.limits t - 1) (line_number (symbol_count_at b t) TakeRight) → ⊥)
+      → (p ≡ cell_output b t 0 (line_number (symbol_count_at b t) TakeLeft) → ⊥) → ⊥
   window_by t s p x (inside m k is) named one two = absurd (let h : exit.Inside ≡ exit.Window t s = named in cc)
   window_by t s p x (ends is) named one two = absurd (let h : exit.End ≡ exit.Window t s = named in cc)
   window_by t s p x (stuck q a u c awaits low is) named one two = absurd (let h : exit.Stuck a c ≡ exit.Window t s = named in cc)
   window_by t s p x (right u low high is) named one two =
       let tapes : u ≡ t = (let h : exit.Window u side.Right ≡ exit.Window t s = named in cc) in
-      one (subst (λ n. p ≡ cell_output b n (cells_in b.limits n - 1) (line_number (letters_at b n) TakeRight)) tapes is)
+      one (subst (λ n. p ≡ cell_output b n (cells_in b.limits n - 1) (line_number (symbol_count_at b n) TakeRight)) tapes is)
   window_by t s p x (left u low high is) named one two =
       let tapes : u ≡ t = (let h : exit.Window u side.Left ≡ exit.Window t s = named in cc) in
-      two (subst (λ n. p ≡ cell_output b n 0 (line_number (letters_at b n) TakeLeft)) tapes is)
+      two (subst (λ n. p ≡ cell_output b n 0 (line_number (symbol_count_at b n) TakeLeft)) tapes is)
 
   -- the line is that of neither end
-  pub no_window : (t : ℕ) (p : Place) → (p ≡ cell_output b t (cells_in b.limits t - 1) (line_number (letters_at b t) TakeRight) → ⊥)
-      → (p ≡ cell_output b t 0 (line_number (letters_at b t) TakeLeft) → ⊥) → (s : Side) → IsNamedExit b p (exit.Window t s) → ⊥
+  pub no_window : (t : ℕ) (p : Place) → (p ≡ cell_output b t (cells_in b.limits t - 1) (line_number (symbol_count_at b t) TakeRight) → ⊥)
+      → (p ≡ cell_output b t 0 (line_number (symbol_count_at b t) TakeLeft) → ⊥) → (s : Side) → IsNamedExit b p (exit.Window t s) → ⊥
   no_window t p one two s named = window_by t s p _ named refl one two
 
   -- the line of an end, by the numbers of cells and letters
-  module _ (t cells z : ℕ) (cells_are : cells ≡ cells_in b.limits t) (letters_are : z ≡ letters_at b t) where
+  module _ (t cells z : ℕ) (cells_are : cells ≡ cells_in b.limits t) (letters_are : z ≡ symbol_count_at b t) where
     right_is : (r : Line) → Left r.element r.line ≡ cell_output b t (cells - 1) (z + 3)
-        → Left r.element r.line ≡ cell_output b t (cells_in b.limits t - 1) (line_number (letters_at b t) TakeRight)
-    right_is r is = subst (λ n. Left r.element r.line ≡ cell_output b t (n - 1) (letters_at b t + 3)) cells_are (subst (λ n. Left r.element r.line ≡
+        → Left r.element r.line ≡ cell_output b t (cells_in b.limits t - 1) (line_number (symbol_count_at b t) TakeRight)
+    right_is r is = subst (λ n. Left r.element r.line ≡ cell_output b t (n - 1) (symbol_count_at b t + 3)) cells_are (subst (λ n. Left r.element r.line ≡
         cell_output b t (cells - 1) (n + 3)) letters_are is)
 
-    left_is : (l : Line) → Left l.element l.line ≡ cell_output b t 0 (2 * z + 7) → Left l.element l.line ≡ cell_output b t 0 (line_number (letters_at b
+    left_is : (l : Line) → Left l.element l.line ≡ cell_output b t 0 (2 * z + 7) → Left l.element l.line ≡ cell_output b t 0 (line_number (symbol_count_at b
         t) TakeLeft)
     left_is l is = subst (λ n. Left l.element l.line ≡ cell_output b t 0 (2 * n + 7)) letters_are is
 

@@ -4,18 +4,18 @@ use Rattle.std.proofs.Common.{zero, suc, arith, sym, ap, subst, ◌∙◌}
 use Rattle.std.proofs.lemmas.Option.{slice_get_within, get_or_from_slice_get}
 use Rattle.bn_machine.specs.Outcome.{Limits}
 use Rattle.bn_quad.specs.Quadruples.{Quadruples, IsQuadMachine}
-use Rattle.bn_modules.specs.Controls.{ControlState, Begin, Reads, Tape as to_tape, IsEntry, is_begin, letters, lines_before, out_number, command_offset, control_lines}
-use Rattle.bn_modules.specs.declared.cell_line.CellLine.TheVariants.{Read}
-use Rattle.bn_modules.specs.Networks.{elements_by}
+use Rattle.bn_network.specs.Controls.{ControlState, Begin, Reads, Tape as to_tape, IsEntry, is_begin, symbol_count, lines_before, out_number, command_offset, control_lines}
+use Rattle.bn_network.specs.declared.cell_line.CellLine.TheVariants.{Read}
+use Rattle.bn_network.specs.Networks.{elements_by}
 use Rattle.bn_control.specs.Controlled as controlled
 use Rattle.bn_control.specs.Controlled.{Controlled, IsControlOf, IsWithinLimits, IsTapeAwaited}
-use Rattle.bn_boards.proofs.ModuleLemmas.{found}
-use Rattle.bn_layout.specs.Layouts.{Layout, IsLayout, IsFirstKept, final_kept, sent_kept, elements_of}
-use Rattle.bn_layout.proofs.CommandLemmas.{command_number, entry-IsCommandMove}
+use Rattle.bn_board.proofs.ModuleLemmas.{found}
+use Rattle.bn_board.specs.Layouts.{Layout, IsLayout, IsFirstKept, final_kept, sent_kept, elements_of}
+use Rattle.bn_board.proofs.CommandLemmas.{command_number, entry-IsCommandMove}
 use Rattle.bn_assembly.specs.Assembled.{Assembled, IsAssembled, IsKept}
 use Rattle.bn_assembly.specs.declared.module.Module.{Module}
 use Rattle.bn_assembly.specs.declared.module.Module.TheVariants.{Control}
-use Rattle.bn_cell.specs.declared.numbers.TheConstants.{MOST_SYMBOLS}
+use Rattle.bn_network.specs.declared.limits.TheConstants.{MOST_SYMBOLS}
 use Rattle.bn_flat.specs.Flattened.{IsFirstWithin, IsLayoutKept}
 use Rattle.bn_flat.specs.Starts.{layout_by, IsLayoutOf}
 
@@ -45,12 +45,12 @@ module _ (m : Quadruples) (names : List ControlState) (quad : IsQuadMachine m) (
       sent (suc t) at =
           let move = entry-IsCommandMove m a k apart entry in
           let high = move.is_tape.high in
-          let number = command_number (letters m move.tape) move.line move.command move.in_range in
-          let offset : command_offset (letters m (suc t)) move.line < letters m (suc t) + 3 = subst (λ u. command_offset (letters m u) move.line <
-          letters m u + 3) at (let e = number.0 in let h = number.1 in omega arith) in
-          let low = first_low m.symbols t (command_offset (letters m (suc t)) move.line) quad.tapes (omega arith) offset in
-          let line : out_number m k.1 ≡ lines_before m.symbols t + command_offset (letters m (suc t)) move.line = ap (out_number m) (move.is ∙ ap (λ u.
-          to_tape u move.line) at) ∙ ap (λ x. lines_before m.symbols x + command_offset (letters m (suc t)) move.line) (let e : suc t - 1 ≡ t = omega
+          let number = command_number (symbol_count m move.tape) move.line move.command move.in_range in
+          let offset : command_offset (symbol_count m (suc t)) move.line < symbol_count m (suc t) + 3 = subst (λ u. command_offset (symbol_count m u) move.line <
+          symbol_count m u + 3) at (let e = number.0 in let h = number.1 in omega arith) in
+          let low = first_low m.symbols t (command_offset (symbol_count m (suc t)) move.line) quad.tapes (omega arith) offset in
+          let line : out_number m k.1 ≡ lines_before m.symbols t + command_offset (symbol_count m (suc t)) move.line = ap (out_number m) (move.is ∙ ap (λ u.
+          to_tape u move.line) at) ∙ ap (λ x. lines_before m.symbols x + command_offset (symbol_count m (suc t)) move.line) (let e : suc t - 1 ≡ t = omega
           arith in e) in
           (slice_get_within names q k.0 named, omega (arith, low.0), omega (arith, low.1))
 
@@ -156,7 +156,7 @@ three_of (x ∷ y ∷ z ∷ u ∷ zs) three = absurd (omega arith)
 
 -- the layout that is read off the control
 pub layout-read : (a : Assembled) (kept : IsKept a) (v : Controlled) → slice_get a.net.elements 0 ≡ Some (Control v) → All IsTapeAwaited v.awaited
-    → (l : Limits) → l ≡ a.limits → (one two three states : ℕ) → one ≡ letters kept.machine 1 → two ≡ letters kept.machine 2 → three ≡ letters kept.machine 3
+    → (l : Limits) → l ≡ a.limits → (one two three states : ℕ) → one ≡ symbol_count kept.machine 1 → two ≡ symbol_count kept.machine 2 → three ≡ symbol_count kept.machine 3
     → states ≡ v.machine.states → (firsts awaited : List (Option (ℕ × ℕ))) → firsts ≡ v.firsts → awaited ≡ v.awaited
     → IsLayoutOf a (record { limits = l; symbols = one ∷ two ∷ three ∷ []; states = states; firsts = firsts; awaited = awaited })
 layout-read a kept v first tapes l limits one two three states one_is two_is three_is states_is firsts awaited firsts_is awaited_is =

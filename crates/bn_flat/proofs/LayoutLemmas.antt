@@ -2,9 +2,9 @@
 use Rattle.std.specs.Prelude.{ℕ, ◌+◌, ◌-◌, ◌*◌, ◌<◌, ◌≤◌, ◌^◌}
 use Rattle.std.proofs.Common.{zero, suc, arith}
 use Rattle.std.proofs.Math.Nat.{mul-le-mul_right, mul-le-mul_left}
-use Rattle.bn_modules.specs.Networks.{cell_size, cells_in}
-use Rattle.bn_layout.specs.Layouts.{Layout, letters_at, lines_at, first_element, cell_element, elements_of}
-use Rattle.bn_cell.specs.declared.numbers.TheConstants.{MOST_SYMBOLS}
+use Rattle.bn_network.specs.Networks.{cell_size, cells_in}
+use Rattle.bn_board.specs.Layouts.{Layout, symbol_count_at, lines_at, first_element, cell_element, elements_of}
+use Rattle.bn_network.specs.declared.limits.TheConstants.{MOST_SYMBOLS}
 use Rattle.bn_net.specs.declared.net.TheConstants.{MOST_ELEMENTS}
 use Rattle.bn_flat.specs.Flattened.{IsLayoutKept}
 
@@ -24,14 +24,14 @@ module _ (b : Layout) (kept : IsLayoutKept b) where
   last_within = let h : (b.states - 1) * (lines_at b + 1) ≤ b.states * (lines_at b + 1) = mul-le-mul_right (lines_at b + 1) (omega arith) in let few =
       control_within in omega arith
 
-  pub row_within : (t : ℕ) → 1 ≤ t → t ≤ 3 → first_element b t + cells_in b.limits t * cell_size (letters_at b t) ≤ elements_of b
+  pub row_within : (t : ℕ) → 1 ≤ t → t ≤ 3 → first_element b t + cells_in b.limits t * cell_size (symbol_count_at b t) ≤ elements_of b
   row_within zero low high = absurd (omega arith)
   row_within (suc zero) low high = omega arith
   row_within (suc (suc zero)) low high = omega arith
   row_within (suc (suc (suc zero))) low high = omega arith
   row_within (suc (suc (suc (suc t)))) low high = absurd (omega arith)
 
-  pub row_few : (t : ℕ) → 1 ≤ t → t ≤ 3 → cells_in b.limits t * cell_size (letters_at b t) ≤ MOST_ELEMENTS
+  pub row_few : (t : ℕ) → 1 ≤ t → t ≤ 3 → cells_in b.limits t * cell_size (symbol_count_at b t) ≤ MOST_ELEMENTS
   row_few t low high = let few = kept.few_elements in let row = row_within t low high in omega arith
 
   pub first_within : (t : ℕ) → 1 ≤ t → t ≤ 4 → first_element b t ≤ MOST_ELEMENTS
@@ -42,9 +42,9 @@ module _ (b : Layout) (kept : IsLayoutKept b) where
   first_within (suc (suc (suc (suc zero)))) low high = let few = kept.few_elements in omega arith
   first_within (suc (suc (suc (suc (suc t))))) low high = absurd (omega arith)
 
-  pub cell_within : (t p : ℕ) → 1 ≤ t → t ≤ 3 → p < cells_in b.limits t → cell_element b t p + cell_size (letters_at b t) ≤ elements_of b
+  pub cell_within : (t p : ℕ) → 1 ≤ t → t ≤ 3 → p < cells_in b.limits t → cell_element b t p + cell_size (symbol_count_at b t) ≤ elements_of b
   cell_within t p low high within =
       let row = row_within t low high in
-      let h : (p + 1) * cell_size (letters_at b t) ≤ cells_in b.limits t * cell_size (letters_at b t) = mul-le-mul_right (cell_size (letters_at b t))
+      let h : (p + 1) * cell_size (symbol_count_at b t) ≤ cells_in b.limits t * cell_size (symbol_count_at b t) = mul-le-mul_right (cell_size (symbol_count_at b t))
       (omega arith) in
       omega arith

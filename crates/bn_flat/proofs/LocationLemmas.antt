@@ -3,10 +3,10 @@ use Rattle.std.specs.Prelude.{◌≡◌, ℕ, ◌+◌, ◌-◌, ◌*◌, ◌/◌
 use Rattle.std.proofs.Common.{arith, subst}
 use Rattle.std.proofs.lemmas.Nat.{div-add-mod'}
 use Rattle.std.proofs.Math.Nat.{mul-le-mul_right, div-lt_iff_lt-mul}
-use Rattle.bn_theory.specs.declared.place.Place.TheVariants.{Enter}
-use Rattle.bn_modules.specs.Cells.{lines_of}
-use Rattle.bn_modules.specs.Networks.{bank_size, cell_size, cells_in, left_of}
-use Rattle.bn_layout.specs.Layouts.{Layout, letters_at, lines_at, cell_element}
+use Rattle.bn_circuits.specs.declared.place.Place.TheVariants.{Enter}
+use Rattle.bn_network.specs.Cells.{cell_line_count}
+use Rattle.bn_network.specs.Networks.{bank_size, cell_size, cells_in, left_of}
+use Rattle.bn_board.specs.Layouts.{Layout, symbol_count_at, lines_at, cell_element}
 use Rattle.bn_flat.specs.Locations.{IsLocated, IsInputLine, in_control, in_cell}
 use Rattle.bn_flat.specs.declared.located.Located.TheVariants.{Control, Cell}
 
@@ -33,9 +33,9 @@ module _ (b : Layout) (e l : ℕ) where
       → IsInputLine 0 lines e l line → IsLocated b (Enter e l) (Control line)
   control_is size lines size_is lines_are low line is = in_control e l refl (omega arith) line (subst (λ n. IsInputLine 0 n e l line) lines_are is) refl
 
-  pub cell_is : (t q first lines : ℕ) → 1 ≤ t → t ≤ 3 → q < cells_in b.limits t → cell_element b t q ≤ e → e < cell_element b t q + cell_size (letters_at b t)
-      → first ≡ cell_element b t q → lines ≡ lines_of (letters_at b t) → (line : Option ℕ) → IsInputLine first lines e l line
+  pub cell_is : (t q first lines : ℕ) → 1 ≤ t → t ≤ 3 → q < cells_in b.limits t → cell_element b t q ≤ e → e < cell_element b t q + cell_size (symbol_count_at b t)
+      → first ≡ cell_element b t q → lines ≡ cell_line_count (symbol_count_at b t) → (line : Option ℕ) → IsInputLine first lines e l line
       → IsLocated b (Enter e l) (Cell t (pos q -ℤ pos (left_of b.limits t)) line)
   cell_is t q first lines some high within least most first_is lines_are line is =
       in_cell e l refl t q (record { low = omega arith; high = high }) within least most line
-      (subst (λ n. IsInputLine n (lines_of (letters_at b t)) e l line) first_is (subst (λ n. IsInputLine first n e l line) lines_are is)) refl
+      (subst (λ n. IsInputLine n (cell_line_count (symbol_count_at b t)) e l line) first_is (subst (λ n. IsInputLine first n e l line) lines_are is)) refl

@@ -1,15 +1,15 @@
 -- The parts of a board make one that keeps what every board keeps, and that is the network's.
 use Rattle.std.specs.Prelude.{◌≡◌, ℕ, length}
 use Rattle.std.proofs.Common.{sym, ap, subst, ◌∙◌}
-use Rattle.bn_theory.specs.Circuits.{IsConfig}
-use Rattle.bn_theory.specs.declared.line.Line.{Line}
-use Rattle.bn_theory.specs.declared.config.Config.{Config}
+use Rattle.bn_circuits.specs.Circuits.{IsConfig}
+use Rattle.bn_circuits.specs.declared.line.Line.{Line}
+use Rattle.bn_circuits.specs.declared.config.Config.{Config}
 use Rattle.bn_element.specs.declared.rotary.Rotary.{Rotary}
 use Rattle.bn_net.specs.Parts.{Parts}
 use Rattle.bn_net.specs.Order.{AreInOrder}
-use Rattle.bn_column.specs.Nets.{rotary_circuit}
-use Rattle.bn_boards.specs.Boards.{IsBoard, size}
-use Rattle.bn_layout.specs.Layouts.{Layout, elements_of}
+use Rattle.bn_net.specs.RotaryNets.{rotary_circuit}
+use Rattle.bn_board.specs.Boards.{IsBoard, size}
+use Rattle.bn_board.specs.Layouts.{Layout, elements_of}
 use Rattle.bn_assembly.specs.Assembled.{Assembled, IsKept, network_of}
 use Rattle.bn_flat.specs.Flattened.{Flattened, IsBoardKept, IsFlattened, start_line, end_line}
 use Rattle.bn_flat.specs.Starts.{IsLayoutOf, start_by}

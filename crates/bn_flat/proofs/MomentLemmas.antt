@@ -8,16 +8,16 @@ use Rattle.std.proofs.lemmas.List.Sums.{position_or_len_is}
 use Rattle.std.proofs.lemmas.Option.{same_Some, slice_get-get_or, get_or_from_slice_get}
 use Rattle.std.proofs.lemmas.List.Elements.{AllWithin-from_all}
 use Rattle.std.proofs.Math.Nat.{mul-le-mul_right}
-use Rattle.bn_theory.specs.declared.place.Place.{Place}
-use Rattle.bn_theory.specs.declared.place.Place.TheVariants.{Enter, Left}
-use Rattle.bn_theory.specs.declared.config.Config.{Config}
+use Rattle.bn_circuits.specs.declared.place.Place.{Place}
+use Rattle.bn_circuits.specs.declared.place.Place.TheVariants.{Enter, Left}
+use Rattle.bn_circuits.specs.declared.config.Config.{Config}
 use Rattle.bn_element.specs.Rotary.{west}
 use Rattle.bn_machine.specs.Outcome.{Limits}
-use Rattle.bn_modules.specs.Controls.{lines_before}
-use Rattle.bn_modules.specs.Networks.{cell_size, cells_in}
-use Rattle.bn_layout.specs.Layouts.{Layout, letters_at, lines_at, first_element, elements_of, command_place, end_place, is_sent, moment_at, same_place}
-use Rattle.bn_layout.proofs.PlaceLemmas.{later_tape}
-use Rattle.bn_layout.proofs.FirstLemmas.{position_at, below, not_below}
+use Rattle.bn_network.specs.Controls.{lines_before}
+use Rattle.bn_network.specs.Networks.{cell_size, cells_in}
+use Rattle.bn_board.specs.Layouts.{Layout, symbol_count_at, lines_at, first_element, elements_of, command_place, end_place, is_sent, moment_at, same_place}
+use Rattle.bn_board.proofs.PlaceLemmas.{later_tape}
+use Rattle.bn_board.proofs.FirstLemmas.{position_at, below, not_below}
 use Rattle.bn_flat.specs.Flattened.{IsLayoutKept, IsFirstWithin}
 use Rattle.bn_flat.specs.Moments.{IsCommandTo}
 
@@ -33,7 +33,7 @@ pub record IsCommandOf (b : Layout) (e o : ℕ) : Type 0 where
   pub low : 1 ≤ tape
   pub high : tape ≤ 3
   pub line : ℕ
-  pub within : line < letters_at b tape + 3
+  pub within : line < symbol_count_at b tape + 3
   pub number : o ≡ lines_before b.symbols (tape - 1) + line
   pub element : e ≡ first_element b tape + line
 
@@ -52,11 +52,11 @@ module _ (b : Layout) (kept : IsLayoutKept b) where
   abbrev before : ℕ → ℕ
   before t = lines_before b.symbols t
 
-  next : (t : ℕ) → t < 3 → before (suc t) ≡ before t + letters_at b (suc t) + 3
+  next : (t : ℕ) → t < 3 → before (suc t) ≡ before t + symbol_count_at b (suc t) + 3
   next t low = lines_next b.symbols t (let h = kept.tapes in omega arith)
 
   -- where a command leads
-  place_of : (t m o : ℕ) → 1 ≤ t → t ≤ 3 → m < letters_at b t + 3 → o ≡ before (t - 1) + m → command_place b o ≡ Enter (first_element b t + m) west
+  place_of : (t m o : ℕ) → 1 ≤ t → t ≤ 3 → m < symbol_count_at b t + 3 → o ≡ before (t - 1) + m → command_place b o ≡ Enter (first_element b t + m) west
   place_of zero m o low high within is = absurd (omega arith)
   place_of (suc zero) m o low high within is =
       let one = next 0 (omega arith) in
@@ -85,7 +85,7 @@ module _ (b : Layout) (kept : IsLayoutKept b) where
     pub low : 1 ≤ tape
     pub high : tape ≤ 3
     pub line : ℕ
-    pub within : line < letters_at b tape + 3
+    pub within : line < symbol_count_at b tape + 3
     pub number : o ≡ before (tape - 1) + line
 
   line_to : (o : ℕ) → 1 ≤ o → o < lines_at b → IsLineTo o
@@ -103,7 +103,7 @@ module _ (b : Layout) (kept : IsLayoutKept b) where
       ]
 
   -- a tape's line is one of the control's to tapes
-  line_within : (t m : ℕ) → 1 ≤ t → t ≤ 3 → m < letters_at b t + 3 → (1 ≤ before (t - 1) + m) × (before (t - 1) + m < lines_at b)
+  line_within : (t m : ℕ) → 1 ≤ t → t ≤ 3 → m < symbol_count_at b t + 3 → (1 ≤ before (t - 1) + m) × (before (t - 1) + m < lines_at b)
   line_within zero m low high within = absurd (omega arith)
   line_within (suc zero) m low high within =
       let one = next 0 (omega arith) in
@@ -144,7 +144,7 @@ module _ (b : Layout) (kept : IsLayoutKept b) where
   first_rises (suc t) u low less =
       elim (cases_lt (suc t) u) [
         | inl below ↦ (let h = later_tape b (suc t) u (omega arith) below in let e : first_element b (suc (suc t)) ≡ first_element b (suc t) + cells_in
-            b.limits (suc t) * cell_size (letters_at b (suc t)) = refl in omega arith)
+            b.limits (suc t) * cell_size (symbol_count_at b (suc t)) = refl in omega arith)
         | inr above ↦ (let same : suc t ≡ u = omega arith in subst (λ n. first_element b (suc t) ≤ first_element b n) same (omega arith))
       ]
 
@@ -171,22 +171,22 @@ module _ (b : Layout) (kept : IsLayoutKept b) where
   )
 
   -- a tape's bank is longer than its commands
-  row_long : (t : ℕ) → 1 ≤ t → t ≤ 3 → 1 ≤ letters_at b t → letters_at b t + 3 ≤ cells_in b.limits t * cell_size (letters_at b t)
+  row_long : (t : ℕ) → 1 ≤ t → t ≤ 3 → 1 ≤ symbol_count_at b t → symbol_count_at b t + 3 ≤ cells_in b.limits t * cell_size (symbol_count_at b t)
   row_long t low high some =
       let cells : 1 ≤ cells_in b.limits t = some_cells b.limits t low high in
-      let one : 1 * cell_size (letters_at b t) ≤ cells_in b.limits t * cell_size (letters_at b t) = mul-le-mul_right (cell_size (letters_at b t)) cells in
-      let two : (2 * 1) * (2 * letters_at b t + 8 + 1) ≤ (2 * letters_at b t) * (2 * letters_at b t + 8 + 1) = mul-le-mul_right (2 * letters_at b t + 8 +
+      let one : 1 * cell_size (symbol_count_at b t) ≤ cells_in b.limits t * cell_size (symbol_count_at b t) = mul-le-mul_right (cell_size (symbol_count_at b t)) cells in
+      let two : (2 * 1) * (2 * symbol_count_at b t + 8 + 1) ≤ (2 * symbol_count_at b t) * (2 * symbol_count_at b t + 8 + 1) = mul-le-mul_right (2 * symbol_count_at b t + 8 +
       1) (omega arith) in
       omega arith
 
   -- where the next tape begins
-  first_next : (t : ℕ) → 1 ≤ t → first_element b (suc t) ≡ first_element b t + cells_in b.limits t * cell_size (letters_at b t)
+  first_next : (t : ℕ) → 1 ≤ t → first_element b (suc t) ≡ first_element b t + cells_in b.limits t * cell_size (symbol_count_at b t)
   first_next zero low = absurd (omega arith)
   first_next (suc t) low = refl
 
   -- this tape's command leads there
-  pub one_command : (e t first lines : ℕ) → 1 ≤ t → t ≤ 3 → 1 ≤ letters_at b t → first ≡ first_element b t → lines ≡ before (t - 1)
-      → ((o : ℕ) → (by : IsCommandOf b e o) → t ≤ by.tape) → first ≤ e → e - first < letters_at b t + 3 → IsCommandTo b e (Some (lines + (e - first)))
+  pub one_command : (e t first lines : ℕ) → 1 ≤ t → t ≤ 3 → 1 ≤ symbol_count_at b t → first ≡ first_element b t → lines ≡ before (t - 1)
+      → ((o : ℕ) → (by : IsCommandOf b e o) → t ≤ by.tape) → first ≤ e → e - first < symbol_count_at b t + 3 → IsCommandTo b e (Some (lines + (e - first)))
   one_command e t first lines low high some first_is lines_is later least most o = (
     λ h. (
         let number : lines + (e - first) ≡ o = same_Some (lines + (e - first)) o h in
@@ -212,7 +212,7 @@ module _ (b : Layout) (kept : IsLayoutKept b) where
                 let h = first_rises (suc t) by.tape (omega arith) above in
                 let long = row_long t low high some in
                 let is = by.element in
-                let up : first_element b (suc t) ≡ first_element b t + cells_in b.limits t * cell_size (letters_at b t) = first_next t low in
+                let up : first_element b (suc t) ≡ first_element b t + cells_in b.limits t * cell_size (symbol_count_at b t) = first_next t low in
                 omega arith)
             | inr below ↦ (
                 let same : by.tape ≡ t = (let h = later o by in omega arith) in
@@ -222,7 +222,7 @@ module _ (b : Layout) (kept : IsLayoutKept b) where
           ]
 
   -- no command of this tape leads there
-  pub later_still : (e t first : ℕ) → first ≡ first_element b t → ((o : ℕ) → (by : IsCommandOf b e o) → t ≤ by.tape) → first ≤ e → letters_at b t + 3 ≤ e
+  pub later_still : (e t first : ℕ) → first ≡ first_element b t → ((o : ℕ) → (by : IsCommandOf b e o) → t ≤ by.tape) → first ≤ e → symbol_count_at b t + 3 ≤ e
       - first
       → (o : ℕ) → (by : IsCommandOf b e o) → t + 1 ≤ by.tape
   later_still e t first first_is later least over o by =
@@ -231,7 +231,7 @@ module _ (b : Layout) (kept : IsLayoutKept b) where
         | inr below ↦ absurd (
             let same : by.tape ≡ t = (let h = later o by in omega arith) in
             let element : e ≡ first_element b t + by.line = subst (λ n. e ≡ first_element b n + by.line) same by.element in
-            let within : by.line < letters_at b t + 3 = subst (λ n. by.line < letters_at b n + 3) same by.within in
+            let within : by.line < symbol_count_at b t + 3 = subst (λ n. by.line < symbol_count_at b n + 3) same by.within in
             omega arith)
       ]
 

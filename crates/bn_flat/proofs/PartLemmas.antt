@@ -2,18 +2,18 @@
 use Rattle.std.specs.Prelude.{◌≡◌, ℕ, ◌+◌, ◌<◌, List, [], ◌∷◌, ◌++◌, length, Option, Some, None, refl, ◌⊎◌}
 use Rattle.std.proofs.Common.{arith, sym, ap, subst, ◌∙◌, inl, inr}
 use Rattle.std.proofs.lemmas.Bool.{cases_lt}
-use Rattle.bn_theory.specs.Circuits.{IsCircuit, target}
-use Rattle.bn_theory.proofs.StepLemmas.{same_lines}
-use Rattle.bn_theory.specs.declared.line.Line.{Line}
-use Rattle.bn_theory.specs.declared.line.Wire.{Wire}
+use Rattle.bn_circuits.specs.Circuits.{IsCircuit, target}
+use Rattle.bn_circuits.proofs.StepLemmas.{same_lines}
+use Rattle.bn_circuits.specs.declared.line.Line.{Line}
+use Rattle.bn_circuits.specs.declared.line.Wire.{Wire}
 use Rattle.bn_element.specs.declared.rotary.Rotary.{Rotary}
 use Rattle.bn_net.specs.Parts.{Parts}
 use Rattle.bn_net.specs.Order.{AreInOrder}
 use Rattle.bn_net.proofs.OrderLemmas.{in_order-same}
-use Rattle.bn_column.specs.Columns.{line_at}
-use Rattle.bn_column.specs.Nets.{rotary_circuit, IsNetOf}
-use Rattle.bn_column.specs.Wirings.{AreWiresOf, AreFitting}
-use Rattle.bn_column.proofs.WiringsLemmas.{IsWire, more_wire, same_wires, no_wires, apart-wire}
+use Rattle.bn_circuits.specs.Circuits.{line_at}
+use Rattle.bn_net.specs.RotaryNets.{rotary_circuit, IsNetOf}
+use Rattle.bn_net.specs.Wirings.{AreWiresOf, AreFitting}
+use Rattle.bn_net.proofs.WiringsLemmas.{IsWire, more_wire, same_wires, no_wires, apart-wire}
 use Rattle.bn_packed.specs.Ends.{rotaries}
 use Rattle.bn_packed.proofs.EndLemmas.{rotaries_all, output_below, input_below}
 use Rattle.bn_flat.specs.BoardWires.{IsBefore, IsTargetBefore}

@@ -2,16 +2,16 @@
 use Rattle.std.specs.Prelude.{◌≡◌, ℕ, ◌+◌, Bool, true, false, refl}
 use Rattle.std.specs.Bool.{OnTrue, OnFalse}
 use Rattle.std.proofs.Common.{arith, sym, ap, subst, ◌∙◌}
-use Rattle.bn_theory.specs.Runs.{Reaches}
-use Rattle.bn_theory.proofs.RunsLemmas.{runs_join}
-use Rattle.bn_theory.specs.Circuits.{Circuit, IsCircuit, IsConfig, Goes}
-use Rattle.bn_theory.specs.Stepping.{back}
-use Rattle.bn_theory.proofs.RunLemmas.{Reaches-back, back_composes}
-use Rattle.bn_theory.specs.declared.config.Config.{Config}
-use Rattle.bn_theory.proofs.RunPartLemmas.{runs_split, steps_of_run}
+use Rattle.bn_lists.specs.Runs.{Reaches}
+use Rattle.bn_lists.proofs.RunsLemmas.{runs_join}
+use Rattle.bn_circuits.specs.Circuits.{Circuit, IsCircuit, IsConfig, Goes}
+use Rattle.bn_circuits.specs.Stepping.{back}
+use Rattle.bn_circuits.proofs.RunLemmas.{Reaches-back, back_composes}
+use Rattle.bn_circuits.specs.declared.config.Config.{Config}
+use Rattle.bn_circuits.proofs.RunPartLemmas.{runs_split, steps_of_run}
 use Rattle.bn_element.specs.declared.rotary.Rotary.{Rotary}
 use Rattle.bn_net.specs.Parts.{Parts}
-use Rattle.bn_column.specs.Nets.{rotary_circuit}
+use Rattle.bn_net.specs.RotaryNets.{rotary_circuit}
 use Rattle.bn_flat.specs.Flattened.{Flattened, origin_by, IsReached, IsSameBoard, IsBoardKept}
 
 module _ (k : Circuit) (circuit : IsCircuit k) where

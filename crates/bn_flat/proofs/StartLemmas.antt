@@ -1,37 +1,37 @@
 -- What an assembled network gives its board: modules that can be banks, the number of elements, and a start in which each module is in one of its states.
 use Rattle.std.specs.Prelude.{◌≡◌, ℕ, ◌+◌, ◌-◌, ◌*◌, ◌<◌, ◌≤◌, List, [], ◌∷◌, All, length, replicate, Some, slice_get, refl}
 use Rattle.std.proofs.Common.{zero, suc, arith, sym, ap, subst, ◌∙◌, inl, inr, length-set}
-use Rattle.bn_theory.specs.Tables.{Table}
-use Rattle.bn_theory.specs.Circuits.{Circuit}
+use Rattle.bn_element.specs.Tables.{Table}
+use Rattle.bn_circuits.specs.Circuits.{Circuit}
 use Rattle.bn_machine.specs.Outcome.{Limits}
 use Rattle.bn_quad.specs.Quadruples.{Rule, Quadruples}
 use Rattle.bn_element.specs.Rotary.{horizontal, vertical}
 use Rattle.bn_realise.specs.Banks.{bottom_at}
-use Rattle.bn_theory.specs.declared.config.Config.{Config}
+use Rattle.bn_circuits.specs.declared.config.Config.{Config}
 use Rattle.std.proofs.lemmas.Option.{slice_get_within}
-use Rattle.bn_modules.specs.Controls.{ControlState, Begin, is_begin, letters}
-use Rattle.bn_modules.specs.Networks.{IsNetwork, network_start, elements_by}
-use Rattle.bn_modules.specs.Moments.{HasLetters}
-use Rattle.bn_boards.specs.Boards.{AreModules, StandsFor, bars_of, board_start, size, size_of}
-use Rattle.bn_layout.proofs.StartingLemmas.{starts}
-use Rattle.bn_layout.proofs.TabledLemmas.{whole}
-use Rattle.bn_existence.proofs.NetworkLemmas.{networks-modules}
+use Rattle.bn_network.specs.Controls.{ControlState, Begin, is_begin, symbol_count}
+use Rattle.bn_network.specs.Networks.{IsNetwork, network_start, elements_by}
+use Rattle.bn_network.specs.Moments.{HasLetters}
+use Rattle.bn_board.specs.Boards.{AreModules, StandsFor, bars_of, board_start, size, size_of}
+use Rattle.bn_board.proofs.StartingLemmas.{starts}
+use Rattle.bn_board.proofs.TabledLemmas.{whole}
+use Rattle.bn_board_laws.proofs.NetworkLemmas.{networks-modules}
 use Rattle.std.proofs.lemmas.Bool.{cases_lt}
 use Rattle.std.proofs.lemmas.Bool.Decides.{eqb_tells}
 use Rattle.std.proofs.Math.Nat.{mul-le-mul_right}
 use Rattle.std.specs.Option.{option_map_or}
-use Rattle.bn_theory.specs.Runs.{Reaches}
-use Rattle.bn_theory.specs.Circuits.{IsConfig, Goes}
-use Rattle.bn_theory.specs.Stepping.{back}
-use Rattle.bn_theory.proofs.RunLemmas.{back-zero}
-use Rattle.bn_theory.proofs.StepLemmas.{slice_get-set_same, slice_get-set_other}
+use Rattle.bn_lists.specs.Runs.{Reaches}
+use Rattle.bn_circuits.specs.Circuits.{IsConfig, Goes}
+use Rattle.bn_circuits.specs.Stepping.{back}
+use Rattle.bn_circuits.proofs.RunLemmas.{back-zero}
+use Rattle.bn_circuits.proofs.StepLemmas.{slice_get-set_same, slice_get-set_other}
 use Rattle.bn_element.specs.Rotary.{west}
 use Rattle.bn_element.specs.declared.rotary.Rotary.{Rotary}
 use Rattle.bn_net.specs.Parts.{Parts}
-use Rattle.bn_column.specs.Nets.{rotary_circuit}
-use Rattle.bn_column.proofs.NetLemmas.{bars-IsConfig, rotary-table_at}
-use Rattle.bn_boards.proofs.ModuleLemmas.{found, replicated, bank_within}
-use Rattle.bn_layout.proofs.StartedLemmas.{get_left, get_right, bars-length}
+use Rattle.bn_net.specs.RotaryNets.{rotary_circuit}
+use Rattle.bn_net.proofs.RotaryNetLemmas.{bars-IsConfig, rotary-table_at}
+use Rattle.bn_board.proofs.ModuleLemmas.{found, replicated, bank_within}
+use Rattle.bn_board.proofs.StartedLemmas.{get_left, get_right, bars-length}
 use Rattle.bn_flat.specs.Flattened.{IsReached}
 use Rattle.bn_flat.specs.Starts.{start_by}
 use Rattle.bn_flat.proofs.CopyLemmas.{bank_bars}
@@ -50,7 +50,7 @@ record Has (m : Quadruples) (l : Limits) (names : List ControlState) (n : Circui
 
 has_by : (rules : List (Rule ℕ)) (states : ℕ) (zs : List ℕ) (l : Limits) (names : List ControlState) (n : Circuit) (word : List ℕ) → length zs ≡ 3
     → All (λ z. 1 ≤ z) zs → IsNetwork (by_parts rules states zs) l names n → 0 < length names
-    → All (λ s. s < letters (by_parts rules states zs) 1) word → Has (by_parts rules states zs) l names n word
+    → All (λ s. s < symbol_count (by_parts rules states zs) 1) word → Has (by_parts rules states zs) l names n word
 has_by rules states (x ∷ y ∷ z ∷ []) l names n word three some network begin low =
     let first : 1 ≤ x = some 0 0 (omega arith) in
     let second : 1 ≤ y = some 1 0 (omega arith) in
@@ -78,7 +78,7 @@ module _ (a : Assembled) (kept : IsKept a) where
       let m = kept.machine in
       let numbering = kept.assembled.is_control.numbering in
       let begin = numbering.each Begin (is_begin refl) in
-      let low : All (λ s. s < letters m 1) kept.word = (λ k d in_. (kept.symbols k d in_).1) in
+      let low : All (λ s. s < symbol_count m 1) kept.word = (λ k d in_. (kept.symbols k d in_).1) in
       has_by m.rules m.states m.symbols a.limits kept.names (network_of a) kept.word kept.is_machine.tapes kept.within.some_symbols
       kept.assembled.network (let h = slice_get_within kept.names begin.0 Begin begin.1 in omega arith) low
 

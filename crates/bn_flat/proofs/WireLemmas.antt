@@ -5,19 +5,19 @@ use Rattle.std.proofs.lemmas.Option.{slice_get_within, slice_get-map, get_or_fro
 use Rattle.std.proofs.Math.Nat.{mul-le-mul_right, mul-le-mul_left}
 use Rattle.std.proofs.lemmas.List.{length-map}
 use Rattle.std.specs.Option.{option_map}
-use Rattle.bn_theory.specs.Tables.{Table}
-use Rattle.bn_theory.specs.Circuits.{Circuit, target}
-use Rattle.bn_theory.specs.declared.line.Line.{Line}
-use Rattle.bn_theory.specs.declared.line.Wire.{Wire}
-use Rattle.bn_column.specs.Columns.{line_at}
-use Rattle.bn_column.specs.Wirings.{AreWiresOf}
-use Rattle.bn_column.proofs.WiringsLemmas.{same_wires}
-use Rattle.bn_realise.specs.Banks.{IsBankWire, input_line, output_line}
+use Rattle.bn_element.specs.Tables.{Table}
+use Rattle.bn_circuits.specs.Circuits.{Circuit, target}
+use Rattle.bn_circuits.specs.declared.line.Line.{Line}
+use Rattle.bn_circuits.specs.declared.line.Wire.{Wire}
+use Rattle.bn_circuits.specs.Circuits.{line_at}
+use Rattle.bn_net.specs.Wirings.{AreWiresOf}
+use Rattle.bn_net.proofs.WiringsLemmas.{same_wires}
+use Rattle.bn_realise.specs.Banks.{IsBankWire, bank_input_line, bank_output_line}
 use Rattle.bn_realise.specs.BankNets.{HasRoom}
-use Rattle.bn_boards.specs.Boards.{AreModules, IsBoardWire, base, size, size_of}
-use Rattle.bn_boards.proofs.ListedLemmas.{IsOwnBelow, own_none, own_more}
-use Rattle.bn_boards.proofs.ModuleLemmas.{bank_within, wired_input, found}
-use Rattle.bn_boards.proofs.GrownLemmas.{IsGrown, grown_own, grown_skip, grown_more, grown_next, grown_all}
+use Rattle.bn_board.specs.Boards.{AreModules, IsBoardWire, base, size, size_of}
+use Rattle.bn_board.proofs.ListedLemmas.{IsOwnBelow, own_none, own_more}
+use Rattle.bn_board.proofs.ModuleLemmas.{bank_within, wired_input, found}
+use Rattle.bn_board.proofs.GrownLemmas.{IsGrown, grown_own, grown_skip, grown_more, grown_next, grown_all}
 use Rattle.bn_net.specs.Parts.{Parts}
 use Rattle.bn_assembly.specs.Modules.{module_table}
 use Rattle.bn_assembly.specs.declared.module.Module.{Module}
@@ -97,8 +97,8 @@ module _ (n : Circuit) (modules : AreModules n) where
   pub wires_more : (e o : ℕ) (ws : List Wire) (to : Line) (t : Table) → target n.wires (line_at e o) ≡ Some to → slice_get n.tables e ≡ Some t
       → AreWiresOf (IsWireBefore n e o) ws
       → AreWiresOf (IsWireBefore n e (o + 1)) (ws ++ record {
-        from = output_line (base n.tables e) t o;
-        to = input_line (base n.tables to.element)
+        from = bank_output_line (base n.tables e) t o;
+        to = bank_input_line (base n.tables to.element)
             to.line;
       } ∷ [])
   wires_more e o ws to t is has are = into e (o + 1) _ (grown_more n modules e o ws to t is has (out_of e o ws are))
@@ -208,7 +208,7 @@ module _ (net : Parts Module) (bases : List ℕ) (most : ℕ) (modules : AreModu
       omega arith
 
   pub between_is : (m line : ℕ) (x : Module) (to from into_line : Line) → slice_get net.elements m ≡ Some x → target net.wires (line_at m line) ≡ Some to
-      → from ≡ output_line (slice_index_or bases m 0) (module_table x) line → into_line ≡ input_line (slice_index_or bases to.element 0) to.line
+      → from ≡ bank_output_line (slice_index_or bases m 0) (module_table x) line → into_line ≡ bank_input_line (slice_index_or bases to.element 0) to.line
       → IsBetween (module_circuit net) m line to (record { from = from; to = into_line })
   between_is m line x to from into_line is leads from_is into_is = record {
     wire = λ t has.
@@ -217,8 +217,8 @@ module _ (net : Parts Module) (bases : List ℕ) (most : ℕ) (modules : AreModu
         let one = base_of m x is in
         let other = (base_at (module_circuit net).tables bases to.element are (entered (module_circuit net) most (line_at m line) to modules few
         leads).within).is in
-        let first : from ≡ output_line (base (module_circuit net).tables m) t line = from_is ∙ (λ i. output_line (one i) (same i) line) in
-        let second : into_line ≡ input_line (base (module_circuit net).tables to.element) to.line = into_is ∙ ap (λ b. input_line b to.line) other in
+        let first : from ≡ bank_output_line (base (module_circuit net).tables m) t line = from_is ∙ (λ i. bank_output_line (one i) (same i) line) in
+        let second : into_line ≡ bank_input_line (base (module_circuit net).tables to.element) to.line = into_is ∙ ap (λ b. bank_input_line b to.line) other in
         (λ i. record { from = first i; to = second i });
   }
 

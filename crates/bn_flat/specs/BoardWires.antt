@@ -1,12 +1,12 @@
 -- The words in which the functions that list a board's wires are said.
 use Rattle.std.specs.Prelude.{◌≡◌, ℕ, ◌<◌, List, length, Some, slice_get, ◌⊎◌}
-use Rattle.bn_theory.specs.Tables.{Table}
-use Rattle.bn_theory.specs.Circuits.{Circuit, target}
-use Rattle.bn_theory.specs.declared.line.Line.{Line}
-use Rattle.bn_theory.specs.declared.line.Wire.{Wire}
+use Rattle.bn_element.specs.Tables.{Table}
+use Rattle.bn_circuits.specs.Circuits.{Circuit, target}
+use Rattle.bn_circuits.specs.declared.line.Line.{Line}
+use Rattle.bn_circuits.specs.declared.line.Wire.{Wire}
 use Rattle.bn_net.specs.Parts.{Parts, circuit}
-use Rattle.bn_realise.specs.Banks.{IsBankWire, input_line, output_line}
-use Rattle.bn_boards.specs.Boards.{base}
+use Rattle.bn_realise.specs.Banks.{IsBankWire, bank_input_line, bank_output_line}
+use Rattle.bn_board.specs.Boards.{base}
 use Rattle.bn_assembly.specs.Modules.{module_table}
 use Rattle.bn_assembly.specs.declared.module.Module.{Module}
 
@@ -32,15 +32,15 @@ IsBefore e o x = (x.element < e) ⊎ ((x.element ≡ e) × (x.line < o))
 pub data IsWireBefore (n : Circuit) (e o : ℕ) (from to : Line) : Type 0 where
   own_wire : IsOwnWire n (length n.tables) from to → IsWireBefore n e o from to
   between_banks : (out into : Line) (t : Table) → IsBefore e o out → target n.wires out ≡ Some into
-      → slice_get n.tables out.element ≡ Some t → from ≡ output_line (base n.tables out.element) t out.line
-      → to ≡ input_line (base n.tables into.element) into.line → IsWireBefore n e o from to
+      → slice_get n.tables out.element ≡ Some t → from ≡ bank_output_line (base n.tables out.element) t out.line
+      → to ≡ bank_input_line (base n.tables into.element) into.line → IsWireBefore n e o from to
 
 -- the wire from output line `line` of module `number` to the input line `to` of another, on the board
 pub record IsBetween (n : Circuit) (number line : ℕ) (to : Line) (w : Wire) : Type 0 where
   pub wire : (t : Table) → slice_get n.tables number ≡ Some t
       → w ≡ record {
-        from = output_line (base n.tables number) t line;
-        to = input_line (base n.tables to.element) to.line;
+        from = bank_output_line (base n.tables number) t line;
+        to = bank_input_line (base n.tables to.element) to.line;
       }
 
 -- ---- the wires of a net, output line by output line

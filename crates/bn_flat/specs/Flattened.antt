@@ -1,25 +1,25 @@
 -- A board: a net of rotary elements in a configuration that was reached from its start, with the layout by which it
 -- is read (this project's own profile).
 use Rattle.std.specs.Prelude.{◌≡◌, ℕ, ◌-◌, ◌<◌, ◌≤◌, ◌^◌, List, All, length, Option, Some, None}
-use Rattle.bn_theory.specs.Runs.{Reaches}
-use Rattle.bn_theory.specs.Circuits.{Circuit, Goes, IsCircuit, IsConfig}
-use Rattle.bn_theory.specs.Stepping.{back}
-use Rattle.bn_theory.specs.declared.line.Line.{Line}
-use Rattle.bn_theory.specs.declared.config.Config.{Config}
+use Rattle.bn_lists.specs.Runs.{Reaches}
+use Rattle.bn_circuits.specs.Circuits.{Circuit, Goes, IsCircuit, IsConfig}
+use Rattle.bn_circuits.specs.Stepping.{back}
+use Rattle.bn_circuits.specs.declared.line.Line.{Line}
+use Rattle.bn_circuits.specs.declared.config.Config.{Config}
 use Rattle.bn_element.specs.declared.rotary.Rotary.{Rotary}
 use Rattle.bn_net.specs.Parts.{Parts}
 use Rattle.bn_net.specs.Order.{AreInOrder}
-use Rattle.bn_column.specs.Nets.{rotary_circuit}
+use Rattle.bn_net.specs.RotaryNets.{rotary_circuit}
 use Rattle.bn_quad.specs.Quadruples.{Quadruples}
-use Rattle.bn_realise.specs.Banks.{input_line, column_at}
+use Rattle.bn_realise.specs.Banks.{bank_input_line, column_at}
 use Rattle.bn_element.specs.Rotary.{east}
-use Rattle.bn_column.specs.Columns.{line_at}
-use Rattle.bn_cell.specs.declared.numbers.TheConstants.{MOST_SYMBOLS}
+use Rattle.bn_circuits.specs.Circuits.{line_at}
+use Rattle.bn_network.specs.declared.limits.TheConstants.{MOST_SYMBOLS}
 use Rattle.bn_control.specs.Controlled.{IsTapeAwaited}
-use Rattle.bn_modules.specs.Controls.{ControlState}
-use Rattle.bn_modules.specs.Networks.{network_start}
-use Rattle.bn_boards.specs.Boards.{IsBoard, board_start}
-use Rattle.bn_layout.specs.Layouts.{Layout, IsLayout, lines_at, elements_of}
+use Rattle.bn_network.specs.Controls.{ControlState}
+use Rattle.bn_network.specs.Networks.{network_start}
+use Rattle.bn_board.specs.Boards.{IsBoard, board_start}
+use Rattle.bn_board.specs.Layouts.{Layout, IsLayout, lines_at, elements_of}
 use Rattle.bn_assembly.specs.Assembled.{Assembled, AreSmall, IsAssembled, network_of}
 use Rattle.bn_net.specs.declared.net.TheConstants.{MOST_ELEMENTS}
 
@@ -88,7 +88,7 @@ pub record IsBoardKept (b : Flattened) : Type 0 where
 -- the line by which the signal enters at the start: the control's from outside; and the one by which it leaves at
 -- the end: the control's to the outside
 abbrev pub start_line : Line
-start_line = input_line 0 0
+start_line = bank_input_line 0 0
 
 abbrev pub end_line : Layout → Line
 end_line b = line_at (column_at 0 (lines_at b) (b.states - 1)) east

@@ -1,11 +1,11 @@
 -- Where the signal of a board is, by modules (this project's own profile).
 use Rattle.std.specs.Prelude.{◌≡◌, ◌↔◌, ℕ, ◌+◌, ◌<◌, ◌≤◌, pos, ◌-ℤ◌, Option, Some}
-use Rattle.bn_theory.specs.declared.place.Place.{Place}
-use Rattle.bn_theory.specs.declared.place.Place.TheVariants.{Enter, Left}
+use Rattle.bn_circuits.specs.declared.place.Place.{Place}
+use Rattle.bn_circuits.specs.declared.place.Place.TheVariants.{Enter, Left}
 use Rattle.bn_element.specs.Rotary.{west}
-use Rattle.bn_modules.specs.Cells.{lines_of}
-use Rattle.bn_modules.specs.Networks.{IsTape, bank_size, cell_size, cells_in, left_of}
-use Rattle.bn_layout.specs.Layouts.{Layout, letters_at, lines_at, cell_element}
+use Rattle.bn_network.specs.Cells.{cell_line_count}
+use Rattle.bn_network.specs.Networks.{IsTape, bank_size, cell_size, cells_in, left_of}
+use Rattle.bn_board.specs.Layouts.{Layout, symbol_count_at, lines_at, cell_element}
 use Rattle.bn_flat.specs.declared.located.Located.{Located}
 use Rattle.bn_flat.specs.declared.located.Located.TheVariants.{Control, Cell, Outside}
 
@@ -20,6 +20,6 @@ pub data IsLocated (b : Layout) (p : Place) (at : Located) : Type 0 where
   in_control : (e l : ℕ) → p ≡ Enter e l → e < bank_size b.states (lines_at b)
       → (line : Option ℕ) → IsInputLine 0 (lines_at b) e l line → at ≡ Control line → IsLocated b p at
   in_cell : (e l : ℕ) → p ≡ Enter e l → (t q : ℕ) → IsTape t → q < cells_in b.limits t → cell_element b t q ≤ e
-      → e < cell_element b t q + cell_size (letters_at b t)
-      → (line : Option ℕ) → IsInputLine (cell_element b t q) (lines_of (letters_at b t)) e l line
+      → e < cell_element b t q + cell_size (symbol_count_at b t)
+      → (line : Option ℕ) → IsInputLine (cell_element b t q) (cell_line_count (symbol_count_at b t)) e l line
       → at ≡ Cell t (pos q -ℤ pos (left_of b.limits t)) line → IsLocated b p at

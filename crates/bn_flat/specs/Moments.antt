@@ -1,9 +1,9 @@
 -- Which command of the control leads to where the signal is.
 use Rattle.std.specs.Prelude.{◌≡◌, ◌↔◌, ℕ, ◌+◌, ◌-◌, ◌<◌, ◌≤◌, Bool, not, ◌==◌, ◌&&◌, ◌||◌, nat_lt, Option, Some}
-use Rattle.bn_theory.specs.declared.line.Line.{Line}
-use Rattle.bn_theory.specs.declared.place.Place.TheVariants.{Enter}
+use Rattle.bn_circuits.specs.declared.line.Line.{Line}
+use Rattle.bn_circuits.specs.declared.place.Place.TheVariants.{Enter}
 use Rattle.bn_element.specs.Rotary.{west}
-use Rattle.bn_layout.specs.Layouts.{Layout, first_element, letters_at, lines_at, command_place}
+use Rattle.bn_board.specs.Layouts.{Layout, first_element, symbol_count_at, lines_at, command_place}
 use Rattle.bn_flat.specs.declared.first_rows.FirstRows.{FirstRows}
 
 -- the control's output line to a tape whose command leads to the west of this element, if one does
@@ -23,8 +23,8 @@ enters_first rows at =
 -- they are the rows of the first cells to which the control's commands lead
 pub record AreFirstRows (b : Layout) (rows : FirstRows) : Type 0 where
   pub one : rows.one.first ≡ first_element b 1
-  pub one_count : rows.one.count ≡ letters_at b 1 + 3
+  pub one_count : rows.one.count ≡ symbol_count_at b 1 + 3
   pub two : rows.two.first ≡ first_element b 2
-  pub two_count : rows.two.count ≡ letters_at b 2 + 3
+  pub two_count : rows.two.count ≡ symbol_count_at b 2 + 3
   pub three : rows.three.first ≡ first_element b 3
-  pub three_count : rows.three.count ≡ letters_at b 3 + 3
+  pub three_count : rows.three.count ≡ symbol_count_at b 3 + 3

@@ -1,13 +1,13 @@
 -- The words in which the functions that make a board are said.
 use Rattle.std.specs.Prelude.{◌≡◌, ℕ, List, All, Some, slice_get}
-use Rattle.bn_theory.specs.Tables.{Table}
-use Rattle.bn_theory.specs.declared.place.Place.TheVariants.{Enter}
-use Rattle.bn_theory.specs.declared.config.Config.{Config}
+use Rattle.bn_element.specs.Tables.{Table}
+use Rattle.bn_circuits.specs.declared.place.Place.TheVariants.{Enter}
+use Rattle.bn_circuits.specs.declared.config.Config.{Config}
 use Rattle.bn_element.specs.Rotary.{west}
-use Rattle.bn_boards.specs.Boards.{bars_of}
+use Rattle.bn_board.specs.Boards.{bars_of}
 use Rattle.bn_machine.specs.Outcome.{Limits}
 use Rattle.bn_control.specs.Controlled.{Controlled, IsTapeAwaited}
-use Rattle.bn_layout.specs.Layouts.{Layout}
+use Rattle.bn_board.specs.Layouts.{Layout}
 use Rattle.bn_assembly.specs.Assembled.{Assembled}
 use Rattle.bn_assembly.specs.declared.module.Module.TheVariants.{Control}
 

@@ -2,10 +2,10 @@
 
 ghost use Rattle.std.specs.Prelude.{◌≡◌, ℕ, ◌+◌, ◌<◌, ◌≤◌, ◌++◌, length, replicate, slice_set, Some, slice_get};
 ghost use Rattle.std.specs.Prelude.{IfOk, OnOk};
-ghost use Rattle.bn_theory.specs.Tables.{Table};
+ghost use Rattle.bn_element.specs.Tables.{Table};
 ghost use Rattle.bn_element.specs.Rotary.{horizontal, vertical};
 ghost use Rattle.bn_realise.specs.Banks.{bottom_at};
-ghost use Rattle.bn_boards.specs.Boards.{AreModules, bars_of, size, size_of};
+ghost use Rattle.bn_board.specs.Boards.{AreModules, bars_of, size, size_of};
 ghost use Rattle.bn_assembly.specs.Modules.{module_table};
 ghost use Rattle.bn_flat.specs.BoardWires.{module_circuit};
 

@@ -2,14 +2,14 @@
 
 ghost use Rattle.std.specs.Prelude.{◌≡◌, ◌⊎◌, ◌<◌, ◌≤◌, length, IfOk};
 ghost use Rattle.std.specs.Bool.{OnTrue, OnFalse};
-ghost use Rattle.bn_theory.specs.Runs.{Reaches};
-ghost use Rattle.bn_theory.specs.Circuits.{Goes, IsStuck, IsFirst};
-ghost use Rattle.bn_theory.specs.Stepping.{run, back, places, places_back};
+ghost use Rattle.bn_lists.specs.Runs.{Reaches};
+ghost use Rattle.bn_circuits.specs.Circuits.{Goes, IsStuck, IsFirst};
+ghost use Rattle.bn_circuits.specs.Stepping.{run, back, places, places_back};
 ghost use Rattle.bn_net.specs.Watching.{Hears};
-ghost use Rattle.bn_column.specs.Nets.{rotary_circuit};
+ghost use Rattle.bn_net.specs.RotaryNets.{rotary_circuit};
 ghost use Rattle.bn_packed.specs.Stopping.{PassesBy};
-ghost use Rattle.bn_layout.specs.Layouts.{elements_of};
-ghost use Rattle.bn_headline.specs.Costs.{bound_of};
+ghost use Rattle.bn_board.specs.Layouts.{elements_of};
+ghost use Rattle.bn_board.specs.Costs.{bound_of};
 ghost use Rattle.bn_flat.specs.Flattened.{IsBoardKept, IsSameBoard};
 
 use crate::layout::Layout;
@@ -79,8 +79,8 @@ impl Board {
         }
     }
 
-    // The net with its configuration.
-    pub(crate) fn packed(&self) -> &Packed
+    /// The net with its configuration, packed. Its contract also tells what every board keeps.
+    pub fn packed(&self) -> &Packed
         ensures net { result.now.net ≡ self.now.net }
         ensures config { result.now.config ≡ self.now.config }
         ensures kept { IsBoardKept self.now }

@@ -4,12 +4,12 @@ ghost use Rattle.std.specs.Prelude.{◌≡◌, ◌*◌, ◌<◌, ◌≤◌, IfOk
 ghost use Rattle.std.specs.List.{range_with_len};
 ghost use Rattle.std.specs.Option.{option_map};
 ghost use Rattle.bn_realise.specs.Banks.{column_at};
-ghost use Rattle.bn_modules.specs.Networks.{cells_in};
-ghost use Rattle.bn_layout.specs.Layouts.{spelled_by, spelled_tape, cells_shown, head_shown, has_head, symbol_by};
-ghost use Rattle.bn_layout.specs.Layouts.{marked_column, cell_state_at, letters_at, elements_of};
+ghost use Rattle.bn_network.specs.Networks.{cells_in};
+ghost use Rattle.bn_board.specs.Layouts.{spelled_by, spelled_tape, cells_shown, head_shown, has_head, symbol_by};
+ghost use Rattle.bn_board.specs.Layouts.{marked_column, cell_state_at, symbol_count_at, elements_of};
 
 use crate::board::Board;
-use bn_layout::{Cells, Spelled, SpelledTape};
+use bn_board::{Cells, Spelled, SpelledTape};
 use bn_net::NoMemory;
 use std::alloc::Global;
 
@@ -71,7 +71,7 @@ impl Board {
         requires first { 1 ≤ tape }
         requires last { tape ≤ 3 }
         ensures { let b = self.now.layout in result
-            ≡ position (λ p. has_head (letters_at b tape) (cell_state_at b self.now.config.states tape p))
+            ≡ position (λ p. has_head (symbol_count_at b tape) (cell_state_at b self.now.config.states tape p))
             (range_with_len 0 (cells_in b.limits tape)) }
     {
         for cell in 0..self.layout().cells(tape) {
@@ -88,7 +88,7 @@ impl Board {
         requires last { tape ≤ 3 }
         requires cell { cell < cells_in self.now.layout.limits tape }
         ensures { let b = self.now.layout in result
-            ≡ option_map (symbol_by (letters_at b tape)) (cell_state_at b self.now.config.states tape cell) }
+            ≡ option_map (symbol_by (symbol_count_at b tape)) (cell_state_at b self.now.config.states tape cell) }
     {
         let letters = self.layout().letters(tape);
         match self.cell_state(tape, cell) {
@@ -104,7 +104,7 @@ impl Board {
         requires last { tape ≤ 3 }
         requires cell { cell < cells_in self.now.layout.limits tape }
         ensures { let b = self.now.layout in result
-            ≡ has_head (letters_at b tape) (cell_state_at b self.now.config.states tape cell) }
+            ≡ has_head (symbol_count_at b tape) (cell_state_at b self.now.config.states tape cell) }
     {
         match self.cell_state(tape, cell) {
             Some(state) => state >= self.layout().letters(tape),

@@ -1,11 +1,11 @@
 //! Runs of a board whose moments are counted.
 
 ghost use Rattle.std.specs.Prelude.{◌≡◌, ◌+◌, ◌<◌, ◌^◌};
-ghost use Rattle.bn_theory.specs.Counting.{tally, one_if};
-ghost use Rattle.bn_theory.specs.Stepping.{run, places};
+ghost use Rattle.bn_circuits.specs.Counting.{tally, one_if};
+ghost use Rattle.bn_circuits.specs.Stepping.{run, places};
 ghost use Rattle.bn_net.specs.Watching.{Hears};
-ghost use Rattle.bn_column.specs.Nets.{rotary_circuit};
-ghost use Rattle.bn_layout.specs.Layouts.{is_moment};
+ghost use Rattle.bn_net.specs.RotaryNets.{rotary_circuit};
+ghost use Rattle.bn_board.specs.Layouts.{is_moment};
 ghost use Rattle.bn_flat.specs.Flattened.{IsSameBoard};
 
 use crate::board::Board;

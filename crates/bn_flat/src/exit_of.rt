@@ -1,20 +1,20 @@
 //! By which exit the signal of a board has left.
 
 ghost use Rattle.std.specs.Prelude.{◌≡◌, ◌↔◌, ℕ, ◌+◌, ◌-◌, ◌<◌, ◌≤◌, Some, IfSome, IfNone};
-ghost use Rattle.bn_theory.specs.declared.place.Place.TheVariants.{Left};
-ghost use Rattle.bn_modules.specs.Cells.{lines_of};
-ghost use Rattle.bn_modules.specs.Controls.{lines_before};
-ghost use Rattle.bn_modules.specs.Networks.{cells_in};
+ghost use Rattle.bn_circuits.specs.declared.place.Place.TheVariants.{Left};
+ghost use Rattle.bn_network.specs.Cells.{cell_line_count};
+ghost use Rattle.bn_network.specs.Controls.{lines_before};
+ghost use Rattle.bn_network.specs.Networks.{cells_in};
 ghost use Rattle.bn_flat.specs.Flattened.{end_line};
-ghost use Rattle.bn_layout.specs.Layouts.{IsExit, IsNamedExit, cell_output, end_place, letters_at, lines_at};
-ghost use Rattle.bn_layout.specs.declared.exit.Exit.{Exit};
-ghost use Rattle.bn_layout.specs.declared.exit.Exit.TheVariants.{Stuck, Window};
+ghost use Rattle.bn_board.specs.Layouts.{IsExit, IsNamedExit, cell_output, end_place, symbol_count_at, lines_at};
+ghost use Rattle.bn_board.specs.declared.exit.Exit.{Exit};
+ghost use Rattle.bn_board.specs.declared.exit.Exit.TheVariants.{Stuck, Window};
 ghost use Rattle.bn_machine.specs.declared.quint.Side.{Side};
 
 use crate::board::Board;
 use crate::layout::Layout;
+use bn_board::Exit;
 use bn_element::{EAST, WEST};
-use bn_layout::Exit;
 use bn_machine::Side;
 use bn_net::{Line, Place};
 
@@ -90,7 +90,7 @@ impl Layout {
         requires first { 1 ≤ tape }
         requires last { tape ≤ 3 }
         ensures { (c : ℕ) → (result ≡ Some c)
-            ↔ ((c < letters_at self.now tape) × (line ≡ lines_before self.now.symbols (tape - 1) + c)) }
+            ↔ ((c < symbol_count_at self.now tape) × (line ≡ lines_before self.now.symbols (tape - 1) + c)) }
     {
         let first = self.lines_before(tape - 1);
         if first <= line && line < first + self.letters(tape) {
@@ -139,7 +139,7 @@ impl Layout {
         requires first { 1 ≤ tape }
         requires last { tape ≤ 3 }
         requires cell { cell < cells_in self.now.limits tape }
-        requires line { line < lines_of (letters_at self.now tape) }
+        requires line { line < cell_line_count (symbol_count_at self.now tape) }
         ensures { Left result.element result.line ≡ cell_output self.now tape cell line }
     {
         // (here and below: what every layout keeps is told by the contract of its states)

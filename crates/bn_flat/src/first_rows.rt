@@ -1,7 +1,7 @@
 //! The lines by which the control's commands enter the first cells of the tapes.
 
 ghost use Rattle.std.specs.Prelude.{◌≡◌, ◌≤◌, ◌+◌};
-ghost use Rattle.bn_layout.specs.Layouts.{first_element, letters_at};
+ghost use Rattle.bn_board.specs.Layouts.{first_element, symbol_count_at};
 ghost use Rattle.bn_flat.specs.Moments.{AreFirstRows, is_among};
 
 use crate::layout::Layout;
@@ -62,7 +62,7 @@ impl Layout {
         requires first { 1 ≤ tape }
         requires last { tape ≤ 3 }
         ensures first { result.first ≡ first_element self.now tape }
-        ensures count { result.count ≡ letters_at self.now tape + 3 }
+        ensures count { result.count ≡ symbol_count_at self.now tape + 3 }
     {
         Rows {
             first: self.first_element(tape),

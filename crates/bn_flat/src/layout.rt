@@ -1,19 +1,19 @@
 //! The numbers by which a board is read.
 
 ghost use Rattle.std.specs.Prelude.{◌≡◌, ◌<◌, ◌≤◌, ◌+◌, ◌*◌, ◌^◌, length, Some, slice_get, IfOk};
-ghost use Rattle.bn_layout.specs.Layouts.{letters_at, lines_at, first_element, cell_element, elements_of};
-ghost use Rattle.bn_modules.specs.Controls.{lines_before};
-ghost use Rattle.bn_modules.specs.Networks.{bank_size, cell_size, cells_in, left_of};
-ghost use Rattle.bn_modules.specs.Cells.{lines_of};
-ghost use Rattle.bn_headline.specs.Costs.{bound_of};
+ghost use Rattle.bn_board.specs.Layouts.{symbol_count_at, lines_at, first_element, cell_element, elements_of};
+ghost use Rattle.bn_network.specs.Controls.{lines_before};
+ghost use Rattle.bn_network.specs.Networks.{bank_size, cell_size, cells_in, left_of};
+ghost use Rattle.bn_network.specs.Cells.{cell_line_count};
+ghost use Rattle.bn_board.specs.Costs.{bound_of};
 ghost use Rattle.bn_assembly.specs.Assembled.{limits_of};
 ghost use Rattle.bn_flat.specs.Flattened.{IsLayoutKept, IsFirstWithin};
 ghost use Rattle.bn_control.specs.Controlled.{IsTapeAwaited};
 
 use bn_assembly::Windows;
 use bn_base::MOST_COUNT;
-use bn_cell::MOST_SYMBOLS;
 use bn_net::{MOST_ELEMENTS, NoMemory};
+use bn_network::MOST_SYMBOLS;
 use std::alloc::Global;
 use std::marker::Model;
 
@@ -31,7 +31,7 @@ pub(crate) struct Layout {
 }
 
 impl Model for Layout {
-    ghost use Rattle.bn_layout.specs.Layouts.{Layout as Numbers};
+    ghost use Rattle.bn_board.specs.Layouts.{Layout as Numbers};
     ghost use Rattle.bn_assembly.specs.Assembled.{limits_of};
     ghost use Rattle.bn_flat.specs.Flattened.{IsLayoutKept};
 
@@ -113,7 +113,7 @@ impl Layout {
     pub(crate) fn letters(&self, tape: u32) -> u32
         requires first { 1 ≤ tape }
         requires last { tape ≤ 3 }
-        ensures number { result ≡ letters_at self.now tape }
+        ensures number { result ≡ symbol_count_at self.now tape }
         ensures some { 1 ≤ result }
         ensures few { result ≤ MOST_SYMBOLS }
     {
@@ -201,7 +201,7 @@ impl Layout {
     pub(crate) fn cell_size(&self, tape: u32) -> u32
         requires first { 1 ≤ tape }
         requires last { tape ≤ 3 }
-        ensures { result ≡ cell_size (letters_at self.now tape) }
+        ensures { result ≡ cell_size (symbol_count_at self.now tape) }
     {
         let letters = self.letters(tape);
         2 * letters * (2 * letters + 8 + 1)
@@ -212,7 +212,7 @@ impl Layout {
     pub(crate) fn row_size(&self, tape: u32) -> u32
         requires first { 1 ≤ tape }
         requires last { tape ≤ 3 }
-        ensures { result ≡ cells_in self.now.limits tape * cell_size (letters_at self.now tape) }
+        ensures { result ≡ cells_in self.now.limits tape * cell_size (symbol_count_at self.now tape) }
     {
         self.windows.cells(tape) * self.cell_size(tape)
     }
@@ -241,7 +241,7 @@ impl Layout {
         requires last { tape ≤ 3 }
         requires cell { cell < cells_in self.now.limits tape }
         ensures number { result ≡ cell_element self.now tape cell }
-        ensures few { result + cell_size (letters_at self.now tape) ≤ elements_of self.now }
+        ensures few { result + cell_size (symbol_count_at self.now tape) ≤ elements_of self.now }
     {
         let _ = &self.windows;
         self.first_element(tape) + cell * self.cell_size(tape)

@@ -16,7 +16,7 @@ mod numbers;
 mod parts;
 mod wiring;
 
-pub use bn_layout::{Cells, Exit, Spelled, SpelledTape};
+pub use bn_board::{Cells, Exit, Spelled, SpelledTape};
 pub use bn_net::NoMemory;
 pub use board::Board;
 pub use located::Located;

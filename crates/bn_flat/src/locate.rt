@@ -1,18 +1,18 @@
 //! In which module the signal of a board is.
 
 ghost use Rattle.std.specs.Prelude.{◌≡◌, ◌+◌, ◌*◌, ◌<◌, ◌≤◌, pos, ◌-ℤ◌};
-ghost use Rattle.bn_theory.specs.declared.place.Place.TheVariants.{Enter};
-ghost use Rattle.bn_modules.specs.Networks.{bank_size, cell_size, cells_in, left_of};
-ghost use Rattle.bn_modules.specs.Cells.{lines_of};
-ghost use Rattle.bn_layout.specs.Layouts.{letters_at, lines_at, elements_of, first_element, cell_element};
+ghost use Rattle.bn_circuits.specs.declared.place.Place.TheVariants.{Enter};
+ghost use Rattle.bn_network.specs.Networks.{bank_size, cell_size, cells_in, left_of};
+ghost use Rattle.bn_network.specs.Cells.{cell_line_count};
+ghost use Rattle.bn_board.specs.Layouts.{symbol_count_at, lines_at, elements_of, first_element, cell_element};
 ghost use Rattle.bn_flat.specs.Locations.{IsLocated, IsInputLine};
 
 use crate::board::Board;
 use crate::layout::Layout;
 use crate::located::Located;
-use bn_cell::MOST_SYMBOLS;
 use bn_element::WEST;
 use bn_net::{Line, Place};
+use bn_network::MOST_SYMBOLS;
 
 impl Board {
     /// The module in whose bank the signal is, and the input line by which it enters it there. It takes no memory.
@@ -52,7 +52,7 @@ impl Layout {
         requires last { tape ≤ 3 }
         requires low { first_element self.now tape ≤ entered.element }
         requires high { entered.element
-            < first_element self.now tape + cells_in self.now.limits tape * cell_size (letters_at self.now tape) }
+            < first_element self.now tape + cells_in self.now.limits tape * cell_size (symbol_count_at self.now tape) }
         ensures { IsLocated self.now (Enter entered.element entered.line) result }
     {
         let cell = self.cell_of(tape, entered.element);
@@ -71,10 +71,10 @@ impl Layout {
         requires last { tape ≤ 3 }
         requires low { first_element self.now tape ≤ element }
         requires high { element
-            < first_element self.now tape + cells_in self.now.limits tape * cell_size (letters_at self.now tape) }
+            < first_element self.now tape + cells_in self.now.limits tape * cell_size (symbol_count_at self.now tape) }
         ensures within { result < cells_in self.now.limits tape }
         ensures low { cell_element self.now tape result ≤ element }
-        ensures high { element < cell_element self.now tape result + cell_size (letters_at self.now tape) }
+        ensures high { element < cell_element self.now tape result + cell_size (symbol_count_at self.now tape) }
     {
         // (for the prover: the contract of this call tells what the type keeps.)
         let _letters = self.letters(tape);
@@ -94,7 +94,7 @@ impl Layout {
     pub(crate) fn cell_lines(&self, tape: u32) -> u32
         requires first { 1 ≤ tape }
         requires last { tape ≤ 3 }
-        ensures number { result ≡ lines_of (letters_at self.now tape) }
+        ensures number { result ≡ cell_line_count (symbol_count_at self.now tape) }
         ensures few { result ≤ 2 * MOST_SYMBOLS + 8 }
     {
         2 * self.letters(tape) + 8

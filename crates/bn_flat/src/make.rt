@@ -2,8 +2,9 @@
 
 ghost use Rattle.std.specs.Prelude.{◌≡◌, ◌≤◌, length, IfOk};
 ghost use Rattle.bn_net.specs.Order.{AreInOrder};
-ghost use Rattle.bn_column.specs.Nets.{rotary_circuit};
-ghost use Rattle.bn_boards.specs.Boards.{AreModules, IsBoard, size};
+ghost use Rattle.bn_net.specs.RotaryNets.{rotary_circuit};
+ghost use Rattle.bn_net.specs.Wirings.{AreWiresOf};
+ghost use Rattle.bn_board.specs.Boards.{AreModules, IsBoard, IsBoardWire, size};
 ghost use Rattle.bn_assembly.specs.Assembled.{network_of};
 ghost use Rattle.bn_flat.specs.BoardWires.{module_circuit};
 ghost use Rattle.bn_flat.specs.Flattened.{IsFlattened};
@@ -14,9 +15,8 @@ use crate::board::Board;
 use crate::numbers::layout_of;
 use crate::wiring::{bases, board_wires};
 use bn_assembly::{Assembly, Module};
-use bn_column::rotary_net;
-use bn_element::{Rotary, WEST};
-use bn_net::{Config, Line, MOST_ELEMENTS, Net, NoMemory, Place, States};
+use bn_element::WEST;
+use bn_net::{Config, Line, MOST_ELEMENTS, Net, NoMemory, Place, States, Wire};
 use bn_packed::Packed;
 use std::alloc::Global;
 
@@ -46,7 +46,7 @@ fn packed_of(alloc: Global, assembly: &Assembly, count: u32) -> Result<Packed, N
     ensures elements { IfOk result (λ p. length p.net.elements ≡ count) }
     ensures order { IfOk result (λ p. AreInOrder p.net.wires) }
 {
-    let net = board_net(alloc, assembly.net(), count)?;
+    let wires = board_list(alloc, assembly.net())?;
     let bars = start_bars(alloc, assembly.net(), assembly.config().states.as_slice())?;
     let config = Config {
         states: States::new(bars),
@@ -56,24 +56,17 @@ fn packed_of(alloc: Global, assembly: &Assembly, count: u32) -> Result<Packed, N
         },
         steps: 0,
     };
-    Packed::from_net(alloc, &net, &config)
+    let packed = Packed::from_wires(alloc, count, wires.as_slice(), &config)?;
+    Ok(packed)
 }
 
-// The net of the board of this net of modules.
-fn board_net(alloc: Global, net: &Net<Module>, count: u32) -> Result<Net<Rotary>, NoMemory>
+// The wires of the board of this net of modules.
+fn board_list(alloc: Global, net: &Net<Module>) -> Result<Vec<Wire>, NoMemory>
     requires modules { AreModules (module_circuit net.now) }
     requires few { size (module_circuit net.now).tables ≤ MOST_ELEMENTS }
-    requires count { count ≡ size (module_circuit net.now).tables }
-    ensures board { IfOk result (λ n. IsBoard (module_circuit net.now) (rotary_circuit n)) }
-    ensures elements { IfOk result (λ n. length n.elements ≡ count) }
-    ensures order { IfOk result (λ n. AreInOrder n.wires) }
+    ensures { IfOk result (λ v. AreWiresOf (IsBoardWire (module_circuit net.now)) v.items) }
 {
     let bases = bases(alloc, net)?;
     let wires = board_wires(alloc, net, bases.as_slice())?;
-    let Ok(board) = rotary_net(alloc, count, wires.as_slice()) else {
-        return Err(NoMemory);
-    };
-    // (for the prover: the contract of this call tells what the type keeps.)
-    let _elements = board.len();
-    Ok(board)
+    Ok(wires)
 }

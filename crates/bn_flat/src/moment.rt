@@ -1,10 +1,10 @@
 //! Of which state of the machine of quadruples a board is at the moment.
 
 ghost use Rattle.std.specs.Prelude.{◌≡◌, ℕ, ◌<◌, length, Some, None};
-ghost use Rattle.bn_theory.specs.declared.place.Place.TheVariants.{Enter};
+ghost use Rattle.bn_circuits.specs.declared.place.Place.TheVariants.{Enter};
 ghost use Rattle.bn_element.specs.Rotary.{west};
 ghost use Rattle.bn_realise.specs.Banks.{bottom_at};
-ghost use Rattle.bn_layout.specs.Layouts.{moment_at, is_sent, is_marked_at, end_place, lines_at, elements_of};
+ghost use Rattle.bn_board.specs.Layouts.{moment_at, is_sent, is_marked_at, end_place, lines_at, elements_of};
 ghost use Rattle.bn_flat.specs.Flattened.{IsFirstWithin};
 ghost use Rattle.bn_flat.specs.Moments.{IsCommandTo};
 

@@ -2,16 +2,16 @@
 
 ghost use Rattle.std.specs.Prelude.{◌≡◌, ◌+◌, ◌*◌, ◌<◌, ◌≤◌, ◌++◌, ◌∷◌, [], length, IfOk, OnOk};
 ghost use Rattle.bn_net.specs.Order.{AreInOrder};
-ghost use Rattle.bn_column.specs.Nets.{rotary_circuit};
-ghost use Rattle.bn_column.specs.Wirings.{AreWiresOf};
-ghost use Rattle.bn_theory.specs.Circuits.{IsCircuit};
+ghost use Rattle.bn_net.specs.RotaryNets.{rotary_circuit};
+ghost use Rattle.bn_net.specs.Wirings.{AreWiresOf};
+ghost use Rattle.bn_circuits.specs.Circuits.{IsCircuit};
 ghost use Rattle.bn_net.specs.declared.net.TheConstants.{MOST_ELEMENTS};
 ghost use Rattle.bn_flat.specs.BoardWires.{IsTargetBefore};
+ghost use Rattle.bn_flat.specs.Flattened.{IsBoardKept};
 
 use crate::board::Board;
-use bn_column::rotary_net;
 use bn_element::Rotary;
-use bn_net::{Config, Line, Net, NoMemory, Wire};
+use bn_net::{Config, Line, Net, NoMemory, Wire, rotary_net};
 use bn_packed::Packed;
 use std::alloc::Global;
 
@@ -30,12 +30,14 @@ pub struct NetParts {
 }
 
 impl Board {
-    /// The board as a net with its configuration, its start and its end. The board stays as it is.
+    /// The board as a net with its configuration, its start and its end. The board stays as it is. Its contract also
+    /// tells what every board keeps.
     pub fn net_config(&self, alloc: Global) -> Result<NetParts, NoMemory>
         ensures net { IfOk result (λ p. p.net ≡ self.now.net) }
         ensures config { IfOk result (λ p. p.config ≡ self.now.config) }
         ensures start { IfOk result (λ p. p.start ≡ self.now.start) }
         ensures end { IfOk result (λ p. p.end ≡ self.now.end) }
+        ensures kept { IsBoardKept self.now }
     {
         let packed = self.packed();
         let net = net_of(alloc, packed)?;

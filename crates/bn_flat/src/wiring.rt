@@ -1,10 +1,10 @@
 //! The wires of a board.
 
 ghost use Rattle.std.specs.Prelude.{◌≡◌, ◌+◌, ◌*◌, ◌<◌, ◌≤◌, ◌++◌, ◌∷◌, [], length, Some, slice_get, IfOk, OnOk};
-ghost use Rattle.bn_theory.specs.Circuits.{IsOutput, IsInput, target};
-ghost use Rattle.bn_column.specs.Wirings.{AreWiresOf};
-ghost use Rattle.bn_realise.specs.Banks.{output_line, input_line};
-ghost use Rattle.bn_boards.specs.Boards.{AreModules, IsBoardWire, base, size, size_of};
+ghost use Rattle.bn_circuits.specs.Circuits.{IsOutputOf, IsInputOf, target};
+ghost use Rattle.bn_net.specs.Wirings.{AreWiresOf};
+ghost use Rattle.bn_realise.specs.Banks.{bank_output_line, bank_input_line};
+ghost use Rattle.bn_board.specs.Boards.{AreModules, IsBoardWire, base, size, size_of};
 ghost use Rattle.bn_assembly.specs.Modules.{module_table};
 ghost use Rattle.bn_flat.specs.BoardWires.{AreBases, IsOwnWire, IsBetween, IsWireBefore, module_circuit};
 
@@ -135,7 +135,7 @@ fn push_between(
     requires few { size (module_circuit net.now).tables ≤ MOST_ELEMENTS }
     requires bases { AreBases (module_circuit net.now).tables bases.now }
     requires within { number < length net.now.elements }
-    requires line { IsOutput (module_circuit net.now).tables (record { element = number; line = line }) }
+    requires line { IsOutputOf (module_circuit net.now).tables (record { element = number; line = line }) }
     requires earlier { AreWiresOf (IsWireBefore (module_circuit net.now) number line) wires.old.items }
     ensures wires { OnOk result (AreWiresOf (IsWireBefore (module_circuit net.now) number (line + 1)) wires.new.items) }
     ensures few { OnOk result (length wires.new.items ≤ length wires.old.items + 1) }
@@ -157,7 +157,7 @@ fn between(net: &Net<Module>, bases: &[u32], number: u32, line: u32, to: Line) -
     requires bases { AreBases (module_circuit net.now).tables bases.now }
     requires within { number < length net.now.elements }
     requires leads { target net.now.wires (record { element = number; line = line }) ≡ Some to }
-    requires line { IsOutput (module_circuit net.now).tables (record { element = number; line = line }) }
+    requires line { IsOutputOf (module_circuit net.now).tables (record { element = number; line = line }) }
     ensures { IsBetween (module_circuit net.now) number line to result }
 {
     Wire {
@@ -171,7 +171,7 @@ fn output_line(bank: &Module, first: u32, line: u32) -> Line
     requires some { 0 < (module_table bank.now).states }
     requires line { line < (module_table bank.now).inputs }
     requires fits { first + size_of (module_table bank.now) ≤ MOST_ELEMENTS }
-    ensures { result ≡ output_line first (module_table bank.now) line }
+    ensures { result ≡ bank_output_line first (module_table bank.now) line }
 {
     let last = (bank.states() - 1) * (bank.lines_in() + 1);
     Line {
@@ -183,7 +183,7 @@ fn output_line(bank: &Module, first: u32, line: u32) -> Line
 // The input line of a bank that begins at this element.
 fn input_line(first: u32, line: u32) -> Line
     requires { first + line ≤ MOST_ELEMENTS }
-    ensures { result ≡ input_line first line }
+    ensures { result ≡ bank_input_line first line }
 {
     Line {
         element: first + line,

@@ -5,14 +5,14 @@ use Rattle.std.proofs.Common.{◌≡◌, ◌≢◌, ◌∙◌, ◌<◌, ◌+◌,
 use Rattle.std.proofs.lemmas.Bool.{and_parts, ltb-true}
 use Rattle.std.proofs.lemmas.Option.{slice_get_within, get_or_from_slice_get}
 use Rattle.std.proofs.lemmas.List.Sums.{AllPass-from_list_all}
-use Rattle.bn_entries.specs.Numbering.{firsts_by, numbers_from}
+use Rattle.bn_csv.specs.Numbering.{firsts_by, numbers_from}
 use Rattle.bn_machine.specs.Machine.{final_of, IsInRange, IsFirstFault}
 use Rattle.bn_lists.specs.Lists.{nth}
 use Rattle.bn_machine.specs.declared.quint.Quint.{Quint}
 use Rattle.bn_machine.specs.declared.quint.Shift.TheVariants.{Stay, Right}
 use Rattle.bn_standard.specs.Standard.{IsStandard}
 use Rattle.bn_table.specs.Rows.{FitsTable, states_in}
-use Rattle.bn_gen.specs.Increments.{IsRoundCount, incrementer, quints_of, rule, goes_left, final}
+use Rattle.bn_gen.specs.Increments.{IsRoundCount, incrementer, quints_of, increment_rule, left_going, final}
 use Rattle.bn_gen.proofs.Cases.{by_cases}
 use Rattle.bn_gen.proofs.FormLemmas.{passes, tells_number, avoids_start, avoids_final, apart, lone_start, lone_final}
 
@@ -77,19 +77,19 @@ all_avoid_final = by_cases (λ k. passes (avoids_final (final k) (9 * k + 1)) 1 
 ends_final : (k : ℕ) → IsRoundCount k → final_of (quints_of k) ≡ final k
 ends_final = by_cases (λ k. final_of (quints_of k) ≡ final k) refl refl refl refl
 
-last_stands : (k : ℕ) → IsRoundCount k → nth (quints_of k) (length (quints_of k)) ≡ Some (rule (goes_left k) 0 0 Stay (final k))
-last_stands = by_cases (λ k. nth (quints_of k) (length (quints_of k)) ≡ Some (rule (goes_left k) 0 0 Stay (final k))) refl refl refl refl
+last_stands : (k : ℕ) → IsRoundCount k → nth (quints_of k) (length (quints_of k)) ≡ Some (increment_rule (left_going k) 0 0 Stay (final k))
+last_stands = by_cases (λ k. nth (quints_of k) (length (quints_of k)) ≡ Some (increment_rule (left_going k) 0 0 Stay (final k))) refl refl refl refl
 
-not_start : (k : ℕ) → IsRoundCount k → goes_left k ≢ 0
+not_start : (k : ℕ) → IsRoundCount k → left_going k ≢ 0
 not_start k h e = omega (arith, h.some, e)
 
 pub standard : (k : ℕ) → IsRoundCount k → IsStandard (quints_of k)
 standard k h = record {
   unambiguous = apart place (quints_of k) (all_apart k h);
-  begins = record { quint = rule 0 0 0 Right 1; stands = refl; begins = record { reads = refl; writes = refl; shifts = refl } };
+  begins = record { quint = increment_rule 0 0 0 Right 1; stands = refl; begins = record { reads = refl; writes = refl; shifts = refl } };
   lone_start = lone_start (quints_of k) refl (all_avoid_start k h);
   ends = record {
-    quint = rule (goes_left k) 0 0 Stay (final k);
+    quint = increment_rule (left_going k) 0 0 Stay (final k);
     stands = last_stands k h;
     ends = record { reads = refl; writes = refl; shifts = refl; apart = not_start k h };
   };

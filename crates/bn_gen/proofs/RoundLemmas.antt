@@ -3,7 +3,7 @@ use Rattle.std.proofs.Common.{◌≡◌, ◌∙◌, ◌≤◌, ◌+◌, ◌*◌,
 use Rattle.std.proofs.lemmas.List.{append-nil}
 use Rattle.bn_machine.specs.declared.quint.Quint.{Quint}
 use Rattle.bn_machine.specs.declared.quint.Shift.TheVariants.{Right}
-use Rattle.bn_gen.specs.Increments.{rounds, round, goes_right}
+use Rattle.bn_gen.specs.Increments.{rounds, round, right_going}
 
 pub rounds_none : (list : List Quint) → list ≡ list ++ rounds (1 - 1)
 rounds_none list = sym (append-nil list)
@@ -13,7 +13,7 @@ pub rounds_more : (old list new : List Quint) (i : ℕ) → 1 ≤ i →
     list ≡ old ++ rounds (i - 1) → new ≡ list ++ round i Right (3 * i + 1) → new ≡ old ++ rounds (i + 1 - 1)
 rounds_more old list new zero some before now = absurd (omega (arith, some))
 rounds_more old list new (suc i) some before now =
-    let next : 3 * suc i + 1 ≡ goes_right (suc i + 1) = omega arith in
+    let next : 3 * suc i + 1 ≡ right_going (suc i + 1) = omega arith in
     let count : suc i + 1 - 1 ≡ suc i = omega arith in
     let last : suc i - 1 ≡ i = omega arith in
     now

@@ -13,8 +13,8 @@ pub record IsRoundCount (k : ℕ) : Type 0 where
   pub few : k ≤ MOST_INCREMENTS
 
 -- the symbols by number: the blank, the digit 0, the digit 1
-abbrev pub blank : ℕ
-blank = 0
+abbrev pub blank_digit : ℕ
+blank_digit = 0
 
 abbrev pub digit_0 : ℕ
 digit_0 = 1
@@ -24,48 +24,49 @@ digit_1 = 2
 
 -- The states by first appearance: the start; in each round, counted from 1, the one that goes right to the end of the
 -- number, the one that adds one and carries, the one that goes left over the rest; after k rounds the final state.
-abbrev pub start : ℕ
-start = 0
+abbrev pub increment_start : ℕ
+increment_start = 0
 
-abbrev pub goes_right : ℕ → ℕ
-goes_right round = 3 * round - 2
+abbrev pub right_going : ℕ → ℕ
+right_going round = 3 * round - 2
 
 abbrev pub carries : ℕ → ℕ
 carries round = 3 * round - 1
 
-abbrev pub goes_left : ℕ → ℕ
-goes_left round = 3 * round
+abbrev pub left_going : ℕ → ℕ
+left_going round = 3 * round
 
 abbrev pub final : ℕ → ℕ
 final k = 3 * k + 1
 
 -- a quintuple: state, scanned symbol, written symbol, shift, next state
-abbrev pub rule : ℕ → ℕ → ℕ → Shift → ℕ → Quint
-rule state read write shift next =
+abbrev pub increment_rule : ℕ → ℕ → ℕ → Shift → ℕ → Quint
+increment_rule state read write shift next =
     record { state = state; read = read; write = write; shift = shift; next = next }
 
 -- the nine quintuples of a round; the last, at the blank before the number, shifts and leads on as said
 abbrev pub round : ℕ → Shift → ℕ → List Quint
 round i shift next =
-    rule (goes_right i) digit_0 digit_0 Right (goes_right i)
-    ∷ rule (goes_right i) digit_1 digit_1 Right (goes_right i)
-    ∷ rule (goes_right i) blank blank Left (carries i)
-    ∷ rule (carries i) digit_1 digit_0 Left (carries i)
-    ∷ rule (carries i) digit_0 digit_1 Left (goes_left i)
-    ∷ rule (carries i) blank digit_1 Left (goes_left i)
-    ∷ rule (goes_left i) digit_0 digit_0 Left (goes_left i)
-    ∷ rule (goes_left i) digit_1 digit_1 Left (goes_left i)
-    ∷ rule (goes_left i) blank blank shift next
+    increment_rule (right_going i) digit_0 digit_0 Right (right_going i)
+    ∷ increment_rule (right_going i) digit_1 digit_1 Right (right_going i)
+    ∷ increment_rule (right_going i) blank_digit blank_digit Left (carries i)
+    ∷ increment_rule (carries i) digit_1 digit_0 Left (carries i)
+    ∷ increment_rule (carries i) digit_0 digit_1 Left (left_going i)
+    ∷ increment_rule (carries i) blank_digit digit_1 Left (left_going i)
+    ∷ increment_rule (left_going i) digit_0 digit_0 Left (left_going i)
+    ∷ increment_rule (left_going i) digit_1 digit_1 Left (left_going i)
+    ∷ increment_rule (left_going i) blank_digit blank_digit shift next
     ∷ []
 
 -- the first n rounds, each of which steps onto the number again for the next round
 abbrev pub rounds : ℕ → List Quint
 rounds zero = []
-rounds (suc n) = rounds n ++ round (suc n) Right (goes_right (suc n + 1))
+rounds (suc n) = rounds n ++ round (suc n) Right (right_going (suc n + 1))
 
 -- the whole list: a step onto the number, k - 1 rounds that lead on, and the last round, which stays where it ends
 abbrev pub quints_of : ℕ → List Quint
-quints_of k = rule start blank blank Right (goes_right 1) ∷ (rounds (k - 1) ++ round k Stay (final k))
+quints_of k = increment_rule increment_start blank_digit blank_digit Right (right_going 1) ∷ (rounds (k - 1)
+    ++ round k Stay (final k))
 
 -- the machine
 abbrev pub incrementer : ℕ → Program

@@ -1,8 +1,8 @@
 -- The machine of k increments as a table: the names of its states, the letters of its symbols, and the table's text.
 -- It is this project's own example.
 use Rattle.std.specs.Prelude.{ℕ, ◌+◌, ◌*◌, ◌++◌, ◌∷◌, [], List, codes, take}
-use Rattle.bn_entries.specs.Lines.{lines_of}
-use Rattle.bn_table.specs.Rows.{Named, named, rows_of}
+use Rattle.bn_csv.specs.Lines.{lines_of}
+use Rattle.bn_table.specs.Rows.{Named, named_program, rows_of}
 use Rattle.bn_gen.specs.Increments.{incrementer}
 
 -- the names of the start and of the states of four rounds, by number: R goes right to the end of the number, P adds
@@ -17,16 +17,16 @@ round_names =
     ∷ []
 
 -- the names of all states: those of k rounds, and the final state's
-abbrev pub names_of : ℕ → List (List ℕ)
-names_of k = take (3 * k + 1) round_names ++ codes "F" ∷ []
+abbrev pub increment_names : ℕ → List (List ℕ)
+increment_names k = take (3 * k + 1) round_names ++ codes "F" ∷ []
 
 -- the letters of the blank and the digits
-abbrev pub letters : List ℕ
-letters = codes "_01"
+abbrev pub increment_letters : List ℕ
+increment_letters = codes "_01"
 
 -- the table, and its text: a line for each quintuple
 abbrev pub increments_table : ℕ → Named
-increments_table k = named (incrementer k) (names_of k) letters
+increments_table k = named_program (incrementer k) (increment_names k) increment_letters
 
 abbrev pub increments_text : ℕ → List ℕ
 increments_text k = lines_of (rows_of (increments_table k))

@@ -3,12 +3,17 @@ ghost use Rattle.std.specs.Prelude.{◌≡◌, IfOk};
 ghost use Rattle.bn_gen.specs.Increments.{incrementer, IsRoundCount};
 
 use crate::rounds::list_quints;
-use bn_entries::NoMemory;
+use bn_csv::NoMemory;
 use bn_machine::{Machine, MachineRefusal};
 use std::alloc::Global;
 
 /// The most increments.
 pub const MOST_INCREMENTS: u32 = 4;
+
+/// A law: the most increments are 4.
+pub fn most_increments_are_stated()
+    ensures { MOST_INCREMENTS ≡ 4 }
+{}
 
 /// The machine, in standard form, that adds one to a binary number k times, one round after another; k is from 1 to
 /// 4. Its symbols are the blank, the digit 0 and the digit 1, in this order, and its states are numbered by first

@@ -4,7 +4,7 @@ ghost use Rattle.bn_gen.specs.Increments as list;
 ghost use Rattle.bn_gen.specs.Increments.{IsRoundCount};
 
 use crate::machine::MOST_INCREMENTS;
-use bn_entries::NoMemory;
+use bn_csv::NoMemory;
 use bn_machine::{Quint, Shift};
 use std::alloc::Global;
 
@@ -17,7 +17,7 @@ const ONE: u32 = 2;
 
 // A quintuple.
 fn rule(state: u32, read: u32, write: u32, shift: Shift, next: u32) -> Quint
-    ensures { result ≡ list.rule state read write shift next }
+    ensures { result ≡ list.increment_rule state read write shift next }
 {
     Quint {
         state,

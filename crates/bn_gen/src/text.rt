@@ -1,7 +1,7 @@
 //! The machine of k increments as the text of a table.
 
 ghost use Rattle.std.specs.Prelude.{◌≡◌, ◌++◌, ◌*◌, ◌+◌, ◌<◌, [], IfOk, OnOk, slice_index, slice_index_or};
-ghost use Rattle.bn_entries.specs.Lines.{line_of};
+ghost use Rattle.bn_csv.specs.Lines.{line_of};
 ghost use Rattle.bn_machine.specs.Machine.{IsInRange};
 ghost use Rattle.bn_table.specs.Entry.{entry_of};
 ghost use Rattle.bn_table.specs.Reading.{Reads};
@@ -10,7 +10,7 @@ ghost use Rattle.bn_gen.specs.Increments.{IsRoundCount};
 ghost use Rattle.bn_gen.specs.Text as text;
 
 use crate::machine::increments;
-use bn_entries::{EntryWriter, NoMemory};
+use bn_csv::{EntryWriter, NoMemory};
 use bn_machine::Quint;
 use bn_table::write_row;
 use std::alloc::Global;
@@ -47,7 +47,7 @@ fn round_name(state: u32) -> &'static [u8]
 fn state_name(k: u32, state: u32) -> &'static [u8]
     requires count { IsRoundCount k }
     requires inside { state < 3 * k + 2 }
-    ensures { result.now ≡ slice_index_or (text.names_of k) state [] }
+    ensures { result.now ≡ slice_index_or (text.increment_names k) state [] }
 {
     if state == 3 * k + 1 {
         FINAL
@@ -61,7 +61,7 @@ fn write_quint(writer: &mut EntryWriter, k: u32, quint: &Quint) -> Result<(), No
     requires count { IsRoundCount k }
     requires range { IsInRange (3 * k + 2) 3 quint.now }
     ensures { OnOk result (writer.new ≡ writer.old
-        ++ line_of (entry_of (said_of (text.names_of k) text.letters quint.now))) }
+        ++ line_of (entry_of (said_of (text.increment_names k) text.increment_letters quint.now))) }
 {
     write_row(
         writer,

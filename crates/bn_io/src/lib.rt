@@ -12,8 +12,6 @@ mod sinks;
 mod sources;
 mod std_sink;
 mod std_source;
-#[cfg(test)]
-mod tests;
 mod writing;
 
 pub use bn_lists::NoMemory;
@@ -25,3 +23,6 @@ pub use sources::{Source, SourceFailed};
 pub use std_sink::StdSink;
 pub use std_source::StdSource;
 pub use writing::{WriteFault, write_all};
+
+#[cfg(test)]
+mod tests;

@@ -1,3 +1,5 @@
+pub mod ApartLemmas
 pub mod ListLemmas
 pub mod LeastLemmas
 pub mod MemberLemmas
+pub mod RunsLemmas

@@ -1,3 +1,4 @@
+pub mod ShiftLemmas
 pub mod CutLemmas
 pub mod MachineLemmas
 pub mod OutcomeLemmas

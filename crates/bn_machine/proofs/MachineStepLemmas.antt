@@ -5,12 +5,12 @@ use Rattle.std.specs.Ordering.{int_eq}
 use Rattle.std.proofs.lemmas.List.{get_or-take}
 use Rattle.std.proofs.lemmas.Int.{ints}
 use Rattle.std.proofs.lemmas.Bool.Decides.{eqb_tells}
-use Rattle.bn_theory.specs.Runs.{Reaches, IsFunction}
-use Rattle.bn_theory.proofs.RunsLemmas.{runs_more}
+use Rattle.bn_lists.specs.Runs.{Reaches, IsFunction}
+use Rattle.bn_lists.proofs.RunsLemmas.{runs_more}
 use Rattle.bn_machine.specs.Tape.{Tape, cell, scanned, write, shift, moved, letter_at}
 use Rattle.bn_machine.proofs.TapeLemmas.{cell-word, cell-write, cell-write_beside}
 use Rattle.bn_machine.specs.Window.{Room, anywhere, within, Allows, IsBetween}
-use Rattle.bn_machine.specs.Machine.{Program, Moment, Matches, Applies, IsFirstMatch, HasNoMatch, GoesBy, Goes, IsFinal, IsStuck, start, final_of}
+use Rattle.bn_machine.specs.Machine.{Program, Moment, Matches, Applies, IsFirstMatch, HasNoMatch, GoesBy, MachineRunsTo, IsFinal, IsMachineStuck, start, final_of}
 use Rattle.bn_lists.proofs.ListLemmas.{first_once, first_or_none}
 use Rattle.bn_machine.specs.Run.{After, AfterWithin, Follows}
 use Rattle.bn_machine.specs.declared.quint.Shift.{Shift}
@@ -53,21 +53,21 @@ goes_by_once room other p n m c d e f g =
     let same = first_match_once p.quints c.state (scanned c.tape) n m f.quint g.quint f.match g.match in
     (same.0, applies_once f.quint c d f.applies ∙ ap (λ q. moment_after q c) same.1 ∙ sym (applies_once g.quint c e g.applies))
 
-pub goes_once : (room other : Room) (p : Program) (c d e : Moment) → Goes room p c d → Goes other p c e → d ≡ e
+pub goes_once : (room other : Room) (p : Program) (c d e : Moment) → MachineRunsTo room p c d → MachineRunsTo other p c e → d ≡ e
 goes_once room other p c d e f g = (goes_by_once room other p f.0 g.0 c d e f.1 g.1).1
 
-pub steps_are_functions : (room : Room) (p : Program) → IsFunction (Goes room p)
+pub steps_are_functions : (room : Room) (p : Program) → IsFunction (MachineRunsTo room p)
 steps_are_functions room p = λ c d e f g. goes_once room room p c d e f g
 
 -- a step in a room is a step without ends, and the other way round where its head stays in the room
-pub goes_anywhere : (room : Room) (p : Program) (c d : Moment) → Goes room p c d → Goes anywhere p c d
+pub goes_anywhere : (room : Room) (p : Program) (c d : Moment) → MachineRunsTo room p c d → MachineRunsTo anywhere p c d
 goes_anywhere room p c d f = (f.0, record { going = f.1.going; quint = f.1.quint; match = f.1.match; applies = f.1.applies; stays = tt })
 
-pub goes_inside : (room : Room) (p : Program) (c d : Moment) → Allows room d.tape.head → Goes anywhere p c d → Goes room p c d
+pub goes_inside : (room : Room) (p : Program) (c d : Moment) → Allows room d.tape.head → MachineRunsTo anywhere p c d → MachineRunsTo room p c d
 goes_inside room p c d stays f = (f.0, record { going = f.1.going; quint = f.1.quint; match = f.1.match; applies = f.1.applies; stays = stays })
 
 -- a moment is final, or stuck, or a step leads on, and only one of the three holds
-pub final_stuck_or_goes : (p : Program) (c : Moment) → IsFinal p c ⊎ (IsStuck p c ⊎ ((d : Moment) × Goes anywhere p c d))
+pub final_stuck_or_goes : (p : Program) (c : Moment) → IsFinal p c ⊎ (IsMachineStuck p c ⊎ ((d : Moment) × MachineRunsTo anywhere p c d))
 final_stuck_or_goes p c =
     elim (decided c.state (final_of p.quints)) [
       | inl final ↦ inl final
@@ -89,13 +89,13 @@ final_stuck_or_goes p c =
       ]
     ]
 
-pub final_not_stuck : (p : Program) (c : Moment) → IsFinal p c → IsStuck p c → ⊥
+pub final_not_stuck : (p : Program) (c : Moment) → IsFinal p c → IsMachineStuck p c → ⊥
 final_not_stuck p c final stuck = stuck.going final
 
-pub final_not_going : (room : Room) (p : Program) (c d : Moment) → IsFinal p c → Goes room p c d → ⊥
+pub final_not_going : (room : Room) (p : Program) (c d : Moment) → IsFinal p c → MachineRunsTo room p c d → ⊥
 final_not_going room p c d final goes = goes.1.going final
 
-pub stuck_not_going : (room : Room) (p : Program) (c d : Moment) → IsStuck p c → Goes room p c d → ⊥
+pub stuck_not_going : (room : Room) (p : Program) (c d : Moment) → IsMachineStuck p c → MachineRunsTo room p c d → ⊥
 stuck_not_going room p c d stuck goes = stuck.none.none goes.0 goes.1.quint goes.1.match.stands goes.1.match.holds
 
 moved_near : (p : ℤ) (s : Shift) → ((p -ℤ pos 1) ≤ℤ moved p s) × (moved p s ≤ℤ (p +ℤ pos 1))
@@ -104,14 +104,14 @@ moved_near p Stay = (omega (arith, ints), omega (arith, ints))
 moved_near p Right = (omega (arith, ints), omega (arith, ints))
 
 -- a step moves the head by one cell at most
-pub head_near : (room : Room) (p : Program) (c d : Moment) → Goes room p c d → ((c.tape.head -ℤ pos 1) ≤ℤ d.tape.head) × (d.tape.head ≤ℤ (c.tape.head +ℤ pos 1))
+pub head_near : (room : Room) (p : Program) (c d : Moment) → MachineRunsTo room p c d → ((c.tape.head -ℤ pos 1) ≤ℤ d.tape.head) × (d.tape.head ≤ℤ (c.tape.head +ℤ pos 1))
 head_near room p c d f =
     let at : d.tape.head ≡ moved c.tape.head f.1.quint.shift = ap (λ (t : Tape). t.head) f.1.applies.writes in
     let near = moved_near c.tape.head f.1.quint.shift in
     (subst (λ h. (c.tape.head -ℤ pos 1) ≤ℤ h) (sym at) near.0, subst (λ h. h ≤ℤ (c.tape.head +ℤ pos 1)) (sym at) near.1)
 
 -- and i steps by i cells
-pub head_within : (room : Room) (p : Program) (i : ℕ) (c d : Moment) → Reaches (Goes room p) i c d → ((c.tape.head -ℤ pos i) ≤ℤ d.tape.head) × (d.tape.head ≤ℤ (c.tape.head +ℤ pos i))
+pub head_within : (room : Room) (p : Program) (i : ℕ) (c d : Moment) → Reaches (MachineRunsTo room p) i c d → ((c.tape.head -ℤ pos i) ≤ℤ d.tape.head) × (d.tape.head ≤ℤ (c.tape.head +ℤ pos i))
 head_within room p zero c d run =
     let same : d.tape.head ≡ c.tape.head = ap (λ (m : Moment). m.tape.head) (sym run) in
     (omega (arith, ints), omega (arith, ints))
@@ -131,7 +131,7 @@ head_after room p word i c run =
     record { above = near.0; below = let high : c.tape.head ≤ℤ (pos 0 +ℤ pos i) = near.1 in omega (arith, ints) }
 
 -- a run of i steps stays in every room that reaches from -i to i
-pub run_inside : (left right : ℕ) (p : Program) (i : ℕ) (c d : Moment) → (pos 0 -ℤ pos left) ≤ℤ (c.tape.head -ℤ pos i) → (c.tape.head +ℤ pos i) ≤ℤ pos right → Reaches (Goes anywhere p) i c d → Reaches (Goes (within left right) p) i c d
+pub run_inside : (left right : ℕ) (p : Program) (i : ℕ) (c d : Moment) → (pos 0 -ℤ pos left) ≤ℤ (c.tape.head -ℤ pos i) → (c.tape.head +ℤ pos i) ≤ℤ pos right → Reaches (MachineRunsTo anywhere p) i c d → Reaches (MachineRunsTo (within left right) p) i c d
 run_inside left right p zero c d low high run = run
 run_inside left right p (suc i) c d low high run =
     let near = head_near anywhere p c run.0 run.1 in
@@ -140,7 +140,7 @@ run_inside left right p (suc i) c d low high run =
     let stays : IsBetween left right run.0.tape.head = record { above = omega (arith, ints); below = omega (arith, ints) } in
     (run.0, goes_inside (within left right) p c run.0 stays run.1, run_inside left right p i run.0 d (omega (arith, ints)) (omega (arith, ints)) run.2)
 
-pub run_anywhere : (room : Room) (p : Program) (i : ℕ) (c d : Moment) → Reaches (Goes room p) i c d → Reaches (Goes anywhere p) i c d
+pub run_anywhere : (room : Room) (p : Program) (i : ℕ) (c d : Moment) → Reaches (MachineRunsTo room p) i c d → Reaches (MachineRunsTo anywhere p) i c d
 run_anywhere room p zero c d run = run
 run_anywhere room p (suc i) c d run = (run.0, goes_anywhere room p c run.0 run.1, run_anywhere room p i run.0 d run.2)
 
@@ -149,17 +149,17 @@ follows_first room p k [] c m d first run = (c, refl, subst (λ e. GoesBy room p
 follows_first room p k (n ∷ ns) c m d first run = (run.0, follows_first room p k ns c m run.0 first run.1, run.2)
 
 -- a run of i steps has a history of i numbers, and the other way round
-pub run_follows : (room : Room) (p : Program) (i : ℕ) (c d : Moment) → Reaches (Goes room p) i c d → (ns : List ℕ) × (length ns ≡ i) × Follows room p ns c d
+pub run_follows : (room : Room) (p : Program) (i : ℕ) (c d : Moment) → Reaches (MachineRunsTo room p) i c d → (ns : List ℕ) × (length ns ≡ i) × Follows room p ns c d
 run_follows room p zero c d run = ([], refl, run)
 run_follows room p (suc i) c d run =
     let rest = run_follows room p i run.0 d run.2 in
     let count : length (rest.0 ++ run.1.0 ∷ []) ≡ suc i = simp length-append (omega (arith, rest.1)) in
     (rest.0 ++ run.1.0 ∷ [], count, follows_first room p run.1.0 rest.0 c run.0 d run.1.1 rest.2)
 
-pub follows_run : (room : Room) (p : Program) (ns : List ℕ) (c d : Moment) → Follows room p ns c d → Reaches (Goes room p) (length ns) c d
+pub follows_run : (room : Room) (p : Program) (ns : List ℕ) (c d : Moment) → Follows room p ns c d → Reaches (MachineRunsTo room p) (length ns) c d
 follows_run room p [] c d run = run
 follows_run room p (n ∷ ns) c d run =
-    let longer = runs_more (Goes room p) (length ns) c run.0 d (follows_run room p ns c run.0 run.1) (n, run.2) in
+    let longer = runs_more (MachineRunsTo room p) (length ns) c run.0 d (follows_run room p ns c run.0 run.1) (n, run.2) in
     rw add-one at longer
 
 pub agrees_turned : (b : ℤ) (c d : Moment) → AgreesUpTo b c d → AgreesUpTo b d c
@@ -171,7 +171,7 @@ agrees_scanned b c d a h = a.cells c.tape.head h ∙ ap (cell d.tape) a.head
 pub agrees_final : (b : ℤ) (p : Program) (c d : Moment) → AgreesUpTo b c d → IsFinal p c → IsFinal p d
 agrees_final b p c d a final = sym a.state ∙ final
 
-pub agrees_stuck : (b : ℤ) (p : Program) (c d : Moment) → AgreesUpTo b c d → c.tape.head ≤ℤ b → IsStuck p c → IsStuck p d
+pub agrees_stuck : (b : ℤ) (p : Program) (c d : Moment) → AgreesUpTo b c d → c.tape.head ≤ℤ b → IsMachineStuck p c → IsMachineStuck p d
 agrees_stuck b p c d a h stuck = record {
   going = λ final. stuck.going (a.state ∙ final);
   none = subst (λ s. HasNoMatch p.quints s (scanned d.tape)) a.state (subst (HasNoMatch p.quints c.state) (agrees_scanned b c d a h) stuck.none);
@@ -189,7 +189,7 @@ agrees_after b q c d a = record {
 }
 
 -- where two moments agree up to a position that the head hasn't passed, they step alike
-pub agrees_step : (b : ℤ) (p : Program) (c d e : Moment) → AgreesUpTo b c d → c.tape.head ≤ℤ b → Goes anywhere p c e → (f : Moment) × Goes anywhere p d f × AgreesUpTo b e f
+pub agrees_step : (b : ℤ) (p : Program) (c d e : Moment) → AgreesUpTo b c d → c.tape.head ≤ℤ b → MachineRunsTo anywhere p c e → (f : Moment) × MachineRunsTo anywhere p d f × AgreesUpTo b e f
 agrees_step b p c d e a h goes =
     let by = goes.1 in
     let match = subst (λ s. IsFirstMatch p.quints s (scanned d.tape) goes.0 by.quint) a.state (subst (λ x. IsFirstMatch p.quints c.state x goes.0 by.quint) (agrees_scanned b c d a h) by.match) in (
@@ -208,7 +208,7 @@ agrees_step b p c d e a h goes =
     )
 
 -- and so do runs that don't come beyond the position
-pub agrees_run : (b : ℤ) (p : Program) (i : ℕ) (c d e : Moment) → AgreesUpTo b c d → (c.tape.head +ℤ pos i) ≤ℤ b → Reaches (Goes anywhere p) i c e → (f : Moment) × Reaches (Goes anywhere p) i d f × AgreesUpTo b e f
+pub agrees_run : (b : ℤ) (p : Program) (i : ℕ) (c d e : Moment) → AgreesUpTo b c d → (c.tape.head +ℤ pos i) ≤ℤ b → Reaches (MachineRunsTo anywhere p) i c e → (f : Moment) × Reaches (MachineRunsTo anywhere p) i d f × AgreesUpTo b e f
 agrees_run b p zero c d e a h run = (d, refl, subst (λ m. AgreesUpTo b m d) run a)
 agrees_run b p (suc i) c d e a h run =
     let near = head_near anywhere p c run.0 run.1 in
@@ -240,7 +240,7 @@ cut_run p word k i c early run =
     (alike.0, alike.1, agrees_turned (pos k) c alike.0 alike.2)
 
 -- i steps change no cell that lies i or more cells to the right of the first head
-pub right_untouched : (room : Room) (p : Program) (i : ℕ) (c d : Moment) (q : ℤ) → (c.tape.head +ℤ pos i) ≤ℤ q → Reaches (Goes room p) i c d → cell d.tape q ≡ cell c.tape q
+pub right_untouched : (room : Room) (p : Program) (i : ℕ) (c d : Moment) (q : ℤ) → (c.tape.head +ℤ pos i) ≤ℤ q → Reaches (MachineRunsTo room p) i c d → cell d.tape q ≡ cell c.tape q
 right_untouched room p zero c d q h run = ap (λ (m : Moment). cell m.tape q) (sym run)
 right_untouched room p (suc i) c d q h run =
     let near = head_near room p c run.0 run.1 in

@@ -3,11 +3,11 @@ use Rattle.std.specs.Prelude.{◌≡◌, ℕ, zero, suc, ◌+◌, ◌<◌, ◌�
 use Rattle.std.proofs.Common.{refl, sym, subst, ◌∙◌, ap, arith, inl, inr, ◌⊎◌}
 use Rattle.std.proofs.lemmas.Int.{ints, by_lt_z}
 use Rattle.std.proofs.lemmas.Bool.{cases_lt}
-use Rattle.bn_theory.specs.Runs.{Reaches, IsFunction}
-use Rattle.bn_theory.proofs.RunsLemmas.{runs_more, runs_end_once}
+use Rattle.bn_lists.specs.Runs.{Reaches, IsFunction}
+use Rattle.bn_lists.proofs.RunsLemmas.{runs_more, runs_end_once}
 use Rattle.bn_machine.specs.Tape.{scanned}
 use Rattle.bn_machine.specs.Window.{anywhere, within, IsBetween, IsBeyond}
-use Rattle.bn_machine.specs.Machine.{Program, Moment, Goes, start}
+use Rattle.bn_machine.specs.Machine.{Program, Moment, MachineRunsTo, start}
 use Rattle.bn_machine.specs.Run.{AfterWithin}
 use Rattle.bn_machine.specs.Run as free
 use Rattle.bn_machine.proofs.OutputLemmas.{output_once, output_exists}
@@ -112,7 +112,7 @@ comes_out_once p l i c o q (leaves d side goes e beyond f) (leaves d' side' goes
     f ∙ ap (Outside 1) (beyond_one_side l.left l.right d'.tape.head side side' there beyond') ∙ sym f'
 
 -- where a run comes out it doesn't go on
-ends_there : (p : Program) (l : Limits) (i : ℕ) (c d : Moment) (o : Outcome) → ComesOut p l i c o → i < l.steps → Goes (within l.left l.right) p c d → ⊥
+ends_there : (p : Program) (l : Limits) (i : ℕ) (c d : Moment) (o : Outcome) → ComesOut p l i c o → i < l.steps → MachineRunsTo (within l.left l.right) p c d → ⊥
 ends_there p l i c d o (halts y final out a) early goes = final_not_going (within l.left l.right) p c d final goes
 ends_there p l i c d o (sticks stuck e) early goes = stuck_not_going (within l.left l.right) p c d stuck goes
 ends_there p l i c d o (runs_out d' goes' e f) early goes = absurd (omega arith)
@@ -122,13 +122,13 @@ ends_there p l i c d o (leaves d' side goes' e beyond f) early goes =
 
 no_earlier : (p : Program) (word : List ℕ) (l : Limits) (i j : ℕ) (o q : Outcome) → HasOutcome p word l i o → HasOutcome p word l j q → i < j → ⊥
 no_earlier p word l i j o q a b h =
-    let step = run_goes_on (Goes (within l.left l.right) p) (steps_are_functions (within l.left l.right) p) i j (start p word) a.moment b.moment h a.run b.run in
+    let step = run_goes_on (MachineRunsTo (within l.left l.right) p) (steps_are_functions (within l.left l.right) p) i j (start p word) a.moment b.moment h a.run b.run in
     let in_time : j ≤ l.steps = b.in_time in
     ends_there p l i a.moment step.0 o a.ends (omega arith) step.1
 
 same_time : (p : Program) (word : List ℕ) (l : Limits) (i : ℕ) (o q : Outcome) → HasOutcome p word l i o → HasOutcome p word l i q → o ≡ q
 same_time p word l i o q a b =
-    let same = runs_end_once (Goes (within l.left l.right) p) (steps_are_functions (within l.left l.right) p) i (start p word) a.moment b.moment a.run b.run in
+    let same = runs_end_once (MachineRunsTo (within l.left l.right) p) (steps_are_functions (within l.left l.right) p) i (start p word) a.moment b.moment a.run b.run in
     comes_out_once p l i b.moment o q (subst (λ m. ComesOut p l i m o) same a.ends) b.ends
 
 -- there is only one outcome
@@ -143,7 +143,7 @@ outcome_once p word l i j o q a b = by_order (cases_lt i j) (cases_lt j i)
         (same, same_time p word l j o q (subst (λ n. HasOutcome p word l n o) same a) b)
 
 -- a run that has come so far comes out here, or makes one more step
-next_turn : (p : Program) (word : List ℕ) (l : Limits) (i : ℕ) (c : Moment) → i ≤ l.steps → AfterWithin (within l.left l.right) p word i c → ((o : Outcome) × HasOutcome p word l i o) ⊎ ((i < l.steps) × ((d : Moment) × Goes (within l.left l.right) p c d))
+next_turn : (p : Program) (word : List ℕ) (l : Limits) (i : ℕ) (c : Moment) → i ≤ l.steps → AfterWithin (within l.left l.right) p word i c → ((o : Outcome) × HasOutcome p word l i o) ⊎ ((i < l.steps) × ((d : Moment) × MachineRunsTo (within l.left l.right) p c d))
 next_turn p word l i c in_time run =
     elim (final_stuck_or_goes p c) [
       | inl final ↦
@@ -159,10 +159,10 @@ next_turn p word l i c in_time run =
       ]
     ]
   where
-    comes : (o : Outcome) → ComesOut p l i c o → ((o : Outcome) × HasOutcome p word l i o) ⊎ ((i < l.steps) × ((d : Moment) × Goes (within l.left l.right) p c d))
+    comes : (o : Outcome) → ComesOut p l i c o → ((o : Outcome) × HasOutcome p word l i o) ⊎ ((i < l.steps) × ((d : Moment) × MachineRunsTo (within l.left l.right) p c d))
     comes o ends = inl (o, record { moment = c; run = run; in_time = in_time; ends = ends })
 
-    goes_on : (d : Moment) → Goes anywhere p c d → i < l.steps → ((o : Outcome) × HasOutcome p word l i o) ⊎ ((i < l.steps) × ((d : Moment) × Goes (within l.left l.right) p c d))
+    goes_on : (d : Moment) → MachineRunsTo anywhere p c d → i < l.steps → ((o : Outcome) × HasOutcome p word l i o) ⊎ ((i < l.steps) × ((d : Moment) × MachineRunsTo (within l.left l.right) p c d))
     goes_on d goes early =
         by_lt_z d.tape.head (pos 0 -ℤ pos l.left)
         (λ beyond. comes (Outside 1 Left) (leaves d Left goes early beyond refl))
@@ -180,7 +180,7 @@ outcome_from p word l (suc fuel) i c e run =
     let next : (i + 1) + fuel ≡ l.steps = omega arith in
     elim (next_turn p word l i c (omega arith) run) [
       | inl out ↦ (i, out.0, out.1)
-      | inr step ↦ outcome_from p word l fuel (i + 1) step.1.0 next (runs_more (Goes (within l.left l.right) p) i (start p word) c step.1.0 run step.1.1)
+      | inr step ↦ outcome_from p word l fuel (i + 1) step.1.0 next (runs_more (MachineRunsTo (within l.left l.right) p) i (start p word) c step.1.0 run step.1.1)
     ]
 
 -- there is an outcome
@@ -198,20 +198,20 @@ free_once p n i c e f (free.runs d goes t a) (free.halts y final out b) = absurd
 free_once p n i c e f (free.runs d goes t a) (free.sticks stuck b) = absurd (stuck_not_going anywhere p c d stuck goes)
 free_once p n i c e f (free.runs d goes t a) (free.runs d' goes' t' b) = a ∙ sym b
 
-free_ends : (p : Program) (n i : ℕ) (c d : Moment) (e : free.Ending) → free.EndsAt p n i c e → i < n → Goes anywhere p c d → ⊥
+free_ends : (p : Program) (n i : ℕ) (c d : Moment) (e : free.Ending) → free.EndsAt p n i c e → i < n → MachineRunsTo anywhere p c d → ⊥
 free_ends p n i c d e (free.halts y final out a) early goes = final_not_going anywhere p c d final goes
 free_ends p n i c d e (free.sticks stuck a) early goes = stuck_not_going anywhere p c d stuck goes
 free_ends p n i c d e (free.runs d' goes' t a) early goes = absurd (omega arith)
 
 free_no_earlier : (p : Program) (word : List ℕ) (n i j : ℕ) (e f : free.Ending) → free.HasEnding p word n i e → free.HasEnding p word n j f → i < j → ⊥
 free_no_earlier p word n i j e f a b h =
-    let step = run_goes_on (Goes anywhere p) (steps_are_functions anywhere p) i j (start p word) a.moment b.moment h a.run b.run in
+    let step = run_goes_on (MachineRunsTo anywhere p) (steps_are_functions anywhere p) i j (start p word) a.moment b.moment h a.run b.run in
     let in_time : j ≤ n = b.in_time in
     free_ends p n i a.moment step.0 e a.ends (omega arith) step.1
 
 free_same_time : (p : Program) (word : List ℕ) (n i : ℕ) (e f : free.Ending) → free.HasEnding p word n i e → free.HasEnding p word n i f → e ≡ f
 free_same_time p word n i e f a b =
-    let same = runs_end_once (Goes anywhere p) (steps_are_functions anywhere p) i (start p word) a.moment b.moment a.run b.run in
+    let same = runs_end_once (MachineRunsTo anywhere p) (steps_are_functions anywhere p) i (start p word) a.moment b.moment a.run b.run in
     free_once p n i b.moment e f (subst (λ m. free.EndsAt p n i m e) same a.ends) b.ends
 
 -- there is only one ending
@@ -240,7 +240,7 @@ ending_from p word n (suc fuel) i c sum run =
       | inl final ↦ let out = output_exists c.tape in (i, free.Halted out.0, record { moment = c; run = run; in_time = omega arith; ends = free.halts out.0 final out.1 refl })
       | inr more ↦ elim more [
         | inl stuck ↦ (i, free.Stuck c.state (scanned c.tape), record { moment = c; run = run; in_time = omega arith; ends = free.sticks stuck refl })
-        | inr step ↦ ending_from p word n fuel (i + 1) step.0 next (runs_more (Goes anywhere p) i (start p word) c step.0 run step.1)
+        | inr step ↦ ending_from p word n fuel (i + 1) step.0 next (runs_more (MachineRunsTo anywhere p) i (start p word) c step.0 run step.1)
       ]
     ]
 

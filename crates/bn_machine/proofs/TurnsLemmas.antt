@@ -4,7 +4,7 @@ use Rattle.std.proofs.Common.{refl, sym, subst, ◌∙◌, ap, arith}
 use Rattle.std.proofs.lemmas.Int.{ints}
 use Rattle.bn_machine.specs.Tape.{scanned, moved}
 use Rattle.bn_machine.specs.Window.{within, Windowed, IsBetween, IsBeyond, with_tape}
-use Rattle.bn_machine.specs.Machine.{Program, Moment, Goes, IsStuck, IsLeaving, start, moment}
+use Rattle.bn_machine.specs.Machine.{Program, Moment, MachineRunsTo, IsMachineStuck, IsLeaving, start, moment}
 use Rattle.bn_machine.specs.MachineCalls.{IsTurn}
 use Rattle.bn_machine.specs.Run.{After, AfterWithin}
 use Rattle.bn_machine.proofs.MachineStepLemmas.{first_match_once, goes_once, run_inside, stuck_not_going}
@@ -17,11 +17,11 @@ use Rattle.bn_machine.specs.declared.machine.Turn.TheVariants as turn
 same_window : (w v x : Windowed) → v ≡ with_tape w v.tape → x ≡ with_tape w x.tape → v.tape ≡ x.tape → v ≡ x
 same_window w v x e f tapes = e ∙ ap (with_tape w) tapes ∙ sym f
 
-stuck_not_leaving : (p : Program) (s : ℕ) (w : Windowed) (side : Side) → IsStuck p (moment s w) → IsLeaving p s w side → ⊥
+stuck_not_leaving : (p : Program) (s : ℕ) (w : Windowed) (side : Side) → IsMachineStuck p (moment s w) → IsLeaving p s w side → ⊥
 stuck_not_leaving p s w side stuck l = stuck.none.none l.number l.quint l.match.stands l.match.holds
 
 -- a head that would leave the window makes no step inside it
-leaving_not_going : (p : Program) (s : ℕ) (w : Windowed) (side : Side) (d : Moment) → IsLeaving p s w side → Goes (within w.left w.right) p (moment s w) d → ⊥
+leaving_not_going : (p : Program) (s : ℕ) (w : Windowed) (side : Side) (d : Moment) → IsLeaving p s w side → MachineRunsTo (within w.left w.right) p (moment s w) d → ⊥
 leaving_not_going p s w side d l goes =
     let same = first_match_once p.quints s (scanned w.tape) l.number goes.0 l.quint goes.1.quint l.match goes.1.match in
     let head : d.tape.head ≡ moved w.tape.head goes.1.quint.shift = ap (λ t. t.head) goes.1.applies.writes in

@@ -1,9 +1,9 @@
 -- What the laws of this crate say, each the contract of a function with an empty body.
 use Rattle.std.specs.Prelude.{◌≡◌, ℕ, ◌^◌, ◌≤◌, ℤ, pos, ◌≤ℤ◌, List, length, take}
-use Rattle.bn_theory.specs.Runs.{Reaches, IsFunction}
+use Rattle.bn_lists.specs.Runs.{Reaches, IsFunction}
 use Rattle.bn_machine.specs.Tape.{Tape, cell, letter_at}
 use Rattle.bn_machine.specs.Window.{window_of, Room, anywhere, within, IsBetween, Windowed}
-use Rattle.bn_machine.specs.Machine.{Program, Moment, Goes, IsFinal, IsStuck}
+use Rattle.bn_machine.specs.Machine.{Program, Moment, MachineRunsTo, IsFinal, IsMachineStuck}
 use Rattle.bn_machine.specs.MachineCalls.{IsTurn}
 use Rattle.bn_machine.specs.Run.{After, AfterWithin, Follows, IsOutput, Ending, HasEnding}
 use Rattle.bn_machine.specs.Outcome.{Limits, Outcome, HasOutcome}
@@ -22,7 +22,7 @@ HasOneOutput =
 
 -- one moment follows another at most
 abbrev pub StepsAreFunctions : Type 0
-StepsAreFunctions = (room : Room) (p : Program) → IsFunction (Goes room p)
+StepsAreFunctions = (room : Room) (p : Program) → IsFunction (MachineRunsTo room p)
 
 -- a step in a window answers one turn and leaves one state and one tape
 abbrev pub TurnsAreOne : Type 0
@@ -34,7 +34,8 @@ TurnsAreOne =
 -- has cells on each side is a run in the room
 abbrev pub RoomsChangeNothing : Type 0
 RoomsChangeNothing =
-    ((room : Room) (p : Program) (i : ℕ) (c d : Moment) → Reaches (Goes room p) i c d → Reaches (Goes anywhere p) i c d)
+    ((room : Room) (p : Program) (i : ℕ) (c d : Moment) → Reaches (MachineRunsTo room p) i c d
+    → Reaches (MachineRunsTo anywhere p) i c d)
     × ((left right : ℕ) (p : Program) (word : List ℕ) (i : ℕ) (c : Moment) → i ≤ left → i ≤ right → After p word i c
     → AfterWithin (within left right) p word i c)
 
@@ -60,15 +61,15 @@ CutWordsRunAlike =
 abbrev pub AlikeMomentsEndAlike : Type 0
 AlikeMomentsEndAlike =
     (b : ℤ) (p : Program) (c d : Moment) → AgreesUpTo b c d → c.tape.head ≤ℤ b
-    → (IsFinal p c → IsFinal p d) × (IsStuck p c → IsStuck p d)
+    → (IsFinal p c → IsFinal p d) × (IsMachineStuck p c → IsMachineStuck p d)
 
 -- a run of i steps has a history of i numbers, and a history of i numbers is one of a run of i steps
 abbrev pub RunsHaveHistories : Type 0
 RunsHaveHistories =
-    ((room : Room) (p : Program) (i : ℕ) (c d : Moment) → Reaches (Goes room p) i c d
+    ((room : Room) (p : Program) (i : ℕ) (c d : Moment) → Reaches (MachineRunsTo room p) i c d
     → (ns : List ℕ) × (length ns ≡ i) × Follows room p ns c d)
     × ((room : Room) (p : Program) (ns : List ℕ) (c d : Moment) → Follows room p ns c d
-    → Reaches (Goes room p) (length ns) c d)
+    → Reaches (MachineRunsTo room p) (length ns) c d)
 
 -- a run of at most n steps on a tape without ends comes out in one way, and only in one
 abbrev pub HasOneEnding : Type 0

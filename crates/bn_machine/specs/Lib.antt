@@ -1,3 +1,4 @@
+pub mod Shifts
 pub mod Tape
 pub mod Window
 pub mod TapeCalls

@@ -21,6 +21,7 @@ abbrev pub start_of : List Quint → ℕ
 start_of [] = 0
 start_of (q ∷ qs) = q.state
 
+-- the final state: the last quintuple's next state
 abbrev pub final_of : List Quint → ℕ
 final_of [] = 0
 final_of (q ∷ []) = q.next
@@ -83,11 +84,12 @@ pub record GoesBy (room : Room) (p : Program) (n : ℕ) (c d : Moment) : Type 0 
   pub applies : Applies quint c d
   pub stays : Allows room d.tape.head
 
-abbrev pub Goes : Room → Program → Moment → Moment → Type 0
-Goes room p c d = (n : ℕ) × GoesBy room p n c d
+-- one step of the machine, by some quintuple
+abbrev pub MachineRunsTo : Room → Program → Moment → Moment → Type 0
+MachineRunsTo room p c d = (n : ℕ) × GoesBy room p n c d
 
 -- the machine can't go on: no quintuple matches, and the state isn't the final one
-pub record IsStuck (p : Program) (c : Moment) : Type 0 where
+pub record IsMachineStuck (p : Program) (c : Moment) : Type 0 where
   pub going : c.state ≢ final_of p.quints
   pub none : HasNoMatch p.quints c.state (scanned c.tape)
 

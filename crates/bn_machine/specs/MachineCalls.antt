@@ -2,7 +2,7 @@
 use Rattle.std.specs.Prelude.{◌≡◌, ℕ, List, []}
 use Rattle.bn_machine.specs.Tape.{scanned}
 use Rattle.bn_machine.specs.Window.{Windowed, within, with_tape}
-use Rattle.bn_machine.specs.Machine.{Program, IsFirstFault, final_of, IsStuck, IsLeaving, Goes, moment}
+use Rattle.bn_machine.specs.Machine.{Program, IsFirstFault, final_of, IsMachineStuck, IsLeaving, MachineRunsTo, moment}
 use Rattle.bn_machine.specs.declared.quint.Quint.{Quint}
 use Rattle.bn_machine.specs.declared.machine.Turn.{Turn}
 use Rattle.bn_machine.specs.declared.machine.Turn.TheVariants as turn
@@ -19,7 +19,7 @@ IsMachineRefusal qs states symbols (Range i) = IsFirstFault states symbols qs i
 abbrev pub IsTurn : Program → Turn → ℕ → Windowed → ℕ → Windowed → Type 0
 IsTurn p turn.Final state w after v = (state ≡ final_of p.quints) × (after ≡ state) × (v ≡ w)
 IsTurn p (turn.Stuck at symbol) state w after v =
-    IsStuck p (moment state w) × (at ≡ state) × (symbol ≡ scanned w.tape) × (after ≡ state) × (v ≡ w)
+    IsMachineStuck p (moment state w) × (at ≡ state) × (symbol ≡ scanned w.tape) × (after ≡ state) × (v ≡ w)
 IsTurn p (turn.Left side) state w after v = IsLeaving p state w side × (after ≡ state) × (v ≡ w)
 IsTurn p turn.Moved state w after v =
-    Goes (within w.left w.right) p (moment state w) (moment after v) × (v ≡ with_tape w v.tape)
+    MachineRunsTo (within w.left w.right) p (moment state w) (moment after v) × (v ≡ with_tape w v.tape)

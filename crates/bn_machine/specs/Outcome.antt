@@ -3,7 +3,7 @@
 use Rattle.std.specs.Prelude.{◌≡◌, ℕ, ◌+◌, ◌<◌, ◌≤◌, ℤ, pos, ◌+ℤ◌, ◌≤ℤ◌, ◌<ℤ◌, List, length}
 use Rattle.bn_machine.specs.Tape.{scanned}
 use Rattle.bn_machine.specs.Window.{anywhere, within, IsBeyond}
-use Rattle.bn_machine.specs.Machine.{Program, Moment, Goes, IsFinal, IsStuck}
+use Rattle.bn_machine.specs.Machine.{Program, Moment, MachineRunsTo, IsFinal, IsMachineStuck}
 use Rattle.bn_machine.specs.Run.{AfterWithin, IsOutput}
 use Rattle.bn_machine.specs.declared.quint.Side.{Side}
 use Rattle.bn_machine.specs.declared.quint.Side.TheVariants.{Right}
@@ -48,9 +48,10 @@ pub data Copies (l : Limits) (head : ℤ) (y : List ℕ) (o : Outcome) : Type 0 
 -- all steps are made; or where the next step's shift would leave the work tape.
 pub data ComesOut (p : Program) (l : Limits) (i : ℕ) (c : Moment) (o : Outcome) : Type 0 where
   halts : (y : List ℕ) → IsFinal p c → IsOutput c.tape y → Copies l c.tape.head y o → ComesOut p l i c o
-  sticks : IsStuck p c → o ≡ Stuck c.state (scanned c.tape) → ComesOut p l i c o
-  runs_out : (d : Moment) → Goes anywhere p c d → i ≡ l.steps → o ≡ Outside 2 Right → ComesOut p l i c o
-  leaves : (d : Moment) (side : Side) → Goes anywhere p c d → i < l.steps → IsBeyond l.left l.right side d.tape.head
+  sticks : IsMachineStuck p c → o ≡ Stuck c.state (scanned c.tape) → ComesOut p l i c o
+  runs_out : (d : Moment) → MachineRunsTo anywhere p c d → i ≡ l.steps → o ≡ Outside 2 Right → ComesOut p l i c o
+  leaves : (d : Moment) (side : Side) → MachineRunsTo anywhere p c d → i < l.steps
+      → IsBeyond l.left l.right side d.tape.head
       → o ≡ Outside 1 side → ComesOut p l i c o
 
 -- The bounded run from the word makes i steps, all inside the work tape, and then comes out so.

@@ -1,17 +1,17 @@
 -- Runs of a machine from a word (Bennett 1973), and what they leave, by this project's own profile.
 use Rattle.std.specs.Prelude.{◌≡◌, ◌≢◌, ℕ, suc, ◌<◌, ◌≤◌, pos, ◌+ℤ◌, List, [], ◌∷◌, length, slice_index}
-use Rattle.bn_theory.specs.Runs.{Reaches}
+use Rattle.bn_lists.specs.Runs.{Reaches}
 use Rattle.bn_machine.specs.Tape.{Tape, cell, scanned}
 use Rattle.bn_machine.specs.Window.{Room, anywhere}
-use Rattle.bn_machine.specs.Machine.{Program, Moment, Goes, GoesBy, IsFinal, IsStuck, start}
+use Rattle.bn_machine.specs.Machine.{Program, Moment, MachineRunsTo, GoesBy, IsFinal, IsMachineStuck, start}
 
 -- c is what the machine is at after exactly i steps from the word, on a tape without ends
 abbrev pub After : Program → List ℕ → ℕ → Moment → Type 0
-After p word i c = Reaches (Goes anywhere p) i (start p word) c
+After p word i c = Reaches (MachineRunsTo anywhere p) i (start p word) c
 
 -- the same, where the head stays in the room
 abbrev pub AfterWithin : Room → Program → List ℕ → ℕ → Moment → Type 0
-AfterWithin room p word i c = Reaches (Goes room p) i (start p word) c
+AfterWithin room p word i c = Reaches (MachineRunsTo room p) i (start p word) c
 
 -- A run from c to d by the quintuples with these numbers, the last one first: the history of the run.
 abbrev pub Follows : Room → Program → List ℕ → Moment → Moment → Type 0
@@ -34,8 +34,8 @@ pub data Ending : Type 0 where
 -- steps are made
 pub data EndsAt (p : Program) (n i : ℕ) (c : Moment) (e : Ending) : Type 0 where
   halts : (y : List ℕ) → IsFinal p c → IsOutput c.tape y → e ≡ Halted y → EndsAt p n i c e
-  sticks : IsStuck p c → e ≡ Stuck c.state (scanned c.tape) → EndsAt p n i c e
-  runs : (d : Moment) → Goes anywhere p c d → i ≡ n → e ≡ Running → EndsAt p n i c e
+  sticks : IsMachineStuck p c → e ≡ Stuck c.state (scanned c.tape) → EndsAt p n i c e
+  runs : (d : Moment) → MachineRunsTo anywhere p c d → i ≡ n → e ≡ Running → EndsAt p n i c e
 
 -- the machine's own run from the word, of at most n steps, comes out so after i steps
 pub record HasEnding (p : Program) (word : List ℕ) (n i : ℕ) (e : Ending) : Type 0 where

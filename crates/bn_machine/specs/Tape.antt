@@ -11,10 +11,12 @@ use Rattle.bn_machine.specs.declared.quint.Shift.TheVariants.{Left, Stay, Right}
 abbrev pub Cells : Type 0
 Cells = FinMap int_cmp ℕ
 
+-- A tape without ends: its nonblank cells, and where its head stands.
 pub record Tape : Type 0 where
   pub cells : Cells
   pub head : ℤ
 
+-- the symbol for which a kept value stands
 abbrev pub symbol_of : Option ℕ → ℕ
 symbol_of None = 0
 symbol_of (Some v) = suc v
@@ -28,10 +30,11 @@ unfoldable pub set_cell : Cells → ℤ → ℕ → Cells
 set_cell m p zero = remove m p
 set_cell m p (suc v) = insert m p v
 
--- the symbol of a tape at a position, and the one that the head scans
+-- the symbol of a tape at a position
 abbrev pub cell : Tape → ℤ → ℕ
 cell t p = symbol_at t.cells p
 
+-- the symbol that the head scans
 abbrev pub scanned : Tape → ℕ
 scanned t = cell t t.head
 
@@ -51,6 +54,7 @@ opposite Left = Right
 opposite Stay = Stay
 opposite Right = Left
 
+-- the tape with its head moved
 abbrev pub shift : Tape → Shift → Tape
 shift t s = record { cells = t.cells; head = moved t.head s }
 

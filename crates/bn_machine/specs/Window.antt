@@ -18,6 +18,7 @@ pub record IsBetween (left right : ℕ) (p : ℤ) : Type 0 where
   pub above : (pos 0 -ℤ pos left) ≤ℤ p
   pub below : p ≤ℤ pos right
 
+-- the room allows the position: a room without ends each one, a window those that lie in it
 abbrev pub Allows : Room → ℤ → Type 0
 Allows anywhere p = ⊤
 Allows (within left right) p = IsBetween left right p

@@ -5,6 +5,7 @@ mod laws;
 mod machine;
 mod matching;
 mod quint;
+mod shifts;
 mod tape;
 
 pub use laws::{
@@ -15,6 +16,7 @@ pub use laws::{
 };
 pub use machine::{Machine, MachineRefusal, Turn};
 pub use quint::{Quint, Shift, Side};
+pub use shifts::{shift_of, text_of_shift};
 pub use tape::{Tape, TapeRefusal};
 
 #[cfg(test)]

@@ -4,10 +4,10 @@ use Rattle.std.proofs.Common.{arith, sym, ap, subst, ◌∙◌, get_or, inl, inr
 use Rattle.std.proofs.lemmas.List.{take_more}
 use Rattle.std.proofs.lemmas.Option.{slice_get-get_or}
 use Rattle.std.proofs.lemmas.Bool.Decides.{nat_tests}
-use Rattle.bn_theory.specs.Tables.{Table}
-use Rattle.bn_theory.specs.Circuits.{target, source, same_line}
-use Rattle.bn_theory.specs.declared.line.Line.{Line}
-use Rattle.bn_theory.specs.declared.line.Wire.{Wire}
+use Rattle.bn_element.specs.Tables.{Table}
+use Rattle.bn_circuits.specs.Circuits.{target, source, same_line}
+use Rattle.bn_circuits.specs.declared.line.Line.{Line}
+use Rattle.bn_circuits.specs.declared.line.Wire.{Wire}
 use Rattle.bn_net.specs.Faults.{WireFault, out_of_range, second_target, second_source, fault_of, checked, IsFaultless, AreFaultless, IsFirstFault, IsRefusal}
 use Rattle.bn_net.specs.declared.refusal.NetRefusal.{NetRefusal}
 use Rattle.bn_net.specs.declared.refusal.NetRefusal.TheVariants.{Range, TwoTargets, TwoSources}

@@ -1,3 +1,5 @@
+pub mod RotaryNetLemmas
+pub mod WiringsLemmas
 pub mod WireListLemmas
 pub mod RowLemmas
 pub mod WireLemmas

@@ -1,12 +1,12 @@
 -- A step forward and backward, from what the code has read and written.
 use Rattle.std.specs.Prelude.{◌≡◌, ℕ, ◌+◌, ◌-◌, ◌<◌, ◌≤◌, length, Some, None, slice_get, slice_set}
 use Rattle.std.proofs.Common.{suc, arith, sym, subst}
-use Rattle.bn_theory.specs.Circuits.{Circuit, IsCircuit, IsConfig, IsPlace, IsOutput, Goes, IsFirst, go_of, back_of, states_of, place_after, clock}
-use Rattle.bn_theory.specs.Stepping.{line_before}
-use Rattle.bn_theory.proofs.StepLemmas.{parts-Goes, Goes-Came}
-use Rattle.bn_theory.specs.declared.line.Line.{Line}
-use Rattle.bn_theory.specs.declared.place.Place.TheVariants.{Enter}
-use Rattle.bn_theory.specs.declared.config.Config.{Config}
+use Rattle.bn_circuits.specs.Circuits.{Circuit, IsCircuit, IsConfig, IsPlace, IsOutputOf, Goes, IsFirst, go_of, back_of, states_of, place_after, clock}
+use Rattle.bn_circuits.specs.Stepping.{line_before}
+use Rattle.bn_circuits.proofs.StepLemmas.{parts-Goes, Goes-Came}
+use Rattle.bn_circuits.specs.declared.line.Line.{Line}
+use Rattle.bn_circuits.specs.declared.place.Place.TheVariants.{Enter}
+use Rattle.bn_circuits.specs.declared.config.Config.{Config}
 use Rattle.bn_net.proofs.WireLemmas.{input-within, output-within}
 
 -- the element that the signal enters has a state
@@ -17,7 +17,7 @@ enter-within k c e i config at =
     omega (arith, config.count)
 
 -- so has the element that the signal came from
-pub output-state : (k : Circuit) (c : Config) (from : Line) → IsConfig k c → IsOutput k.tables from → from.element < length c.states
+pub output-state : (k : Circuit) (c : Config) (from : Line) → IsConfig k c → IsOutputOf k.tables from → from.element < length c.states
 output-state k c from config output =
     let within : from.element < length k.tables = output-within k.tables from.element from.line output in
     omega (arith, config.count)

@@ -2,10 +2,10 @@
 use Rattle.std.specs.Prelude.{◌≡◌, ℕ, ◌<◌, List, [], ◌∷◌, ◌++◌, Option, Some, None, slice_get, ◌⊎◌, refl}
 use Rattle.std.proofs.Common.{zero, suc, arith, sym, ap, subst, ◌∙◌, inl, inr}
 use Rattle.std.proofs.lemmas.Bool.Decides.{nat_tests}
-use Rattle.bn_theory.specs.Circuits.{target}
-use Rattle.bn_theory.proofs.StepLemmas.{same_lines}
-use Rattle.bn_theory.specs.declared.line.Line.{Line}
-use Rattle.bn_theory.specs.declared.line.Wire.{Wire}
+use Rattle.bn_circuits.specs.Circuits.{target}
+use Rattle.bn_circuits.proofs.StepLemmas.{same_lines}
+use Rattle.bn_circuits.specs.declared.line.Line.{Line}
+use Rattle.bn_circuits.specs.declared.line.Wire.{Wire}
 use Rattle.bn_net.specs.Rows.{Rows, wires_of_row, wires_of}
 use Rattle.bn_net.specs.Order.{ComesBefore, ComesFirst, AreInOrder, WiresStandOnce}
 use Rattle.bn_net.specs.Parts.{Parts}

@@ -4,7 +4,7 @@ use Rattle.std.proofs.Common.{zero, suc, arith, sym, ap, ◌∙◌, get_or, set,
 use Rattle.std.proofs.lemmas.List.{take-set-le, drop-set-lt, drop-set-add, drop-replicate, take-replicate, length-replicate}
 use Rattle.std.proofs.Math.Seq.{take-set-lt}
 use Rattle.bn_net.specs.Rows.{entry, width, put, rows_at, AreStarts, starts_from}
-use Rattle.bn_theory.specs.declared.line.Line.{Line}
+use Rattle.bn_circuits.specs.declared.line.Line.{Line}
 
 abbrev Cells : Type 0
 Cells = List (Option Line)

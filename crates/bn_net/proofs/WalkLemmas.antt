@@ -1,13 +1,13 @@
 -- What a watch has heard, one step after another.
 use Rattle.std.specs.Prelude.{◌≡◌, ℕ, ◌+◌, ◌<◌, ◌≤◌, List, [], ◌∷◌, ◌++◌, Option, Some, None, refl}
 use Rattle.std.proofs.Common.{zero, suc, arith, sym, ap, subst, ◌∙◌, append_assoc, append-nil}
-use Rattle.bn_theory.specs.Runs.{Reaches}
-use Rattle.bn_theory.proofs.RunsLemmas.{runs_more, runs_join, runs_turned}
-use Rattle.bn_theory.specs.Circuits.{Circuit, IsCircuit, IsConfig, Goes, IsStuck, IsFirst}
-use Rattle.bn_theory.specs.Stepping.{places, places_back}
-use Rattle.bn_theory.proofs.RunLemmas.{places-Goes, places-stuck, places-zero, places_back-Goes, places_back-first, places_back-zero}
-use Rattle.bn_theory.specs.declared.place.Place.{Place}
-use Rattle.bn_theory.specs.declared.config.Config.{Config}
+use Rattle.bn_lists.specs.Runs.{Reaches}
+use Rattle.bn_lists.proofs.RunsLemmas.{runs_more, runs_join, runs_turned}
+use Rattle.bn_circuits.specs.Circuits.{Circuit, IsCircuit, IsConfig, Goes, IsStuck, IsFirst}
+use Rattle.bn_circuits.specs.Stepping.{places, places_back}
+use Rattle.bn_circuits.proofs.RunLemmas.{places-Goes, places-stuck, places-zero, places_back-Goes, places_back-first, places_back-zero}
+use Rattle.bn_circuits.specs.declared.place.Place.{Place}
+use Rattle.bn_circuits.specs.declared.config.Config.{Config}
 use Rattle.bn_net.specs.Watching.{Hears}
 use Rattle.bn_net.specs.Walking.{HasWalked, HasWalkedBack}
 

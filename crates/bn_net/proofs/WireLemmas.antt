@@ -5,11 +5,11 @@ use Rattle.std.proofs.Common.{zero, suc, arith, sym, ap, subst, ◌∙◌, inl, 
 use Rattle.std.proofs.lemmas.Bool.Decides.{eqb_tells, nat_tests}
 use Rattle.std.proofs.lemmas.List.{length-replicate}
 use Rattle.std.proofs.lemmas.Option.{option_and_then_some, slice_get_within}
-use Rattle.bn_theory.specs.Tables.{Table, IsReversible}
-use Rattle.bn_theory.specs.Circuits.{same_line, target, source, IsCircuit, IsInput, IsOutput, states_of, inputs_of, outputs_of}
-use Rattle.bn_theory.proofs.StepLemmas.{same_lines, slice_get-set_same, slice_get-set_other}
-use Rattle.bn_theory.specs.declared.line.Line.{Line}
-use Rattle.bn_theory.specs.declared.line.Wire.{Wire}
+use Rattle.bn_element.specs.Tables.{Table, IsReversible}
+use Rattle.bn_circuits.specs.Circuits.{same_line, target, source, IsCircuit, IsInputOf, IsOutputOf, states_of, inputs_of, outputs_of}
+use Rattle.bn_circuits.proofs.StepLemmas.{same_lines, slice_get-set_same, slice_get-set_other}
+use Rattle.bn_circuits.specs.declared.line.Line.{Line}
+use Rattle.bn_circuits.specs.declared.line.Wire.{Wire}
 use Rattle.bn_net.specs.Rows.{Rows, entry, width, put, wires_of_row, wires_of, IsWired}
 use Rattle.bn_net.specs.Parts.{Parts, circuit}
 use Rattle.bn_net.proofs.WireListLemmas.{line_tells}
@@ -223,8 +223,8 @@ width-put rows w to within e =
 
 -- a wire without fault: its lines are there, and no wire has them yet
 pub record IsFree (tables : List Table) (wires : List Wire) (w : Wire) : Type 0 where
-  pub output : IsOutput tables w.from
-  pub input : IsInput tables w.to
+  pub output : IsOutputOf tables w.from
+  pub input : IsInputOf tables w.to
   pub no_target : target wires w.from ≡ None
   pub no_source : source wires w.to ≡ None
 
@@ -336,7 +336,7 @@ free_of tables wires w none = by_tests (is_within tables w) (target wires w.from
           no_source = at_to;
         }
       where
-        both_lines : is_within tables w ≡ true → IsOutput tables w.from × IsInput tables w.to
+        both_lines : is_within tables w ≡ true → IsOutputOf tables w.from × IsInputOf tables w.to
         both_lines there = grind (arith, nat_tests)
 
 -- the wires after a free wire is written both ways

@@ -2,10 +2,10 @@
 use Rattle.std.specs.Prelude.{◌≡◌, ◌≢◌, true, false, if◌then◌else◌, List, [], ◌∷◌, ◌++◌, Some, None, refl, ◌⊎◌}
 use Rattle.std.proofs.Common.{sym, ap, ◌∙◌, inl, inr}
 use Rattle.std.proofs.lemmas.Bool.Decides.{eqb_tells}
-use Rattle.bn_theory.specs.Circuits.{same_line, target, source}
-use Rattle.bn_theory.proofs.StepLemmas.{same_lines}
-use Rattle.bn_theory.specs.declared.line.Line.{Line}
-use Rattle.bn_theory.specs.declared.line.Wire.{Wire}
+use Rattle.bn_circuits.specs.Circuits.{same_line, target, source}
+use Rattle.bn_circuits.proofs.StepLemmas.{same_lines}
+use Rattle.bn_circuits.specs.declared.line.Line.{Line}
+use Rattle.bn_circuits.specs.declared.line.Wire.{Wire}
 
 -- two lines are one, or they are not
 pub line_tells : (a b : Line) → ((same_line a b ≡ true) × (a ≡ b)) ⊎ ((same_line a b ≡ false) × (a ≢ b))

@@ -1,9 +1,9 @@
 -- What can be wrong with a list of wires, and which wire is the first at fault.
 use Rattle.std.specs.Prelude.{◌≡◌, ℕ, ◌-◌, ◌<◌, nat_lt, ◌&&◌, List, length, take, Option, Some, None, is_some}
 use Rattle.std.specs.Prelude.{slice_get, if◌then◌else◌, Bool, Result, Ok, Err}
-use Rattle.bn_theory.specs.Tables.{Table}
-use Rattle.bn_theory.specs.Circuits.{target, source, states_of, inputs_of, outputs_of}
-use Rattle.bn_theory.specs.declared.line.Wire.{Wire}
+use Rattle.bn_element.specs.Tables.{Table}
+use Rattle.bn_circuits.specs.Circuits.{target, source, states_of, inputs_of, outputs_of}
+use Rattle.bn_circuits.specs.declared.line.Wire.{Wire}
 use Rattle.bn_net.specs.declared.refusal.NetRefusal.{NetRefusal}
 use Rattle.bn_net.specs.declared.refusal.NetRefusal.TheVariants.{Range, TwoTargets, TwoSources, NoMemory}
 

@@ -1,3 +1,5 @@
+pub mod Wirings
+pub mod RotaryNets
 pub mod Rows
 pub mod Parts
 pub mod Order

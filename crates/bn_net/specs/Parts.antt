@@ -1,8 +1,8 @@
 -- A net as contracts see it: its elements, and its wires in the order of their output lines.
 use Rattle.std.specs.Prelude.{List, map}
-use Rattle.bn_theory.specs.Tables.{Table}
-use Rattle.bn_theory.specs.Circuits.{Circuit}
-use Rattle.bn_theory.specs.declared.line.Wire.{Wire}
+use Rattle.bn_element.specs.Tables.{Table}
+use Rattle.bn_circuits.specs.Circuits.{Circuit}
+use Rattle.bn_circuits.specs.declared.line.Wire.{Wire}
 
 pub record Parts (E : Type 0) : Type 0 where
   pub elements : List E

@@ -1,10 +1,10 @@
 -- Runs under the eyes of a watch.
 use Rattle.std.specs.Prelude.{ℕ, List, Option}
-use Rattle.bn_theory.specs.Runs.{Reaches}
-use Rattle.bn_theory.specs.Circuits.{Circuit, IsConfig, Goes}
-use Rattle.bn_theory.specs.Stepping.{places, places_back}
-use Rattle.bn_theory.specs.declared.place.Place.{Place}
-use Rattle.bn_theory.specs.declared.config.Config.{Config}
+use Rattle.bn_lists.specs.Runs.{Reaches}
+use Rattle.bn_circuits.specs.Circuits.{Circuit, IsConfig, Goes}
+use Rattle.bn_circuits.specs.Stepping.{places, places_back}
+use Rattle.bn_circuits.specs.declared.place.Place.{Place}
+use Rattle.bn_circuits.specs.declared.config.Config.{Config}
 use Rattle.bn_net.specs.Watching.{Hears}
 
 -- Exactly so many steps led from c to d, which is a configuration, and a watch has heard the place after each.

@@ -16,7 +16,7 @@ pub fn wires_stand_once()
     ensures { WiresStandOnce }
 {}
 
-/// `MOST_ELEMENTS`, the limit of a circuit that is read, made or written, is 2^20.
+/// `MOST_ELEMENTS`, the limit of a circuit that is read, made or written, is 2^22.
 pub fn most_elements_are_stated()
-    ensures { MOST_ELEMENTS ≡ 2 ^ 20 }
+    ensures { MOST_ELEMENTS ≡ 2 ^ 22 }
 {}

@@ -4,12 +4,14 @@
 mod laws;
 mod net;
 mod refusal;
+mod rotary;
 mod row_map;
 mod watch;
 
+pub use bn_circuits::{CLOCK, Config, Line, Place, States, Wire};
 pub use bn_lists::NoMemory;
-pub use bn_theory::{CLOCK, Config, Line, Place, States, Wire};
 pub use laws::{most_elements_are_stated, watches_tell_within_room, wires_stand_once};
 pub use net::{MOST_ELEMENTS, Net};
 pub use refusal::NetRefusal;
+pub use rotary::rotary_net;
 pub use watch::{MemWatch, Quiet, Watch};

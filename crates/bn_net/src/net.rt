@@ -3,27 +3,27 @@
 ghost use Rattle.std.specs.Prelude.{◌≡◌, ◌↔◌, ◌+◌, ◌^◌, ◌<◌, ◌≤◌, List, [], length, map, Option, Some, None, IsTrue};
 ghost use Rattle.std.specs.Prelude.{IfOk, IfSome, OnOk, IfErr, slice_get, if◌then◌else◌};
 ghost use Rattle.std.specs.Bool.{OnTrue, OnFalse};
-ghost use Rattle.bn_theory.specs.Runs.{Reaches};
-ghost use Rattle.bn_theory.specs.Tables.{Table};
-ghost use Rattle.bn_theory.specs.Circuits.{IsCircuit, IsConfig, IsPlace, IsInput, IsOutput, Goes, IsStuck, IsFirst};
-ghost use Rattle.bn_theory.specs.Circuits.{target, source, states_of, inputs_of, outputs_of, go_of, back_of, same_line};
-ghost use Rattle.bn_theory.specs.Circuits.{place_after};
-ghost use Rattle.bn_theory.specs.Stepping.{run, back, line_before};
+ghost use Rattle.bn_lists.specs.Runs.{Reaches};
+ghost use Rattle.bn_element.specs.Tables.{Table};
+ghost use Rattle.bn_circuits.specs.Circuits.{IsCircuit, IsConfig, IsPlace, IsInputOf, IsOutputOf, Goes, IsStuck, IsFirst};
+ghost use Rattle.bn_circuits.specs.Circuits.{target, source, states_of, inputs_of, outputs_of, go_of, back_of, same_line};
+ghost use Rattle.bn_circuits.specs.Circuits.{place_after};
+ghost use Rattle.bn_circuits.specs.Stepping.{run, back, line_before};
 ghost use Rattle.bn_net.specs.Parts.{circuit};
 ghost use Rattle.bn_net.specs.Order.{AreInOrder};
 ghost use Rattle.bn_net.specs.Faults.{fault_of, checked, AreStates, AreFaultless, IsRefusal};
-ghost use Rattle.bn_theory.specs.declared.line.Line.{Line};
+ghost use Rattle.bn_circuits.specs.declared.line.Line.{Line};
 
 use crate::refusal::NetRefusal;
 use crate::row_map::RowMap;
+use bn_circuits::{CLOCK, Config, Line, Place, Wire};
 use bn_element::Element;
 use bn_lists::NoMemory;
-use bn_theory::{CLOCK, Config, Line, Place, Wire};
 use std::alloc::{AllocError, Global};
 use std::marker::Model;
 
 /// The most elements of a circuit that is read, made or written as a text (this project's own profile).
-pub const MOST_ELEMENTS: u64 = 1_048_576;
+pub const MOST_ELEMENTS: u64 = 4_194_304;
 
 /// Elements with wires from output lines to input lines, one to one. Elements and their lines are
 /// counted from 0. Clauses see the elements and the list of wires, in the order of their output
@@ -111,7 +111,7 @@ impl<E: Element> Net<E> {
     /// The input line to which the wire of this output line leads, `None` exactly where no wire
     /// leaves it.
     pub fn target(&self, from: Line) -> Option<Line>
-        requires { IsOutput (map E.table self.now.elements) from }
+        requires { IsOutputOf (map E.table self.now.elements) from }
         ensures { result ≡ target self.now.wires from }
     {
         self.targets.get(from)
@@ -120,7 +120,7 @@ impl<E: Element> Net<E> {
     /// The output line from which the wire of this input line comes, `None` exactly where no wire
     /// ends at it.
     pub fn source(&self, to: Line) -> Option<Line>
-        requires { IsInput (map E.table self.now.elements) to }
+        requires { IsInputOf (map E.table self.now.elements) to }
         ensures { result ≡ source self.now.wires to }
     {
         self.sources.get(to)
@@ -285,7 +285,7 @@ impl<E: Element> Net<E> {
 
     // Whether the input line is there.
     fn has_input(&self, line: Line) -> bool
-        ensures { IsTrue result ↔ IsInput (map E.table self.now.elements) line }
+        ensures { IsTrue result ↔ IsInputOf (map E.table self.now.elements) line }
     {
         (line.element as usize) < self.elements.len()
             && line.line < self.elements[line.element as usize].lines_in()
@@ -293,7 +293,7 @@ impl<E: Element> Net<E> {
 
     // Whether the output line is there.
     fn has_output(&self, line: Line) -> bool
-        ensures { IsTrue result ↔ IsOutput (map E.table self.now.elements) line }
+        ensures { IsTrue result ↔ IsOutputOf (map E.table self.now.elements) line }
     {
         (line.element as usize) < self.elements.len()
             && line.line < self.elements[line.element as usize].lines_out()
@@ -347,7 +347,7 @@ impl<E: Element> Net<E> {
 
     // Where the signal is once it has come out by this output line.
     fn place_after(&self, from: Line) -> Place
-        requires { IsOutput (map E.table self.now.elements) from }
+        requires { IsOutputOf (map E.table self.now.elements) from }
         ensures { result ≡ place_after self.now.wires from }
     {
         match self.target(from) {
@@ -366,7 +366,7 @@ impl<E: Element> Net<E> {
     fn line_before(&self, place: Place) -> Option<Line>
         requires { IsPlace (circuit E.table self.now) place }
         ensures line { result ≡ line_before self.now.wires place }
-        ensures output { IfSome result (IsOutput (map E.table self.now.elements)) }
+        ensures output { IfSome result (IsOutputOf (map E.table self.now.elements)) }
     {
         let _ = &self.elements;
         match place {

@@ -4,8 +4,8 @@ ghost use Rattle.std.specs.Prelude.{◌≡◌, ℕ, ◌+◌, ◌^◌, ◌<◌, �
 ghost use Rattle.std.specs.Prelude.{slice_get};
 ghost use Rattle.bn_net.specs.Rows.{entry, width, put, rows_at, AreStarts, starts_from};
 
+use bn_circuits::Line;
 use bn_lists::NoMemory;
-use bn_theory::Line;
 use std::alloc::Global;
 use std::marker::Model;
 

@@ -4,8 +4,8 @@ ghost use Rattle.std.specs.Prelude.{◌≡◌, ℕ, false, ◌<◌, ◌≤◌, �
 ghost use Rattle.std.specs.Prelude.{nat_lt, if◌then◌else◌, vec_len};
 ghost use Rattle.std.specs.Vec.{vec_capacity};
 
+use bn_circuits::Place;
 use bn_lists::NoMemory;
-use bn_theory::Place;
 use std::alloc::Global;
 use std::marker::Model;
 
@@ -13,7 +13,7 @@ use std::marker::Model;
 /// places that it was told, where it tells that list.
 pub trait Watch {
     ghost use Rattle.std.specs.Prelude.{Option, List, [], ◌∷◌};
-    ghost use Rattle.bn_theory.specs.declared.place.Place.{Place};
+    ghost use Rattle.bn_circuits.specs.declared.place.Place.{Place};
     ghost use Rattle.bn_net.specs.Watching.{Hears};
 
     /// The places told, the first one first, or nothing where no list is told.

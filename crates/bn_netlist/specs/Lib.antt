@@ -1,11 +1,4 @@
-pub mod Sentences
-pub mod Spelling
-pub mod Faults
-pub mod NetText
-pub mod Reading
-pub mod LentLine
-pub mod Header
-pub mod TextLaws
-pub mod Progress
-pub mod FaultLaws
-pub mod FaultsOrSpelling
+pub mod FromText
+pub mod Pieces
+pub mod Coming
+pub mod Writing

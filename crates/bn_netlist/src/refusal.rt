@@ -1,50 +1,25 @@
-//! What the calls of this crate refuse.
+//! What reading from a source and writing to a sink refuse.
 
-/// Why a text is no configuration text: its first line with a fault, counted from 1, and that
-/// line's first fault.
+use bn_netlist_lines::NetlistRefusal;
+
+/// Why no configuration was read from a source.
 #[derive(Clone, Copy, PartialEq, Eq, Debug)]
-pub enum NetlistRefusal {
-    /// The line hasn't its form: also where it is missing, where it lacks its byte 10, where its
-    /// number is none, and where bytes stand after the last line.
-    Syntax {
-        /// The line's number, from 1.
-        line: u64,
-    },
-    /// An element's line hasn't the number that comes next.
-    Order {
-        /// The line's number, from 1.
-        line: u64,
-    },
-    /// The line names an element that isn't there.
-    Target {
-        /// The line's number, from 1.
-        line: u64,
-    },
-    /// A wire of the line leads to an input to which an earlier wire leads.
-    TwoSources {
-        /// The line's number, from 1.
-        line: u64,
-    },
-    /// A wire of the line leads to the start.
-    StartFed {
-        /// The line's number, from 1.
-        line: u64,
-    },
-    /// A wire of the line leaves the end.
-    EndWired {
-        /// The line's number, from 1.
-        line: u64,
-    },
-    /// A wire of the line leaves the output by which the signal has left.
-    LeftWired {
-        /// The line's number, from 1.
-        line: u64,
-    },
-    /// The line counts more than 1,048,576 elements.
-    TooMany {
-        /// The line's number, from 1.
-        line: u64,
-    },
+pub enum FromRefusal {
+    /// The source failed.
+    ReadFault,
+    /// The source gave more bytes than the limit.
+    TooLong,
+    /// The bytes up to the end of input are no configuration text.
+    Text(NetlistRefusal),
+    /// There was no memory.
+    NoMemory,
+}
+
+/// Why a configuration was not written whole to a sink.
+#[derive(Clone, Copy, PartialEq, Eq, Debug)]
+pub enum ToRefusal {
+    /// The sink failed.
+    WriteFault,
     /// There was no memory.
     NoMemory,
 }

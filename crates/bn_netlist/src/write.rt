@@ -1,43 +1,43 @@
 //! Writing a configuration text.
 
-ghost use Rattle.std.specs.Prelude.{◌≡◌, ◌<◌, ◌++◌, ◌∷◌, [], ℕ, length, IfOk, OnOk, decimal, codes, map, Option};
-ghost use Rattle.std.specs.Option.{ForSome};
-ghost use Rattle.bn_theory.specs.Circuits.{target, IsCircuit, IsConfig, IsOutput};
-ghost use Rattle.bn_net.specs.Parts.{circuit};
-ghost use Rattle.bn_element.specs.Rotary.{rotary};
-ghost use Rattle.bn_netlist.specs.Sentences.{Element, At, line_at, line_text, place_text, target_text, targets_text};
-ghost use Rattle.bn_netlist.specs.Sentences.{sentence_text, lines_text};
-ghost use Rattle.bn_netlist.specs.Spelling.{Admits, text_of, targets_of, element_sentences};
-ghost use Rattle.bn_netlist.specs.Header.{header_then, header_of};
-ghost use Rattle.bn_netlist.specs.NetText.{spelling_of};
+ghost use Rattle.std.specs.Prelude.{◌≡◌, ◌<◌, ◌≤◌, ◌+◌, ◌^◌, ◌++◌, ◌∷◌, [], ℕ, List, length, IfOk, OnOk, decimal, codes, Option, MatchOption};
+ghost use Rattle.bn_circuits.specs.Circuits.{target};
+ghost use Rattle.bn_netlist_laws.specs.Sentences.{line_of_place, line_text, place_text, target_text, targets_text};
+ghost use Rattle.bn_netlist_laws.specs.Spelling.{targets_of};
+ghost use Rattle.bn_netlist_laws.specs.Sentences.{Sentence, Element, Column, Row, sentence_text, lines_text, title_text};
+ghost use Rattle.bn_netlist_laws.specs.Spelling.{Admits, IsTextOf, IsWrittenAt, header_then, header_of};
+ghost use Rattle.bn_netlist_lines.specs.NetText.{spelling_of};
+ghost use Rattle.bn_netlist.specs.Writing.{IsPlaceIn, IsBehindRow, NextLine, Writes};
 
-use crate::net_config::NetConfig;
+use crate::column::column_at;
+use crate::cursor::Place;
 use bn_base::push_u64;
+use bn_circuits::Line;
 use bn_element::{EAST, HORIZONTAL, NORTH, Rotary, SOUTH, WEST};
 use bn_lists::NoMemory;
 use bn_net::Net;
-use bn_theory::{Line, Place};
+use bn_netlist_laws::Version;
+use bn_netlist_lines::NetConfig;
 use std::alloc::Global;
 
-/// The one text of a configuration that may be spelled: six lines of header and one line an
-/// element. (This project's own profile.)
+/// The one text of a configuration that may be spelled in its version. (This project's own profile.)
 pub fn write_config(alloc: Global, config: &NetConfig) -> Result<Vec<u8>, NoMemory>
-    requires { Admits (spelling_of config.now) }
-    ensures { IfOk result (λ text. text.items ≡ text_of (spelling_of config.now)) }
+    requires { Admits config.now.version (spelling_of config.now) }
+    ensures { IfOk result (λ text. IsTextOf config.now.version (spelling_of config.now) text.items) }
 {
     let mut text = Vec::new(alloc);
     push_header(&mut text, config)?;
-    push_elements(&mut text, config)?;
+    push_entries(&mut text, config)?;
     Ok(text)
 }
 
 // The six lines before those of the elements.
-fn push_header(text: &mut Vec<u8>, config: &NetConfig) -> Result<(), NoMemory>
-    requires { Admits (spelling_of config.now) }
+pub(crate) fn push_header(text: &mut Vec<u8>, config: &NetConfig) -> Result<(), NoMemory>
+    requires { Admits config.now.version (spelling_of config.now) }
     ensures { OnOk result (text.new.items ≡ text.old.items
-        ++ lines_text (header_then (header_of (spelling_of config.now)) [])) }
+        ++ lines_text (header_then (header_of config.now.version (spelling_of config.now)) [])) }
 {
-    push(text, b"rotary 1\n")?;
+    push_title(text, config.version)?;
     push_counted(text, b"elements ", u64::from(config.net.len()))?;
     push_named(text, b"start ", config.start)?;
     push_named(text, b"end ", config.end)?;
@@ -45,17 +45,89 @@ fn push_header(text: &mut Vec<u8>, config: &NetConfig) -> Result<(), NoMemory>
     push_place(text, config.config.place)
 }
 
-// The line of each element, in their order.
-fn push_elements(text: &mut Vec<u8>, config: &NetConfig) -> Result<(), NoMemory>
-    requires { Admits (spelling_of config.now) }
-    ensures { OnOk result (text.new.items ≡ text.old.items
-        ++ lines_text (element_sentences config.now.net.wires 0 config.now.config.states)) }
+// The lines of all elements.
+fn push_entries(text: &mut Vec<u8>, config: &NetConfig) -> Result<(), NoMemory>
+    requires { Admits config.now.version (spelling_of config.now) }
+    ensures { OnOk result ((entries : List Sentence)
+        × Writes config.now.version (spelling_of config.now) entries (length config.now.net.elements) 0
+        × (text.new.items ≡ text.old.items ++ lines_text entries)) }
 {
-    for element in 0..config.net.len() {
-        let state = config.config.states.get(element as usize);
-        push_element(text, &config.net, element, state)?;
+    let mut place = Place {
+        element: 0,
+        rows: 0,
+    };
+    for line in 0..config.net.len() {
+        place = push_line(text, config, place)?;
     }
     Ok(())
+}
+
+// The line at this place, and the place behind it.
+pub(crate) fn push_line(
+    text: &mut Vec<u8>,
+    config: &NetConfig,
+    place: Place,
+) -> Result<Place, NoMemory>
+    requires admitted { Admits config.now.version (spelling_of config.now) }
+    requires within { IsPlaceIn (length config.now.net.elements) place.element place.rows }
+    ensures { IfOk result (λ next. (x : Sentence)
+        × NextLine config.now.version (spelling_of config.now) place.element place.rows next.element next.rows x
+        × (text.new.items ≡ text.old.items ++ (sentence_text x ++ 10 ∷ []))) }
+{
+    if place.rows > 0 {
+        push_row(text, &config.net, place.element)?;
+        return Ok(behind_row(place));
+    }
+    match rows_written(config, place.element) {
+        None => {
+            let state = config.config.states.get(place.element as usize);
+            push_element(text, &config.net, place.element, state)?;
+            Ok(Place {
+                element: place.element + 1,
+                rows: 0,
+            })
+        }
+        Some(rows) => {
+            let state = config.config.states.get((place.element + rows) as usize);
+            push_column(text, place.element, rows, state)?;
+            Ok(Place {
+                element: place.element,
+                rows,
+            })
+        }
+    }
+}
+
+// The place behind a row: the next row, or the element behind the bottom.
+fn behind_row(place: Place) -> Place
+    requires some { 0 < place.rows }
+    requires within { place.element + 2 < 2 ^ 32 }
+    ensures { IsBehindRow place.element place.rows result.element result.rows }
+{
+    if place.rows == 1 {
+        Place {
+            element: place.element + 2,
+            rows: 0,
+        }
+    } else {
+        Place {
+            element: place.element + 1,
+            rows: place.rows - 1,
+        }
+    }
+}
+
+// The number of rows of the column that is written at this element, if one is.
+fn rows_written(config: &NetConfig, element: u32) -> Option<u32>
+    requires { Admits config.now.version (spelling_of config.now) }
+    ensures { MatchOption result
+        ((k : ℕ) → IsWrittenAt config.now.version (spelling_of config.now) element k → ⊥)
+        (IsWrittenAt config.now.version (spelling_of config.now) element) }
+{
+    match config.version {
+        Version::One => None,
+        Version::Two => column_at(&config.net, &config.config.states, element),
+    }
 }
 
 // The line of one element.
@@ -74,6 +146,38 @@ fn push_element(
     push_number(text, u64::from(element))?;
     push(text, if state == HORIZONTAL { b" H" } else { b" V" })?;
     push_targets(text, net, element)?;
+    push(text, b"\n")
+}
+
+// The line of a column.
+fn push_column(text: &mut Vec<u8>, first: u32, rows: u32, state: u32) -> Result<(), NoMemory>
+    requires state { state < 2 }
+    ensures { OnOk result (text.new.items ≡ text.old.items ++ (sentence_text (Column first rows state) ++ 10 ∷ [])) }
+{
+    push(text, b"c ")?;
+    push_number(text, u64::from(first))?;
+    push(text, b" ")?;
+    push_number(text, u64::from(rows))?;
+    push(
+        text,
+        if state == HORIZONTAL {
+            b" H\n"
+        } else {
+            b" V\n"
+        },
+    )
+}
+
+// The line of a row of a column.
+fn push_row(text: &mut Vec<u8>, net: &Net<Rotary>, element: u32) -> Result<(), NoMemory>
+    requires { element < length net.now.elements }
+    ensures { OnOk result (text.new.items ≡ text.old.items
+        ++ (sentence_text (Row (target net.now.wires (record { element = element; line = 1 }))
+        (target net.now.wires (record { element = element; line = 3 }))) ++ 10 ∷ [])) }
+{
+    push(text, b"r")?;
+    push_target(text, net, element, EAST)?;
+    push_target(text, net, element, WEST)?;
     push(text, b"\n")
 }
 
@@ -107,19 +211,37 @@ fn push_target(
         None => push(text, b" -"),
         Some(to) => {
             push(text, b" ")?;
-            push_line(text, to)
+            push_line_of(text, to)
         }
     }
 }
 
+// The first line.
+fn push_title(text: &mut Vec<u8>, version: Version) -> Result<(), NoMemory>
+    ensures { OnOk result (text.new.items ≡ text.old.items ++ (title_text version ++ 10 ∷ [])) }
+{
+    match version {
+        Version::One => push(text, b"rotary 1\n"),
+        Version::Two => push(text, b"rotary 2\n"),
+    }
+}
+
 // Where the signal is.
-fn push_place(text: &mut Vec<u8>, place: Place) -> Result<(), NoMemory>
-    requires { (line_at place).line < 4 }
+fn push_place(text: &mut Vec<u8>, place: bn_circuits::Place) -> Result<(), NoMemory>
+    requires { (line_of_place place).line < 4 }
     ensures { OnOk result (text.new.items ≡ text.old.items ++ (place_text place ++ 10 ∷ [])) }
 {
     match place {
-        Place::Enter { element, line } => push_named(text, b"at ", Line { element, line }),
-        Place::Left { element, line } => push_named(text, b"left ", Line { element, line }),
+        bn_circuits::Place::Enter { element, line } => push_named(
+            text,
+            b"at ",
+            Line { element, line },
+        ),
+        bn_circuits::Place::Left { element, line } => push_named(
+            text,
+            b"left ",
+            Line { element, line },
+        ),
     }
 }
 
@@ -140,12 +262,12 @@ fn push_named(text: &mut Vec<u8>, word: &[u8], line: Line) -> Result<(), NoMemor
         ++ ((word.now ++ line_text line) ++ 10 ∷ [])) }
 {
     push(text, word)?;
-    push_line(text, line)?;
+    push_line_of(text, line)?;
     push(text, b"\n")
 }
 
 // A line of an element.
-fn push_line(text: &mut Vec<u8>, line: Line) -> Result<(), NoMemory>
+fn push_line_of(text: &mut Vec<u8>, line: Line) -> Result<(), NoMemory>
     requires { line.line < 4 }
     ensures { OnOk result (text.new.items ≡ text.old.items ++ line_text line) }
 {

@@ -1,57 +1,120 @@
--- The states that occur, and where a shift is no state's first command.
-use Rattle.std.specs.Prelude.{◌≡◌, ℕ, List, [], ◌∷◌, ◌++◌, Some, refl}
-use Rattle.std.proofs.Common.{arith, ap}
+-- Where a command is no state's first.
+use Rattle.std.proofs.Common.{◌≡◌, ◌≢◌, ℕ, suc, ◌<◌, ◌≤◌, List, [], ◌∷◌, ◌++◌, Some, refl, ap, ◌∙◌, arith}
 use Rattle.bn_lists.specs.Lists.{nth}
 use Rattle.bn_machine.specs.declared.quint.Shift.TheVariants as way
 use Rattle.bn_machine.specs.declared.quint.Side.{Side}
 use Rattle.bn_machine.specs.declared.quint.Side.TheVariants as side
-use Rattle.bn_quad.specs.Quadruples.{Rule, deeds_of, Quadruples}
-use Rattle.bn_modules.specs.Controls.{ControlMove, Shifts, IsEntry, finishes, leaves, waits, IsFirstOf, Occurs, is_end, is_open, is_read, is_shift, is_write, reads_of, shifts_of, writes_of, to_reads, to_shifts, to_writes}
-use Rattle.bn_controllaws.proofs.OrderLemmas.{IsMiddle, ascending, first_shift}
+use Rattle.bn_quad.specs.Quadruples.{Deed, Rewrite, Move, Quadruples, Rule}
+use Rattle.bn_network.specs.Controls.{ControlMove, IsEntry, IsFirstOf, finishes, leaves, waits, symbols_read, Reads, Shifts, Writes, ControlState, shifts, reads_of, shifts_of}
 
--- what is commanded occurs
-module _ (m : Quadruples) (n : ℕ) (r : Rule ℕ) (stands : nth m.rules n ≡ Some r) (e : ControlMove) (there : Occurs m e.0) where
-  -- what is next among the writes
-  pub occurs_writes : (rest before : List (ℕ × ℕ)) → writes_of r ≡ before ++ rest → Occurs m (to_writes e r.to rest).0
-  occurs_writes [] before eq = there
-  occurs_writes (p ∷ rest) before eq = is_write n r stands before rest p eq refl
+-- no shifted tape of the list is before its first tape
+pub above : (xs : List Deed) (t : ℕ) (l r : List (ℕ × Side)) (p : ℕ × Side) → shifts t xs ≡ l ++ (p ∷ r) → t ≤ p.0
+above [] t [] r p e = cc
+above [] t (b ∷ l) r p e = cc
+above (Rewrite a w ∷ xs) t l r p e = let more = above xs (suc t) l r p e in omega arith
+above (Move way.Stay ∷ xs) t l r p e = let more = above xs (suc t) l r p e in omega arith
+above (Move way.Left ∷ xs) t [] r p e = let same : (t, side.Left) ≡ p = cc in let first = ap (λ (q : ℕ × Side). q.0) same in omega arith
+above (Move way.Right ∷ xs) t [] r p e = let same : (t, side.Right) ≡ p = cc in let first = ap (λ (q : ℕ × Side). q.0) same in omega arith
+above (Move way.Left ∷ xs) t (b ∷ l) r p e = let rest : shifts (suc t) xs ≡ l ++ (p ∷ r) = cc in let more = above xs (suc t) l r p rest in omega arith
+above (Move way.Right ∷ xs) t (b ∷ l) r p e = let rest : shifts (suc t) xs ≡ l ++ (p ∷ r) = cc in let more = above xs (suc t) l r p rest in omega arith
 
-  -- what is next among the shifts
-  pub occurs_shifts : (rest before : List (ℕ × Side)) → shifts_of r ≡ before ++ rest → Occurs m (to_shifts e n r rest).0
-  occurs_shifts [] before eq = occurs_writes (writes_of r) [] refl
-  occurs_shifts (p ∷ rest) before eq = is_shift n r stands before rest p eq refl
+-- the shifted tapes rise
+pub ascending : (xs : List Deed) (t : ℕ) (b p : ℕ × Side) (l r : List (ℕ × Side)) → shifts t xs ≡ b ∷ (l ++ (p ∷ r)) → b.0 < p.0
+ascending [] t b p l r e = cc
+ascending (Rewrite a w ∷ xs) t b p l r e = ascending xs (suc t) b p l r e
+ascending (Move way.Stay ∷ xs) t b p l r e = ascending xs (suc t) b p l r e
+ascending (Move way.Left ∷ xs) t b p l r e =
+    let same : (t, side.Left) ≡ b = cc in
+    let first = ap (λ (q : ℕ × Side). q.0) same in
+    let rest : shifts (suc t) xs ≡ l ++ (p ∷ r) = cc in
+    let more = above xs (suc t) l r p rest in
+    omega arith
+ascending (Move way.Right ∷ xs) t b p l r e =
+    let same : (t, side.Right) ≡ b = cc in
+    let first = ap (λ (q : ℕ × Side). q.0) same in
+    let rest : shifts (suc t) xs ≡ l ++ (p ∷ r) = cc in
+    let more = above xs (suc t) l r p rest in
+    omega arith
 
-  -- what is next among the reads
-  pub occurs_reads : (rest before : List (ℕ × ℕ)) → reads_of r ≡ before ++ rest → Occurs m (to_reads e n r before rest).0
-  occurs_reads [] before eq = occurs_shifts (shifts_of r) [] refl
-  occurs_reads (p ∷ rest) before eq = is_read n r stands before rest p eq refl
+-- what was read is not nothing
+some_symbols : (l : List (ℕ × ℕ)) (p : ℕ × ℕ) → symbols_read (l ++ (p ∷ [])) ≢ []
+some_symbols [] p e = cc
+some_symbols (b ∷ l) p e = cc
 
--- a state's first command waits in a state that occurs
-pub occurs_entry : (m : Quadruples) (a : ℕ) (k : ControlMove) → IsEntry m a k → Occurs m k.0
-occurs_entry m a k (finishes final is) = is_end (ap (λ (x : ControlMove). x.0) is)
-occurs_entry m a k (waits other low none is) = is_open a low other none (ap (λ (x : ControlMove). x.0) is)
-occurs_entry m a k (leaves n r stands from first) = go (reads_of r) (shifts_of r) refl refl first
-  where
-    go : (rs : List (ℕ × ℕ)) (ss : List (ℕ × Side)) → reads_of r ≡ rs → shifts_of r ≡ ss → IsFirstOf n r rs ss k → Occurs m k.0
-    go [] [] er es h = absurd h
-    go [] (s ∷ ss) er es h = is_shift n r stands [] ss s es (ap (λ (x : ControlMove). x.0) h)
-    go (p ∷ rs) ss er es h = is_read n r stands [] rs p er (ap (λ (x : ControlMove). x.0) h)
+-- no state's first command waits in this state
+abbrev pub IsMiddle : Quadruples → ControlState → Type 0
+IsMiddle m q = (a : ℕ) (k : ControlMove) → IsEntry m a k → k.0 ≡ q → ⊥
 
 module _ (m : Quadruples) where
-  -- a shift after another is no state's first
-  pub no_shift : (n : ℕ) (r : Rule ℕ) (before rest : List (ℕ × Side)) (p q : ℕ × Side) → nth m.rules n ≡ Some r
-      → shifts_of r ≡ (before ++ (p ∷ [])) ++ (q ∷ rest) → IsMiddle m (Shifts n q.0)
-  no_shift n r before rest p q stands split a k is h = let first = (first_shift m n r q.0 stands a k is h).1 in later before p q first.0 rest first.1 split first.2 first.3
+  -- a read after others is no state's first
+  pub no_read : (b : ℕ) (l : List (ℕ × ℕ)) (p : ℕ × ℕ) → IsMiddle m (Reads b (symbols_read (l ++ (p ∷ []))))
+  no_read b l p a k (finishes final is) e = let f = ap (λ (x : ControlMove). x.0) is in cc
+  no_read b l p a k (leaves n r stands from first) e = go (reads_of r) (shifts_of r) first
     where
-      later : (before : List (ℕ × Side)) (p r' q' : ℕ × Side) (rest tail : List (ℕ × Side)) → shifts_of r ≡ (before ++ (p ∷ [])) ++ (r' ∷ rest)
-          → shifts_of r ≡ q' ∷ tail → q'.0 ≡ r'.0 → ⊥
-      later [] p r' q' rest tail one two same =
-          let first : q' ≡ p = cc in
-          let low = ascending (deeds_of r) 1 p r' [] rest one in
-          let tape = ap (λ (v : ℕ × Side). v.0) first in
-          omega arith
-      later (b ∷ before) p r' q' rest tail one two same =
-          let first : q' ≡ b = cc in
-          let low = ascending (deeds_of r) 1 b r' (before ++ (p ∷ [])) rest one in
-          let tape = ap (λ (v : ℕ × Side). v.0) first in
-          omega arith
+      go : (rs : List (ℕ × ℕ)) (ss : List (ℕ × Side)) → IsFirstOf n r rs ss k → ⊥
+      go [] [] h = h
+      go [] (s ∷ ss) h = let f = ap (λ (x : ControlMove). x.0) h in cc
+      go (s ∷ rs) ss h = let f = ap (λ (x : ControlMove). x.0) h in let none : symbols_read (l ++ (p ∷ [])) ≡ [] = cc in some_symbols l p none
+  no_read b l p a k (waits other low none is) e = let f = ap (λ (x : ControlMove). x.0) is in let empty : symbols_read (l ++ (p ∷ [])) ≡ [] = cc in some_symbols l p empty
+
+  -- a write is no state's first
+  pub no_write : (b t : ℕ) (u : List ℕ) → IsMiddle m (Writes b t u)
+  no_write b t u a k (finishes final is) e = let f = ap (λ (x : ControlMove). x.0) is in cc
+  no_write b t u a k (leaves n r stands from first) e = go (reads_of r) (shifts_of r) first
+    where
+      go : (rs : List (ℕ × ℕ)) (ss : List (ℕ × Side)) → IsFirstOf n r rs ss k → ⊥
+      go [] [] h = h
+      go [] (s ∷ ss) h = let f = ap (λ (x : ControlMove). x.0) h in cc
+      go (s ∷ rs) ss h = let f = ap (λ (x : ControlMove). x.0) h in cc
+  no_write b t u a k (waits other low none is) e = let f = ap (λ (x : ControlMove). x.0) is in cc
+
+  -- a shift that is some state's first is of a quadruple that reads nothing, and is its first
+  pub first_shift : (n : ℕ) (r : Rule ℕ) (t : ℕ) → nth m.rules n ≡ Some r → (a : ℕ) (k : ControlMove) → IsEntry m a k → k.0 ≡ Shifts n t
+      → (reads_of r ≡ []) × ((q : ℕ × Side) × (rest : List (ℕ × Side)) × (shifts_of r ≡ q ∷ rest) × (q.0 ≡ t))
+  first_shift n r t stands a k (finishes final is) e = absurd (let f = ap (λ (x : ControlMove). x.0) is in cc)
+  first_shift n r t stands a k (leaves j y isy from first) e = go (reads_of y) (shifts_of y) refl refl first
+    where
+      go : (rs : List (ℕ × ℕ)) (ss : List (ℕ × Side)) → reads_of y ≡ rs → shifts_of y ≡ ss → IsFirstOf j y rs ss k
+          → (reads_of r ≡ []) × ((q : ℕ × Side) × (rest : List (ℕ × Side)) × (shifts_of r ≡ q ∷ rest) × (q.0 ≡ t))
+      go [] [] er es h = absurd h
+      go [] (s ∷ ss) er es h =
+          let f = ap (λ (x : ControlMove). x.0) h in
+          let number : n ≡ j = cc in
+          let there : Some r ≡ Some y = cc in
+          let same : r ≡ y = cc in
+          let tape : s.0 ≡ t = cc in
+          (ap reads_of same ∙ er, (s, ss, ap shifts_of same ∙ es, tape))
+      go (s ∷ rs) ss er es h = absurd (let f = ap (λ (x : ControlMove). x.0) h in cc)
+  first_shift n r t stands a k (waits other low none is) e = absurd (let f = ap (λ (x : ControlMove). x.0) is in cc)
+
+-- a shift of a quadruple is known by its tape
+pub alone : (xs : List Deed) (t : ℕ) (a b r s : List (ℕ × Side)) (p q : ℕ × Side) → shifts t xs ≡ a ++ (p ∷ r) → shifts t xs ≡ b ++ (q ∷ s) → p.0 ≡ q.0
+    → (a ≡ b) × (p ≡ q) × (r ≡ s)
+alone xs t [] [] r s p q e f same = let all : p ∷ r ≡ q ∷ s = cc in (refl, cc, cc)
+alone xs t [] (y ∷ b) r s p q e f same =
+    let first : p ≡ y = cc in
+    let low = ascending xs t y q b s f in
+    let tape = ap (λ (v : ℕ × Side). v.0) first in
+    absurd (omega arith)
+alone xs t (x ∷ a) [] r s p q e f same =
+    let first : q ≡ x = cc in
+    let low = ascending xs t x p a r e in
+    let tape = ap (λ (v : ℕ × Side). v.0) first in
+    absurd (omega arith)
+alone [] t (x ∷ a) (y ∷ b) r s p q e f same = cc
+alone (Rewrite i w ∷ xs) t (x ∷ a) (y ∷ b) r s p q e f same = alone xs (suc t) (x ∷ a) (y ∷ b) r s p q e f same
+alone (Move way.Stay ∷ xs) t (x ∷ a) (y ∷ b) r s p q e f same = alone xs (suc t) (x ∷ a) (y ∷ b) r s p q e f same
+alone (Move way.Left ∷ xs) t (x ∷ a) (y ∷ b) r s p q e f same =
+    let one : shifts (suc t) xs ≡ a ++ (p ∷ r) = cc in
+    let two : shifts (suc t) xs ≡ b ++ (q ∷ s) = cc in
+    let more = alone xs (suc t) a b r s p q one two same in
+    let first : x ≡ y = cc in
+    let front = more.0 in
+    (cc, more.1, more.2)
+alone (Move way.Right ∷ xs) t (x ∷ a) (y ∷ b) r s p q e f same =
+    let one : shifts (suc t) xs ≡ a ++ (p ∷ r) = cc in
+    let two : shifts (suc t) xs ≡ b ++ (q ∷ s) = cc in
+    let more = alone xs (suc t) a b r s p q one two same in
+    let first : x ≡ y = cc in
+    let front = more.0 in
+    (cc, more.1, more.2)

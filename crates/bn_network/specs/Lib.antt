@@ -1,2 +1,5 @@
-pub mod Ends
-pub mod Laws
+pub mod ControlLaws
+pub mod Cells
+pub mod Controls
+pub mod Networks
+pub mod Moments

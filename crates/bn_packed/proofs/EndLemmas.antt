@@ -4,10 +4,10 @@ use Rattle.std.proofs.Common.{zero, suc, get_or, arith, sym, ap, subst, ◌∙�
 use Rattle.std.proofs.lemmas.Bool.Decides.{nat_tests}
 use Rattle.std.proofs.lemmas.List.{length-replicate, length-append, length-map}
 use Rattle.std.proofs.lemmas.Option.{slice_get-get_or, slice_get_past}
-use Rattle.bn_theory.specs.Tables.{Table}
-use Rattle.bn_theory.specs.Circuits.{IsCircuit, IsInput, IsOutput, target, source, inputs_of, outputs_of}
-use Rattle.bn_theory.proofs.StepLemmas.{same_lines}
-use Rattle.bn_theory.specs.declared.line.Line.{Line}
+use Rattle.bn_element.specs.Tables.{Table}
+use Rattle.bn_circuits.specs.Circuits.{IsCircuit, IsInputOf, IsOutputOf, target, source, inputs_of, outputs_of}
+use Rattle.bn_circuits.proofs.StepLemmas.{same_lines}
+use Rattle.bn_circuits.specs.declared.line.Line.{Line}
 use Rattle.bn_element.specs.Rotary.{rotary, rotary-IsReversible}
 use Rattle.bn_element.specs.declared.rotary.Rotary.{Rotary}
 use Rattle.bn_net.specs.Rows.{entry, width, wires_of, IsWired}
@@ -15,7 +15,7 @@ use Rattle.bn_net.specs.Parts.{Parts}
 use Rattle.bn_net.specs.Order.{AreInOrder}
 use Rattle.bn_net.proofs.WireLemmas.{target-wires, source-wires, wired-IsCircuit, tables-reversible, output-within}
 use Rattle.bn_net.proofs.OrderLemmas.{in_order-same, rows_in_order}
-use Rattle.bn_column.specs.Nets.{rotary_circuit}
+use Rattle.bn_net.specs.RotaryNets.{rotary_circuit}
 use Rattle.bn_packed.specs.Ends.{line_of, IsLineBelow, EndList, AreEnds, AreEndsOf, rows_of, rotaries, net_of, IsWiring}
 
 abbrev Ends : Type 0
@@ -93,27 +93,27 @@ length-tables [] = refl
 length-tables (x ∷ elements) = ap suc (length-tables elements)
 
 -- a line that is there: its element and its number
-pub output_below : (elements : List Rotary) (l : Line) → IsOutput (map (λ _. rotary) elements) l → IsLineBelow (length elements) l
+pub output_below : (elements : List Rotary) (l : Line) → IsOutputOf (map (λ _. rotary) elements) l → IsLineBelow (length elements) l
 output_below elements l there =
     let within : l.element < length elements = subst (λ n. l.element < n) (length-tables elements)
     (output-within (map (λ _. rotary) elements) l.element l.line there) in
     record { element = within; line = subst (λ n. l.line < n) (four_out elements l.element within) there }
 
-pub input_below : (elements : List Rotary) (l : Line) → IsInput (map (λ _. rotary) elements) l → IsLineBelow (length elements) l
+pub input_below : (elements : List Rotary) (l : Line) → IsInputOf (map (λ _. rotary) elements) l → IsLineBelow (length elements) l
 input_below elements l there =
     output_below elements l (subst (λ n. l.line < n) (sym (same_counts elements l.element)) there)
 
-pub below_output : (elements : List Rotary) (l : Line) → IsLineBelow (length elements) l → IsOutput (map (λ _. rotary) elements) l
+pub below_output : (elements : List Rotary) (l : Line) → IsLineBelow (length elements) l → IsOutputOf (map (λ _. rotary) elements) l
 below_output elements l below = subst (λ n. l.line < n) (sym (four_out elements l.element below.element)) below.line
 
-pub below_input : (elements : List Rotary) (l : Line) → IsLineBelow (length elements) l → IsInput (map (λ _. rotary) elements) l
+pub below_input : (elements : List Rotary) (l : Line) → IsLineBelow (length elements) l → IsInputOf (map (λ _. rotary) elements) l
 below_input elements l below = subst (λ n. l.line < n) (sym (four_in elements l.element below.element)) below.line
 
 -- the line with a number is there
 pub line_below : (n i : ℕ) → i < 4 * n → IsLineBelow n (line_of i)
 line_below n i low = record { element = omega arith; line = omega arith }
 
-line_by_number : (l : Line) (i : ℕ) → l.line < 4 → i ≡ 4 * l.element + l.line → line_of i ≡ l
+pub line_by_number : (l : Line) (i : ℕ) → l.line < 4 → i ≡ 4 * l.element + l.line → line_of i ≡ l
 line_by_number l i low is = same_lines (line_of i) l (omega arith) (omega arith)
 
 -- ---- the wires of ends
@@ -143,7 +143,7 @@ pub end_there : (n : ℕ) (ends : Ends) (l : Line) → length ends ≡ 4 * n →
 end_there n ends l whole below = let e = below.element in let low = below.line in omega arith
 
 pub target_there : (targets sources : EndList) (now : Parts Rotary) (from : Line) → IsWiring targets sources → net_of targets ≡ now
-    → IsOutput (map (λ _. rotary) now.elements) from
+    → IsOutputOf (map (λ _. rotary) now.elements) from
     → 4 * from.element + from.line < length targets.ends
 target_there targets sources now from wiring is there =
     end_there targets.elements targets.ends from wiring.all_targets (subst (λ n. IsLineBelow n from) (length-net targets now is)
@@ -155,14 +155,14 @@ entry_read ends n l o whole low read = row_entry ends n l.element l.line (4 * l.
 
 -- what is read there is the target, the source
 pub target_read : (targets sources : EndList) (now : Parts Rotary) (from : Line) (o : Option Line) → IsWiring targets sources → net_of targets ≡ now
-    → IsOutput (map (λ _. rotary) now.elements) from → slice_get targets.ends (4 * from.element + from.line) ≡ Some o → o ≡ target now.wires from
+    → IsOutputOf (map (λ _. rotary) now.elements) from → slice_get targets.ends (4 * from.element + from.line) ≡ Some o → o ≡ target now.wires from
 target_read targets sources now from o wiring is there read =
     let below = output_below now.elements from there in
     sym (ap (λ (n : Parts Rotary). target n.wires from) (sym is) ∙ target-wires (rows_of targets.ends) from ∙ entry_read targets.ends targets.elements from
     o wiring.all_targets below.line read)
 
 pub source_read : (targets sources : EndList) (now : Parts Rotary) (to : Line) (o : Option Line) → IsWiring targets sources → net_of targets ≡ now
-    → IsInput (map (λ _. rotary) now.elements) to → slice_get sources.ends (4 * to.element + to.line) ≡ Some o → o ≡ source now.wires to
+    → IsInputOf (map (λ _. rotary) now.elements) to → slice_get sources.ends (4 * to.element + to.line) ≡ Some o → o ≡ source now.wires to
 source_read targets sources now to o wiring is there read =
     let below = input_below now.elements to there in
     sym (ap (λ (n : Parts Rotary). source n.wires to) (sym is) ∙ source-wires (rows_of targets.ends) (rows_of sources.ends) wiring.paired to ∙ entry_read
@@ -245,7 +245,7 @@ source_within net circuit to (Some from) is = output_below net.elements from (ci
 
 -- what feeds a line is an output line
 pub source_output : (net : Parts Rotary) → IsCircuit (rotary_circuit net) → (to : Line) (o : Option Line) → o ≡ source net.wires to
-    → IfSome o (IsOutput (map (λ _. rotary) net.elements))
+    → IfSome o (IsOutputOf (map (λ _. rotary) net.elements))
 source_output net circuit to None is = tt
 source_output net circuit to (Some from) is = (circuit.wired from to ((circuit.one_to_one from to).1 (sym is))).0
 

@@ -1,3 +1,7 @@
 pub mod BarLemmas
+pub mod CrossLemmas
 pub mod EndLemmas
+pub mod NumberLemmas
+pub mod ListedLemmas
+pub mod LooseLemmas
 pub mod StepLemmas

@@ -4,17 +4,17 @@ use Rattle.std.proofs.Common.{zero, suc, arith, sym, ap, subst, ◌∙◌, inl, 
 use Rattle.std.proofs.lemmas.Bool.Decides.{nat_tests, eqb_tells}
 use Rattle.std.proofs.lemmas.Option.{option_and_then_some, slice_get_within}
 use Rattle.std.specs.Bool.{OnFalse}
-use Rattle.bn_theory.specs.Tables.{Table}
-use Rattle.bn_theory.specs.Runs.{Reaches}
-use Rattle.bn_theory.proofs.RunsLemmas.{passes_join}
-use Rattle.bn_theory.specs.Circuits.{Circuit, IsCircuit, IsConfig, IsPlace, IsOutput, Goes, IsStuck, IsFirst, clock, go_of, back_of, states_of, place_after}
-use Rattle.bn_theory.specs.Stepping.{run, back, places, places_back, line_before}
-use Rattle.bn_theory.proofs.RunLemmas.{run_stops, back_stops, Reaches-run, Reaches-back}
-use Rattle.bn_theory.proofs.StepLemmas.{same_config, go_arrives, next-IsConfig, previous-IsConfig}
-use Rattle.bn_theory.specs.declared.line.Line.{Line}
-use Rattle.bn_theory.specs.declared.place.Place.{Place}
-use Rattle.bn_theory.specs.declared.place.Place.TheVariants.{Enter, Left}
-use Rattle.bn_theory.specs.declared.config.Config.{Config}
+use Rattle.bn_element.specs.Tables.{Table}
+use Rattle.bn_lists.specs.Runs.{Reaches}
+use Rattle.bn_lists.proofs.RunsLemmas.{passes_join}
+use Rattle.bn_circuits.specs.Circuits.{Circuit, IsCircuit, IsConfig, IsPlace, IsOutputOf, Goes, IsStuck, IsFirst, clock, go_of, back_of, states_of, place_after}
+use Rattle.bn_circuits.specs.Stepping.{run, back, places, places_back, line_before}
+use Rattle.bn_circuits.proofs.RunLemmas.{run_stops, back_stops, Reaches-run, Reaches-back}
+use Rattle.bn_circuits.proofs.StepLemmas.{same_config, go_arrives, next-IsConfig, previous-IsConfig}
+use Rattle.bn_circuits.specs.declared.line.Line.{Line}
+use Rattle.bn_circuits.specs.declared.place.Place.{Place}
+use Rattle.bn_circuits.specs.declared.place.Place.TheVariants.{Enter, Left}
+use Rattle.bn_circuits.specs.declared.config.Config.{Config}
 use Rattle.bn_element.specs.Rotary.{rotary}
 use Rattle.bn_element.specs.declared.rotary.Rotary.{Rotary}
 use Rattle.bn_net.specs.Parts.{Parts}
@@ -22,7 +22,7 @@ use Rattle.bn_net.specs.Watching.{Hears}
 use Rattle.bn_net.specs.Walking.{HasWalked, HasWalkedBack}
 use Rattle.bn_net.proofs.WalkLemmas.{walk_starts, walk_goes, walk_ends, walk_back_starts, walk_goes_back, walk_back_then, walk_back_ends}
 use Rattle.bn_net.proofs.NetSteps.{enter-within, output-state, back-Goes, first_by_steps}
-use Rattle.bn_column.specs.Nets.{rotary_circuit}
+use Rattle.bn_net.specs.RotaryNets.{rotary_circuit}
 use Rattle.bn_packed.specs.Bars.{AreBars, crossed, crossed_back}
 use Rattle.bn_packed.specs.PackedNets.{PackedNet, config_at}
 use Rattle.bn_packed.specs.Stopping.{PassesBy, passes_by, stops_at}
@@ -45,7 +45,7 @@ entering_below net c e i config at_place =
     let place : IsPlace (rotary_circuit net) (Enter e i) = subst (IsPlace (rotary_circuit net)) at_place config.place in
     (enter-within (rotary_circuit net) c e i config at_place, (input_below net.elements (record { element = e; line = i }) place).line)
 
-pub leaving_below : (net : Parts Rotary) (c : Config) (from : Line) → IsConfig (rotary_circuit net) c → IsOutput (rotary_circuit net).tables from
+pub leaving_below : (net : Parts Rotary) (c : Config) (from : Line) → IsConfig (rotary_circuit net) c → IsOutputOf (rotary_circuit net).tables from
     → (from.element < length c.states) × (from.line < 4)
 leaving_below net c from config there = (output-state (rotary_circuit net) c from config there, (output_below net.elements from there).line)
 
@@ -81,7 +81,7 @@ module _ (net : Parts Rotary) (circuit : IsCircuit (rotary_circuit net)) where
     element_there = (input_below net.elements (record { element = e; line = i }) (subst (IsPlace (rotary_circuit net)) at_place config.place)).element
 
     -- the line by which the signal goes out is there
-    pub crossed-output : IsOutput (rotary_circuit net).tables (record { element = e; line = o })
+    pub crossed-output : IsOutputOf (rotary_circuit net).tables (record { element = e; line = o })
     crossed-output =
         let move = move_of bars after e o (λ q. rotary.go q i) cross in
         (go_arrives (rotary_circuit net) circuit e move.state i move.next o (go-rotary net.elements e move.state i element_there ∙ move.goes)).1
@@ -132,7 +132,7 @@ module _ (net : Parts Rotary) (circuit : IsCircuit (rotary_circuit net)) where
 
   -- a crossing taken back is a step taken back
   crossed_back-Goes : (bars before : List ℕ) (place : Place) (from : Line) (i n p : ℕ) → IsConfig (rotary_circuit net) (config_at bars place n)
-      → line_before net.wires place ≡ Some from → IsOutput (rotary_circuit net).tables from → crossed_back bars from.element from.line ≡ Some (before, i)
+      → line_before net.wires place ≡ Some from → IsOutputOf (rotary_circuit net).tables from → crossed_back bars from.element from.line ≡ Some (before, i)
       → n ≡ p + 1
       → Goes (rotary_circuit net) (config_at before (Enter from.element i) p) (config_at bars place n)
   crossed_back-Goes bars before place from i n p config came there cross counted =
@@ -147,7 +147,7 @@ module _ (net : Parts Rotary) (circuit : IsCircuit (rotary_circuit net)) where
 
   pub walked_back_more : (first : Config) (bars before : List ℕ) (place : Place) (from : Line) (i n made : ℕ) (old mid new : Option (List Place))
       → HasWalkedBack (rotary_circuit net) first (config_at bars place (n - made)) made old mid → line_before net.wires place ≡ Some from
-      → IsOutput (rotary_circuit net).tables from → crossed_back bars from.element from.line ≡ Some (before, i) → made < n
+      → IsOutputOf (rotary_circuit net).tables from → crossed_back bars from.element from.line ≡ Some (before, i) → made < n
       → Hears mid (Enter from.element i ∷ []) new
       → HasWalkedBack (rotary_circuit net) first (config_at before (Enter from.element i) (n - (made + 1))) (made + 1) old new
   walked_back_more first bars before place from i n made old mid new walked came there cross some hears =
@@ -160,7 +160,7 @@ module _ (net : Parts Rotary) (circuit : IsCircuit (rotary_circuit net)) where
   -- a step taken back from outside
   module _ (bars before : List ℕ) (place : Place) (e l i n : ℕ) (config : IsConfig (rotary_circuit net) (config_at bars place n))
       (at_place : place ≡ Left e l) where
-    left-output : IsOutput (rotary_circuit net).tables (record { element = e; line = l })
+    left-output : IsOutputOf (rotary_circuit net).tables (record { element = e; line = l })
     left-output = let there : IsPlace (rotary_circuit net) (Left e l) = subst (IsPlace (rotary_circuit net)) at_place config.place in there.0
 
     pub left_below : (e < length bars) × (l < 4)

@@ -30,3 +30,16 @@ crossed bars e i = option_and_then (λ q. option_and_then (λ m. Some (slice_set
 abbrev pub crossed_back : List ℕ → ℕ → ℕ → Option (List ℕ × ℕ)
 crossed_back bars e o = option_and_then (λ r. option_and_then (λ m. Some (slice_set bars e m.0, m.1))
     (rotary.back r o)) (slice_get bars e)
+
+-- the bars after the signal came into an element by the line of this number, and the number of the line by which it
+-- goes
+-- out of it
+pub record HasCrossed (before : List ℕ) (into : ℕ) (after : List ℕ) (out : ℕ) : Type 0 where
+  pub same : out / 4 ≡ into / 4
+  pub moved : crossed before (into / 4) (into % 4) ≡ Some (after, out % 4)
+
+-- the bars before it went out of an element by the line of this number, and the number of the line by which it had
+-- come in
+pub record HasCrossedBack (after : List ℕ) (out : ℕ) (before : List ℕ) (into : ℕ) : Type 0 where
+  pub same : into / 4 ≡ out / 4
+  pub moved : crossed_back after (out / 4) (out % 4) ≡ Some (before, into % 4)

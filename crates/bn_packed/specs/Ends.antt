@@ -2,7 +2,7 @@
 -- Line l of element e has number 4 * e + l.
 use Rattle.std.specs.Prelude.{◌≡◌, ℕ, ◌*◌, ◌/◌, ◌%◌, ◌^◌, ◌<◌, ◌==◌, nat_lt, ◌↔◌, if◌then◌else◌, List, [], ◌∷◌, length}
 use Rattle.std.specs.Prelude.{replicate, Option, Some, None, slice_get}
-use Rattle.bn_theory.specs.declared.line.Line.{Line}
+use Rattle.bn_circuits.specs.declared.line.Line.{Line}
 use Rattle.bn_element.specs.declared.rotary.Rotary.{Rotary}
 use Rattle.bn_net.specs.Rows.{Rows, entry, wires_of}
 use Rattle.bn_net.specs.Parts.{Parts}

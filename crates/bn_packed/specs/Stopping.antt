@@ -1,11 +1,11 @@
 -- Runs that stop on their way, where the signal is about to enter one of some lines.
 use Rattle.std.specs.Prelude.{Bool, false, not, ℕ}
-use Rattle.bn_theory.specs.Runs.{Passes}
-use Rattle.bn_theory.specs.Circuits.{Circuit, Goes}
-use Rattle.bn_theory.specs.declared.line.Line.{Line}
-use Rattle.bn_theory.specs.declared.place.Place.{Place}
-use Rattle.bn_theory.specs.declared.place.Place.TheVariants.{Enter, Left}
-use Rattle.bn_theory.specs.declared.config.Config.{Config}
+use Rattle.bn_lists.specs.Runs.{Passes}
+use Rattle.bn_circuits.specs.Circuits.{Circuit, Goes}
+use Rattle.bn_circuits.specs.declared.line.Line.{Line}
+use Rattle.bn_circuits.specs.declared.place.Place.{Place}
+use Rattle.bn_circuits.specs.declared.place.Place.TheVariants.{Enter, Left}
+use Rattle.bn_circuits.specs.declared.config.Config.{Config}
 
 -- the signal is about to enter one of these lines
 abbrev pub stops_at : (Line → Bool) → Place → Bool

@@ -1,9 +1,10 @@
 //! The bars of rotary elements, one bit each.
 
-ghost use Rattle.std.specs.Prelude.{◌≡◌, ℕ, ◌<◌, ◌≤◌, List, length, replicate, Some, IfOk, slice_get, slice_set};
-ghost use Rattle.bn_packed.specs.Bars.{AreBars, turned, crossed, crossed_back};
+ghost use Rattle.std.specs.Prelude.{◌≡◌, ◌/◌, ℕ, ◌<◌, ◌≤◌, List, length, replicate, Some, IfOk, slice_get, slice_set};
+ghost use Rattle.bn_packed.specs.Bars.{AreBars, HasCrossed, HasCrossedBack, turned, crossed_back};
 
-use bn_element::{EAST, HORIZONTAL, NORTH, SOUTH, VERTICAL, WEST};
+use crate::cells::LINES;
+use bn_element::VERTICAL;
 use bn_net::NoMemory;
 use std::alloc::Global;
 use std::marker::Model;
@@ -62,73 +63,61 @@ impl Bars {
         ((self.words[element / 64] >> (element % 64)) & 1) as u32
     }
 
-    /// Lets the signal cross an element from this line, and answers the output line. The bar turns
-    /// where the signal comes across it.
-    #[tactic(auto, using(bn_column::proofs::CrossingLemmas::set_same))]
-    pub(crate) fn cross(&mut self, element: usize, line: u32) -> u32
-        requires element { element < length self.old }
-        requires line { line < 4 }
-        ensures { crossed self.old element line ≡ Some (self.new, result) }
+    /// Lets the signal cross an element from the line of this number, and answers the number of the output line. The
+    /// bar turns where the signal comes across it. The two numbers differ in their last two bits alone.
+    #[tactic(auto, using(crate::proofs::CrossLemmas::crossings))]
+    pub(crate) fn cross(&mut self, number: usize) -> usize
+        requires { number / 4 < length self.old }
+        ensures { HasCrossed self.old number self.new result }
     {
+        let element = number / LINES as usize;
         if self.get(element) == VERTICAL {
-            if line == NORTH {
-                SOUTH
-            } else if line == SOUTH {
-                NORTH
-            } else if line == EAST {
-                self.turn(element);
-                NORTH
+            if number % 2 == 0 {
+                number ^ 2
             } else {
                 self.turn(element);
-                SOUTH
+                number ^ 1
             }
+        } else if number % 2 == 1 {
+            number ^ 2
         } else {
-            if line == EAST {
-                WEST
-            } else if line == WEST {
-                EAST
-            } else if line == NORTH {
-                self.turn(element);
-                WEST
-            } else {
-                self.turn(element);
-                EAST
-            }
+            self.turn(element);
+            number ^ 3
         }
     }
 
     /// Takes the signal's crossing of an element back from the output line, and answers the line by
     /// which it came.
-    #[tactic(auto, using(bn_column::proofs::CrossingLemmas::set_same))]
-    pub(crate) fn cross_back(&mut self, element: usize, line: u32) -> u32
+    #[tactic(auto, using(crate::proofs::CrossLemmas::back_line))]
+    pub(crate) fn cross_back(&mut self, element: u32, line: u32) -> u32
         requires element { element < length self.old }
         requires line { line < 4 }
         ensures { crossed_back self.old element line ≡ Some (self.new, result) }
     {
+        let number = LINES as usize * element as usize + line as usize;
+        (self.cross_back_at(number) % LINES as usize) as u32
+    }
+
+    /// The same from the number of the output line to that of the line by which it came. The two numbers differ in
+    /// their last two bits alone.
+    #[tactic(auto, using(crate::proofs::CrossLemmas::crossings_back))]
+    pub(crate) fn cross_back_at(&mut self, number: usize) -> usize
+        requires { number / 4 < length self.old }
+        ensures { HasCrossedBack self.old number self.new result }
+    {
+        let element = number / LINES as usize;
         if self.get(element) == VERTICAL {
-            if line == NORTH {
-                SOUTH
-            } else if line == SOUTH {
-                NORTH
-            } else if line == EAST {
-                self.turn(element);
-                SOUTH
+            if number % 2 == 0 {
+                number ^ 2
             } else {
                 self.turn(element);
-                NORTH
+                number ^ 3
             }
+        } else if number % 2 == 1 {
+            number ^ 2
         } else {
-            if line == EAST {
-                WEST
-            } else if line == WEST {
-                EAST
-            } else if line == NORTH {
-                self.turn(element);
-                EAST
-            } else {
-                self.turn(element);
-                WEST
-            }
+            self.turn(element);
+            number ^ 1
         }
     }
 

@@ -1,9 +1,11 @@
 //! The other end of a line's wire as one number.
 
 ghost use Rattle.std.specs.Prelude.{◌≡◌, ◌+◌, ◌*◌, ◌/◌, ◌^◌, ◌<◌, length, map, Some, IfSome, slice_get};
+ghost use Rattle.std.specs.Option.{option_map};
 ghost use Rattle.bn_packed.specs.Ends.{line_of, narrow_end, wide_end, IsLineBelow};
 
-use bn_net::Line;
+use bn_net::{Line, NoMemory};
+use std::alloc::Global;
 
 /// The number of lines of an element, in and out.
 pub(crate) const LINES: u32 = 4;
@@ -20,8 +22,10 @@ const WIDE_LOOSE: u64 = 18_446_744_073_709_551_615;
 
 /// A number that tells the other end of a line's wire, or that there is no wire.
 pub(crate) trait Cell: Copy {
-    ghost use Rattle.std.specs.Prelude.{ℕ, Option};
-    ghost use Rattle.bn_theory.specs.declared.line.Line.{Line};
+    ghost use Rattle.std.specs.Prelude.{ℕ, Option, IfOk, map, replicate, None};
+    ghost use Rattle.std.specs.Option.{option_map};
+    ghost use Rattle.bn_circuits.specs.declared.line.Line.{Line};
+    ghost use Rattle.bn_packed.specs.Ends.{line_of};
 
     /// What it tells.
     ghost tells: { Self → Option Line };
@@ -37,6 +41,14 @@ pub(crate) trait Cell: Copy {
     /// The end that it tells.
     fn end(self) -> Option<Line>
         ensures { result ≡ tells self };
+
+    /// The number of the line that it tells.
+    fn number(self) -> Option<usize>
+        ensures { option_map line_of result ≡ tells self };
+
+    /// So many numbers that tell of no wire.
+    fn loose(alloc: Global, count: usize) -> Result<Vec<Self>, NoMemory>
+        ensures { IfOk result (λ v. map tells v.items ≡ replicate count None) };
 }
 
 impl Cell for u32 {
@@ -61,6 +73,21 @@ impl Cell for u32 {
             element: self / LINES,
             line: self % LINES,
         })
+    }
+
+    fn number(self) -> Option<usize> {
+        if self == LOOSE {
+            return None;
+        }
+        Some(self as usize)
+    }
+
+    #[tactic(auto, using(crate::proofs::LooseLemmas::loose_narrow))]
+    fn loose(alloc: Global, count: usize) -> Result<Vec<u32>, NoMemory> {
+        let Ok(cells) = vec![in alloc; LOOSE; count] else {
+            return Err(NoMemory);
+        };
+        Ok(cells)
     }
 }
 
@@ -88,6 +115,21 @@ impl Cell for u64 {
             line: (self % u64::from(LINES)) as u32,
         })
     }
+
+    fn number(self) -> Option<usize> {
+        if self / u64::from(LINES) > u64::from(u32::MAX) {
+            return None;
+        }
+        Some(self as usize)
+    }
+
+    #[tactic(auto, using(crate::proofs::LooseLemmas::loose_wide))]
+    fn loose(alloc: Global, count: usize) -> Result<Vec<u64>, NoMemory> {
+        let Ok(cells) = vec![in alloc; WIDE_LOOSE; count] else {
+            return Err(NoMemory);
+        };
+        Ok(cells)
+    }
 }
 
 /// The number of a line among those of all elements, element by element.
@@ -103,6 +145,14 @@ pub(crate) fn end_of<C: Cell>(cells: &[C], line: Line) -> Option<Line>
     ensures { slice_get (map C.tells cells.now) (4 * line.element + line.line) ≡ Some result }
 {
     cells[line_number(line)].end()
+}
+
+/// The number of the line that the cell of the line with this number tells.
+pub(crate) fn number_at<C: Cell>(cells: &[C], number: usize) -> Option<usize>
+    requires { number < length cells.now }
+    ensures { slice_get (map C.tells cells.now) number ≡ Some (option_map line_of result) }
+{
+    cells[number].number()
 }
 
 /// The line with this number.

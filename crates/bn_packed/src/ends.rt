@@ -1,7 +1,7 @@
 //! The other ends of the wires of all lines, in one array.
 
 ghost use Rattle.std.specs.Prelude.{◌≡◌, ◌+◌, ◌*◌, ◌<◌, ◌≤◌, [], ◌∷◌, ◌++◌, length, map, Some, IfOk, IfSome, OnOk};
-ghost use Rattle.std.specs.Prelude.{slice_get};
+ghost use Rattle.std.specs.Prelude.{slice_get, slice_set, replicate, None};
 
 use crate::cells::{Cell, LINES, line_number};
 use bn_net::{Line, NoMemory};
@@ -39,6 +39,27 @@ impl<C: Cell> Ends<C> {
         let lines = LINES as usize * elements as usize;
         let cells = Vec::with_capacity(alloc, lines)?;
         Ok(Ends { elements, cells })
+    }
+
+    /// Loose ends alone, for the lines of so many elements.
+    pub(crate) fn loose(alloc: Global, elements: u32) -> Result<Ends<C>, NoMemory>
+        requires { elements ≤ C.limit }
+        ensures elements { IfOk result (λ m. m.elements ≡ elements) }
+        ensures ends { IfOk result (λ m. m.ends ≡ replicate (4 * elements) None) }
+    {
+        let cells = C::loose(alloc, LINES as usize * elements as usize)?;
+        Ok(Ends { elements, cells })
+    }
+
+    /// Writes the other end of this line's wire.
+    pub(crate) fn set(&mut self, line: Line, end: Line)
+        requires there { 4 * line.element + line.line < length self.old.ends }
+        requires below { IsLineBelow self.old.elements end }
+        ensures elements { self.new.elements ≡ self.old.elements }
+        ensures ends { self.new.ends ≡ slice_set self.old.ends (4 * line.element + line.line) (Some end) }
+    {
+        let cells = &mut self.cells;
+        cells[line_number(line)] = C::pack(Some(end));
     }
 
     /// The number of elements.

@@ -2,11 +2,16 @@
 
 ghost use Rattle.std.specs.Prelude.{◌≡◌, ◌⊎◌, ◌<◌, ◌≤◌, true, length, Some, IfOk, slice_get};
 ghost use Rattle.std.specs.Bool.{OnTrue, OnFalse};
-ghost use Rattle.bn_theory.specs.Runs.{Reaches};
-ghost use Rattle.bn_theory.specs.Circuits.{IsCircuit, IsConfig, IsOutput, Goes, IsStuck, IsFirst, target};
-ghost use Rattle.bn_theory.specs.Stepping.{run, back, places, places_back};
+ghost use Rattle.bn_lists.specs.Runs.{Reaches};
+ghost use Rattle.bn_circuits.specs.Circuits.{IsCircuit, IsConfig, IsOutputOf, Goes, IsStuck, IsFirst, target};
+ghost use Rattle.bn_circuits.specs.Stepping.{run, back, places, places_back};
 ghost use Rattle.bn_net.specs.Watching.{Hears};
-ghost use Rattle.bn_column.specs.Nets.{rotary_circuit};
+ghost use Rattle.bn_net.specs.RotaryNets.{rotary_circuit};
+ghost use Rattle.bn_element.specs.declared.rotary.Rotary.{Rotary};
+ghost use Rattle.bn_net.specs.Order.{AreInOrder};
+ghost use Rattle.bn_net.specs.Parts.{Parts};
+ghost use Rattle.bn_net.specs.RotaryNets.{IsNetOf};
+ghost use Rattle.bn_net.specs.Wirings.{AreApart, AreFitting};
 ghost use Rattle.bn_packed.specs.Stopping.{PassesBy, stops_at};
 
 use crate::bars::Bars;
@@ -14,7 +19,7 @@ use crate::signal::Signal;
 use crate::stop::Stop;
 use crate::wires::Wires;
 use bn_element::Rotary;
-use bn_net::{CLOCK, Config, Line, Net, NoMemory, Place, Quiet, States, Watch};
+use bn_net::{CLOCK, Config, Line, Net, NoMemory, Place, Quiet, States, Watch, Wire};
 use std::alloc::Global;
 use std::marker::Model;
 
@@ -30,8 +35,8 @@ pub struct Packed {
 }
 
 impl Model for Packed {
-    ghost use Rattle.bn_theory.specs.Circuits.{IsConfig};
-    ghost use Rattle.bn_column.specs.Nets.{rotary_circuit};
+    ghost use Rattle.bn_circuits.specs.Circuits.{IsConfig};
+    ghost use Rattle.bn_net.specs.RotaryNets.{rotary_circuit};
     ghost use Rattle.bn_packed.specs.PackedNets.{PackedNet, net_in, config_at};
 
     ghost Value = { PackedNet };
@@ -50,6 +55,35 @@ impl Packed {
         ensures config { IfOk result (λ p. p.config ≡ config.now) }
     {
         let wires = Wires::of(alloc, net)?;
+        let bars = Bars::of(alloc, config.states.as_slice())?;
+        Ok(Packed {
+            wires,
+            bars,
+            signal: Signal {
+                place: config.place,
+                steps: config.steps,
+            },
+        })
+    }
+
+    /// Packs so many elements with the wires of this list, in this configuration. No net is made beside it.
+    pub fn from_wires(
+        alloc: Global,
+        count: u32,
+        wires: &[Wire],
+        config: &Config,
+    ) -> Result<Packed, NoMemory>
+        requires apart { AreApart wires.now }
+        requires fitting { AreFitting count wires.now }
+        requires good { (net : Parts Rotary) → IsNetOf net count wires.now → IsConfig (rotary_circuit net) config.now }
+        ensures net { IfOk result (λ p. IsNetOf p.net count wires.now) }
+        ensures circuit { IfOk result (λ p. IsCircuit (rotary_circuit p.net)) }
+        ensures order { IfOk result (λ p. AreInOrder p.net.wires) }
+        ensures config { IfOk result (λ p. p.config ≡ config.now) }
+    {
+        let wires = Wires::from_wires(alloc, count, wires)?;
+        // What all wires keep.
+        let _elements = wires.len();
         let bars = Bars::of(alloc, config.states.as_slice())?;
         Ok(Packed {
             wires,
@@ -100,7 +134,8 @@ impl Packed {
     /// The state of an element's bar, `HORIZONTAL` or `VERTICAL`.
     pub fn bar(&self, element: u32) -> u32
         requires { element < length self.now.net.elements }
-        ensures { slice_get self.now.config.states element ≡ Some result }
+        ensures bar { slice_get self.now.config.states element ≡ Some result }
+        ensures range { result < 2 }
     {
         self.bars.get(element as usize)
     }
@@ -108,7 +143,7 @@ impl Packed {
     /// The input line to which the wire of this output line leads, `None` exactly where no wire
     /// leaves it.
     pub fn target(&self, from: Line) -> Option<Line>
-        requires { IsOutput (rotary_circuit self.now.net).tables from }
+        requires { IsOutputOf (rotary_circuit self.now.net).tables from }
         ensures { result ≡ target self.now.net.wires from }
     {
         self.wires.target(from)

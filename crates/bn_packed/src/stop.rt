@@ -7,7 +7,7 @@ use bn_net::Line;
 /// Input lines at which a run stops.
 pub trait Stop {
     ghost use Rattle.std.specs.Prelude.{Bool};
-    ghost use Rattle.bn_theory.specs.declared.line.Line.{Line};
+    ghost use Rattle.bn_circuits.specs.declared.line.Line.{Line};
 
     /// The lines.
     ghost stops: { Self → Line → Bool };

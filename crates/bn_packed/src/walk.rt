@@ -1,15 +1,15 @@
 //! Steps of the signal, one after another, with no test of the clock among them.
 
 ghost use Rattle.std.specs.Prelude.{◌≡◌, ◌⊎◌, ◌+◌, ◌-◌, ◌<◌, ◌≤◌, true};
-ghost use Rattle.bn_theory.specs.Circuits.{IsConfig, IsStuck, IsFirst, clock};
-ghost use Rattle.bn_theory.specs.declared.place.Place.TheVariants.{Enter, Left};
+ghost use Rattle.bn_circuits.specs.Circuits.{IsConfig, IsStuck, IsFirst, clock};
+ghost use Rattle.bn_circuits.specs.declared.place.Place.TheVariants.{Enter, Left};
 ghost use Rattle.bn_net.specs.Walking.{HasWalked, HasWalkedBack};
-ghost use Rattle.bn_column.specs.Nets.{rotary_circuit};
+ghost use Rattle.bn_net.specs.RotaryNets.{rotary_circuit};
 ghost use Rattle.bn_packed.specs.PackedNets.{config_at};
 ghost use Rattle.bn_packed.specs.Stopping.{PassesBy, stops_at};
 
 use crate::bars::Bars;
-use crate::cells::{Cell, end_of};
+use crate::cells::{Cell, line_number, line_of, number_at};
 use crate::signal::Signal;
 use crate::stop::{Nowhere, Stop};
 use crate::wiring::Wiring;
@@ -69,31 +69,29 @@ pub(crate) fn walk_until<C: Cell, S: Stop, W: Watch>(
         return signal;
     };
     let targets = wiring.targets();
-    let mut at_line = Line { element, line };
+    let mut number = line_number(Line { element, line });
     for made in 0..count {
-        let from = Line {
-            element: at_line.element,
-            line: bars.cross(at_line.element as usize, at_line.line),
-        };
-        let Some(to) = end_of(targets, from) else {
-            let place = left_by(from);
+        let from = bars.cross(number);
+        let Some(to) = number_at(targets, from) else {
+            let place = left_by(line_of(from));
             watch.enter(&place);
             return Signal {
                 place,
                 steps: signal.steps + made + 1,
             };
         };
-        watch.enter(&entering(to));
-        at_line = to;
-        if stop.stops(to) {
+        let at_line = line_of(to);
+        watch.enter(&entering(at_line));
+        number = to;
+        if stop.stops(at_line) {
             return Signal {
-                place: entering(to),
+                place: entering(at_line),
                 steps: signal.steps + made + 1,
             };
         }
     }
     Signal {
-        place: entering(at_line),
+        place: entering(line_of(number)),
         steps: signal.steps + count,
     }
 }
@@ -129,7 +127,7 @@ pub(crate) fn walk_back<C: Cell, W: Watch>(
             }
             let to = Line {
                 element,
-                line: bars.cross_back(element as usize, line),
+                line: bars.cross_back(element, line),
             };
             watch.enter(&entering(to));
             walk_back_from(wiring, bars, to, signal.steps - 1, count - 1, watch)
@@ -158,22 +156,19 @@ fn walk_back_from<C: Cell, W: Watch>(
 {
     let _elements = wiring.len();
     let sources = wiring.sources();
-    let mut at_line = to;
+    let mut number = line_number(to);
     for made in 0..count {
-        let Some(from) = end_of(sources, at_line) else {
+        let Some(from) = number_at(sources, number) else {
             return Signal {
-                place: entering(at_line),
+                place: entering(line_of(number)),
                 steps: steps - made,
             };
         };
-        at_line = Line {
-            element: from.element,
-            line: bars.cross_back(from.element as usize, from.line),
-        };
-        watch.enter(&entering(at_line));
+        number = bars.cross_back_at(from);
+        watch.enter(&entering(line_of(number)));
     }
     Signal {
-        place: entering(at_line),
+        place: entering(line_of(number)),
         steps: steps - count,
     }
 }

@@ -1,9 +1,12 @@
 //! The wires of a net in numbers of the size that its lines need.
 
 ghost use Rattle.std.specs.Prelude.{◌≡◌, ◌⊎◌, ◌+◌, ◌-◌, ◌<◌, ◌≤◌, true, length, IfOk};
-ghost use Rattle.bn_theory.specs.Circuits.{IsCircuit, IsConfig, IsOutput, IsStuck, IsFirst, target, clock};
+ghost use Rattle.bn_circuits.specs.Circuits.{IsCircuit, IsConfig, IsOutputOf, IsStuck, IsFirst, target, clock};
 ghost use Rattle.bn_net.specs.Walking.{HasWalked, HasWalkedBack};
-ghost use Rattle.bn_column.specs.Nets.{rotary_circuit};
+ghost use Rattle.bn_net.specs.RotaryNets.{rotary_circuit};
+ghost use Rattle.bn_net.specs.Order.{AreInOrder};
+ghost use Rattle.bn_net.specs.RotaryNets.{IsNetOf};
+ghost use Rattle.bn_net.specs.Wirings.{AreApart, AreFitting};
 ghost use Rattle.bn_packed.specs.PackedNets.{net_in, config_at};
 ghost use Rattle.bn_packed.specs.Stopping.{PassesBy, stops_at};
 
@@ -14,7 +17,7 @@ use crate::stop::Stop;
 use crate::walk::{walk, walk_back, walk_until};
 use crate::wiring::Wiring;
 use bn_element::Rotary;
-use bn_net::{Line, Net, NoMemory, Watch};
+use bn_net::{Line, Net, NoMemory, Watch, Wire};
 use std::alloc::Global;
 
 /// The wires of a net of rotary elements, in 32 bits a line where these are enough, or else in 64.
@@ -36,6 +39,20 @@ impl Wires {
         }
     }
 
+    /// The wires of this list between the lines of so many elements.
+    pub(crate) fn from_wires(alloc: Global, count: u32, wires: &[Wire]) -> Result<Wires, NoMemory>
+        requires apart { AreApart wires.now }
+        requires fitting { AreFitting count wires.now }
+        ensures net { IfOk result (λ w. IsNetOf (net_in w) count wires.now) }
+        ensures order { IfOk result (λ w. AreInOrder (net_in w).wires) }
+    {
+        if count <= NARROW {
+            Ok(Wires::Narrow(Wiring::from_wires(alloc, count, wires)?))
+        } else {
+            Ok(Wires::Wide(Wiring::from_wires(alloc, count, wires)?))
+        }
+    }
+
     /// The number of elements. Its contract also tells what all wires keep.
     pub(crate) fn len(&self) -> u32
         ensures number { result ≡ length (net_in self.now).elements }
@@ -49,7 +66,7 @@ impl Wires {
 
     /// The input line to which the wire of this output line leads.
     pub(crate) fn target(&self, from: Line) -> Option<Line>
-        requires { IsOutput (rotary_circuit (net_in self.now)).tables from }
+        requires { IsOutputOf (rotary_circuit (net_in self.now)).tables from }
         ensures { result ≡ target (net_in self.now).wires from }
     {
         match self {

@@ -1,14 +1,17 @@
 //! The wires of a net of rotary elements, kept both ways.
 
 ghost use Rattle.std.specs.Prelude.{◌≡◌, ◌*◌, ◌≤◌, length, map, IfOk};
-ghost use Rattle.bn_theory.specs.Circuits.{IsCircuit, IsOutput, target, source};
-ghost use Rattle.bn_column.specs.Nets.{rotary_circuit};
+ghost use Rattle.bn_circuits.specs.Circuits.{IsCircuit, IsOutputOf, target, source};
+ghost use Rattle.bn_net.specs.RotaryNets.{rotary_circuit};
+ghost use Rattle.bn_net.specs.Order.{AreInOrder};
+ghost use Rattle.bn_net.specs.RotaryNets.{IsNetOf};
+ghost use Rattle.bn_net.specs.Wirings.{AreApart, AreFitting};
 ghost use Rattle.bn_packed.specs.Ends.{AreEnds, AreEndsOf};
 
 use crate::cells::{Cell, LINES, line_of};
 use crate::ends::Ends;
 use bn_element::Rotary;
-use bn_net::{Line, Net, NoMemory};
+use bn_net::{Line, Net, NoMemory, Wire};
 use std::alloc::Global;
 use std::marker::Model;
 
@@ -45,6 +48,28 @@ impl<C: Cell> Wiring<C> {
         Ok(Wiring { targets, sources })
     }
 
+    /// The wires of this list between the lines of so many elements. No net is made beside it.
+    pub(crate) fn from_wires(
+        alloc: Global,
+        count: u32,
+        wires: &[Wire],
+    ) -> Result<Wiring<C>, NoMemory>
+        requires few { count ≤ C.limit }
+        requires apart { AreApart wires.now }
+        requires fitting { AreFitting count wires.now }
+        ensures net { IfOk result (λ w. IsNetOf w count wires.now) }
+        ensures order { IfOk result (λ w. AreInOrder w.wires) }
+    {
+        let mut targets = Ends::loose(alloc, count)?;
+        let mut sources = Ends::loose(alloc, count)?;
+        for index in 0..wires.len() {
+            let wire = wires[index];
+            targets.set(wire.from, wire.to);
+            sources.set(wire.to, wire.from);
+        }
+        Ok(Wiring { targets, sources })
+    }
+
     /// The number of elements. Its contract also tells what all wirings keep.
     pub(crate) fn len(&self) -> u32
         ensures number { result ≡ length self.now.elements }
@@ -55,7 +80,7 @@ impl<C: Cell> Wiring<C> {
 
     /// The input line to which the wire of this output line leads.
     pub(crate) fn target(&self, from: Line) -> Option<Line>
-        requires { IsOutput (rotary_circuit self.now).tables from }
+        requires { IsOutputOf (rotary_circuit self.now).tables from }
         ensures { result ≡ target self.now.wires from }
     {
         self.targets.get(from)

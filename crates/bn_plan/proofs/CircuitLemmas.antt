@@ -8,9 +8,9 @@ use Rattle.bn_element.specs.declared.rotary.Rotary.{Rotary}
 use Rattle.bn_net.specs.Parts.{Parts, circuit}
 use Rattle.bn_net.specs.Order.{ComesBefore, ComesFirst, AreInOrder}
 use Rattle.bn_net.proofs.WireListLemmas.{line_tells}
-use Rattle.bn_theory.specs.Circuits.{Circuit, IsCircuit, IsInput, IsOutput, target, source, inputs_of, outputs_of}
-use Rattle.bn_theory.specs.declared.line.Line.{Line}
-use Rattle.bn_theory.specs.declared.line.Wire.{Wire}
+use Rattle.bn_circuits.specs.Circuits.{Circuit, IsCircuit, IsInputOf, IsOutputOf, target, source, inputs_of, outputs_of}
+use Rattle.bn_circuits.specs.declared.line.Line.{Line}
+use Rattle.bn_circuits.specs.declared.line.Wire.{Wire}
 use Rattle.bn_plan.specs.Lists.{Pairwise}
 use Rattle.bn_lists.specs.Lists.{Has}
 use Rattle.bn_plan.specs.Wires.{output_position, input_position, greater, AreRotary, AreWiresOf}
@@ -120,10 +120,10 @@ pub record IsNear (most : ℕ) (l : Line) : Type 0 where
   pub element : l.element < most
   pub line : l.line < 4
 
-pub output_near : (net : Parts Rotary) (most : ℕ) (l : Line) → length net.elements ≤ most → IsOutput (map (λ _. rotary) net.elements) l → IsNear most l
+pub output_near : (net : Parts Rotary) (most : ℕ) (l : Line) → length net.elements ≤ most → IsOutputOf (map (λ _. rotary) net.elements) l → IsNear most l
 output_near net most l few h = let range = out_range net.elements l.element l.line h in record { element = (let low = range.0 in omega (arith, low, few)); line = range.1 }
 
-pub input_near : (net : Parts Rotary) (most : ℕ) (l : Line) → length net.elements ≤ most → IsInput (map (λ _. rotary) net.elements) l → IsNear most l
+pub input_near : (net : Parts Rotary) (most : ℕ) (l : Line) → length net.elements ≤ most → IsInputOf (map (λ _. rotary) net.elements) l → IsNear most l
 input_near net most l few h = let range = in_range net.elements l.element l.line h in record { element = (let low = range.0 in omega (arith, low, few)); line = range.1 }
 
 -- where a wire of the net comes from

@@ -8,7 +8,7 @@ use Rattle.std.proofs.lemmas.Bool.Decides.{eqb_tells}
 use Rattle.std.proofs.lemmas.List.{length-map}
 use Rattle.std.proofs.lemmas.List.Sums.{length-filter}
 use Rattle.std.proofs.lemmas.List.Sorted.{sum_by-IsPermutation}
-use Rattle.bn_theory.specs.declared.line.Wire.{Wire}
+use Rattle.bn_circuits.specs.declared.line.Wire.{Wire}
 use Rattle.bn_plan.specs.declared.tracked.Tracked.{Tracked}
 use Rattle.bn_plan.specs.Lists.{Pairwise}
 use Rattle.bn_lists.specs.Lists.{Has}

@@ -1,6 +1,6 @@
 -- The tracks of wires as a function: it computes what a plan is (this project's own profile).
 use Rattle.std.specs.Prelude.{ℕ, zero, suc, Bool, true, cond, eqb, ltb, not, ◌||◌, ◌&&◌, List, [], ◌∷◌}
-use Rattle.bn_theory.specs.declared.line.Wire.{Wire}
+use Rattle.bn_circuits.specs.declared.line.Wire.{Wire}
 use Rattle.bn_plan.specs.declared.tracked.Tracked.{Tracked}
 use Rattle.bn_plan.specs.Wires.{lesser, greater}
 use Rattle.bn_plan.specs.Plans.{wire_of, tracks_of}

@@ -1,7 +1,7 @@
 -- What the laws of this crate say, each the contract of a function with an empty body.
 use Rattle.std.specs.Prelude.{◌≡◌, ◌↔◌, ℕ, ◌<◌, ◌≤◌, List, [], ◌∷◌, length, map}
-use Rattle.bn_theory.specs.Circuits.{Circuit, IsCircuit, inputs_of, outputs_of}
-use Rattle.bn_theory.specs.declared.line.Wire.{Wire}
+use Rattle.bn_circuits.specs.Circuits.{Circuit, IsCircuit, inputs_of, outputs_of}
+use Rattle.bn_circuits.specs.declared.line.Wire.{Wire}
 use Rattle.bn_element.specs.Rotary.{north, east, south, west}
 use Rattle.bn_plan.specs.declared.tracked.Tracked.{Tracked}
 use Rattle.bn_lists.specs.Lists.{Has}

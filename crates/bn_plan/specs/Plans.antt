@@ -1,7 +1,7 @@
 -- Floor plans: each wire on a track, counted from 1 (this project's own profile).
 use Rattle.std.specs.Prelude.{◌≡◌, ℕ, ◌<◌, ◌≤◌, max, List, [], ◌∷◌, map, ⊤}
 use Rattle.std.specs.List.Sorted.{IsPermutation}
-use Rattle.bn_theory.specs.declared.line.Wire.{Wire}
+use Rattle.bn_circuits.specs.declared.line.Wire.{Wire}
 use Rattle.bn_plan.specs.declared.tracked.Tracked.{Tracked}
 use Rattle.bn_plan.specs.Lists.{Pairwise}
 use Rattle.bn_lists.specs.Lists.{Has}

@@ -2,9 +2,9 @@
 -- (this project's own profile).
 use Rattle.std.specs.Prelude.{◌≡◌, ◌≢◌, ◌↔◌, ℕ, ◌+◌, ◌*◌, ◌<◌, ◌≤◌, min, max, leb, ◌&&◌, Bool, List, Some}
 use Rattle.std.specs.List.{count_by}
-use Rattle.bn_theory.specs.Circuits.{target}
-use Rattle.bn_theory.specs.declared.line.Line.{Line}
-use Rattle.bn_theory.specs.declared.line.Wire.{Wire}
+use Rattle.bn_circuits.specs.Circuits.{target}
+use Rattle.bn_circuits.specs.declared.line.Line.{Line}
+use Rattle.bn_circuits.specs.declared.line.Wire.{Wire}
 use Rattle.bn_plan.specs.Lists.{Pairwise}
 use Rattle.bn_lists.specs.Lists.{Has}
 

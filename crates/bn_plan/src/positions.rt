@@ -1,8 +1,8 @@
 //! Positions of lines, and the wire that begins at a position.
 
 ghost use Rattle.std.specs.Prelude.{◌≡◌, ◌↔◌, ◌*◌, ◌^◌, ◌<◌, ◌≤◌, length, map, IfSome, IfNone, IsTrue};
-ghost use Rattle.bn_theory.specs.Circuits.{IsInput, IsOutput};
-ghost use Rattle.bn_theory.specs.declared.line.Wire.{Wire};
+ghost use Rattle.bn_circuits.specs.Circuits.{IsInputOf, IsOutputOf};
+ghost use Rattle.bn_circuits.specs.declared.line.Wire.{Wire};
 ghost use Rattle.bn_element.specs.Rotary.{rotary};
 ghost use Rattle.bn_plan.specs.Wires.{output_position, input_position, HasFourLines};
 ghost use Rattle.bn_plan.specs.Sweeping.{BeginsAt};
@@ -62,7 +62,7 @@ pub(crate) fn wire_from(net: &Net<Rotary>, position: u32) -> Option<Wire>
 // The wire that begins at this output line.
 fn wire_out_of(net: &Net<Rotary>, from: Line) -> Option<Wire>
     requires few { length net.now.elements ≤ MOST_PLANNED }
-    requires output { IsOutput (map (λ _. rotary) net.now.elements) from }
+    requires output { IsOutputOf (map (λ _. rotary) net.now.elements) from }
     ensures begins { IfSome result (BeginsAt net.now.wires (output_position from)) }
     ensures none { IfNone result ((w : Wire) → BeginsAt net.now.wires (output_position from) w → ⊥) }
 {
@@ -80,7 +80,7 @@ fn wire_out_of(net: &Net<Rotary>, from: Line) -> Option<Wire>
 // The wire that begins at this input line.
 fn wire_into(net: &Net<Rotary>, to: Line) -> Option<Wire>
     requires few { length net.now.elements ≤ MOST_PLANNED }
-    requires input { IsInput (map (λ _. rotary) net.now.elements) to }
+    requires input { IsInputOf (map (λ _. rotary) net.now.elements) to }
     ensures begins { IfSome result (BeginsAt net.now.wires (input_position to)) }
     ensures none { IfNone result ((w : Wire) → BeginsAt net.now.wires (input_position to) w → ⊥) }
 {

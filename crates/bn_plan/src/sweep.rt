@@ -1,7 +1,7 @@
 //! A way along all positions, on which each wire takes its track.
 
 ghost use Rattle.std.specs.Prelude.{◌≡◌, ◌+◌, ◌*◌, ◌<◌, ◌≤◌, ◌^◌, [], List, length, replicate, IfOk, OnOk};
-ghost use Rattle.bn_theory.specs.declared.line.Wire.{Wire};
+ghost use Rattle.bn_circuits.specs.declared.line.Wire.{Wire};
 ghost use Rattle.bn_lists.specs.Lists.{Has};
 ghost use Rattle.bn_plan.specs.Wires.{lesser, greater, AreRotary, HasFourLines};
 ghost use Rattle.bn_plan.specs.Sweeping.{Swept, IsSwept, BeginsAt, TakesTrack, floor_of};

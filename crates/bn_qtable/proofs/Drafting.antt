@@ -11,9 +11,9 @@ use Rattle.bn_quad.proofs.KeptLemmas.{act_of-deed_of, length-rules_of, read_of-d
 use Rattle.bn_quad.specs.declared.quad.Quad.{Quad}
 use Rattle.bn_quad.specs.declared.quad.Act.{Act}
 use Rattle.bn_qtable.specs.Draft.{Adds, IsDraft, blanks_alone, drafted, names_of}
-use Rattle.bn_qtable.specs.Entry.{Said, entry_of}
+use Rattle.bn_qtable.specs.Entry.{SaidQuadruple, quadruple_entry}
 use Rattle.bn_qtable.specs.declared.entry.TheConstants.{MOST_ENTRIES}
-use Rattle.bn_qtable.specs.Rows.{IsTableOf, Spells, counts_of, rows_by, table_of}
+use Rattle.bn_qtable.specs.Rows.{IsQuadTableOf, SpellsQuadruples, counts_of, quadruple_rows_by, table_of}
 use Rattle.bn_qtable.specs.Named.{RuleIsNamed}
 use Rattle.bn_qtable.specs.declared.draft.Draft.{Draft}
 use Rattle.bn_qtable.proofs.Growing.{Few, few-names, rows-count, spells-more, spells-none, spells-own}
@@ -48,19 +48,19 @@ quad-kept q h reads acts =
     λ i. record { state = q.state; read = rs2 i; act = as2 i; next = q.next }
 
 -- one more entry of a draft
-pub one-drafted : (d : Draft) (s : Said) (q : Quad) (d2 : Draft) → IsDraft d → Adds (names_of d) s (rule_of q) (names_of d2) → quad_of (rule_of q) ≡ q → d2.quads.items ≡ d.quads.items ++ q ∷ []
-    → IsDraft d2 × (drafted d2 ≡ drafted d ++ entry_of s ∷ [])
+pub one-drafted : (d : Draft) (s : SaidQuadruple) (q : Quad) (d2 : Draft) → IsDraft d → Adds (names_of d) s (rule_of q) (names_of d2) → quad_of (rule_of q) ≡ q → d2.quads.items ≡ d.quads.items ++ q ∷ []
+    → IsDraft d2 × (drafted d2 ≡ drafted d ++ quadruple_entry s ∷ [])
 one-drafted d s q d2 h a last e =
     let n2 = names_of d2 in
     let rules2 : rules_of d2.quads.items ≡ rules_of d.quads.items ++ rule_of q ∷ [] = ap rules_of e ∙ map-append rule_of d.quads.items (q ∷ []) in
     let more = spells-more (names_of d) (rules_of d.quads.items) (drafted d) s (rule_of q) n2 h.spelled a in
-    let P : List (Rule ℕ) → Type 0 = λ rs. Spells n2 rs (drafted d ++ entry_of s ∷ []) in
-    let spelled : Spells n2 (rules_of d2.quads.items) (drafted d ++ entry_of s ∷ []) = subst P (sym rules2) more in
+    let P : List (Rule ℕ) → Type 0 = λ rs. SpellsQuadruples n2 rs (drafted d ++ quadruple_entry s ∷ []) in
+    let spelled : SpellsQuadruples n2 (rules_of d2.quads.items) (drafted d ++ quadruple_entry s ∷ []) = subst P (sym rules2) more in
     let kept = h.kept in
     let all : map quad_of (rules_of d.quads.items ++ rule_of q ∷ []) ≡ d.quads.items ++ q ∷ [] =
     map-append quad_of (rules_of d.quads.items) (rule_of q ∷ []) ∙ (λ i. kept i ++ last i ∷ []) in (
       record {
-        spelled = spells-own n2 (rules_of d2.quads.items) (drafted d ++ entry_of s ∷ []) spelled;
+        spelled = spells-own n2 (rules_of d2.quads.items) (drafted d ++ quadruple_entry s ∷ []) spelled;
         kept = ap (λ (rs : List (Rule ℕ)). map quad_of rs) rules2 ∙ all ∙ sym e;
       },
       spelled.rows,
@@ -121,11 +121,11 @@ no-first-fault d states symbols i q h e f fault =
     fault.faulty (subst R is (subst Q (sym f) (subst P (sym e) sound)))
 
 pub table-of-draft : (d : Draft) (p : Quadruples) (n : Naming) → IsDraft d → length d.quads.items ≤ MOST_ENTRIES → map quad_of p.rules ≡ d.quads.items → p.states ≡ length (names_of d).states → p.symbols ≡ counts_of (names_of d)
-    → 0 < length p.rules → n ≡ names_of d → IsTableOf (drafted d) (table_of p n)
+    → 0 < length p.rules → n ≡ names_of d → IsQuadTableOf (drafted d) (table_of p n)
 table-of-draft d p n h few listed states symbols some names =
     let rules : p.rules ≡ rules_of d.quads.items = sym (rules_of-quads p.rules) ∙ ap rules_of listed in
-    let P : List (Rule ℕ) → Type 0 = λ rs. Spells (names_of d) rs (drafted d) in
-    let Q : Naming → Type 0 = λ m. Spells m p.rules (drafted d) in
+    let P : List (Rule ℕ) → Type 0 = λ rs. SpellsQuadruples (names_of d) rs (drafted d) in
+    let Q : Naming → Type 0 = λ m. SpellsQuadruples m p.rules (drafted d) in
     let count : length (drafted d) ≡ length d.quads.items = rows-count (names_of d) (rules_of d.quads.items) ∙ length-rules_of d.quads.items in
     let long : length p.rules ≡ length (rules_of d.quads.items) = ap (λ (rs : List (Rule ℕ)). length rs) rules in
     let same = length-rules_of d.quads.items in
@@ -140,13 +140,13 @@ table-of-draft d p n h few listed states symbols some names =
 pub none-drafted : (d : Draft) → names_of d ≡ blanks_alone → d.quads.items ≡ [] → IsDraft d × (drafted d ≡ [])
 none-drafted d names f =
     let rules : rules_of d.quads.items ≡ [] = ap rules_of f in
-    let P : Naming → Type 0 = λ n. Spells n [] [] in
-    let Q : List (Rule ℕ) → Type 0 = λ rs. Spells (names_of d) rs (rows_by (names_of d) rs) in (
+    let P : Naming → Type 0 = λ n. SpellsQuadruples n [] [] in
+    let Q : List (Rule ℕ) → Type 0 = λ rs. SpellsQuadruples (names_of d) rs (quadruple_rows_by (names_of d) rs) in (
       record {
         spelled = subst Q (sym rules) (subst P (sym names) spells-none);
         kept = ap (λ (rs : List (Rule ℕ)). map quad_of rs) rules ∙ sym f;
       },
-      ap (rows_by (names_of d)) rules,
+      ap (quadruple_rows_by (names_of d)) rules,
     )
 
 -- a kept quadruple is that of a rule

@@ -5,8 +5,8 @@ use Rattle.std.specs.Result.{is_ok}
 use Rattle.std.proofs.lemmas.List.{take_all, take_more}
 use Rattle.std.proofs.lemmas.Option.{get_or_from_slice_get, slice_get-get_or, slice_get_within}
 use Rattle.std.proofs.lemmas.Slice.Eq.{bytes_eq-Decides}
-use Rattle.bn_entries.specs.NumberingLaws.{AreApart}
-use Rattle.bn_entries.proofs.NumberingLemmas.{one_number}
+use Rattle.bn_csv.specs.NumberingLaws.{AreApart}
+use Rattle.bn_csv.proofs.NumberingLemmas.{one_number}
 use Rattle.bn_quad.specs.Names.{Naming, symbols_on, with_symbol}
 use Rattle.bn_qtable.specs.Named.{on_tape}
 

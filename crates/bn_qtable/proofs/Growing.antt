@@ -8,14 +8,15 @@ use Rattle.std.proofs.lemmas.List.Concat.{flat_map-append}
 use Rattle.std.proofs.lemmas.List.Elements.{All-nil, All-push, All-head, All-tail, All-weaker}
 use Rattle.std.proofs.lemmas.Option.{slice_get_within, get_or_from_slice_get}
 use Rattle.std.proofs.lemmas.Slice.Eq.{bytes_eq-Decides}
-use Rattle.bn_entries.specs.Forms.{is_state_name, is_symbol}
-use Rattle.bn_entries.specs.Numbering.{firsts, firsts_by, with_name}
-use Rattle.bn_entries.proofs.NumberingLemmas.{firsts_push, length-firsts}
-use Rattle.bn_entries.proofs.AddedLemmas.{front, new_all, new_grows}
+use Rattle.bn_csv.specs.Forms.{is_state_name, is_symbol}
+use Rattle.bn_csv.specs.Numbering.{firsts, firsts_by, with_name}
+use Rattle.bn_csv.proofs.NumberingLemmas.{firsts_push, length-firsts}
+use Rattle.bn_csv.proofs.AddedLemmas.{front, new_all, new_grows}
 use Rattle.bn_quad.specs.Names.{Naming, naming_of}
 use Rattle.bn_quad.specs.Quadruples.{Deed, Rewrite, Move, Rule, IsDeedInRange, IsRuleInRange}
-use Rattle.bn_qtable.specs.Entry.{Said, Says, Rewrites, Moves, SaysHasForms, entry_of, read_field, act_field, slash}
-use Rattle.bn_qtable.specs.Rows.{Spells, blank, counts_of, field_at, rows_by, said_deed, said_of, states_in, symbols_at, symbols_in}
+use Rattle.bn_qtable.specs.Entry.{SaidQuadruple, Says, Rewrites, Moves, SaysHasForms, quadruple_entry, read_field, act_field, slash}
+use Rattle.bn_qtable.specs.Rows.{SpellsQuadruples, blank_name, counts_of, quadruple_rows_by, said_deed, said_of_quadruple, state_names_in, symbols_at, symbol_names_in}
+use Rattle.bn_csv.specs.Entries.{field_at}
 use Rattle.bn_qtable.specs.Draft.{Adds, Stands, with_says}
 use Rattle.bn_qtable.proofs.Passing.{no-slash}
 
@@ -47,7 +48,7 @@ pub record GrownAll (n n2 : Naming) : Type 0 where
   pub two : Grown n.two n2.two
   pub three : Grown n.three n2.three
 
-said-stays : (n n2 : Naming) (r : Rule ℕ) → GrownAll n n2 → IsRuleInRange (length n.states) (counts_of n) r → said_of n2 r ≡ said_of n r
+said-stays : (n n2 : Naming) (r : Rule ℕ) → GrownAll n n2 → IsRuleInRange (length n.states) (counts_of n) r → said_of_quadruple n2 r ≡ said_of_quadruple n r
 said-stays n n2 r g h = λ i. record {
   state = front-grown n.states n2.states r.from g.states h.from i;
   one = deed-stays n.one n2.one r.one g.one h.deeds.0 i;
@@ -57,13 +58,13 @@ said-stays n n2 r g h = λ i. record {
 }
 
 -- the entries of quadruples stay when names are added
-rows-stay : (n n2 : Naming) (rules : List (Rule ℕ)) → GrownAll n n2 → All (IsRuleInRange (length n.states) (counts_of n)) rules → rows_by n2 rules ≡ rows_by n rules
+rows-stay : (n n2 : Naming) (rules : List (Rule ℕ)) → GrownAll n n2 → All (IsRuleInRange (length n.states) (counts_of n)) rules → quadruple_rows_by n2 rules ≡ quadruple_rows_by n rules
 rows-stay n n2 [] g h = refl
 rows-stay n n2 (r ∷ rs) g h =
     let In : Rule ℕ → Type 0 = IsRuleInRange (length n.states) (counts_of n) in
     let here = said-stays n n2 r g (All-head In r rs h) in
     let rest = rows-stay n n2 rs g (All-tail In r rs h) in
-    λ i. entry_of (here i) ∷ rest i
+    λ i. quadruple_entry (here i) ∷ rest i
 
 wider-deed : (a b : ℕ) (d : Deed) → a ≤ b → IsDeedInRange a d → IsDeedInRange b d
 wider-deed a b (Rewrite r w) le h = let x = h.0 in let y = h.1 in (omega arith, omega arith)
@@ -83,7 +84,7 @@ wider n n2 g r h =
       to = omega arith;
     }
 
-grown-all : (n : Naming) (s : Said) (r : Rule ℕ) (n2 : Naming) → Adds n s r n2 → GrownAll n n2
+grown-all : (n : Naming) (s : SaidQuadruple) (r : Rule ℕ) (n2 : Naming) → Adds n s r n2 → GrownAll n n2
 grown-all n s r n2 a =
     let S : List (List ℕ) → Type 0 = Grown n.states in
     let A : List (List ℕ) → Type 0 = Grown n.one in
@@ -108,7 +109,7 @@ deed-within names (Rewrite r w) (Moves s) h = absurd h
 deed-within names (Move s) (Rewrites x y) h = absurd h
 deed-within names (Move s) (Moves t) h = tt
 
-said-added : (n : Naming) (s : Said) (r : Rule ℕ) (n2 : Naming) → Adds n s r n2 → said_of n2 r ≡ s
+said-added : (n : Naming) (s : SaidQuadruple) (r : Rule ℕ) (n2 : Naming) → Adds n s r n2 → said_of_quadruple n2 r ≡ s
 said-added n s r n2 h =
     let a = get_or_from_slice_get n2.states r.from s.state [] h.from in
     let b = deed-said n2.one r.one s.one h.one in
@@ -117,11 +118,11 @@ said-added n s r n2 h =
     let e = get_or_from_slice_get n2.states r.to s.next [] h.to in
     λ i. record { state = a i; one = b i; two = c i; three = d i; next = e i }
 
-names-after : (entries : List (List (List ℕ))) (s : Said) → firsts (states_in (entries ++ entry_of s ∷ [])) ≡ with_name (with_name (firsts (states_in entries)) s.state) s.next
+names-after : (entries : List (List (List ℕ))) (s : SaidQuadruple) → firsts (state_names_in (entries ++ quadruple_entry s ∷ [])) ≡ with_name (with_name (firsts (state_names_in entries)) s.state) s.next
 names-after entries s =
-    let more : states_in (entries ++ entry_of s ∷ []) ≡ (states_in entries ++ s.state ∷ []) ++ s.next ∷ [] =
-    flat_map-append (λ fields. field_at fields 0 ∷ field_at fields 7 ∷ []) entries (entry_of s ∷ []) ∙ sym (append_assoc (states_in entries) (s.state ∷ []) (s.next ∷ [])) in
-    rw more (firsts_push (states_in entries ++ s.state ∷ []) s.next ∙ rw (firsts_push (states_in entries) s.state) refl)
+    let more : state_names_in (entries ++ quadruple_entry s ∷ []) ≡ (state_names_in entries ++ s.state ∷ []) ++ s.next ∷ [] =
+    flat_map-append (λ fields. field_at fields 0 ∷ field_at fields 7 ∷ []) entries (quadruple_entry s ∷ []) ∙ sym (append_assoc (state_names_in entries) (s.state ∷ []) (s.next ∷ [])) in
+    rw more (firsts_push (state_names_in entries ++ s.state ∷ []) s.next ∙ rw (firsts_push (state_names_in entries) s.state) refl)
 
 -- the symbols that are said of a tape
 abbrev said-symbols : Says → List (List ℕ)
@@ -132,26 +133,26 @@ symbols-said : (t : Says) → SaysHasForms t → (if bytes_eq (read_field t) sla
 symbols-said (Rewrites r w) h = rw (no-slash r h.0) refl
 symbols-said (Moves s) h = refl
 
-symbols-push : (tape : ℕ) (entries : List (List (List ℕ))) (fields : List (List ℕ)) → symbols_in tape (entries ++ fields ∷ []) ≡ symbols_in tape entries ++ symbols_at tape fields
+symbols-push : (tape : ℕ) (entries : List (List (List ℕ))) (fields : List (List ℕ)) → symbol_names_in tape (entries ++ fields ∷ []) ≡ symbol_names_in tape entries ++ symbols_at tape fields
 symbols-push tape entries fields =
-    flat_map-append (symbols_at tape) entries (fields ∷ []) ∙ ap (λ (u : List (List ℕ)). symbols_in tape entries ++ u) (append-nil (symbols_at tape fields))
+    flat_map-append (symbols_at tape) entries (fields ∷ []) ∙ ap (λ (u : List (List ℕ)). symbol_names_in tape entries ++ u) (append-nil (symbols_at tape fields))
 
 symbols-after : (tape : ℕ) (entries : List (List (List ℕ))) (fields : List (List ℕ)) (t : Says) → symbols_at tape fields ≡ said-symbols t
-    → firsts (blank ∷ symbols_in tape (entries ++ fields ∷ [])) ≡ with_says (firsts (blank ∷ symbols_in tape entries)) t
+    → firsts (blank_name ∷ symbol_names_in tape (entries ++ fields ∷ [])) ≡ with_says (firsts (blank_name ∷ symbol_names_in tape entries)) t
 symbols-after tape entries fields (Rewrites r w) e =
-    let more : blank ∷ symbols_in tape (entries ++ fields ∷ []) ≡ ((blank ∷ symbols_in tape entries) ++ r ∷ []) ++ w ∷ [] =
-    ap (λ (t : List (List ℕ)). blank ∷ t) (symbols-push tape entries fields ∙ ap (λ (u : List (List ℕ)). symbols_in tape entries ++ u) e ∙ sym (append_assoc (symbols_in tape entries) (r ∷ []) (w ∷ []))) in
-    ap firsts more ∙ firsts_push ((blank ∷ symbols_in tape entries) ++ r ∷ []) w ∙ ap (λ (t : List (List ℕ)). with_name t w) (firsts_push (blank ∷ symbols_in tape entries) r)
+    let more : blank_name ∷ symbol_names_in tape (entries ++ fields ∷ []) ≡ ((blank_name ∷ symbol_names_in tape entries) ++ r ∷ []) ++ w ∷ [] =
+    ap (λ (t : List (List ℕ)). blank_name ∷ t) (symbols-push tape entries fields ∙ ap (λ (u : List (List ℕ)). symbol_names_in tape entries ++ u) e ∙ sym (append_assoc (symbol_names_in tape entries) (r ∷ []) (w ∷ []))) in
+    ap firsts more ∙ firsts_push ((blank_name ∷ symbol_names_in tape entries) ++ r ∷ []) w ∙ ap (λ (t : List (List ℕ)). with_name t w) (firsts_push (blank_name ∷ symbol_names_in tape entries) r)
 symbols-after tape entries fields (Moves s) e =
-    ap (λ (t : List (List ℕ)). firsts (blank ∷ t)) (symbols-push tape entries fields ∙ ap (λ (u : List (List ℕ)). symbols_in tape entries ++ u) e ∙ append-nil (symbols_in tape entries))
+    ap (λ (t : List (List ℕ)). firsts (blank_name ∷ t)) (symbols-push tape entries fields ∙ ap (λ (u : List (List ℕ)). symbol_names_in tape entries ++ u) e ∙ append-nil (symbol_names_in tape entries))
 
 form-says : (names : List (List ℕ)) (t : Says) → list_all is_symbol names ≡ true → SaysHasForms t → list_all is_symbol (with_says names t) ≡ true
 form-says names (Rewrites r w) all h = new_all bytes_eq is_symbol (with_name names r) w (new_all bytes_eq is_symbol names r all h.0) h.1
 form-says names (Moves s) all h = all
 
 -- one more entry, and its quadruple
-pub spells-more : (n : Naming) (rules : List (Rule ℕ)) (entries : List (List (List ℕ))) (s : Said) (r : Rule ℕ) (n2 : Naming)
-    → Spells n rules entries → Adds n s r n2 → Spells n2 (rules ++ r ∷ []) (entries ++ entry_of s ∷ [])
+pub spells-more : (n : Naming) (rules : List (Rule ℕ)) (entries : List (List (List ℕ))) (s : SaidQuadruple) (r : Rule ℕ) (n2 : Naming)
+    → SpellsQuadruples n rules entries → Adds n s r n2 → SpellsQuadruples n2 (rules ++ r ∷ []) (entries ++ quadruple_entry s ∷ [])
 spells-more n rules entries s r n2 h a =
     let g = grown-all n s r n2 a in
     let In : Rule ℕ → Type 0 = IsRuleInRange (length n.states) (counts_of n) in
@@ -161,16 +162,16 @@ spells-more n rules entries s r n2 h a =
       deeds = (deed-within n2.one r.one s.one a.one, (deed-within n2.two r.two s.two a.two, (deed-within n2.three r.three s.three a.three, tt)));
       to = slice_get_within n2.states r.to s.next a.to;
     } in
-    let rows : rows_by n2 rules ≡ entries = rows-stay n n2 rules g h.in_range ∙ h.rows in
-    let last : entry_of (said_of n2 r) ≡ entry_of s = ap entry_of (said-added n s r n2 a) in
+    let rows : quadruple_rows_by n2 rules ≡ entries = rows-stay n n2 rules g h.in_range ∙ h.rows in
+    let last : quadruple_entry (said_of_quadruple n2 r) ≡ quadruple_entry s = ap quadruple_entry (said-added n s r n2 a) in
     let f = a.forms in
     record {
-      rows = map-append (λ (q : Rule ℕ). entry_of (said_of n2 q)) rules (r ∷ []) ∙ (λ i. rows i ++ last i ∷ []);
+      rows = map-append (λ (q : Rule ℕ). quadruple_entry (said_of_quadruple n2 q)) rules (r ∷ []) ∙ (λ i. rows i ++ last i ∷ []);
       in_range = All-push In2 rules r (All-weaker In In2 (wider n n2 g) rules h.in_range) here;
       states_by_first = a.states_after ∙ ap (λ (t : List (List ℕ)). with_name (with_name t s.state) s.next) h.states_by_first ∙ sym (names-after entries s);
-      one_by_first = a.one_after ∙ ap (λ (t : List (List ℕ)). with_says t s.one) h.one_by_first ∙ sym (symbols-after 1 entries (entry_of s) s.one (symbols-said s.one f.one));
-      two_by_first = a.two_after ∙ ap (λ (t : List (List ℕ)). with_says t s.two) h.two_by_first ∙ sym (symbols-after 2 entries (entry_of s) s.two (symbols-said s.two f.two));
-      three_by_first = a.three_after ∙ ap (λ (t : List (List ℕ)). with_says t s.three) h.three_by_first ∙ sym (symbols-after 3 entries (entry_of s) s.three (symbols-said s.three f.three));
+      one_by_first = a.one_after ∙ ap (λ (t : List (List ℕ)). with_says t s.one) h.one_by_first ∙ sym (symbols-after 1 entries (quadruple_entry s) s.one (symbols-said s.one f.one));
+      two_by_first = a.two_after ∙ ap (λ (t : List (List ℕ)). with_says t s.two) h.two_by_first ∙ sym (symbols-after 2 entries (quadruple_entry s) s.two (symbols-said s.two f.two));
+      three_by_first = a.three_after ∙ ap (λ (t : List (List ℕ)). with_says t s.three) h.three_by_first ∙ sym (symbols-after 3 entries (quadruple_entry s) s.three (symbols-said s.three f.three));
       states_form = rw a.states_after (new_all bytes_eq is_state_name (with_name n.states s.state) s.next (new_all bytes_eq is_state_name n.states s.state h.states_form f.state) f.next);
       one_form = rw a.one_after (form-says n.one s.one h.one_form f.one);
       two_form = rw a.two_after (form-says n.two s.two h.two_form f.two);
@@ -179,9 +180,9 @@ spells-more n rules entries s r n2 h a =
 
 -- no entry
 pub first-names : Naming
-first-names = naming_of [] (blank ∷ []) (blank ∷ []) (blank ∷ [])
+first-names = naming_of [] (blank_name ∷ []) (blank_name ∷ []) (blank_name ∷ [])
 
-pub spells-none : Spells (naming_of [] (blank ∷ []) (blank ∷ []) (blank ∷ [])) [] []
+pub spells-none : SpellsQuadruples (naming_of [] (blank_name ∷ []) (blank_name ∷ []) (blank_name ∷ [])) [] []
 unfolding firsts_by
 spells-none = record {
   rows = refl;
@@ -197,13 +198,13 @@ spells-none = record {
 }
 
 -- quadruples have their own entries
-pub spells-own : (n : Naming) (rules : List (Rule ℕ)) (entries : List (List (List ℕ))) → Spells n rules entries → Spells n rules (rows_by n rules)
+pub spells-own : (n : Naming) (rules : List (Rule ℕ)) (entries : List (List (List ℕ))) → SpellsQuadruples n rules entries → SpellsQuadruples n rules (quadruple_rows_by n rules)
 spells-own n rules entries h =
-    let P : List (List (List ℕ)) → Type 0 = Spells n rules in subst P (sym h.rows) h
+    let P : List (List (List ℕ)) → Type 0 = SpellsQuadruples n rules in subst P (sym h.rows) h
 
 -- ---- how many names there are
 
-states-count : (entries : List (List (List ℕ))) → length (states_in entries) ≡ 2 * length entries
+states-count : (entries : List (List (List ℕ))) → length (state_names_in entries) ≡ 2 * length entries
 states-count [] = refl
 states-count (fields ∷ rest) = let later = states-count rest in omega arith
 
@@ -213,18 +214,18 @@ two-at-most tape fields = elim (cases_Bool (bytes_eq (field_at fields tape) slas
   | inr miss ↦ rw miss (omega arith)
 ]
 
-symbols-count : (tape : ℕ) (entries : List (List (List ℕ))) → length (symbols_in tape entries) ≤ 2 * length entries
+symbols-count : (tape : ℕ) (entries : List (List (List ℕ))) → length (symbol_names_in tape entries) ≤ 2 * length entries
 symbols-count tape [] = omega arith
 symbols-count tape (fields ∷ rest) =
-    let long : length (symbols_in tape (fields ∷ rest)) ≡ length (symbols_at tape fields) + length (symbols_in tape rest) = length-append (symbols_at tape fields) (symbols_in tape rest) in
+    let long : length (symbol_names_in tape (fields ∷ rest)) ≡ length (symbols_at tape fields) + length (symbol_names_in tape rest) = length-append (symbols_at tape fields) (symbol_names_in tape rest) in
     let here = two-at-most tape fields in
     let later = symbols-count tape rest in
     omega arith
 
-few-symbols : (tape : ℕ) (names : List (List ℕ)) (entries : List (List (List ℕ))) → names ≡ firsts (blank ∷ symbols_in tape entries) → length names ≤ 2 * length entries + 1
+few-symbols : (tape : ℕ) (names : List (List ℕ)) (entries : List (List (List ℕ))) → names ≡ firsts (blank_name ∷ symbol_names_in tape entries) → length names ≤ 2 * length entries + 1
 few-symbols tape names entries e =
-    let most : length (firsts (blank ∷ symbols_in tape entries)) ≤ length (blank ∷ symbols_in tape entries) = length-firsts bytes_eq bytes_eq-Decides (blank ∷ symbols_in tape entries) in
-    let is : length names ≡ length (firsts (blank ∷ symbols_in tape entries)) = ap (λ (t : List (List ℕ)). length t) e in
+    let most : length (firsts (blank_name ∷ symbol_names_in tape entries)) ≤ length (blank_name ∷ symbol_names_in tape entries) = length-firsts bytes_eq bytes_eq-Decides (blank_name ∷ symbol_names_in tape entries) in
+    let is : length names ≡ length (firsts (blank_name ∷ symbol_names_in tape entries)) = ap (λ (t : List (List ℕ)). length t) e in
     let count = symbols-count tape entries in
     omega arith
 
@@ -234,10 +235,10 @@ pub record Few (n : Naming) (count : ℕ) : Type 0 where
   pub two : length n.two ≤ 2 * count + 1
   pub three : length n.three ≤ 2 * count + 1
 
-few-of : (n : Naming) (rules : List (Rule ℕ)) (entries : List (List (List ℕ))) → Spells n rules entries → Few n (length entries)
+few-of : (n : Naming) (rules : List (Rule ℕ)) (entries : List (List (List ℕ))) → SpellsQuadruples n rules entries → Few n (length entries)
 few-of n rules entries h =
-    let most : length (firsts (states_in entries)) ≤ length (states_in entries) = length-firsts bytes_eq bytes_eq-Decides (states_in entries) in
-    let is : length n.states ≡ length (firsts (states_in entries)) = ap (λ (t : List (List ℕ)). length t) h.states_by_first in
+    let most : length (firsts (state_names_in entries)) ≤ length (state_names_in entries) = length-firsts bytes_eq bytes_eq-Decides (state_names_in entries) in
+    let is : length n.states ≡ length (firsts (state_names_in entries)) = ap (λ (t : List (List ℕ)). length t) h.states_by_first in
     let count = states-count entries in
     record {
       states = omega arith;
@@ -246,10 +247,10 @@ few-of n rules entries h =
       three = few-symbols 3 n.three entries h.three_by_first;
     }
 
-pub rows-count : (n : Naming) (rules : List (Rule ℕ)) → length (rows_by n rules) ≡ length rules
+pub rows-count : (n : Naming) (rules : List (Rule ℕ)) → length (quadruple_rows_by n rules) ≡ length rules
 rows-count n rules = length-map rules _
 
-pub few-names : (n : Naming) (rules : List (Rule ℕ)) (entries : List (List (List ℕ))) → Spells n rules entries → Few n (length rules)
+pub few-names : (n : Naming) (rules : List (Rule ℕ)) (entries : List (List (List ℕ))) → SpellsQuadruples n rules entries → Few n (length rules)
 few-names n rules entries h =
     let count : length entries ≡ length rules = ap (λ (t : List (List (List ℕ))). length t) (sym h.rows) ∙ rows-count n rules in
     let P : ℕ → Type 0 = Few n in

@@ -3,16 +3,16 @@ use Rattle.std.proofs.Common.{◌≡◌, ◌≤◌, ◌∷◌, ◌∙◌, ℕ, t
 use Rattle.std.specs.Prelude.{bytes_eq}
 use Rattle.std.proofs.lemmas.Bool.{cases_Bool, false≢true}
 use Rattle.std.proofs.lemmas.Slice.Eq.{bytes_eq-Decides}
-use Rattle.bn_entries.specs.Forms.{is_state_name, is_symbol}
-use Rattle.bn_entries.proofs.FaultLemmas.{in_number, passed, within_number}
+use Rattle.bn_csv.specs.Forms.{is_state_name, is_symbol}
+use Rattle.bn_csv.proofs.FaultLemmas.{in_number, passed, within_number}
 use Rattle.bn_machine.specs.declared.quint.Shift.{Shift}
 use Rattle.bn_machine.specs.declared.quint.Shift.TheVariants.{Left, Stay, Right}
-use Rattle.bn_qtable.specs.Entry.{Said, Says, Rewrites, Moves, HasForms, SaysHasForms, entry_of, read_field, act_field, slash}
-use Rattle.bn_entries.specs.Shifts.{is_shift, shift_text}
-use Rattle.bn_qtable.specs.Faults.{entry_fault, field_fault, form_fault, is_read, is_act}
+use Rattle.bn_qtable.specs.Entry.{SaidQuadruple, Says, Rewrites, Moves, HasForms, SaysHasForms, quadruple_entry, read_field, act_field, slash}
+use Rattle.bn_machine.specs.Shifts.{is_shift, shift_text}
+use Rattle.bn_qtable.specs.Faults.{quadruple_entry_fault, quadruple_field_fault, quadruple_form_fault, is_read, is_act}
 use Rattle.bn_qtable.specs.declared.entry.TheConstants.{MOST_ENTRIES}
 use Rattle.bn_qtable.specs.declared.refusal.QuadTableRefusal.TheVariants as refusal
-use Rattle.bn_entries.proofs.ShiftLemmas.{shift_is}
+use Rattle.bn_machine.proofs.ShiftLemmas.{shift_is}
 
 -- eight fields
 pub eight_is : (fields : List (List ℕ)) (a b c d e f g h : List ℕ) → length fields ≡ 8 → slice_get fields 0 ≡ Some a → slice_get fields 1 ≡ Some b
@@ -30,7 +30,7 @@ eight_is (s ∷ t ∷ u ∷ v ∷ w ∷ x ∷ y ∷ []) a b c d e f g h n f0 f1 
 eight_is (s ∷ t ∷ u ∷ v ∷ w ∷ x ∷ y ∷ z ∷ zz ∷ zs) a b c d e f g h n f0 f1 f2 f3 f4 f5 f6 f7 = absurd (omega arith)
 
 -- not eight fields
-pub not_eight : (entry : ℕ) (fields : List (List ℕ)) → (length fields ≡ 8 → ⊥) → form_fault entry fields ≡ Some (refusal.FieldCount entry)
+pub not_eight : (entry : ℕ) (fields : List (List ℕ)) → (length fields ≡ 8 → ⊥) → quadruple_form_fault entry fields ≡ Some (refusal.FieldCount entry)
 not_eight entry [] h = refl
 not_eight entry (a ∷ []) h = refl
 not_eight entry (a ∷ b ∷ []) h = refl
@@ -94,7 +94,7 @@ record Passes (a b c d e f g h : List ℕ) : Type 0 where
   act3 : is_act d g ≡ true
   next : is_state_name h ≡ true
 
-fields-pass : (n : ℕ) (a b c d e f g h : List ℕ) → field_fault n a b c d e f g h ≡ None → Passes a b c d e f g h
+fields-pass : (n : ℕ) (a b c d e f g h : List ℕ) → quadruple_field_fault n a b c d e f g h ≡ None → Passes a b c d e f g h
 fields-pass n a b c d e f g h p =
     let p1 = passed (is_state_name a) _ _ p in
     let p2 = passed (is_read b) _ _ p1.1 in
@@ -106,7 +106,7 @@ fields-pass n a b c d e f g h p =
     let p8 = passed (is_state_name h) _ _ p7.1 in
     record { state = p1.0; read1 = p2.0; read2 = p3.0; read3 = p4.0; act1 = p5.0; act2 = p6.0; act3 = p7.0; next = p8.0 }
 
-fields-back : (n : ℕ) (s : Said) → HasForms s → form_fault n (entry_of s) ≡ None
+fields-back : (n : ℕ) (s : SaidQuadruple) → HasForms s → quadruple_form_fault n (quadruple_entry s) ≡ None
 fields-back n s h = rw (
   h.state,
   read-back s.one h.one,
@@ -130,7 +130,7 @@ record Eight (fields : List (List ℕ)) : Type 0 where
   is : fields ≡ a ∷ b ∷ c ∷ d ∷ e ∷ f ∷ g ∷ h ∷ []
   pass : Passes a b c d e f g h
 
-eight-or-fault : (n : ℕ) (fields : List (List ℕ)) → form_fault n fields ≡ None → Eight fields
+eight-or-fault : (n : ℕ) (fields : List (List ℕ)) → quadruple_form_fault n fields ≡ None → Eight fields
 eight-or-fault n (a ∷ b ∷ c ∷ d ∷ e ∷ f ∷ g ∷ x ∷ []) p =
     record { a = a; b = b; c = c; d = d; e = e; f = f; g = g; h = x; is = refl; pass = fields-pass n a b c d e f g x p }
 eight-or-fault n [] p = cc p
@@ -149,13 +149,13 @@ eight-said a b c d e f g h b2 c2 d2 e2 f2 g2 p1 p2 p3 p4 p5 p6 = λ i. a ∷ p1 
 
 -- what an entry says
 pub record SaysSo (fields : List (List ℕ)) : Type 0 where
-  pub what : Said
-  pub is : fields ≡ entry_of what
+  pub what : SaidQuadruple
+  pub is : fields ≡ quadruple_entry what
   pub forms : HasForms what
 
-pub says-so : (n : ℕ) (fields : List (List ℕ)) → entry_fault n fields ≡ None → SaysSo fields
+pub says-so : (n : ℕ) (fields : List (List ℕ)) → quadruple_entry_fault n fields ≡ None → SaysSo fields
 says-so n fields none =
-    let x = eight-or-fault n fields (in_number MOST_ENTRIES refusal.TooMany form_fault n fields none).1 in
+    let x = eight-or-fault n fields (in_number MOST_ENTRIES refusal.TooMany quadruple_form_fault n fields none).1 in
     let p = x.pass in
     let one = tell x.b x.e p.read1 p.act1 in
     let two = tell x.c x.f p.read2 p.act2 in
@@ -167,5 +167,5 @@ says-so n fields none =
     }
 
 -- entries in the right forms have no fault, up to as many as a table may have
-pub no_fault : (n : ℕ) (s : Said) → n ≤ MOST_ENTRIES → HasForms s → entry_fault n (entry_of s) ≡ None
-no_fault n s few h = within_number MOST_ENTRIES refusal.TooMany form_fault n (entry_of s) few ∙ fields-back n s h
+pub no_fault : (n : ℕ) (s : SaidQuadruple) → n ≤ MOST_ENTRIES → HasForms s → quadruple_entry_fault n (quadruple_entry s) ≡ None
+no_fault n s few h = within_number MOST_ENTRIES refusal.TooMany quadruple_form_fault n (quadruple_entry s) few ∙ fields-back n s h

@@ -5,24 +5,24 @@ use Rattle.std.specs.List.{list_all}
 use Rattle.std.proofs.lemmas.List.Elements.{All-head, All-tail}
 use Rattle.std.proofs.lemmas.Option.{slice_get-get_or}
 use Rattle.std.proofs.lemmas.Slice.Eq.{bytes_eq-Decides}
-use Rattle.bn_entries.specs.Forms.{is_state_name, is_symbol}
-use Rattle.bn_entries.proofs.FormsLemmas.{all-at}
-use Rattle.bn_entries.specs.Numbering.{with_name}
-use Rattle.bn_entries.specs.NumberingLaws.{AreApart}
-use Rattle.bn_entries.proofs.AddedLemmas.{first_number, last_number, same_at}
-use Rattle.bn_entries.proofs.FaultLemmas.{in_number, kept_to_last, none_faulty}
-use Rattle.bn_entries.proofs.NumberingLemmas.{apart-firsts}
+use Rattle.bn_csv.specs.Forms.{is_state_name, is_symbol}
+use Rattle.bn_csv.proofs.FormsLemmas.{all-at}
+use Rattle.bn_csv.specs.Numbering.{with_name}
+use Rattle.bn_csv.specs.NumberingLaws.{AreApart}
+use Rattle.bn_csv.proofs.AddedLemmas.{first_number, last_number, same_at}
+use Rattle.bn_csv.proofs.FaultLemmas.{in_number, kept_to_last, none_faulty}
+use Rattle.bn_csv.proofs.NumberingLemmas.{apart-firsts}
 use Rattle.bn_quad.specs.Names.{Naming, naming_of}
 use Rattle.bn_quad.specs.Quadruples.{Deed, Rewrite, Move, Rule, IsDeedInRange, IsRuleInRange, quadruples_of}
-use Rattle.bn_qtable.specs.Entry.{Said, Says, Rewrites, Moves, HasForms, SaysHasForms, entry_of, read_field, act_field}
+use Rattle.bn_qtable.specs.Entry.{SaidQuadruple, Says, Rewrites, Moves, HasForms, SaysHasForms, quadruple_entry, read_field, act_field}
 use Rattle.bn_qtable.specs.Draft.{Adds, Stands, with_says}
-use Rattle.bn_qtable.specs.Faults.{entry_fault, fault_of, form_fault}
-use Rattle.bn_qtable.specs.Rows.{IsTableOf, QuadTable, Spells, blank, counts_of, rows_by, said_deed, said_of, states_in, symbols_in, table_of}
+use Rattle.bn_qtable.specs.Faults.{quadruple_entry_fault, quadruple_table_fault, quadruple_form_fault}
+use Rattle.bn_qtable.specs.Rows.{IsQuadTableOf, QuadTable, SpellsQuadruples, blank_name, counts_of, quadruple_rows_by, said_deed, said_of_quadruple, state_names_in, symbol_names_in, table_of}
 use Rattle.bn_qtable.specs.declared.entry.TheConstants.{MOST_ENTRIES}
 use Rattle.bn_qtable.specs.declared.refusal.QuadTableRefusal.TheVariants as refusal
 use Rattle.bn_qtable.proofs.Growing.{spells-more, spells-none}
 use Rattle.bn_qtable.proofs.Passing.{no_fault, says-so, slash-is-none}
-use Rattle.bn_entries.proofs.ShiftLemmas.{one_shift}
+use Rattle.bn_machine.proofs.ShiftLemmas.{one_shift}
 
 -- ---- one reading
 
@@ -49,14 +49,14 @@ same-deed names (Move s) (Rewrite c d) apart h k e = cc e
 same-deed names (Move s) (Move t) apart h k e = let one : s ≡ t = cc in ap Move one
 
 -- what two equal entries say is equal
-record SameSaid (s t : Said) : Type 0 where
+record SameSaid (s t : SaidQuadruple) : Type 0 where
   state : s.state ≡ t.state
   one : s.one ≡ t.one
   two : s.two ≡ t.two
   three : s.three ≡ t.three
   next : s.next ≡ t.next
 
-same-said : (s t : Said) → HasForms s → HasForms t → entry_of s ≡ entry_of t → SameSaid s t
+same-said : (s t : SaidQuadruple) → HasForms s → HasForms t → quadruple_entry s ≡ quadruple_entry t → SameSaid s t
 same-said s t h k e =
     let r1 : read_field s.one ≡ read_field t.one = cc in
     let r2 : read_field s.two ≡ read_field t.two = cc in
@@ -83,12 +83,12 @@ pub record Good (n : Naming) : Type 0 where
   pub two_form : list_all is_symbol n.two ≡ true
   pub three_form : list_all is_symbol n.three ≡ true
 
-pub good : (n : Naming) (rules : List (Rule ℕ)) (entries : List (List (List ℕ))) → Spells n rules entries → Good n
+pub good : (n : Naming) (rules : List (Rule ℕ)) (entries : List (List (List ℕ))) → SpellsQuadruples n rules entries → Good n
 good n rules entries h = record {
-  states = rw (← h.states_by_first) at (apart-firsts bytes_eq bytes_eq-Decides (states_in entries));
-  one = rw (← h.one_by_first) at (apart-firsts bytes_eq bytes_eq-Decides (blank ∷ symbols_in 1 entries));
-  two = rw (← h.two_by_first) at (apart-firsts bytes_eq bytes_eq-Decides (blank ∷ symbols_in 2 entries));
-  three = rw (← h.three_by_first) at (apart-firsts bytes_eq bytes_eq-Decides (blank ∷ symbols_in 3 entries));
+  states = rw (← h.states_by_first) at (apart-firsts bytes_eq bytes_eq-Decides (state_names_in entries));
+  one = rw (← h.one_by_first) at (apart-firsts bytes_eq bytes_eq-Decides (blank_name ∷ symbol_names_in 1 entries));
+  two = rw (← h.two_by_first) at (apart-firsts bytes_eq bytes_eq-Decides (blank_name ∷ symbol_names_in 2 entries));
+  three = rw (← h.three_by_first) at (apart-firsts bytes_eq bytes_eq-Decides (blank_name ∷ symbol_names_in 3 entries));
   states_form = h.states_form;
   one_form = h.one_form;
   two_form = h.two_form;
@@ -99,7 +99,7 @@ deed-forms : (names : List (List ℕ)) (d : Deed) → list_all is_symbol names �
 deed-forms names (Rewrite r w) f h = (all-at is_symbol names r _ f (slice_get-get_or names r [] h.0), all-at is_symbol names w _ f (slice_get-get_or names w [] h.1))
 deed-forms names (Move s) f h = tt
 
-pub row-forms : (n : Naming) (r : Rule ℕ) → Good n → IsRuleInRange (length n.states) (counts_of n) r → HasForms (said_of n r)
+pub row-forms : (n : Naming) (r : Rule ℕ) → Good n → IsRuleInRange (length n.states) (counts_of n) r → HasForms (said_of_quadruple n r)
 row-forms n r g h = record {
   state = all-at is_state_name n.states r.from _ g.states_form (slice_get-get_or n.states r.from [] h.from);
   one = deed-forms n.one r.one g.one_form h.deeds.0;
@@ -109,9 +109,9 @@ row-forms n r g h = record {
 }
 
 same-rule : (n : Naming) (q r : Rule ℕ) → Good n → IsRuleInRange (length n.states) (counts_of n) q → IsRuleInRange (length n.states) (counts_of n) r
-    → entry_of (said_of n q) ≡ entry_of (said_of n r) → q ≡ r
+    → quadruple_entry (said_of_quadruple n q) ≡ quadruple_entry (said_of_quadruple n r) → q ≡ r
 same-rule n q r g h k e =
-    let same = same-said (said_of n q) (said_of n r) (row-forms n q g h) (row-forms n r g k) e in
+    let same = same-said (said_of_quadruple n q) (said_of_quadruple n r) (row-forms n q g h) (row-forms n r g k) e in
     let a = same_at bytes_eq bytes_eq-Decides n.states [] q.from r.from g.states h.from k.from same.state in
     let b = same-deed n.one q.one r.one g.one h.deeds.0 k.deeds.0 same.one in
     let c = same-deed n.two q.two r.two g.two h.deeds.1.0 k.deeds.1.0 same.two in
@@ -120,25 +120,25 @@ same-rule n q r g h k e =
     λ i. record { from = a i; one = b i; two = c i; three = d i; to = f i }
 
 same-rows : (n : Naming) → Good n → (qs rs : List (Rule ℕ)) → All (IsRuleInRange (length n.states) (counts_of n)) qs → All (IsRuleInRange (length n.states) (counts_of n)) rs
-    → rows_by n qs ≡ rows_by n rs → qs ≡ rs
+    → quadruple_rows_by n qs ≡ quadruple_rows_by n rs → qs ≡ rs
 same-rows n g [] [] h k e = refl
 same-rows n g [] (r ∷ rs) h k e = cc e
 same-rows n g (q ∷ qs) [] h k e = cc e
 same-rows n g (q ∷ qs) (r ∷ rs) h k e =
     let In : Rule ℕ → Type 0 = IsRuleInRange (length n.states) (counts_of n) in
-    let head : entry_of (said_of n q) ≡ entry_of (said_of n r) = cc in
-    let tail : rows_by n qs ≡ rows_by n rs = cc in
+    let head : quadruple_entry (said_of_quadruple n q) ≡ quadruple_entry (said_of_quadruple n r) = cc in
+    let tail : quadruple_rows_by n qs ≡ quadruple_rows_by n rs = cc in
     let one : q ≡ r = same-rule n q r g (All-head In q qs h) (All-head In r rs k) head in
     let rest : qs ≡ rs = same-rows n g qs rs (All-tail In q qs h) (All-tail In r rs k) tail in
     λ i. one i ∷ rest i
 
-one-spelling : (entries : List (List (List ℕ))) (n n2 : Naming) (qs rs : List (Rule ℕ)) → n2 ≡ n → Spells n qs entries → Spells n2 rs entries → qs ≡ rs
+one-spelling : (entries : List (List (List ℕ))) (n n2 : Naming) (qs rs : List (Rule ℕ)) → n2 ≡ n → SpellsQuadruples n qs entries → SpellsQuadruples n2 rs entries → qs ≡ rs
 one-spelling entries n n2 qs rs e h k =
-    let P : Naming → Type 0 = λ m. Spells m rs entries in
-    let other : Spells n rs entries = subst P e k in
+    let P : Naming → Type 0 = λ m. SpellsQuadruples m rs entries in
+    let other : SpellsQuadruples n rs entries = subst P e k in
     same-rows n (good n qs entries h) qs rs h.in_range other.in_range (h.rows ∙ sym other.rows)
 
-pub one_reading : (entries : List (List (List ℕ))) (t u : QuadTable) → IsTableOf entries t → IsTableOf entries u → t ≡ u
+pub one_reading : (entries : List (List (List ℕ))) (t u : QuadTable) → IsQuadTableOf entries t → IsQuadTableOf entries u → t ≡ u
 one_reading entries t u h k =
     let a = h.spelled.states_by_first ∙ sym k.spelled.states_by_first in
     let b = h.spelled.one_by_first ∙ sym k.spelled.one_by_first in
@@ -163,11 +163,11 @@ some-deed names (Moves s) = (Move s, refl)
 record Spelling (entries : List (List (List ℕ))) : Type 0 where
   names : Naming
   rules : List (Rule ℕ)
-  spells : Spells names rules entries
+  spells : SpellsQuadruples names rules entries
   few : length entries ≤ MOST_ENTRIES
 
-one-more : (n : Naming) (rules : List (Rule ℕ)) (done : List (List (List ℕ))) (s : Said) → HasForms s → Spells n rules done → length done + 1 ≤ MOST_ENTRIES
-    → Spelling (done ++ entry_of s ∷ [])
+one-more : (n : Naming) (rules : List (Rule ℕ)) (done : List (List (List ℕ))) (s : SaidQuadruple) → HasForms s → SpellsQuadruples n rules done → length done + 1 ≤ MOST_ENTRIES
+    → Spelling (done ++ quadruple_entry s ∷ [])
 one-more n rules done s f h few =
     let (from, first) = first_number bytes_eq bytes_eq-Decides n.states s.state s.next in
     let (to, last) = last_number bytes_eq bytes_eq-Decides (with_name n.states s.state) s.next in
@@ -192,31 +192,31 @@ one-more n rules done s f h few =
       names = n2;
       rules = rules ++ r ∷ [];
       spells = spells-more n rules done s r n2 h adds;
-      few = omega (arith, length-append done (entry_of s ∷ []));
+      few = omega (arith, length-append done (quadruple_entry s ∷ []));
     }
 
 nothing : Spelling []
-nothing = record { names = naming_of [] (blank ∷ []) (blank ∷ []) (blank ∷ []); rules = []; spells = spells-none; few = omega arith }
+nothing = record { names = naming_of [] (blank_name ∷ []) (blank_name ∷ []) (blank_name ∷ []); rules = []; spells = spells-none; few = omega arith }
 
-next-spelling : (done : List (List (List ℕ))) (fields : List (List ℕ)) → Spelling done → entry_fault (length done + 1) fields ≡ None → Spelling (done ++ fields ∷ [])
+next-spelling : (done : List (List (List ℕ))) (fields : List (List ℕ)) → Spelling done → quadruple_entry_fault (length done + 1) fields ≡ None → Spelling (done ++ fields ∷ [])
 next-spelling done fields so here =
     let x = says-so (length done + 1) fields here in
-    let few = (in_number MOST_ENTRIES refusal.TooMany form_fault (length done + 1) fields here).0 in
+    let few = (in_number MOST_ENTRIES refusal.TooMany quadruple_form_fault (length done + 1) fields here).0 in
     let P : List (List ℕ) → Type 0 = λ f. Spelling (done ++ f ∷ []) in
     subst P (sym x.is) (one-more so.names so.rules done x.what x.forms so.spells few)
 
-pub reading_of : (entries : List (List (List ℕ))) → fault_of entries ≡ None → (t : QuadTable) × IsTableOf entries t
+pub reading_of : (entries : List (List (List ℕ))) → quadruple_table_fault entries ≡ None → (t : QuadTable) × IsQuadTableOf entries t
 reading_of entries e =
-    let (some, so) = kept_to_last refusal.Empty entry_fault Spelling nothing next-spelling entries e in (
+    let (some, so) = kept_to_last refusal.Empty quadruple_entry_fault Spelling nothing next-spelling entries e in (
       table_of (quadruples_of so.rules (length so.names.states) (counts_of so.names)) so.names,
       record { spelled = so.spells; some = some; few = so.few; states = refl; symbols = refl },
     )
 
-pub no_fault_of : (entries : List (List (List ℕ))) (t : QuadTable) → IsTableOf entries t → fault_of entries ≡ None
+pub no_fault_of : (entries : List (List (List ℕ))) (t : QuadTable) → IsQuadTableOf entries t → quadruple_table_fault entries ≡ None
 no_fault_of entries t h =
     let s = h.spelled in
     let In : Rule ℕ → Type 0 = IsRuleInRange (length t.names.states) (counts_of t.names) in
     let g = good t.names t.machine.rules entries s in
-    none_faulty refusal.Empty entry_fault (λ (r : Rule ℕ). entry_of (said_of t.names r)) In MOST_ENTRIES
-    (λ n r few within. no_fault n (said_of t.names r) few (row-forms t.names r g within))
+    none_faulty refusal.Empty quadruple_entry_fault (λ (r : Rule ℕ). quadruple_entry (said_of_quadruple t.names r)) In MOST_ENTRIES
+    (λ n r few within. no_fault n (said_of_quadruple t.names r) few (row-forms t.names r g within))
     entries t.machine.rules s.rows h.some h.few s.in_range

@@ -5,11 +5,11 @@ use Rattle.std.specs.List.{list_all}
 use Rattle.std.proofs.lemmas.List.{map-append, take_all, take_more}
 use Rattle.std.proofs.lemmas.List.Elements.{All-head, All-tail}
 use Rattle.std.proofs.lemmas.Option.{get_or_from_slice_get}
-use Rattle.bn_entries.specs.Entries.{entries_of}
-use Rattle.bn_entries.specs.Forms.{is_state_name, is_symbol}
-use Rattle.bn_entries.proofs.FormsLemmas.{plain-state-name, plain-symbol}
-use Rattle.bn_entries.specs.Lines.{is_plain, is_plain_entry, line_of, lines_of}
-use Rattle.bn_entries.proofs.LinesLemmas.{entries_of-lines_of, lines_of-push}
+use Rattle.bn_csv.specs.Entries.{entries_of}
+use Rattle.bn_csv.specs.Forms.{is_state_name, is_symbol}
+use Rattle.bn_csv.proofs.FormsLemmas.{plain-state-name, plain-symbol}
+use Rattle.bn_csv.specs.Lines.{is_plain, is_plain_entry, line_of, lines_of}
+use Rattle.bn_csv.proofs.LinesLemmas.{entries_of-lines_of, lines_of-push}
 use Rattle.bn_lists.specs.Lists.{nth}
 use Rattle.bn_machine.specs.declared.quint.Shift.{Shift}
 use Rattle.bn_machine.specs.declared.quint.Shift.TheVariants.{Left, Stay, Right}
@@ -17,10 +17,10 @@ use Rattle.bn_quad.specs.Names.{Naming}
 use Rattle.bn_quad.specs.Quadruples.{Deed, Rewrite, Move, Rule, Quadruples, IsDeedInRange, IsQuadMachine, IsRuleInRange}
 use Rattle.bn_quad.specs.Kept.{rule_of, rules_of}
 use Rattle.bn_quad.specs.declared.quad.Quad.{Quad}
-use Rattle.bn_qtable.specs.Entry.{entry_of, read_field, act_field}
-use Rattle.bn_entries.specs.Shifts.{shift_text}
+use Rattle.bn_qtable.specs.Entry.{quadruple_entry, read_field, act_field}
+use Rattle.bn_machine.specs.Shifts.{shift_text}
 use Rattle.bn_qtable.specs.Named.{AreNamed, DeedIsNamed, HasNames, IsNamed, RuleIsNamed}
-use Rattle.bn_qtable.specs.Rows.{rows_by, said_deed, said_of}
+use Rattle.bn_qtable.specs.Rows.{quadruple_rows_by, said_deed, said_of_quadruple}
 
 pub plain_shift : (s : Shift) → is_plain (shift_text s) ≡ true
 plain_shift Left = refl
@@ -42,7 +42,7 @@ plain-act : (names : List (List ℕ)) (d : Deed) → DeedIsNamed names d → is_
 plain-act names (Rewrite r w) h = plain-named names w h.1
 plain-act names (Move s) h = plain_shift s
 
-pub plain-row : (n : Naming) (r : Rule ℕ) → RuleIsNamed n r → is_plain_entry (entry_of (said_of n r)) ≡ true
+pub plain-row : (n : Naming) (r : Rule ℕ) → RuleIsNamed n r → is_plain_entry (quadruple_entry (said_of_quadruple n r)) ≡ true
 plain-row n r h = rw (
   plain-state n.states r.from h.from,
   plain-read n.one r.one h.one,
@@ -79,27 +79,27 @@ rule-named p n (a ∷ b ∷ c ∷ []) e l h r k =
 pub all-named : (p : Quadruples) (n : Naming) → IsQuadMachine p → HasNames p n → All (RuleIsNamed n) p.rules
 all-named p n m h = λ k d inside. rule-named p n p.symbols refl m.tapes h (get_or p.rules k d) (m.in_range k d inside)
 
-plain-rows : (n : Naming) (rules : List (Rule ℕ)) → All (RuleIsNamed n) rules → list_all is_plain_entry (rows_by n rules) ≡ true
+plain-rows : (n : Naming) (rules : List (Rule ℕ)) → All (RuleIsNamed n) rules → list_all is_plain_entry (quadruple_rows_by n rules) ≡ true
 plain-rows n [] h = refl
 plain-rows n (r ∷ rs) h =
     let N : Rule ℕ → Type 0 = RuleIsNamed n in
     rw (plain-row n r (All-head N r rs h)) (plain-rows n rs (All-tail N r rs h))
 
 -- the lines of a machine's entries are read as the entries
-pub entries-back : (p : Quadruples) (n : Naming) (text : List ℕ) → IsQuadMachine p → HasNames p n → text ≡ lines_of (rows_by n p.rules) → entries_of text ≡ rows_by n p.rules
-entries-back p n text m h e = ap entries_of e ∙ entries_of-lines_of (rows_by n p.rules) (plain-rows n p.rules (all-named p n m h))
+pub entries-back : (p : Quadruples) (n : Naming) (text : List ℕ) → IsQuadMachine p → HasNames p n → text ≡ lines_of (quadruple_rows_by n p.rules) → entries_of text ≡ quadruple_rows_by n p.rules
+entries-back p n text m h e = ap entries_of e ∙ entries_of-lines_of (quadruple_rows_by n p.rules) (plain-rows n p.rules (all-named p n m h))
 
 -- the line of one more quadruple
 pub one-line : (n : Naming) (quads : List Quad) (i : ℕ) (q : Quad) → i < length quads
-    → lines_of (rows_by n (rules_of (take (i + 1) quads))) ≡ lines_of (rows_by n (rules_of (take i quads))) ++ line_of (entry_of (said_of n (rule_of (get_or quads i q))))
+    → lines_of (quadruple_rows_by n (rules_of (take (i + 1) quads))) ≡ lines_of (quadruple_rows_by n (rules_of (take i quads))) ++ line_of (quadruple_entry (said_of_quadruple n (rule_of (get_or quads i q))))
 one-line n quads i q h =
-    ap (λ (qs : List Quad). lines_of (rows_by n (rules_of qs))) (take_more quads i q h)
-    ∙ ap (λ (rs : List (Rule ℕ)). lines_of (rows_by n rs)) (map-append rule_of (take i quads) (get_or quads i q ∷ []))
-    ∙ ap lines_of (map-append (λ (r : Rule ℕ). entry_of (said_of n r)) (rules_of (take i quads)) (rule_of (get_or quads i q) ∷ []))
-    ∙ lines_of-push (rows_by n (rules_of (take i quads))) (entry_of (said_of n (rule_of (get_or quads i q))))
+    ap (λ (qs : List Quad). lines_of (quadruple_rows_by n (rules_of qs))) (take_more quads i q h)
+    ∙ ap (λ (rs : List (Rule ℕ)). lines_of (quadruple_rows_by n rs)) (map-append rule_of (take i quads) (get_or quads i q ∷ []))
+    ∙ ap lines_of (map-append (λ (r : Rule ℕ). quadruple_entry (said_of_quadruple n r)) (rules_of (take i quads)) (rule_of (get_or quads i q) ∷ []))
+    ∙ lines_of-push (quadruple_rows_by n (rules_of (take i quads))) (quadruple_entry (said_of_quadruple n (rule_of (get_or quads i q))))
 
-pub all-lines : (n : Naming) (quads : List Quad) (i : ℕ) → length quads ≤ i → lines_of (rows_by n (rules_of (take i quads))) ≡ lines_of (rows_by n (rules_of quads))
-all-lines n quads i h = ap (λ (qs : List Quad). lines_of (rows_by n (rules_of qs))) (take_all i quads h)
+pub all-lines : (n : Naming) (quads : List Quad) (i : ℕ) → length quads ≤ i → lines_of (quadruple_rows_by n (rules_of (take i quads))) ≡ lines_of (quadruple_rows_by n (rules_of quads))
+all-lines n quads i h = ap (λ (qs : List Quad). lines_of (quadruple_rows_by n (rules_of qs))) (take_all i quads h)
 
 pub plain-at : (names : List (List ℕ)) (n : ℕ) (name : List ℕ) → slice_get names n ≡ Some name → IsNamed is_symbol names n → is_plain name ≡ true
 plain-at names n name at (other, there, form) = let same : name ≡ other = cc in ap is_plain same ∙ plain-symbol other form

@@ -1,13 +1,13 @@
 -- What a table that is being read has come to.
 use Rattle.std.specs.Prelude.{◌≡◌, ℕ, ◌<◌, ◌-◌, ◌^◌, List, [], ◌∷◌, Some, length, map, slice_get, bytes_eq}
 use Rattle.std.proofs.lemmas.Slice.Eq.{bytes_eq-Decides}
-use Rattle.bn_entries.specs.Numbering.{with_name}
-use Rattle.bn_entries.specs.NumberingLaws.{AreApart}
+use Rattle.bn_csv.specs.Numbering.{with_name}
+use Rattle.bn_csv.specs.NumberingLaws.{AreApart}
 use Rattle.bn_quad.specs.Names.{Naming, naming_of}
 use Rattle.bn_quad.specs.Kept.{quad_of, rules_of}
 use Rattle.bn_quad.specs.Quadruples.{Deed, Rewrite, Move, Rule}
-use Rattle.bn_qtable.specs.Entry.{HasForms, Said, Says, Rewrites, Moves}
-use Rattle.bn_qtable.specs.Rows.{Spells, blank, rows_by}
+use Rattle.bn_qtable.specs.Entry.{HasForms, SaidQuadruple, Says, Rewrites, Moves}
+use Rattle.bn_qtable.specs.Rows.{SpellsQuadruples, blank_name, quadruple_rows_by}
 use Rattle.bn_qtable.specs.declared.draft.Draft.{Draft}
 
 -- the names of a draft
@@ -16,11 +16,11 @@ names_of d = d.lists
 
 -- the entries of a draft's quadruples
 abbrev pub drafted : Draft → List (List (List ℕ))
-drafted d = rows_by (names_of d) (rules_of d.quads.items)
+drafted d = quadruple_rows_by (names_of d) (rules_of d.quads.items)
 
 -- the draft's names are those of its entries, and each quadruple is its rule as it is kept
 pub record IsDraft (d : Draft) : Type 0 where
-  pub spelled : Spells (names_of d) (rules_of d.quads.items) (drafted d)
+  pub spelled : SpellsQuadruples (names_of d) (rules_of d.quads.items) (drafted d)
   pub kept : map quad_of (rules_of d.quads.items) ≡ d.quads.items
 
 -- the deed is what is said, by these names
@@ -37,7 +37,7 @@ with_says names (Rewrites read written) = with_name (with_name names read) writt
 with_says names (Moves s) = names
 
 -- the rule r says s, and the names are those of before with the ones that s has
-pub record Adds (n : Naming) (s : Said) (r : Rule ℕ) (n2 : Naming) : Type 0 where
+pub record Adds (n : Naming) (s : SaidQuadruple) (r : Rule ℕ) (n2 : Naming) : Type 0 where
   pub states_after : n2.states ≡ with_name (with_name n.states s.state) s.next
   pub one_after : n2.one ≡ with_says n.one s.one
   pub two_after : n2.two ≡ with_says n.two s.two
@@ -51,7 +51,7 @@ pub record Adds (n : Naming) (s : Said) (r : Rule ℕ) (n2 : Naming) : Type 0 wh
 
 -- no names of states, and on each tape the blank alone
 abbrev pub blanks_alone : Naming
-blanks_alone = naming_of [] (blank ∷ []) (blank ∷ []) (blank ∷ [])
+blanks_alone = naming_of [] (blank_name ∷ []) (blank_name ∷ []) (blank_name ∷ [])
 
 -- each kind of names has room for two more
 pub record HasRoom (n : Naming) : Type 0 where

@@ -1,8 +1,8 @@
 -- The eight fields of a quadruple's entry (this project's own profile).
 use Rattle.std.specs.Prelude.{◌≡◌, ℕ, true, List, [], ◌∷◌, ⊤}
-use Rattle.bn_entries.specs.Forms.{is_state_name, is_symbol}
+use Rattle.bn_csv.specs.Forms.{is_state_name, is_symbol}
 use Rattle.bn_machine.specs.declared.quint.Shift.{Shift}
-use Rattle.bn_entries.specs.Shifts.{shift_text}
+use Rattle.bn_machine.specs.Shifts.{shift_text}
 
 -- the text of a tape that isn't read, `/`
 abbrev pub slash : List ℕ
@@ -23,7 +23,7 @@ act_field (Rewrites read written) = written
 act_field (Moves s) = shift_text s
 
 -- what an entry says: a state's name, what is done on the three tapes, and the next state's name
-pub record Said : Type 0 where
+pub record SaidQuadruple : Type 0 where
   pub state : List ℕ
   pub one : Says
   pub two : Says
@@ -31,8 +31,8 @@ pub record Said : Type 0 where
   pub next : List ℕ
 
 -- the entry that says so: a state, three reads, three acts, and the next state
-abbrev pub entry_of : Said → List (List ℕ)
-entry_of s =
+abbrev pub quadruple_entry : SaidQuadruple → List (List ℕ)
+quadruple_entry s =
     s.state ∷ read_field s.one ∷ read_field s.two ∷ read_field s.three
     ∷ act_field s.one ∷ act_field s.two ∷ act_field s.three ∷ s.next ∷ []
 
@@ -41,7 +41,7 @@ abbrev pub SaysHasForms : Says → Type 0
 SaysHasForms (Rewrites read written) = (is_symbol read ≡ true) × (is_symbol written ≡ true)
 SaysHasForms (Moves s) = ⊤
 
-pub record HasForms (s : Said) : Type 0 where
+pub record HasForms (s : SaidQuadruple) : Type 0 where
   pub state : is_state_name s.state ≡ true
   pub one : SaysHasForms s.one
   pub two : SaysHasForms s.two

@@ -1,9 +1,9 @@
 -- The first fault of a table's entries. Entries and fields are counted from 1.
 use Rattle.std.specs.Prelude.{ℕ, Bool, ◌||◌, not, if◌then◌else◌, List, [], ◌∷◌, Option, Some, None, bytes_eq}
-use Rattle.bn_entries.specs.Faults.{first_fault, limited}
-use Rattle.bn_entries.specs.Forms.{is_state_name, is_symbol}
+use Rattle.bn_csv.specs.Faults.{first_fault, limited}
+use Rattle.bn_csv.specs.Forms.{is_state_name, is_symbol}
 use Rattle.bn_qtable.specs.Entry.{slash}
-use Rattle.bn_entries.specs.Shifts.{is_shift}
+use Rattle.bn_machine.specs.Shifts.{is_shift}
 use Rattle.bn_qtable.specs.declared.entry.TheConstants.{MOST_ENTRIES}
 use Rattle.bn_qtable.specs.declared.refusal.QuadTableRefusal.{QuadTableRefusal}
 use Rattle.bn_qtable.specs.declared.refusal.QuadTableRefusal.TheVariants as refusal
@@ -21,9 +21,9 @@ abbrev pub act_fault : ℕ → ℕ → List ℕ → QuadTableRefusal
 act_fault entry field read = if bytes_eq read slash then refusal.Shift entry field else refusal.Symbol entry field
 
 -- the first field, in order, that isn't of its form: a state's name, three reads, three acts, a state's name
-abbrev pub field_fault : ℕ → List ℕ → List ℕ → List ℕ → List ℕ → List ℕ → List ℕ → List ℕ → List ℕ
+abbrev pub quadruple_field_fault : ℕ → List ℕ → List ℕ → List ℕ → List ℕ → List ℕ → List ℕ → List ℕ → List ℕ
     → Option QuadTableRefusal
-field_fault entry state read1 read2 read3 act1 act2 act3 next =
+quadruple_field_fault entry state read1 read2 read3 act1 act2 act3 next =
     if not (is_state_name state) then Some (refusal.Name entry 1)
     else if not (is_read read1) then Some (refusal.Symbol entry 2)
     else if not (is_read read2) then Some (refusal.Symbol entry 3)
@@ -35,15 +35,15 @@ field_fault entry state read1 read2 read3 act1 act2 act3 next =
     else None
 
 -- the fault of an entry's fields: there are not eight, or one isn't of its form
-abbrev pub form_fault : ℕ → List (List ℕ) → Option QuadTableRefusal
-form_fault entry (state ∷ read1 ∷ read2 ∷ read3 ∷ act1 ∷ act2 ∷ act3 ∷ next
-    ∷ []) = field_fault entry state read1 read2 read3 act1 act2 act3 next
-form_fault entry fields = Some (refusal.FieldCount entry)
+abbrev pub quadruple_form_fault : ℕ → List (List ℕ) → Option QuadTableRefusal
+quadruple_form_fault entry (state ∷ read1 ∷ read2 ∷ read3 ∷ act1 ∷ act2 ∷ act3 ∷ next
+    ∷ []) = quadruple_field_fault entry state read1 read2 read3 act1 act2 act3 next
+quadruple_form_fault entry fields = Some (refusal.FieldCount entry)
 
 -- the first fault of the entry with this number: it comes after as many as a table may have, or its fields have a fault
-abbrev pub entry_fault : ℕ → List (List ℕ) → Option QuadTableRefusal
-entry_fault entry fields = limited MOST_ENTRIES refusal.TooMany form_fault entry fields
+abbrev pub quadruple_entry_fault : ℕ → List (List ℕ) → Option QuadTableRefusal
+quadruple_entry_fault entry fields = limited MOST_ENTRIES refusal.TooMany quadruple_form_fault entry fields
 
 -- the fault of a table's entries: there is none, or the first faulty entry's first fault
-abbrev pub fault_of : List (List (List ℕ)) → Option QuadTableRefusal
-fault_of entries = first_fault refusal.Empty entry_fault entries
+abbrev pub quadruple_table_fault : List (List (List ℕ)) → Option QuadTableRefusal
+quadruple_table_fault entries = first_fault refusal.Empty quadruple_entry_fault entries

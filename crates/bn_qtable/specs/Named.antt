@@ -1,6 +1,6 @@
 -- Names for what is written, and names as they are gathered.
 use Rattle.std.specs.Prelude.{◌≡◌, ℕ, zero, suc, ◌<◌, List, Bool, true, Some, slice_get, ⊤}
-use Rattle.bn_entries.specs.Forms.{is_state_name, is_symbol}
+use Rattle.bn_csv.specs.Forms.{is_state_name, is_symbol}
 use Rattle.bn_lists.specs.Lists.{nth}
 use Rattle.bn_quad.specs.Names.{Naming, naming_of}
 use Rattle.bn_quad.specs.Quadruples.{Quadruples, Deed, Rewrite, Move, Rule}

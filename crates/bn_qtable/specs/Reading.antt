@@ -1,22 +1,23 @@
 -- The reading of bytes as a table of quadruples (this project's own profile).
 use Rattle.std.specs.Prelude.{◌≡◌, ℕ, List, None, ◌↔◌}
-use Rattle.bn_entries.specs.Entries.{entries_of}
-use Rattle.bn_qtable.specs.Faults.{fault_of}
+use Rattle.bn_csv.specs.Entries.{entries_of}
+use Rattle.bn_qtable.specs.Faults.{quadruple_table_fault}
 use Rattle.bn_qtable.specs.Named.{HasNames}
-use Rattle.bn_qtable.specs.Rows.{IsTable, IsTableOf, QuadTable}
+use Rattle.bn_qtable.specs.Rows.{IsTable, IsQuadTableOf, QuadTable}
 
 -- the bytes read as this table: it has the bytes' entries
-abbrev pub Reads : List ℕ → QuadTable → Type 0
-Reads bytes t = IsTableOf (entries_of bytes) t
+abbrev pub ReadsQuadruples : List ℕ → QuadTable → Type 0
+ReadsQuadruples bytes t = IsQuadTableOf (entries_of bytes) t
 
 -- bytes read as one table at most
 abbrev pub OneReading : Type 0
-OneReading = (bytes : List ℕ) (t u : QuadTable) → Reads bytes t → Reads bytes u → t ≡ u
+OneReading = (bytes : List ℕ) (t u : QuadTable) → ReadsQuadruples bytes t → ReadsQuadruples bytes u → t ≡ u
 
 -- bytes have a reading exactly where their entries have no fault
 abbrev pub ReadingOrFault : Type 0
-ReadingOrFault = (bytes : List ℕ) → (fault_of (entries_of bytes) ≡ None) ↔ ((t : QuadTable) × Reads bytes t)
+ReadingOrFault = (bytes : List ℕ)
+    → (quadruple_table_fault (entries_of bytes) ≡ None) ↔ ((t : QuadTable) × ReadsQuadruples bytes t)
 
 -- a table that bytes are read as has names for its states and symbols, and is the table of its own entries
 abbrev pub ReadTablesAreNamed : Type 0
-ReadTablesAreNamed = (bytes : List ℕ) (t : QuadTable) → Reads bytes t → HasNames t.machine t.names × IsTable t
+ReadTablesAreNamed = (bytes : List ℕ) (t : QuadTable) → ReadsQuadruples bytes t → HasNames t.machine t.names × IsTable t

@@ -1,15 +1,15 @@
 //! One entry of a table of quadruples.
 
 ghost use Rattle.std.specs.Prelude.{◌≡◌, ◌∷◌, [], true, false, IfOk, IfSome, IfNone, bytes_eq};
-ghost use Rattle.bn_qtable.specs.Entry.{HasForms, SaysHasForms, entry_of, slash, read_field};
+ghost use Rattle.bn_qtable.specs.Entry.{HasForms, SaysHasForms, quadruple_entry, slash, read_field};
 ghost use Rattle.bn_qtable.specs.Entry.{act_field};
 ghost use Rattle.bn_qtable.specs.Fields.{said, says, err_of};
 ghost use Rattle.bn_qtable.specs.Faults as fault;
-ghost use Rattle.bn_qtable.specs.Faults.{entry_fault, field_fault};
+ghost use Rattle.bn_qtable.specs.Faults.{quadruple_entry_fault, quadruple_field_fault};
 
 use crate::refusal::QuadTableRefusal;
-use bn_entries::{Entry, is_state_name, is_symbol, shift_of};
-use bn_machine::Shift;
+use bn_csv::{Entry, is_state_name, is_symbol};
+use bn_machine::{Shift, shift_of};
 
 /// The most entries of a table.
 pub const MOST_ENTRIES: u32 = 20000;
@@ -95,11 +95,11 @@ fn eight_fields<'a>(
     act3: &'a [u8],
     next: &'a [u8],
 ) -> Result<Fields<'a>, QuadTableRefusal>
-    ensures says { IfOk result (λ f. entry_of (said f)
+    ensures says { IfOk result (λ f. quadruple_entry (said f)
         ≡ state.now ∷ read1.now ∷ read2.now ∷ read3.now ∷ act1.now ∷ act2.now ∷ act3.now ∷ next.now ∷ []) }
     ensures forms { IfOk result (λ f. HasForms (said f)) }
-    ensures fault { field_fault entry state.now read1.now read2.now read3.now act1.now act2.now act3.now next.now
-        ≡ err_of result }
+    ensures fault { quadruple_field_fault entry state.now read1.now read2.now read3.now act1.now act2.now act3.now
+        next.now ≡ err_of result }
 {
     if !is_state_name(state) {
         return Err(QuadTableRefusal::Name { entry, field: 1 });
@@ -136,9 +136,9 @@ fn eight_fields<'a>(
 
 /// What an entry says, where it is the one with this number, counted from 1; else its first fault.
 pub fn read_fields<'a>(entry: &'a Entry, number: u32) -> Result<Fields<'a>, QuadTableRefusal>
-    ensures says { IfOk result (λ f. entry_of (said f) ≡ entry.now) }
+    ensures says { IfOk result (λ f. quadruple_entry (said f) ≡ entry.now) }
     ensures forms { IfOk result (λ f. HasForms (said f)) }
-    ensures fault { entry_fault number entry.now ≡ err_of result }
+    ensures fault { quadruple_entry_fault number entry.now ≡ err_of result }
 {
     if number > MOST_ENTRIES {
         return Err(QuadTableRefusal::TooMany { entry: number });

@@ -7,14 +7,15 @@ mod entry;
 mod laws;
 mod lists;
 mod refusal;
-#[cfg(test)]
-mod tests;
 mod text;
 
-pub use crate::entry::{MOST_ENTRIES, most_entries_are_stated};
-pub use crate::laws::{
+pub use bn_csv::NoMemory;
+pub use entry::{MOST_ENTRIES, most_entries_are_stated};
+pub use laws::{
     bytes_have_a_reading_or_a_fault, bytes_have_one_reading, tables_that_are_read_can_be_written,
 };
-pub use crate::refusal::QuadTableRefusal;
-pub use crate::text::{read_quads, write_quads};
-pub use bn_entries::NoMemory;
+pub use refusal::QuadTableRefusal;
+pub use text::{read_quads, write_quads};
+
+#[cfg(test)]
+mod tests;

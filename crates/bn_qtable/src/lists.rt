@@ -2,7 +2,7 @@
 
 ghost use Rattle.std.specs.Prelude.{◌≡◌, ◌≤◌, ◌<◌, ◌-◌, ◌^◌, [], OnOk, IfOk, length, bytes_eq};
 ghost use Rattle.std.proofs.lemmas.Slice.Eq.{bytes_eq-Decides};
-ghost use Rattle.bn_entries.specs.NumberingLaws.{AreApart};
+ghost use Rattle.bn_csv.specs.NumberingLaws.{AreApart};
 ghost use Rattle.bn_quad.specs.Kept.{Agree, deed_of};
 ghost use Rattle.bn_quad.specs.Names.{naming_of, symbols_on};
 ghost use Rattle.bn_qtable.specs.Fields.{says};
@@ -10,7 +10,7 @@ ghost use Rattle.bn_qtable.specs.Draft.{Stands, with_says};
 ghost use Rattle.bn_qtable.specs.Named.{on_tape};
 
 use crate::entry::{Fields, TapeText};
-use bn_entries::{Names, NoMemory};
+use bn_csv::{Names, NoMemory};
 use bn_quad::{Act, Quad, QuadNames};
 use std::alloc::Global;
 use std::marker::Model;

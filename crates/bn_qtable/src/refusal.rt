@@ -1,6 +1,6 @@
 //! Why bytes are refused as a table.
 
-use bn_entries::NoMemory;
+use bn_csv::NoMemory;
 
 /// Why some bytes are no table of quadruples. Entries and fields are counted from 1; the first faulty entry is
 /// named, with its first fault in this order: too many entries, the count of fields, the fields from 1 to 8.

@@ -1,23 +1,23 @@
 //! Reading and writing the text of a table.
 
 ghost use Rattle.std.specs.Prelude.{◌≡◌, ◌≤◌, ◌++◌, ◌∷◌, [], true, ◌≢◌, Some, IfOk, IfErr, OnOk, length};
-ghost use Rattle.bn_entries.specs.Entries.{entries_of};
-ghost use Rattle.bn_entries.specs.Forms.{is_state_name, is_symbol};
-ghost use Rattle.bn_entries.specs.Lines.{is_plain, is_plain_entry, line_of, lines_of};
+ghost use Rattle.bn_csv.specs.Entries.{entries_of};
+ghost use Rattle.bn_csv.specs.Forms.{is_state_name, is_symbol};
+ghost use Rattle.bn_csv.specs.Lines.{is_plain, is_plain_entry, line_of, lines_of};
 ghost use Rattle.bn_lists.specs.Lists.{nth};
 ghost use Rattle.bn_quad.specs.Names.{symbols_on};
 ghost use Rattle.bn_quad.specs.Kept.{Agree, IsUnmixed, deed_of, rule_of};
-ghost use Rattle.bn_qtable.specs.Entry.{entry_of, read_field, act_field};
-ghost use Rattle.bn_qtable.specs.Faults.{fault_of};
+ghost use Rattle.bn_qtable.specs.Entry.{quadruple_entry, read_field, act_field};
+ghost use Rattle.bn_qtable.specs.Faults.{quadruple_table_fault};
 ghost use Rattle.bn_qtable.specs.Named.{HasNames, RuleIsNamed, DeedIsNamed};
-ghost use Rattle.bn_qtable.specs.Reading.{Reads};
-ghost use Rattle.bn_qtable.specs.Rows.{IsTable, rows_by, said_deed, said_of, table_of};
+ghost use Rattle.bn_qtable.specs.Reading.{ReadsQuadruples};
+ghost use Rattle.bn_qtable.specs.Rows.{IsTable, quadruple_rows_by, said_deed, said_of_quadruple, table_of};
 ghost use Rattle.bn_qtable.specs.declared.refusal.QuadTableRefusal.TheVariants as refusal;
 
 use crate::draft::{add_entry, into_table, new_draft};
 use crate::refusal::QuadTableRefusal;
-use bn_entries::{Entries, Entry, EntryWriter, NoMemory, text_of_shift};
-use bn_machine::Shift;
+use bn_csv::{Entries, Entry, EntryWriter, NoMemory};
+use bn_machine::{Shift, text_of_shift};
 use bn_quad::{Act, Quad, QuadMachine, QuadNames};
 use std::alloc::Global;
 
@@ -26,9 +26,9 @@ use std::alloc::Global;
 /// written, and the next state's name. It answers the bytes' one reading, where they have one, which `write_quads`
 /// can write; each refusal but `NoMemory` comes exactly where it is the entries' first fault.
 pub fn read_quads(alloc: Global, bytes: &[u8]) -> Result<(QuadMachine, QuadNames), QuadTableRefusal>
-    ensures ok { IfOk result (λ t. Reads bytes.now (table_of t.0 t.1)) }
+    ensures ok { IfOk result (λ t. ReadsQuadruples bytes.now (table_of t.0 t.1)) }
     ensures named { IfOk result (λ t. HasNames t.0 t.1) }
-    ensures refused { IfErr result (λ e. e ≢ refusal.NoMemory → fault_of (entries_of bytes.now) ≡ Some e) }
+    ensures refused { IfErr result (λ e. e ≢ refusal.NoMemory → quadruple_table_fault (entries_of bytes.now) ≡ Some e) }
 {
     let mut entries = Entries::new(alloc, bytes);
     let mut entry = Entry::new(alloc);
@@ -68,7 +68,8 @@ fn write_quad(writer: &mut EntryWriter, names: &QuadNames, quad: &Quad) -> Resul
     requires acts { length quad.now.act ≡ 3 }
     requires unmixed { IsUnmixed quad.now }
     requires named { RuleIsNamed names.now (rule_of quad.now) }
-    ensures { OnOk result (writer.new ≡ writer.old ++ line_of (entry_of (said_of names.now (rule_of quad.now)))) }
+    ensures { OnOk result (writer.new ≡ writer.old
+        ++ line_of (quadruple_entry (said_of_quadruple names.now (rule_of quad.now)))) }
 {
     let (read1, act1) = fields_on(names, 1, quad.read[0], quad.act[0]);
     let (read2, act2) = fields_on(names, 2, quad.read[1], quad.act[1]);
@@ -86,10 +87,10 @@ pub fn write_quads(
     names: &QuadNames,
 ) -> Result<Vec<u8>, NoMemory>
     requires { HasNames machine.now names.now }
-    ensures text { IfOk result (λ text. text.items ≡ lines_of (rows_by names.now machine.now.rules)) }
-    ensures entries { IfOk result (λ text. entries_of text.items ≡ rows_by names.now machine.now.rules) }
+    ensures text { IfOk result (λ text. text.items ≡ lines_of (quadruple_rows_by names.now machine.now.rules)) }
+    ensures entries { IfOk result (λ text. entries_of text.items ≡ quadruple_rows_by names.now machine.now.rules) }
     ensures read_back { IfOk result (λ text. IsTable (table_of machine.now names.now)
-        → Reads text.items (table_of machine.now names.now)) }
+        → ReadsQuadruples text.items (table_of machine.now names.now)) }
 {
     let mut writer = EntryWriter::new(alloc);
     for quad in machine.quads() {

@@ -7,7 +7,7 @@ use Rattle.bn_machine.specs.Window.{Windowed, with_tape}
 use Rattle.bn_lists.specs.Lists.{nth}
 use Rattle.bn_lists.proofs.ListLemmas.{nth_once}
 use Rattle.bn_machine.proofs.OutcomeLemmas.{beyond_one_side, not_inside_and_beyond}
-use Rattle.bn_quad.specs.Quadruples.{Deed, Rewrite, Move, Rule, deeds_of, Configuration, after, Quadruples, IsFirstRule, GoesBy, AreAllowed, IsStuck}
+use Rattle.bn_quad.specs.Quadruples.{Deed, Rewrite, Move, Rule, deeds_of, Configuration, after, Quadruples, IsFirstRule, GoesBy, AreAllowed, IsQuadrupleStuck}
 use Rattle.bn_quad.specs.Overlap.{IsClash, HasNoClash, IsLeastClash, IsFlawed, HasNoFlaw, IsFirstFlaw, initial_flaw, final_flaw}
 use Rattle.bn_quad.specs.Kept.{IsFirstFault, IsQuadInRange}
 use Rattle.bn_quad.specs.Calls.{configuration, windows_of, rooms_of, DeedLeaves, DeedStays, LeavesAt, IsLeaving, AreSameWindows, IsQuadRefusal, IsNotUniform, IsUniformRefusal}
@@ -150,7 +150,7 @@ same_tapes w v x t u e f same =
     let three = same_window w.three v.three x.three e.three f.three (ap (λ (c : Configuration ℕ). c.three) same) in
     λ i. record { one = one i; two = two i; three = three i }
 
-stuck_not_first : (p : Quadruples) (c : Configuration ℕ) (n : ℕ) (r : Rule ℕ) → IsStuck p c → IsFirstRule p.rules c n r → ⊥
+stuck_not_first : (p : Quadruples) (c : Configuration ℕ) (n : ℕ) (r : Rule ℕ) → IsQuadrupleStuck p c → IsFirstRule p.rules c n r → ⊥
 stuck_not_first p c n r stuck f = stuck.none.none n r f.stands f.holds
 
 pub quad_turn_once : QuadTurnsAreOne

@@ -3,7 +3,7 @@ use Rattle.std.specs.Prelude.{◌≡◌, ℕ, zero, suc, ◌<◌, ◌≤◌, ◌
 use Rattle.std.proofs.Common.{refl, sym, ap, ◌∙◌, subst, arith, get_or, add-one}
 use Rattle.std.proofs.lemmas.List.{length-map}
 use Rattle.std.proofs.lemmas.List.Elements.{All-map}
-use Rattle.bn_quad.specs.Quadruples.{Deed, Rewrite, Move, Rule, quadruples_of, deeds_of, IsDeedInRange, AreDeedsInRange, IsRuleInRange, IsQuadMachine, final_of}
+use Rattle.bn_quad.specs.Quadruples.{Deed, Rewrite, Move, Rule, quadruples_of, deeds_of, IsDeedInRange, AreDeedsInRange, IsRuleInRange, IsQuadMachine, final_state_of}
 use Rattle.bn_quad.specs.Kept.{read_of, act_of, quad_of, deed_of, rule_of, rules_of, read_at, act_at, Agree, IsReadInRange, IsActInRange, IsUnmixed, IsSound, IsKept, IsFirstFault}
 use Rattle.bn_quad.specs.Calls.{IsMadeOf}
 use Rattle.bn_lists.specs.Lists.{AllBefore, nth}
@@ -109,7 +109,7 @@ kept-machine qs states symbols h = record {
 }
 
 -- the entry at the last place is the last
-pub final_of-last : (qs : List Quad) (k : ℕ) (d : Quad) → suc k ≡ length qs → (get_or qs k d).next ≡ final_of (rules_of qs)
+pub final_of-last : (qs : List Quad) (k : ℕ) (d : Quad) → suc k ≡ length qs → (get_or qs k d).next ≡ final_state_of (rules_of qs)
 final_of-last [] k d e = absurd (omega arith)
 final_of-last (q ∷ []) zero d e = refl
 final_of-last (q ∷ []) (suc k) d e = absurd (omega arith)

@@ -2,10 +2,10 @@
 use Rattle.std.specs.Prelude.{◌≡◌, ◌≢◌, ℕ, ◌<◌, ◌≤◌, List, Some, ◌⊎◌}
 use Rattle.std.proofs.Common.{sym, ap, ◌∙◌, subst, arith, inl, inr}
 use Rattle.std.proofs.lemmas.Bool.{cases_lt}
-use Rattle.bn_theory.specs.Runs.{IsFunction}
+use Rattle.bn_lists.specs.Runs.{IsFunction}
 use Rattle.bn_lists.specs.Lists.{nth}
 use Rattle.bn_lists.proofs.ListLemmas.{first_once}
-use Rattle.bn_quad.specs.Quadruples.{Rule, Configuration, AppliesTo, after, LeadsBy, Quadruples, final_of, IsFirstRule, Rooms, everywhere, AreAllowed, GoesBy, Goes}
+use Rattle.bn_quad.specs.Quadruples.{Rule, Configuration, AppliesTo, after, LeadsBy, Quadruples, final_state_of, IsFirstRule, Rooms, everywhere, AreAllowed, GoesBy, QuadruplesRunTo}
 use Rattle.bn_quad.specs.Overlap.{IsDeterministic}
 use Rattle.bn_quad.proofs.ReversibleLemmas.{one_applies}
 
@@ -19,7 +19,7 @@ goes_by_once rooms other p n m c d e f g =
     let same = first_rule_once p.rules c n m f.rule g.rule f.first g.first in
     (same.0, f.gives ∙ ap (λ (r : Rule ℕ). after r c) same.1 ∙ sym g.gives)
 
-pub goes_function : (rooms : Rooms) (p : Quadruples) → IsFunction (Goes rooms p)
+pub goes_function : (rooms : Rooms) (p : Quadruples) → IsFunction (QuadruplesRunTo rooms p)
 goes_function rooms p = λ c d e f g. (goes_by_once rooms rooms p f.0 g.0 c d e f.1 g.1).1
 
 -- a step is made by a quadruple that leads from its start to its end
@@ -35,7 +35,7 @@ only_is_first rs n r c apart here applies = record {
 }
 
 -- In a deterministic machine a quadruple that leads on from a configuration makes the step, unless the state is the final one or a head goes where it may not.
-pub leads_goes : (rooms : Rooms) (p : Quadruples) (n : ℕ) (c d : Configuration ℕ) → IsDeterministic p.rules → c.state ≢ final_of p.rules → AreAllowed rooms d → LeadsBy p.rules n c d → GoesBy rooms p n c d
+pub leads_goes : (rooms : Rooms) (p : Quadruples) (n : ℕ) (c d : Configuration ℕ) → IsDeterministic p.rules → c.state ≢ final_state_of p.rules → AreAllowed rooms d → LeadsBy p.rules n c d → GoesBy rooms p n c d
 leads_goes rooms p n c d apart going stays l = record {
   going = going;
   rule = l.rule;

@@ -9,16 +9,16 @@ use Rattle.bn_machine.specs.Tape.{Tape, scanned, write, blank_tape}
 use Rattle.bn_machine.proofs.TapeLemmas.{scanned-write, write-back, shift-back, opposite-opposite}
 use Rattle.bn_lists.specs.Lists.{nth}
 use Rattle.bn_lists.proofs.ListLemmas.{nth_within, nth_once}
-use Rattle.bn_quad.specs.Quadruples.{Deed, Rewrite, Move, Rule, Configuration, Admits, done, AppliesTo, after, Leads, LeadsBy, HasOneSuccessor, HasOnePredecessor, turned_deed, turned, turned_list}
+use Rattle.bn_quad.specs.Quadruples.{Deed, Rewrite, Move, Rule, Configuration, DeedApplies, done, AppliesTo, after, Leads, LeadsBy, HasOneSuccessor, HasOnePredecessor, turned_deed, turned, turned_list}
 use Rattle.bn_quad.specs.Overlap.{MeetsInDomain, MeetsInRange, OverlapsInDomain, OverlapsInRange, IsClash, IsDeterministic, IsReversible}
 use Rattle.bn_quad.specs.declared.clash.Clash.TheVariants.{Range}
 
 -- a deed turned round leads back
-admits_back : (d : Deed) (t : Tape) → Admits d t → Admits (turned_deed d) (done d t)
+admits_back : (d : Deed) (t : Tape) → DeedApplies d t → DeedApplies (turned_deed d) (done d t)
 admits_back (Rewrite r w) t h = scanned-write t w
 admits_back (Move s) t h = tt
 
-done_back : (d : Deed) (t : Tape) → Admits d t → done (turned_deed d) (done d t) ≡ t
+done_back : (d : Deed) (t : Tape) → DeedApplies d t → done (turned_deed d) (done d t) ≡ t
 done_back (Rewrite r w) t h = write-back t w r h
 done_back (Move s) t h = shift-back t s
 
@@ -27,7 +27,7 @@ turned_deed-turned_deed (Rewrite r w) = refl
 turned_deed-turned_deed (Move s) = ap Move (opposite-opposite s)
 
 -- two deeds that one tape admits meet in domain
-meets_in_domain : (d e : Deed) (t : Tape) → Admits d t → Admits e t → MeetsInDomain d e
+meets_in_domain : (d e : Deed) (t : Tape) → DeedApplies d t → DeedApplies e t → MeetsInDomain d e
 meets_in_domain (Rewrite r w) (Rewrite r' w') t h k = sym h ∙ k
 meets_in_domain (Rewrite r w) (Move s) t h k = tt
 meets_in_domain (Move s) (Rewrite r w) t h k = tt
@@ -41,7 +41,7 @@ meets_in_range (Move s) (Rewrite r w) t u e = tt
 meets_in_range (Move s) (Move s') t u e = tt
 
 -- a tape to which two deeds that meet in range both come
-meeting : (d e : Deed) → MeetsInRange d e → (t : Tape) × Admits (turned_deed d) t × Admits (turned_deed e) t
+meeting : (d e : Deed) → MeetsInRange d e → (t : Tape) × DeedApplies (turned_deed d) t × DeedApplies (turned_deed e) t
 meeting (Rewrite r w) (Rewrite r' w') h = (write blank_tape w, scanned-write blank_tape w, scanned-write blank_tape w ∙ h)
 meeting (Rewrite r w) (Move s) h = (write blank_tape w, scanned-write blank_tape w, tt)
 meeting (Move s) (Rewrite r w) h = (write blank_tape w, tt, scanned-write blank_tape w)

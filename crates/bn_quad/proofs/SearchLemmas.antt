@@ -5,7 +5,7 @@ use Rattle.std.proofs.lemmas.Bool.{cases_lt}
 use Rattle.bn_lists.specs.Lists.{AllBefore, nth}
 use Rattle.bn_lists.proofs.ListLemmas.{nth_within, nth_once, all_before_one, all_before_more, first_at, none_to_end}
 use Rattle.bn_quad.specs.Quadruples.{Rule, Configuration, AppliesTo, IsFirstRule, HasNoRule}
-use Rattle.bn_quad.specs.Overlap.{Clashes, IsClash, HasNoClash, IsLeastClash, IsFlawed, HasNoFlaw, IsFirstFlaw}
+use Rattle.bn_quad.specs.Overlap.{QuadruplesClash, IsClash, HasNoClash, IsLeastClash, IsFlawed, HasNoFlaw, IsFirstFlaw}
 use Rattle.bn_quad.specs.declared.clash.Clash.{Clash}
 use Rattle.bn_quad.specs.declared.clash.Flaw.{Flaw}
 use Rattle.bn_quad.specs.Search.{HasNoPartner, IsLeastPartner}
@@ -20,7 +20,7 @@ pub record HasNoClashBefore (clash : Clash) (rs : List (Rule ℕ)) (n : ℕ) : T
 pub no_partner_at_start : (clash : Clash) (rs : List (Rule ℕ)) (i : ℕ) → HasNoPartnerBefore clash rs i (suc i)
 no_partner_at_start clash rs i = record { none = λ j h k. let later = k.before in omega arith }
 
-pub no_partner_more : (clash : Clash) (rs : List (Rule ℕ)) (i n : ℕ) (r s : Rule ℕ) → HasNoPartnerBefore clash rs i n → nth rs i ≡ Some r → nth rs n ≡ Some s → (Clashes clash r s → ⊥) → HasNoPartnerBefore clash rs i (suc n)
+pub no_partner_more : (clash : Clash) (rs : List (Rule ℕ)) (i n : ℕ) (r s : Rule ℕ) → HasNoPartnerBefore clash rs i n → nth rs i ≡ Some r → nth rs n ≡ Some s → (QuadruplesClash clash r s → ⊥) → HasNoPartnerBefore clash rs i (suc n)
 no_partner_more clash rs i n r s before here there apart = record { none = λ j h k. by_order j k (cases_lt j n) h }
   where
     by_order : (j : ℕ) → IsClash clash rs i j → (j < n) ⊎ (n ≤ j) → j < suc n → ⊥
@@ -29,12 +29,12 @@ no_partner_more clash rs i n r s before here there apart = record { none = λ j 
         let same : j ≡ n = omega arith in
         let first : k.first ≡ r = nth_once rs i k.first r k.first_stands here in
         let second : k.second ≡ s = nth_once rs n k.second s (subst (λ m. nth rs m ≡ Some k.second) same k.second_stands) there in
-        apart (subst (λ t. Clashes clash r t) second (subst (λ t. Clashes clash t k.second) first k.clashes))
+        apart (subst (λ t. QuadruplesClash clash r t) second (subst (λ t. QuadruplesClash clash t k.second) first k.clashes))
 
 pub no_partner : (clash : Clash) (rs : List (Rule ℕ)) (i n : ℕ) → length rs < n → HasNoPartnerBefore clash rs i n → HasNoPartner clash rs i
 no_partner clash rs i n past before = record { none = λ j k. let known : j ≤ length rs = nth_within rs j k.second k.second_stands in before.none j (omega arith) k }
 
-pub least_partner : (clash : Clash) (rs : List (Rule ℕ)) (i j : ℕ) (r s : Rule ℕ) → i < j → HasNoPartnerBefore clash rs i j → nth rs i ≡ Some r → nth rs j ≡ Some s → Clashes clash r s → IsLeastPartner clash rs i j
+pub least_partner : (clash : Clash) (rs : List (Rule ℕ)) (i j : ℕ) (r s : Rule ℕ) → i < j → HasNoPartnerBefore clash rs i j → nth rs i ≡ Some r → nth rs j ≡ Some s → QuadruplesClash clash r s → IsLeastPartner clash rs i j
 least_partner clash rs i j r s order before here there clashes = record {
   holds = record { before = order; first = r; second = s; first_stands = here; second_stands = there; clashes = clashes };
   least = before.none;

@@ -2,7 +2,7 @@
 use Rattle.std.specs.Prelude.{◌≡◌, ◌≢◌, ◌↔◌, ℕ, zero, suc, ◌+◌, List, [], ◌∷◌, length, map}
 use Rattle.bn_machine.specs.Window.{Windowed, IsInside, Leaves, within, with_tape}
 use Rattle.bn_quad.specs.Quadruples.{Deed, Rewrite, Move, Rule, deeds_of, Configuration, done, LeadsBy, Quadruples}
-use Rattle.bn_quad.specs.Quadruples.{final_of, IsFirstRule, IsStuck, Rooms, GoesBy}
+use Rattle.bn_quad.specs.Quadruples.{final_state_of, IsFirstRule, IsQuadrupleStuck, Rooms, GoesBy}
 use Rattle.bn_quad.specs.Overlap.{HasNoClash, IsLeastClash, HasNoFlaw, IsFirstFlaw, IsDeterministic, IsReversible}
 use Rattle.bn_quad.specs.Overlap.{IsUniform, initial_flaw, final_flaw}
 use Rattle.bn_quad.specs.Kept.{quad_of, IsFirstFault, IsQuadInRange, IsUnmixed}
@@ -103,7 +103,7 @@ LeavesAt (d ∷ ds) (w ∷ ws) (suc (suc n)) side = DeedStays d w × LeavesAt ds
 
 -- The first quadruple that applies would take the head of this tape, the least such, out of its window at this end.
 pub record IsLeaving (p : Quadruples) (state : ℕ) (w : Tapes) (tape : ℕ) (side : Side) : Type 0 where
-  pub going : state ≢ final_of p.rules
+  pub going : state ≢ final_state_of p.rules
   pub number : ℕ
   pub rule : Rule ℕ
   pub first : IsFirstRule p.rules (configuration state w) number rule
@@ -118,8 +118,8 @@ pub record AreSameWindows (w v : Tapes) : Type 0 where
 -- What a step in windows answers, and what it leaves of the state and the tapes. Where it answers anything but `Moved`
 -- nothing has changed.
 abbrev pub IsQuadTurn : Quadruples → QuadTurn → ℕ → Tapes → ℕ → Tapes → Type 0
-IsQuadTurn p turn.Final state w next v = (state ≡ final_of p.rules) × (next ≡ state) × (v ≡ w)
-IsQuadTurn p turn.Stuck state w next v = IsStuck p (configuration state w) × (next ≡ state) × (v ≡ w)
+IsQuadTurn p turn.Final state w next v = (state ≡ final_state_of p.rules) × (next ≡ state) × (v ≡ w)
+IsQuadTurn p turn.Stuck state w next v = IsQuadrupleStuck p (configuration state w) × (next ≡ state) × (v ≡ w)
 IsQuadTurn p (turn.Left tape side) state w next v = IsLeaving p state w tape side × (next ≡ state) × (v ≡ w)
 IsQuadTurn p (turn.Moved quad) state w next v = GoesBy (rooms_of w) p quad (configuration state w)
     (configuration next v) × AreSameWindows w v

@@ -1,9 +1,9 @@
 -- What the laws of this crate say, each the contract of a function with an empty body.
 use Rattle.std.specs.Prelude.{◌≡◌, ◌≢◌, ◌↔◌, ℕ, List, Some, map}
 use Rattle.bn_lists.specs.Lists.{nth}
-use Rattle.bn_quad.specs.Quadruples.{Rule, Configuration, AppliesTo, Leads, LeadsBy, Quadruples, turned, final_of}
-use Rattle.bn_quad.specs.Quadruples.{Rooms, everywhere, GoesBy, Goes}
-use Rattle.bn_theory.specs.Runs.{IsFunction}
+use Rattle.bn_quad.specs.Quadruples.{Rule, Configuration, AppliesTo, Leads, LeadsBy, Quadruples, turned, final_state_of}
+use Rattle.bn_quad.specs.Quadruples.{Rooms, everywhere, GoesBy, QuadruplesRunTo}
+use Rattle.bn_lists.specs.Runs.{IsFunction}
 use Rattle.bn_quad.specs.Overlap.{IsDeterministic}
 use Rattle.bn_quad.specs.Kept.{quad_of}
 use Rattle.bn_quad.specs.Calls.{IsQuadTurn, IsQuadRefusal, IsNotUniform, IsUniformRefusal}
@@ -42,9 +42,10 @@ RulesAreTheirQuads = (rs ss : List (Rule ℕ)) → map quad_of rs ≡ map quad_o
 
 -- one configuration follows another at most
 abbrev pub QuadStepsAreFunctions : Type 0
-QuadStepsAreFunctions = (rooms : Rooms) (p : Quadruples) → IsFunction (Goes rooms p)
+QuadStepsAreFunctions = (rooms : Rooms) (p : Quadruples) → IsFunction (QuadruplesRunTo rooms p)
 
 -- In a deterministic machine, and outside of its final state, the steps without ends are those that quadruples lead to.
 abbrev pub StepsAreLeads : Type 0
-StepsAreLeads = (p : Quadruples) (n : ℕ) (c d : Configuration ℕ) → IsDeterministic p.rules → c.state ≢ final_of p.rules
+StepsAreLeads = (p : Quadruples) (n : ℕ) (c d : Configuration ℕ) → IsDeterministic p.rules
+    → c.state ≢ final_state_of p.rules
     → (GoesBy everywhere p n c d ↔ LeadsBy p.rules n c d)

@@ -7,7 +7,7 @@ use Rattle.bn_quad.specs.declared.clash.Clash.TheVariants.{Domain, Range, Reads,
 use Rattle.bn_quad.specs.declared.clash.Flaw.{Flaw}
 use Rattle.bn_quad.specs.declared.clash.Flaw.TheVariants.{Silent, Enters, Leaves}
 use Rattle.bn_machine.specs.declared.quint.Shift.TheVariants.{Stay}
-use Rattle.bn_quad.specs.Quadruples.{Deed, Rewrite, Move, Rule, deeds_of, initial_of, final_of}
+use Rattle.bn_quad.specs.Quadruples.{Deed, Rewrite, Move, Rule, deeds_of, initial_of, final_state_of}
 
 -- the deeds of two quadruples on one tape can start from one tape: they read the same symbol, or one doesn't read
 abbrev pub MeetsInDomain : Deed → Deed → Type 0
@@ -67,11 +67,11 @@ pub record DiffersInWrites {Q : Type 0} (r s : Rule Q) : Type 0 where
 
 -- Two quadruples clash: they overlap in domain, they overlap in range, or with one state before, or after, they read,
 -- or write, different tapes.
-abbrev pub Clashes : {Q : Type 0} → Clash → Rule Q → Rule Q → Type 0
-Clashes Domain r s = OverlapsInDomain r s
-Clashes Range r s = OverlapsInRange r s
-Clashes Reads r s = DiffersInReads r s
-Clashes Writes r s = DiffersInWrites r s
+abbrev pub QuadruplesClash : {Q : Type 0} → Clash → Rule Q → Rule Q → Type 0
+QuadruplesClash Domain r s = OverlapsInDomain r s
+QuadruplesClash Range r s = OverlapsInRange r s
+QuadruplesClash Reads r s = DiffersInReads r s
+QuadruplesClash Writes r s = DiffersInWrites r s
 
 -- quadruples i and j, i before j, both counted from 1, clash
 pub record IsClash {Q : Type 0} (clash : Clash) (rs : List (Rule Q)) (i j : ℕ) : Type 0 where
@@ -80,7 +80,7 @@ pub record IsClash {Q : Type 0} (clash : Clash) (rs : List (Rule Q)) (i j : ℕ)
   pub second : Rule Q
   pub first_stands : nth rs i ≡ Some first
   pub second_stands : nth rs j ≡ Some second
-  pub clashes : Clashes clash first second
+  pub clashes : QuadruplesClash clash first second
 
 -- no two quadruples clash
 pub record HasNoClash {Q : Type 0} (clash : Clash) (rs : List (Rule Q)) : Type 0 where
@@ -131,7 +131,7 @@ abbrev pub initial_flaw : List (Rule ℕ) → Flaw
 initial_flaw rs = Enters (initial_of rs)
 
 abbrev pub final_flaw : List (Rule ℕ) → Flaw
-final_flaw rs = Leaves (final_of rs)
+final_flaw rs = Leaves (final_state_of rs)
 
 -- Uniform: quadruples of one state read the same tapes, those that lead to one state write the same tapes, each reads a
 -- tape or moves a head, none leads to the initial state, and none leaves the final one.

@@ -33,9 +33,9 @@ pub record Configuration (Q : Type 0) : Type 0 where
   pub three : Tape
 
 -- the tape is as the deed wants it: the head scans the symbol that is read, if one is read
-abbrev pub Admits : Deed → Tape → Type 0
-Admits (Rewrite read written) t = scanned t ≡ read
-Admits (Move s) t = ⊤
+abbrev pub DeedApplies : Deed → Tape → Type 0
+DeedApplies (Rewrite read written) t = scanned t ≡ read
+DeedApplies (Move s) t = ⊤
 
 -- the tape after the deed
 abbrev pub done : Deed → Tape → Tape
@@ -45,9 +45,9 @@ done (Move s) t = shift t s
 -- The rule applies to the configuration: it leaves the state, and each tape is as its deed wants it.
 pub record AppliesTo {Q : Type 0} (r : Rule Q) (c : Configuration Q) : Type 0 where
   pub from : c.state ≡ r.from
-  pub one : Admits r.one c.one
-  pub two : Admits r.two c.two
-  pub three : Admits r.three c.three
+  pub one : DeedApplies r.one c.one
+  pub two : DeedApplies r.two c.two
+  pub three : DeedApplies r.three c.three
 
 -- what the rule makes of the configuration
 abbrev pub after : {Q : Type 0} → Rule Q → Configuration Q → Configuration Q
@@ -113,10 +113,10 @@ abbrev pub initial_of : List (Rule ℕ) → ℕ
 initial_of [] = 0
 initial_of (r ∷ rs) = r.from
 
-abbrev pub final_of : List (Rule ℕ) → ℕ
-final_of [] = 0
-final_of (r ∷ []) = r.to
-final_of (r ∷ s ∷ rs) = final_of (s ∷ rs)
+abbrev pub final_state_of : List (Rule ℕ) → ℕ
+final_state_of [] = 0
+final_state_of (r ∷ []) = r.to
+final_state_of (r ∷ s ∷ rs) = final_state_of (s ∷ rs)
 
 -- the deed's symbols are among so many
 abbrev pub IsDeedInRange : ℕ → Deed → Type 0
@@ -158,8 +158,8 @@ abbrev pub HasNoRule : {Q : Type 0} → List (Rule Q) → Configuration Q → Ty
 HasNoRule rs c = HasNone (λ r. AppliesTo r c) rs
 
 -- the machine can't go on: no quadruple applies, and the state isn't the final one
-pub record IsStuck (p : Quadruples) (c : Configuration ℕ) : Type 0 where
-  pub going : c.state ≢ final_of p.rules
+pub record IsQuadrupleStuck (p : Quadruples) (c : Configuration ℕ) : Type 0 where
+  pub going : c.state ≢ final_state_of p.rules
   pub none : HasNoRule p.rules c
 
 -- where the heads of the three tapes may be
@@ -180,11 +180,11 @@ pub record AreAllowed {Q : Type 0} (rooms : Rooms) (c : Configuration Q) : Type 
 -- One step of the machine, by quadruple n: the state isn't the final one, the first quadruple that applies leads from c
 -- to d, and the heads come to positions that the rooms allow.
 pub record GoesBy (rooms : Rooms) (p : Quadruples) (n : ℕ) (c d : Configuration ℕ) : Type 0 where
-  pub going : c.state ≢ final_of p.rules
+  pub going : c.state ≢ final_state_of p.rules
   pub rule : Rule ℕ
   pub first : IsFirstRule p.rules c n rule
   pub gives : d ≡ after rule c
   pub stays : AreAllowed rooms d
 
-abbrev pub Goes : Rooms → Quadruples → Configuration ℕ → Configuration ℕ → Type 0
-Goes rooms p c d = (n : ℕ) × GoesBy rooms p n c d
+abbrev pub QuadruplesRunTo : Rooms → Quadruples → Configuration ℕ → Configuration ℕ → Type 0
+QuadruplesRunTo rooms p c d = (n : ℕ) × GoesBy rooms p n c d

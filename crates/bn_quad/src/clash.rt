@@ -2,7 +2,7 @@
 ghost use Rattle.std.specs.Prelude.{◌≡◌, ◌↔◌, IsTrue};
 ghost use Rattle.bn_quad.specs.Kept.{ReadsMeet, ActsMeet, ActsAreAlike, IsStaying, QuadsMeetInDomain, QuadsMeetInRange};
 ghost use Rattle.bn_quad.specs.Kept.{QuadsAreAlike, QuadIsSilent, IsUnmixed, rule_of};
-ghost use Rattle.bn_quad.specs.Overlap.{Clashes, IsFlawed};
+ghost use Rattle.bn_quad.specs.Overlap.{QuadruplesClash, IsFlawed};
 
 use crate::quad::{Act, Quad};
 use bn_machine::Shift;
@@ -94,7 +94,7 @@ fn are_alike(first: &Quad, second: &Quad) -> bool
 pub fn is_clash(clash: Clash, first: &Quad, second: &Quad) -> bool
     requires first_unmixed { IsUnmixed first.now }
     requires second_unmixed { IsUnmixed second.now }
-    ensures { IsTrue result ↔ Clashes clash (rule_of first.now) (rule_of second.now) }
+    ensures { IsTrue result ↔ QuadruplesClash clash (rule_of first.now) (rule_of second.now) }
 {
     match clash {
         Clash::Domain => meet_in_domain(first, second),

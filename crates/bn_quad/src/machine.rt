@@ -35,7 +35,7 @@ impl Model for QuadMachine {
 
 impl QuadMachine {
     ghost use Rattle.bn_lists.specs.Lists.{nth};
-    ghost use Rattle.bn_quad.specs.Quadruples.{IsQuadMachine, initial_of, final_of, inverse_of, HasOneSuccessor};
+    ghost use Rattle.bn_quad.specs.Quadruples.{IsQuadMachine, initial_of, final_state_of, inverse_of, HasOneSuccessor};
     ghost use Rattle.bn_quad.specs.Quadruples.{HasOnePredecessor};
     ghost use Rattle.bn_quad.specs.Overlap.{IsDeterministic, IsReversible, IsUniform, IsLeastClash};
     ghost use Rattle.bn_quad.specs.Kept.{quad_of, IsSound};
@@ -104,7 +104,7 @@ impl QuadMachine {
 
     /// The last quadruple's next state, counted from 0.
     pub fn final_state(&self) -> u32
-        ensures { result ≡ final_of self.now.rules }
+        ensures { result ≡ final_state_of self.now.rules }
     {
         self.quads[self.quads.len() - 1].next
     }

@@ -4,20 +4,21 @@ use Rattle.std.proofs.Common.{zero, suc, arith, sym, ap, subst, ◌∙◌, inl, 
 use Rattle.std.proofs.lemmas.Bool.Decides.{eqb_tells, nat_tests}
 use Rattle.std.proofs.lemmas.Option.{slice_get_within}
 use Rattle.std.proofs.Math.Nat.{mul-le-mul_right}
-use Rattle.bn_theory.specs.Runs.{Passes}
-use Rattle.bn_theory.proofs.RunsLemmas.{passes_join}
-use Rattle.bn_theory.specs.Tables.{Table, IsReversible}
-use Rattle.bn_theory.specs.Circuits.{Circuit, clock, place_after, Goes}
-use Rattle.bn_theory.proofs.StepLemmas.{slice_get-set_same, slice_get-set_other}
-use Rattle.bn_theory.specs.declared.line.Line.{Line}
-use Rattle.bn_theory.specs.declared.place.Place.{Place}
-use Rattle.bn_theory.specs.declared.place.Place.TheVariants.{Enter}
-use Rattle.bn_theory.specs.declared.config.Config.{Config}
+use Rattle.bn_lists.specs.Runs.{Passes}
+use Rattle.bn_lists.proofs.RunsLemmas.{passes_join}
+use Rattle.bn_element.specs.Tables.{Table, IsReversible}
+use Rattle.bn_circuits.specs.Circuits.{Circuit, clock, place_after, Goes}
+use Rattle.bn_circuits.proofs.StepLemmas.{slice_get-set_same, slice_get-set_other}
+use Rattle.bn_circuits.specs.declared.line.Line.{Line}
+use Rattle.bn_circuits.specs.declared.place.Place.{Place}
+use Rattle.bn_circuits.specs.declared.place.Place.TheVariants.{Enter}
+use Rattle.bn_circuits.specs.declared.config.Config.{Config}
 use Rattle.bn_element.specs.Rotary.{horizontal, vertical, east, west}
-use Rattle.bn_column.specs.Columns.{line_at, IsColumn, bar, IsAtRest, entry_side, exit_side, crossing_cost, IsEntering, IsBeside, IsWithin}
+use Rattle.bn_column.specs.Columns.{IsColumn, bar, IsAtRest, entry_side, exit_side, crossing_cost, IsEntering, IsBeside, IsWithin}
+use Rattle.bn_circuits.specs.Circuits.{line_at}
 use Rattle.bn_column.proofs.CrossingLemmas.{column_crosses}
 use Rattle.bn_rsm.specs.Costs.{pass_cost, move_cost, loose_cost, cost_by, table_cost}
-use Rattle.bn_realise.specs.Banks.{column_at, bottom_at, IsBankWire, inner, along, across, IsBank, is_marked, IsResting, output_line, turning_line, IsBankEntering, mark_after, states_after, exit_after, moved, IsBesideBank, AreMarked, IsWithinBank}
+use Rattle.bn_realise.specs.Banks.{column_at, bottom_at, IsBankWire, inner, along, across, IsBank, is_marked, IsResting, bank_output_line, turning_line, IsBankEntering, mark_after, states_after, exit_after, moved, IsBesideBank, AreMarked, IsWithinBank}
 
 abbrev at_place : List ℕ → Place → ℕ → Config
 at_place s p n = record { states = s; place = p; steps = n }
@@ -301,25 +302,25 @@ module _ (c : Circuit) (b : ℕ) (t : Table) (bank : IsBank c b t) where
         beyond x above last = eqb_other r x (omega arith)
 
         -- into the new column from behind, and out past those after it
-        goes_out : (p z cost : ℕ) → cost ≡ t.inputs + 2 + (t.states - (r + 1)) * pass_cost t.inputs o → z ≡ p + cost → z ≤ clock → Passes (Goes c) test cost (at_place unmarked (place_after c.wires (turning_line b t q i)) p) (at_place remarked (place_after c.wires (output_line b t o)) z)
+        goes_out : (p z cost : ℕ) → cost ≡ t.inputs + 2 + (t.states - (r + 1)) * pass_cost t.inputs o → z ≡ p + cost → z ≤ clock → Passes (Goes c) test cost (at_place unmarked (place_after c.wires (turning_line b t q i)) p) (at_place remarked (place_after c.wires (bank_output_line b t o)) z)
         goes_out p z cost is count in_time =
             let behind : ℕ = (t.states - (r + 1)) * pass_cost t.inputs o in
             let y : ℕ = p + (t.inputs + 2) in
             let led_in = led (turning_line b t q i) (line_at (column_at b t.inputs r + o) east) crossing_wire in
             let mark_it = crosses unmarked None (Some r) wipes r next_state true (set r) new_among false refl o p y out refl (omega arith) in
             let walk = walks_out remarked (Some r) ends o out (t.states - (r + 1)) r (t.states - 1) y z behind (omega arith) (omega arith) refl (omega arith) in_time beyond in
-            passes_join (Goes c) test cost (t.inputs + 2) behind (at_place unmarked (place_after c.wires (turning_line b t q i)) p) (at_place remarked (place_after c.wires (line_at (column_at b t.inputs r + o) east)) y) (at_place remarked (place_after c.wires (output_line b t o)) z) is
+            passes_join (Goes c) test cost (t.inputs + 2) behind (at_place unmarked (place_after c.wires (turning_line b t q i)) p) (at_place remarked (place_after c.wires (line_at (column_at b t.inputs r + o) east)) y) (at_place remarked (place_after c.wires (bank_output_line b t o)) z) is
             (λ _ some. passes_next remarked (Some r) ends o out r y (let more = counted (t.states - (r + 1)) (pass_cost t.inputs o) some in omega arith))
             (subst (λ x. Passes (Goes c) test (t.inputs + 2) (at_place unmarked x p) (at_place remarked (place_after c.wires (line_at (column_at b t.inputs r + o) east)) y)) (sym led_in) mark_it)
             walk
 
-        goes_all : (p z cost : ℕ) → cost ≡ move_cost t.states t.inputs q i r o → z ≡ p + cost → z ≤ clock → Passes (Goes c) test cost (at_place start (Enter (b + i) west) p) (at_place remarked (place_after c.wires (output_line b t o)) z)
+        goes_all : (p z cost : ℕ) → cost ≡ move_cost t.states t.inputs q i r o → z ≡ p + cost → z ≤ clock → Passes (Goes c) test cost (at_place start (Enter (b + i) west) p) (at_place remarked (place_after c.wires (bank_output_line b t o)) z)
         goes_all p z cost is count in_time =
             let first : ℕ = loose_cost t.inputs q i in
             let second : ℕ = t.inputs + 2 + (t.states - (r + 1)) * pass_cost t.inputs o in
             let y : ℕ = p + first in
             let led_in = led (turning_line b t q i) (line_at (column_at b t.inputs r + o) east) crossing_wire in
-            passes_join (Goes c) test cost first second (at_place start (Enter (b + i) west) p) (at_place unmarked (place_after c.wires (turning_line b t q i)) y) (at_place remarked (place_after c.wires (output_line b t o)) z) (omega arith)
+            passes_join (Goes c) test cost first second (at_place start (Enter (b + i) west) p) (at_place unmarked (place_after c.wires (turning_line b t q i)) y) (at_place remarked (place_after c.wires (bank_output_line b t o)) z) (omega arith)
             (λ _ _. ap (λ x. test (at_place unmarked x y)) led_in ∙ at_wire unmarked None wipes (turning_line b t q i) (line_at (column_at b t.inputs r + o) east) crossing_wire y)
             (turns_back p y first refl refl (omega arith))
             (goes_out y z second refl (omega arith) in_time)

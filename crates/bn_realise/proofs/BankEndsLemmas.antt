@@ -2,12 +2,13 @@
 use Rattle.std.specs.Prelude.{◌≡◌, ℕ, ◌+◌, ◌-◌, ◌<◌, Option, Some, None, ◌⊎◌, refl}
 use Rattle.std.proofs.Common.{arith, sym, ap, subst, ◌∙◌, inl, inr}
 use Rattle.std.proofs.lemmas.Bool.Decides.{eqb_tells}
-use Rattle.bn_theory.specs.Tables.{Table, IsReversible}
-use Rattle.bn_theory.specs.declared.line.Line.{Line}
+use Rattle.bn_element.specs.Tables.{Table, IsReversible}
+use Rattle.bn_circuits.specs.declared.line.Line.{Line}
 use Rattle.bn_element.specs.Rotary.{east, west}
-use Rattle.bn_column.specs.Columns.{line_at, IsInner}
+use Rattle.bn_column.specs.Columns.{IsInner}
+use Rattle.bn_circuits.specs.Circuits.{line_at}
 use Rattle.bn_column.proofs.LadderLemmas.{inner-IsInnerWithin, inner-row_from}
-use Rattle.bn_realise.specs.Banks.{column_at, IsBankWire, across, along, exit_after, inner, output_line, turning_line}
+use Rattle.bn_realise.specs.Banks.{column_at, IsBankWire, across, along, exit_after, inner, bank_output_line, turning_line}
 use Rattle.bn_realise.proofs.BankCrossingLemmas.{other_column}
 
 line_numbers : (e f l m : ℕ) → line_at e l ≡ line_at f m → (e ≡ f) × (l ≡ m)
@@ -35,7 +36,7 @@ module _ (b : ℕ) (t : Table) where
 
   module _ (reversible : IsReversible t) where
     -- none leaves an output line
-    no_output_wire : 0 < t.states → (o : ℕ) → o < t.inputs → (from to : Line) → from ≡ output_line b t o → IsBankWire b t from to → ⊥
+    no_output_wire : 0 < t.states → (o : ℕ) → o < t.inputs → (from to : Line) → from ≡ bank_output_line b t o → IsBankWire b t from to → ⊥
     no_output_wire some o row from to starts (inner j there is) = no_inner_start j (t.states - 1) o east from to there row (inl refl) starts is
     no_output_wire some o row from to starts (along j i next low leaves ends) =
         let numbers = line_numbers (column_at b t.inputs j + i) (column_at b t.inputs (t.states - 1) + o) east east (sym leaves ∙ starts) in
@@ -66,4 +67,4 @@ module _ (b : ℕ) (t : Table) where
         by_move None none wire = no_turning_wire q i row none (turning_line b t q i) to refl wire
         by_move (Some m) goes wire =
             let out : m.1 < t.inputs = subst (λ n. m.1 < n) square (reversible.arrives q i m.0 m.1 goes).1 in
-            no_output_wire (omega arith) m.1 out (output_line b t m.1) to refl wire
+            no_output_wire (omega arith) m.1 out (bank_output_line b t m.1) to refl wire

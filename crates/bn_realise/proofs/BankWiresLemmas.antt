@@ -3,16 +3,17 @@ use Rattle.std.specs.Prelude.{◌≡◌, ◌≢◌, ℕ, ◌+◌, ◌-◌, ◌<�
 use Rattle.std.proofs.Common.{arith, sym, ap, subst, ◌∙◌, inl, inr}
 use Rattle.std.proofs.lemmas.Bool.Decides.{eqb_tells, nat_tests}
 use Rattle.std.proofs.lemmas.Option.{some_pair_parts}
-use Rattle.bn_theory.specs.Tables.{Table, IsReversible}
-use Rattle.bn_theory.specs.declared.line.Line.{Line}
-use Rattle.bn_theory.specs.declared.line.Wire.{Wire}
+use Rattle.bn_element.specs.Tables.{Table, IsReversible}
+use Rattle.bn_circuits.specs.declared.line.Line.{Line}
+use Rattle.bn_circuits.specs.declared.line.Wire.{Wire}
 use Rattle.bn_element.specs.Rotary.{east, west}
-use Rattle.bn_column.specs.Columns.{line_at, IsInner}
-use Rattle.bn_column.specs.Wirings.{AreWiresOf}
-use Rattle.bn_column.proofs.WiringsLemmas.{IsWire, no_wires, joined_wires, more_wire, same_wires}
+use Rattle.bn_column.specs.Columns.{IsInner}
+use Rattle.bn_circuits.specs.Circuits.{line_at}
+use Rattle.bn_net.specs.Wirings.{AreWiresOf}
+use Rattle.bn_net.proofs.WiringsLemmas.{IsWire, no_wires, joined_wires, more_wire, same_wires}
 use Rattle.bn_column.specs.Nets.{wire_of}
 use Rattle.bn_column.proofs.LadderLemmas.{inner-one_source, inner-IsInnerWithin, inner-row_from, inner-row_to}
-use Rattle.bn_realise.specs.Banks.{column_at, IsBankWire, inner, along, across, input_line, output_line, turning_line}
+use Rattle.bn_realise.specs.Banks.{column_at, IsBankWire, inner, along, across, bank_input_line, bank_output_line, turning_line}
 use Rattle.bn_realise.proofs.BankCrossingLemmas.{later_column, other_column}
 use Rattle.bn_realise.specs.BankWires.{IsWithinLines, IsRowWire, IsEarlier, IsStage, IsHalf, onward, turned, in_row, inside, above, earlier, inside_it, before, beside}
 
@@ -85,8 +86,8 @@ module _ (b : ℕ) (t : Table) (reversible : IsReversible t) (square : t.outputs
       ]
 
   -- no own wire leaves an output line
-  pub output-no_wire : (o : ℕ) (to : Line) → o < t.inputs → IsBankWire b t (output_line b t o) to → ⊥
-  output-no_wire o to row (inner j there is) = no_inner_start j (t.states - 1) o east (output_line b t o) to there row (inl refl) refl is
+  pub output-no_wire : (o : ℕ) (to : Line) → o < t.inputs → IsBankWire b t (bank_output_line b t o) to → ⊥
+  output-no_wire o to row (inner j there is) = no_inner_start j (t.states - 1) o east (bank_output_line b t o) to there row (inl refl) refl is
   output-no_wire o to row (along j i next line leaves ends) =
       let same = elements (column_at b t.inputs (t.states - 1) + o) (column_at b t.inputs j + i) east east leaves in
       let one = column_once b t.inputs (t.states - 1) j o i (omega arith) (omega arith) same in
@@ -111,7 +112,7 @@ module _ (b : ℕ) (t : Table) (reversible : IsReversible t) (square : t.outputs
       record { next = r; out = o; goes = rw (one.0, one.1) goes; out_low = m.out; ends = ends }
 
   -- a bank's own wire leads to no input line of the bank
-  pub bank_wire-no_input : (from to : Line) → IsBankWire b t from to → (i : ℕ) → i < t.inputs → to ≢ input_line b i
+  pub bank_wire-no_input : (from to : Line) → IsBankWire b t from to → (i : ℕ) → i < t.inputs → to ≢ bank_input_line b i
   bank_wire-no_input from to (inner j there is) i row same =
       let first : line_at (b + i) west ≡ line_at (column_at b t.inputs 0 + i) west = ap (λ e. line_at e west) (omega arith) in
       no_inner_end j 0 i west from to there row (inr refl) (same ∙ first) is

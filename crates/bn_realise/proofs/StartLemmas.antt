@@ -3,23 +3,25 @@ use Rattle.std.proofs.Common.{◌≡◌, ◌≢◌, ℕ, zero, suc, ◌+◌, ◌
 use Rattle.std.proofs.lemmas.Bool.Decides.{eqb_tells}
 use Rattle.std.proofs.lemmas.List.{length-replicate}
 use Rattle.std.proofs.lemmas.Option.{slice_get_within}
-use Rattle.bn_theory.specs.Runs.{Reaches, Passes}
-use Rattle.bn_theory.proofs.RunsLemmas.{passes_run}
-use Rattle.bn_theory.specs.Tables.{Table, IsReversible}
-use Rattle.bn_theory.specs.Circuits.{Circuit, clock, target, IsConfig, IsStuck, Goes}
-use Rattle.bn_theory.specs.Stepping.{run}
-use Rattle.bn_theory.proofs.StepLemmas.{slice_get-set_same, slice_get-set_other}
-use Rattle.bn_theory.proofs.RunLemmas.{run_stops}
-use Rattle.bn_theory.specs.declared.line.Line.{Line}
-use Rattle.bn_theory.specs.declared.place.Place.TheVariants.{Enter, Left}
-use Rattle.bn_theory.specs.declared.config.Config.{Config}
+use Rattle.bn_lists.specs.Runs.{Reaches, Passes}
+use Rattle.bn_lists.proofs.RunsLemmas.{passes_run}
+use Rattle.bn_element.specs.Tables.{Table, IsReversible}
+use Rattle.bn_circuits.specs.Circuits.{Circuit, clock, target, IsConfig, IsStuck, Goes}
+use Rattle.bn_circuits.specs.Stepping.{run}
+use Rattle.bn_circuits.proofs.StepLemmas.{slice_get-set_same, slice_get-set_other}
+use Rattle.bn_circuits.proofs.RunLemmas.{run_stops}
+use Rattle.bn_circuits.specs.declared.line.Line.{Line}
+use Rattle.bn_circuits.specs.declared.place.Place.TheVariants.{Enter, Left}
+use Rattle.bn_circuits.specs.declared.config.Config.{Config}
 use Rattle.bn_element.specs.Rotary.{horizontal, vertical, east, west}
 use Rattle.bn_element.specs.declared.rotary.Rotary.{Rotary}
 use Rattle.bn_net.specs.Parts.{Parts}
-use Rattle.bn_column.specs.Columns.{line_at, bar}
+use Rattle.bn_column.specs.Columns.{bar}
+use Rattle.bn_circuits.specs.Circuits.{line_at}
 use Rattle.bn_column.proofs.CrossingLemmas.{Reaches-steps}
-use Rattle.bn_column.specs.Nets.{rotary_circuit}
-use Rattle.bn_column.proofs.NetLemmas.{bars-IsConfig, rotary-table_at, ran}
+use Rattle.bn_net.specs.RotaryNets.{rotary_circuit}
+use Rattle.bn_net.proofs.RotaryNetLemmas.{bars-IsConfig, rotary-table_at}
+use Rattle.bn_column.proofs.NetLemmas.{ran}
 use Rattle.bn_rsm.specs.Costs.{cost_by, loose_cost, move_cost, table_cost}
 use Rattle.bn_rsm.specs.Laws.{CostsAreBounded}
 use Rattle.bn_realise.specs.Banks.{column_at, bottom_at, IsBankWire, across, turning_line, IsResting, IsBank, IsBankEntering, exit_after, moved}
@@ -298,13 +300,13 @@ start-ready bounded v q i s few state line bars =
       in_time = λ t reversible square is. let low = cost t reversible square is (t.go q i) refl in omega (arith, low);
     }
   where
-    all : (t : Table) → IsBankOf v t → 4 * (t.states * (t.inputs + 1)) ≤ 4194304
+    all : (t : Table) → IsBankOf v t → 4 * (t.states * (t.inputs + 1)) ≤ 16777216
     all t is =
         let at_states : t.states * (v.lines + 1) ≤ MOST_ELEMENTS = subst (λ n. n * (v.lines + 1) ≤ MOST_ELEMENTS) is.states few in
         let at_both : t.states * (t.inputs + 1) ≤ MOST_ELEMENTS = subst (λ k. t.states * (k + 1) ≤ MOST_ELEMENTS) is.lines at_states in
         omega arith
 
-    cost : (t : Table) → IsReversible t → t.outputs ≡ t.inputs → IsBankOf v t → (m : Option (ℕ × ℕ)) → t.go q i ≡ m → table_cost t q i ≤ 4194304
+    cost : (t : Table) → IsReversible t → t.outputs ≡ t.inputs → IsBankOf v t → (m : Option (ℕ × ℕ)) → t.go q i ≡ m → table_cost t q i ≤ 16777216
     cost t reversible square is None goes =
         let q_low : q < t.states = subst (λ n. q < n) is.states state in
         let i_low : i < t.inputs = subst (λ n. i < n) is.lines line in

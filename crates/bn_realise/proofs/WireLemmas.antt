@@ -1,14 +1,15 @@
 -- What a row and a column add to the wires of a bank.
 use Rattle.std.proofs.Common.{◌≡◌, ℕ, ◌+◌, ◌*◌, ◌^◌, ◌<◌, ◌≤◌, List, [], ◌∷◌, ◌++◌, length, Some, slice_get, refl, sym, ap, subst, ◌∙◌, arith}
-use Rattle.bn_theory.specs.Tables.{Table, IsReversible}
-use Rattle.bn_theory.specs.declared.line.Wire.{Wire}
+use Rattle.bn_element.specs.Tables.{Table, IsReversible}
+use Rattle.bn_circuits.specs.declared.line.Wire.{Wire}
 use Rattle.bn_element.specs.Rotary.{east, west}
 use Rattle.std.proofs.lemmas.List.{length-append}
 use Rattle.bn_column.specs.Columns.{IsInner}
-use Rattle.bn_column.specs.Wirings.{AreWiresOf, AreFitting}
-use Rattle.bn_column.proofs.WiringsLemmas.{apart-wire}
-use Rattle.bn_column.specs.Nets.{wire_of, IsNetOf}
-use Rattle.bn_column.proofs.NetLemmas.{rotary-table_at}
+use Rattle.bn_net.specs.Wirings.{AreWiresOf, AreFitting}
+use Rattle.bn_net.proofs.WiringsLemmas.{apart-wire}
+use Rattle.bn_column.specs.Nets.{wire_of}
+use Rattle.bn_net.specs.RotaryNets.{IsNetOf}
+use Rattle.bn_net.proofs.RotaryNetLemmas.{rotary-table_at}
 use Rattle.bn_element.specs.declared.rotary.Rotary.{Rotary}
 use Rattle.bn_net.specs.Parts.{Parts}
 use Rattle.bn_realise.specs.Banks.{column_at, IsBankWire}

@@ -1,16 +1,16 @@
 -- Moves of banks in nets, and the net that is one bank.
 use Rattle.std.specs.Prelude.{◌≡◌, ℕ, ◌+◌, ◌*◌, ◌^◌, ◌<◌, ◌≤◌, Bool, true, length, replicate, Some, slice_set}
-use Rattle.bn_theory.specs.Runs.{Reaches, Passes}
-use Rattle.bn_theory.specs.Tables.{Table, IsReversible}
-use Rattle.bn_theory.specs.Circuits.{Circuit, clock, target, Goes}
-use Rattle.bn_theory.specs.declared.line.Line.{Line}
-use Rattle.bn_theory.specs.declared.place.Place.{Place}
-use Rattle.bn_theory.specs.declared.place.Place.TheVariants.{Enter, Left}
-use Rattle.bn_theory.specs.declared.config.Config.{Config}
+use Rattle.bn_lists.specs.Runs.{Reaches, Passes}
+use Rattle.bn_element.specs.Tables.{Table, IsReversible}
+use Rattle.bn_circuits.specs.Circuits.{Circuit, clock, target, Goes}
+use Rattle.bn_circuits.specs.declared.line.Line.{Line}
+use Rattle.bn_circuits.specs.declared.place.Place.{Place}
+use Rattle.bn_circuits.specs.declared.place.Place.TheVariants.{Enter, Left}
+use Rattle.bn_circuits.specs.declared.config.Config.{Config}
 use Rattle.bn_element.specs.Rotary.{horizontal, vertical, west}
 use Rattle.bn_element.specs.declared.rotary.Rotary.{Rotary}
 use Rattle.bn_net.specs.Parts.{Parts}
-use Rattle.bn_column.specs.Nets.{rotary_circuit}
+use Rattle.bn_net.specs.RotaryNets.{rotary_circuit}
 use Rattle.bn_rsm.specs.Machines.{Machine}
 use Rattle.bn_rsm.specs.Costs.{table_cost}
 use Rattle.bn_realise.specs.Banks.{column_at, bottom_at, IsBank, IsBankWire, IsBankEntering, IsResting}
@@ -86,8 +86,8 @@ abbrev pub HasLeft : Place → Line → Type 0
 HasLeft place exit = place ≡ Left exit.element exit.line
 
 -- the elements of a machine's bank
-abbrev pub elements_of : Machine → ℕ
-elements_of m = m.states * (m.lines + 1)
+abbrev pub bank_elements : Machine → ℕ
+bank_elements m = m.states * (m.lines + 1)
 
 -- a refusal for the number of elements names that number
 abbrev pub IsCounted : ℕ → BankRefusal → Type 0

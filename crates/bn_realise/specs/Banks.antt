@@ -4,13 +4,14 @@
 -- counted from 0. The bank is in state q where every column is at rest and column q alone is marked.
 use Rattle.std.specs.Prelude.{◌≡◌, ℕ, ◌+◌, ◌-◌, ◌*◌, ◌<◌, ◌≤◌, ◌==◌, Bool, false, List, Option, Some, None, slice_get}
 use Rattle.std.specs.Prelude.{slice_set, ◌⊎◌}
-use Rattle.bn_theory.specs.Tables.{Table}
-use Rattle.bn_theory.specs.Circuits.{Circuit, target, place_after}
-use Rattle.bn_theory.specs.declared.line.Line.{Line}
-use Rattle.bn_theory.specs.declared.place.Place.TheVariants.{Enter}
-use Rattle.bn_theory.specs.declared.config.Config.{Config}
+use Rattle.bn_element.specs.Tables.{Table}
+use Rattle.bn_circuits.specs.Circuits.{Circuit, target, place_after}
+use Rattle.bn_circuits.specs.declared.line.Line.{Line}
+use Rattle.bn_circuits.specs.declared.place.Place.TheVariants.{Enter}
+use Rattle.bn_circuits.specs.declared.config.Config.{Config}
 use Rattle.bn_element.specs.Rotary.{rotary, horizontal, vertical, east, west}
-use Rattle.bn_column.specs.Columns.{line_at, IsInner, bar, IsAtRest}
+use Rattle.bn_column.specs.Columns.{IsInner, bar, IsAtRest}
+use Rattle.bn_circuits.specs.Circuits.{line_at}
 use Rattle.bn_rsm.specs.Costs.{table_cost}
 
 -- the first element of column j of a bank that begins at element b, with k rows a column; and the column's bottom
@@ -51,12 +52,12 @@ pub record HasMark (states : List ℕ) (b n k : ℕ) : Type 0 where
   pub resting : IsResting states b n k (Some state)
 
 -- input line i: the west of row i of the first column
-abbrev pub input_line : ℕ → ℕ → Line
-input_line b i = line_at (b + i) west
+abbrev pub bank_input_line : ℕ → ℕ → Line
+bank_input_line b i = line_at (b + i) west
 
 -- output line o: the east of row o of the last column
-abbrev pub output_line : ℕ → Table → ℕ → Line
-output_line b t o = line_at (column_at b t.inputs (t.states - 1) + o) east
+abbrev pub bank_output_line : ℕ → Table → ℕ → Line
+bank_output_line b t o = line_at (column_at b t.inputs (t.states - 1) + o) east
 
 -- where the signal is turned back in state q, when it came in by line i: loose where the pair has no move
 abbrev pub turning_line : ℕ → Table → ℕ → ℕ → Line
@@ -80,7 +81,7 @@ states_after s b k q (Some m) = slice_set (slice_set s (bottom_at b k q) vertica
 
 abbrev pub exit_after : ℕ → Table → ℕ → ℕ → Option (ℕ × ℕ) → Line
 exit_after b t q i None = turning_line b t q i
-exit_after b t q i (Some m) = output_line b t m.1
+exit_after b t q i (Some m) = bank_output_line b t m.1
 
 -- What a move from state q and line i comes to: the mark goes from the old state's column to the new one's, and the
 -- signal is where that output line leads. Where the pair has no move, no column is marked and the signal is where the

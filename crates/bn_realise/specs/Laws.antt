@@ -1,13 +1,13 @@
 -- Laws on banks in any circuit.
 use Rattle.std.specs.Prelude.{◌≡◌, ◌≢◌, ℕ, ◌+◌, ◌<◌, ◌≤◌, Bool, true, List, Option, Some, slice_get}
-use Rattle.bn_theory.specs.Runs.{Passes}
-use Rattle.bn_theory.specs.Tables.{Table, IsReversible}
-use Rattle.bn_theory.specs.Circuits.{Circuit, clock, Goes}
-use Rattle.bn_theory.specs.declared.line.Line.{Line}
-use Rattle.bn_theory.specs.declared.config.Config.{Config}
+use Rattle.bn_lists.specs.Runs.{Passes}
+use Rattle.bn_element.specs.Tables.{Table, IsReversible}
+use Rattle.bn_circuits.specs.Circuits.{Circuit, clock, Goes}
+use Rattle.bn_circuits.specs.declared.line.Line.{Line}
+use Rattle.bn_circuits.specs.declared.config.Config.{Config}
 use Rattle.bn_rsm.specs.Costs.{table_cost}
 use Rattle.bn_realise.specs.Banks.{IsBank, IsBankWire, IsBankEntering, IsResting, IsBesideBank, IsWithinBank, AreMarked}
-use Rattle.bn_realise.specs.Banks.{bottom_at, input_line, mark_after, moved}
+use Rattle.bn_realise.specs.Banks.{bottom_at, bank_input_line, mark_after, moved}
 use Rattle.bn_realise.specs.BankWires.{IsWithinLines}
 use Rattle.bn_realise.specs.BankNets.{IsBankNet}
 use Rattle.bn_element.specs.Rotary.{horizontal}
@@ -41,7 +41,7 @@ MovesStayWithin =
 abbrev pub OwnWiresStayInside : Type 0
 OwnWiresStayInside =
     (b : ℕ) (t : Table) (from to : Line) → IsReversible t → t.outputs ≡ t.inputs → IsBankWire b t from to
-    → IsWithinLines b t from to × ((i : ℕ) → i < t.inputs → to ≢ input_line b i)
+    → IsWithinLines b t from to × ((i : ℕ) → i < t.inputs → to ≢ bank_input_line b i)
 
 -- Where the bottoms of a bank are as a mark says, at most one of them is horizontal: at rest, and strictly within a
 -- move.

@@ -1,9 +1,9 @@
 //! What a move of a bank costs.
 ghost use Rattle.std.specs.Prelude.{◌≡◌, ◌<◌, ◌≤◌};
-ghost use Rattle.bn_theory.specs.Circuits.{clock};
+ghost use Rattle.bn_circuits.specs.Circuits.{clock};
 ghost use Rattle.bn_rsm.specs.Machines.{machine_table};
 ghost use Rattle.bn_rsm.specs.Costs.{pass_cost, cost_by, table_cost};
-ghost use Rattle.bn_realise.specs.BankNets.{elements_of};
+ghost use Rattle.bn_realise.specs.BankNets.{bank_elements};
 
 use bn_element::Element;
 use bn_net::MOST_ELEMENTS;
@@ -14,7 +14,7 @@ use bn_rsm::Rsm;
 pub fn bank_cost(rsm: &Rsm, state: u32, line: u32) -> u64
     requires some_states { 0 < rsm.now.states }
     requires some_lines { 0 < rsm.now.lines }
-    requires few { elements_of rsm.now ≤ MOST_ELEMENTS }
+    requires few { bank_elements rsm.now ≤ MOST_ELEMENTS }
     requires state { state < rsm.now.states }
     requires line { line < rsm.now.lines }
     ensures { result ≡ table_cost (machine_table rsm.now) state line }

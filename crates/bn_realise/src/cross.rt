@@ -1,7 +1,7 @@
 //! The moves of a bank in a net.
 ghost use Rattle.std.specs.Prelude.{◌≡◌, ◌↔◌, ℕ, ◌<◌, Some, IsTrue, length, slice_get};
-ghost use Rattle.bn_theory.specs.Circuits.{IsConfig};
-ghost use Rattle.bn_column.specs.Nets.{rotary_circuit};
+ghost use Rattle.bn_circuits.specs.Circuits.{IsConfig};
+ghost use Rattle.bn_net.specs.RotaryNets.{rotary_circuit};
 ghost use Rattle.bn_realise.specs.Banks.{IsBank, IsBankEntering, IsResting, HasMark, bottom_at};
 ghost use Rattle.bn_realise.specs.BankNets.{CanMove, IsMove};
 

@@ -1,14 +1,13 @@
 //! Banks are made here.
 ghost use Rattle.std.specs.Prelude.{◌≡◌, ◌↔◌, ◌<◌, IfOk, IfErr};
 ghost use Rattle.bn_rsm.specs.Machines.{machine_table};
-ghost use Rattle.bn_realise.specs.BankNets.{IsBankOf, elements_of, IsCounted};
+ghost use Rattle.bn_realise.specs.BankNets.{IsBankOf, bank_elements, IsCounted};
 
 use crate::refusal::BankRefusal;
 use crate::standing::Bank;
 use crate::wires::bank_wires;
-use bn_column::rotary_net;
 use bn_element::Element;
-use bn_net::MOST_ELEMENTS;
+use bn_net::{MOST_ELEMENTS, rotary_net};
 use bn_rsm::Rsm;
 use std::alloc::Global;
 
@@ -17,9 +16,9 @@ pub fn bank(alloc: Global, rsm: &Rsm) -> Result<Bank, BankRefusal>
     requires some_states { 0 < rsm.now.states }
     requires some_lines { 0 < rsm.now.lines }
     ensures made { IfOk result (λ v. IsBankOf v (machine_table rsm.now)) }
-    ensures elements { (result ≡ Err (BankRefusal.Elements (elements_of rsm.now)))
-        ↔ (MOST_ELEMENTS < elements_of rsm.now) }
-    ensures count { IfErr result (IsCounted (elements_of rsm.now)) }
+    ensures elements { (result ≡ Err (BankRefusal.Elements (bank_elements rsm.now)))
+        ↔ (MOST_ELEMENTS < bank_elements rsm.now) }
+    ensures count { IfErr result (IsCounted (bank_elements rsm.now)) }
 {
     let (states, lines) = (rsm.states(), rsm.lines_in());
     let count = u64::from(states) * (u64::from(lines) + 1);

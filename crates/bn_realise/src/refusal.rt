@@ -5,7 +5,7 @@ use bn_lists::NoMemory;
 /// Why no bank was made.
 #[derive(Clone, Copy, PartialEq, Eq, Debug)]
 pub enum BankRefusal {
-    /// The bank would have more than 1,048,576 elements.
+    /// The bank would have more than 4,194,304 elements.
     Elements {
         /// How many it would have: the machine's states times one more than its lines.
         count: u64,

@@ -1,14 +1,13 @@
 //! A bank by itself.
 ghost use Rattle.std.specs.Prelude.{◌≡◌, ℕ, ◌+◌, ◌*◌, ◌<◌, ◌≤◌, length, replicate, slice_set, IfOk};
 ghost use Rattle.bn_realise.specs.Banks.{bottom_at};
-ghost use Rattle.bn_theory.specs.Tables.{Table, IsReversible};
-ghost use Rattle.bn_theory.specs.Circuits.{IsConfig};
-ghost use Rattle.bn_column.specs.Nets.{rotary_circuit};
+ghost use Rattle.bn_element.specs.Tables.{Table, IsReversible};
+ghost use Rattle.bn_circuits.specs.Circuits.{IsConfig};
+ghost use Rattle.bn_net.specs.RotaryNets.{rotary_circuit};
 
 use bn_element::{HORIZONTAL, Rotary, VERTICAL, WEST};
 use bn_lists::NoMemory;
 use bn_net::{CLOCK, Config, MOST_ELEMENTS, Net, Place, States};
-use bn_rsm::costs_are_bounded;
 use std::alloc::Global;
 use std::marker::Model;
 
@@ -79,7 +78,6 @@ impl Bank {
         ensures entering { IfOk result (λ c. (t : Table) → IsBankOf self.now t → IsBankEntering 0 t state line c) }
         ensures ready { IfOk result (IsReadyBank self.now) }
     {
-        costs_are_bounded();
         let states = resting(alloc, self.states, self.lines, state)?;
         // (for the prover: a function knows what its type keeps where it uses a field.)
         let _ = &self.net;

@@ -120,12 +120,12 @@ fn a_bank_of_two_moves_has_eighteen_wires(rt: HostRuntime) -> Result<(), Fail> {
 #[test]
 fn a_bank_above_the_limit_is_refused(rt: HostRuntime) -> Result<(), Fail> {
     let moves = vec![in rt.alloc(); step(0, 1_048_575, 0, 0)]?;
-    let Ok(rsm) = Rsm::try_new(rt.alloc(), 1, 1_048_576, moves) else {
+    let Ok(rsm) = Rsm::try_new(rt.alloc(), 4, 1_048_576, moves) else {
         return Err(Fail::from("no machine"));
     };
     assert_eq!(rt;
         bank(rt.alloc(), &rsm).err(),
-        Some(BankRefusal::Elements { count: 1_048_577 })
+        Some(BankRefusal::Elements { count: 4_194_308 })
     );
     Ok(())
 }

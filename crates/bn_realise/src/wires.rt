@@ -1,6 +1,6 @@
 //! The wires of a bank.
 ghost use Rattle.std.specs.Prelude.{◌≡◌, ◌+◌, ◌*◌, ◌^◌, ◌<◌, ◌≤◌, ◌++◌, ◌∷◌, [], length, IfOk, OnOk};
-ghost use Rattle.bn_column.specs.Wirings.{AreWiresOf};
+ghost use Rattle.bn_net.specs.Wirings.{AreWiresOf};
 ghost use Rattle.bn_realise.specs.Banks.{IsBankWire, column_at};
 ghost use Rattle.bn_realise.specs.BankWires.{IsEarlier, IsStage, IsHalf};
 ghost use Rattle.bn_realise.specs.BankNets.{HasRoom};

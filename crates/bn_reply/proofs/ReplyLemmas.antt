@@ -1,7 +1,7 @@
 -- How a reply comes about, and how it is written.
 use Rattle.std.specs.Prelude.{◌≡◌, ℕ, List, [], Option, Some, None, Result, Ok, Err, IfOk}
 use Rattle.std.proofs.Common.{sym, ap, subst, ◌∙◌, append-nil}
-use Rattle.bn_theory.specs.declared.place.Place.{Place}
+use Rattle.bn_circuits.specs.declared.place.Place.{Place}
 use Rattle.bn_io.specs.Told.{Grows, GrowsByFront}
 use Rattle.bn_reply.specs.Ends.{Finishes, whole, cut}
 use Rattle.bn_reply.specs.Replying as ends_of

@@ -1,6 +1,6 @@
 -- There is one answer and only one, put together from the openings of a table and of a word.
 use Rattle.std.proofs.Common.{◌≡◌, ℕ, List, [], ◌⊎◌, inl, inr, refl, sym, subst, ap, ◌∙◌}
-use Rattle.bn_theory.specs.declared.place.Place.{Place}
+use Rattle.bn_circuits.specs.declared.place.Place.{Place}
 use Rattle.bn_table.specs.Reading.{Reads}
 use Rattle.bn_table.specs.Rows.{Named, IsTable}
 use Rattle.bn_standard.specs.Standard.{IsStandard}

@@ -10,7 +10,7 @@ use Rattle.bn_machine.specs.declared.quint.Shift.{Shift}
 use Rattle.bn_machine.specs.declared.quint.Shift.TheVariants.{Left, Stay, Right}
 use Rattle.bn_standard.specs.Standard.{BeginsWell, Clashes, EndsWell, HasLoneFinal, HasLoneStart, IsBeginning, IsEnding, IsStandard, IsUnambiguous, NamesFinal}
 use Rattle.bn_standard.specs.Standard.{NamesStart}
-use Rattle.bn_standard.specs.Verdict.{IsLeastFinal, IsLeastRepeat, IsLeastStart, IsRefusal}
+use Rattle.bn_standard.specs.Verdict.{IsLeastFinal, IsLeastRepeat, IsLeastStart, IsStandardRefusal}
 use Rattle.bn_standard.specs.Search.{NoneBefore}
 use Rattle.bn_standard.proofs.SearchLemmas.{NoneRepeated, beginning_of, begins_well, ending_of, ends_well, least_final, least_repeat, least_second}
 use Rattle.bn_standard.proofs.SearchLemmas.{least_start, lone_final, lone_start, no_repeat, none_before_more, none_before_one, none_repeated_more, none_repeated_one}
@@ -160,7 +160,7 @@ finals qs = elim (first_or_none (NamesFinal (final_of qs) (length qs)) (names_fi
 -- a demand that isn't met
 pub record Fails (qs : List Quint) : Type 0 where
   pub why : Why
-  pub first : IsRefusal qs why
+  pub first : IsStandardRefusal qs why
   pub said : why ≢ whys.NoMemory
 
 pub standard_or_not : (qs : List Quint) → IsStandard qs ⊎ Fails qs

@@ -1,13 +1,13 @@
 -- Bytes are a table, or have a first fault, and not both; a table's machine is in standard form, or a first demand isn't met.
 use Rattle.std.proofs.Common.{◌≡◌, ◌≢◌, ℕ, List, ◌⊎◌, inl, inr, refl, sym, subst, ap, ◌∙◌, Option, Some, None}
 use Rattle.std.specs.Prelude.{◌↔◌}
-use Rattle.bn_entries.specs.Entries.{entries_of}
-use Rattle.bn_table.specs.Faults.{fault_of}
+use Rattle.bn_csv.specs.Entries.{entries_of}
+use Rattle.bn_table.specs.Faults.{table_fault}
 use Rattle.bn_table.specs.Reading.{Reads, OneReading, ReadingOrFault}
 use Rattle.bn_table.specs.Rows.{Named, IsTable, IsTableOf}
 use Rattle.bn_table.proofs.ReadingLaws.{no_fault_of, one_reading, reading_of}
 use Rattle.bn_standard.specs.Standard.{IsStandard}
-use Rattle.bn_standard.specs.Verdict.{IsRefusal}
+use Rattle.bn_standard.specs.Verdict.{IsStandardRefusal}
 use Rattle.bn_standard.proofs.VerdictLemmas.{standard_accepted, verdict_once}
 use Rattle.bn_reply.specs.Lines.{fault_line, why_line}
 use Rattle.bn_standard.specs.declared.why.Why.{Why}
@@ -58,7 +58,7 @@ pub one_table : OneReading
 one_table bytes t u h k = one_reading (entries_of bytes) t u h k
 
 pub fault_once : (bytes a b : List ℕ) → TellsFault bytes a → TellsFault bytes b → a ≡ b
-fault_once bytes a b h k = first_once (Reads bytes) (fault_of (entries_of bytes)) fault_line a b h k
+fault_once bytes a b h k = first_once (Reads bytes) (table_fault (entries_of bytes)) fault_line a b h k
 
 -- ---- a table's machine
 
@@ -66,7 +66,7 @@ pub why_once : (t : Named) (a b : List ℕ) → TellsWhy t a → TellsWhy t b �
 why_once t a b h k = h.told ∙ ap why_line (verdict_once t.machine.quints h.why k.why h.said k.said h.first k.first) ∙ sym k.told
 
 -- a demand that isn't met, told in its line
-pub why_told : (t : Named) (why : Why) (text : List ℕ) → IsRefusal t.machine.quints why → why ≢ whys.NoMemory → text ≡ why_line why → TellsWhy t text
+pub why_told : (t : Named) (why : Why) (text : List ℕ) → IsStandardRefusal t.machine.quints why → why ≢ whys.NoMemory → text ≡ why_line why → TellsWhy t text
 why_told t why text first said told = record {
   unfit = λ s. said
       (standard_accepted t.machine.quints why s first);
@@ -86,4 +86,4 @@ standard_or_told t = elim (standard_or_not t.machine.quints) [
 -- ---- a table of quintuples
 
 pub table_or_told : (bytes : List ℕ) → ((t : Named) × Reads bytes t) ⊎ ((text : List ℕ) × TellsFault bytes text)
-table_or_told bytes = read_or_told (Reads bytes) (fault_of (entries_of bytes)) fault_line (table_or_fault bytes)
+table_or_told bytes = read_or_told (Reads bytes) (table_fault (entries_of bytes)) fault_line (table_or_fault bytes)

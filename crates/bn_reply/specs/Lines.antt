@@ -44,3 +44,11 @@ why_line whys.NoMemory = []
 -- the line of the first place of a word, counted from 1, that has no letter of the table or has the blank's
 abbrev pub foreign_line : ℕ → List ℕ
 foreign_line p = line (codes "word: " ∷ decimal p ∷ [])
+
+-- the line of a word of so many letters that is too long
+abbrev pub long_line : ℕ → List ℕ
+long_line count = line (codes "size: word needs " ∷ decimal count ∷ [])
+
+-- the line of a machine's run that goes on after so many steps
+abbrev pub running_line : ℕ → List ℕ
+running_line n = line (codes "running " ∷ decimal n ∷ [])

@@ -1,6 +1,6 @@
 -- What a command's reply and its end are, for any answers of a command.
 use Rattle.std.specs.Prelude.{◌≡◌, ℕ, List, [], ◌++◌, Option}
-use Rattle.bn_theory.specs.declared.place.Place.{Place}
+use Rattle.bn_circuits.specs.declared.place.Place.{Place}
 use Rattle.bn_io.specs.Faults.{Rose}
 use Rattle.bn_io.specs.Told.{Grows, GrowsByFront}
 use Rattle.bn_net.specs.Watching.{Hears}

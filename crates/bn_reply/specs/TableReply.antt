@@ -1,13 +1,13 @@
 -- What the commands answer that take a table of quintuples in standard form, and those that take a word of its letters
 -- as well (this project's own profile).
 use Rattle.std.specs.Prelude.{◌≡◌, ◌≢◌, ℕ, List, [], Option, Some}
-use Rattle.bn_theory.specs.declared.place.Place.{Place}
-use Rattle.bn_entries.specs.Entries.{entries_of}
-use Rattle.bn_table.specs.Faults.{fault_of}
+use Rattle.bn_circuits.specs.declared.place.Place.{Place}
+use Rattle.bn_csv.specs.Entries.{entries_of}
+use Rattle.bn_table.specs.Faults.{table_fault}
 use Rattle.bn_table.specs.Reading.{Reads}
 use Rattle.bn_table.specs.Rows.{Named}
 use Rattle.bn_standard.specs.Standard.{IsStandard}
-use Rattle.bn_standard.specs.Verdict.{IsRefusal}
+use Rattle.bn_standard.specs.Verdict.{IsStandardRefusal}
 use Rattle.bn_standard.specs.declared.why.Why.{Why}
 use Rattle.bn_standard.specs.declared.why.Why.TheVariants as whys
 use Rattle.bn_reply.specs.Lines.{fault_line, foreign_line, why_line}
@@ -25,7 +25,7 @@ pub record TellsFirst {T F : Type 0} (IsReading : T → Type 0) (found : Option 
 
 -- the bytes have no reading as a table of quintuples, and the text tells their first fault
 abbrev pub TellsFault : List ℕ → List ℕ → Type 0
-TellsFault bytes text = TellsFirst (Reads bytes) (fault_of (entries_of bytes)) fault_line text
+TellsFault bytes text = TellsFirst (Reads bytes) (table_fault (entries_of bytes)) fault_line text
 
 -- What is answered to these bytes, where `tells` is what is answered to a table: the fault of bytes that are no table,
 -- or that.
@@ -38,7 +38,7 @@ pub data TableReplies (tells : Named → Status → List ℕ → List Place → 
 pub record TellsWhy (t : Named) (text : List ℕ) : Type 0 where
   pub unfit : IsStandard t.machine.quints → ⊥
   pub why : Why
-  pub first : IsRefusal t.machine.quints why
+  pub first : IsStandardRefusal t.machine.quints why
   pub said : why ≢ whys.NoMemory
   pub told : text ≡ why_line why
 

@@ -10,7 +10,7 @@ use crate::reply::Reply;
 use crate::status::Status;
 use bn_lists::NoMemory;
 use bn_standard::{Standard, check};
-use bn_table::{Table, bytes_have_a_reading_or_a_fault, read_quints};
+use bn_table::{Table, read_quints};
 use std::alloc::Global;
 
 /// A table, or the answer to bytes that are none.
@@ -41,11 +41,10 @@ pub enum OpenedWord {
 }
 
 /// Reads the bytes as a table of quintuples.
+#[tactic(auto, using(bn_table::proofs::ReadingLaws::no_fault_of))]
 pub fn open_table(alloc: Global, bytes: &[u8]) -> Result<OpenedTable, NoMemory>
     ensures { IfOk result (IsOpenedTable bytes.now) }
 {
-    // The law that bytes with a fault have no reading.
-    bytes_have_a_reading_or_a_fault();
     match read_quints(alloc, bytes) {
         Ok(table) => Ok(OpenedTable::Read(table)),
         Err(refusal) => Ok(OpenedTable::Refused(Reply {

@@ -1,3 +1,4 @@
+pub mod ListingLemmas
 pub mod NumberLemmas
 pub mod SoundLemmas
 pub mod RunCostLemmas

@@ -2,7 +2,7 @@
 use Rattle.std.proofs.Common.{◌≡◌, ℕ, suc, ◌+◌, ◌-◌, ◌≤◌, Bool, true, false, cond, List, [], ◌∷◌, ◌++◌, length, map, Option, Some, None, slice_get, refl, sym, ◌∙◌, arith}
 use Rattle.std.specs.List.{position_from}
 use Rattle.std.specs.HashMap.{get}
-use Rattle.bn_theory.specs.Tables.{go_by, back_by}
+use Rattle.bn_element.specs.Tables.{go_by, back_by}
 use Rattle.bn_rsm.specs.Machines.{move_of}
 use Rattle.bn_rsm.specs.Faults.{leaves, leads}
 use Rattle.bn_rsm.specs.Pairs.{Numbers, AreNumbers, same_pair}

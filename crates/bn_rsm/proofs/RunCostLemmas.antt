@@ -2,12 +2,12 @@
 use Rattle.std.specs.Prelude.{◌≡◌, ℕ, ◌+◌, ◌<◌, List, Option, Some, None, slice_get, option_and_then, refl}
 use Rattle.std.specs.Option.{option_map_or}
 use Rattle.std.proofs.Common.{zero, suc, arith, ap, ◌∙◌}
-use Rattle.bn_theory.specs.Runs.{Reaches}
-use Rattle.bn_theory.specs.Tables.{Table}
-use Rattle.bn_theory.specs.Circuits.{Circuit, go_of}
-use Rattle.bn_theory.specs.Situations.{Situation, Turns, turn}
-use Rattle.bn_theory.specs.declared.place.Place.TheVariants.{Left}
-use Rattle.bn_theory.proofs.SituationLemmas.{turns-turn}
+use Rattle.bn_lists.specs.Runs.{Reaches}
+use Rattle.bn_element.specs.Tables.{Table}
+use Rattle.bn_circuits.specs.Circuits.{Circuit, go_of}
+use Rattle.bn_circuits.specs.Situations.{Situation, Turns, turn}
+use Rattle.bn_circuits.specs.declared.place.Place.TheVariants.{Left}
+use Rattle.bn_circuits.proofs.SituationLemmas.{turns-turn}
 use Rattle.bn_rsm.specs.Costs.{table_cost, cost_by}
 use Rattle.bn_rsm.specs.RunCosts.{run_cost, step_cost, entry_cost}
 

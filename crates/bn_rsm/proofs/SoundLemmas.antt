@@ -6,9 +6,9 @@ use Rattle.std.proofs.lemmas.Bool.Decides.{nat_tests}
 use Rattle.std.proofs.lemmas.List.{take_more}
 use Rattle.std.proofs.lemmas.Option.{slice_get_within, get_or_from_slice_get, slice_get-get_or}
 use Rattle.std.proofs.Math.Seq.{take-length}
-use Rattle.bn_theory.specs.Tables.{Move, AreOneToOne, AreWithin, go_by, back_by}
+use Rattle.bn_element.specs.Tables.{Move, AreOneToOne, AreWithin, go_by, back_by}
 use Rattle.bn_rsm.specs.Machines.{move_of, AreSound, Machine, IsBackward}
-use Rattle.bn_rsm.specs.Faults.{leaves, leads, turned, number_from, number_to, is_within, MoveFault, out_of_range, same_domain, same_range, clash, fault_of, IsFirstFault, IsRefusal}
+use Rattle.bn_rsm.specs.Faults.{leaves, leads, turned, number_from, number_to, is_within, MoveFault, out_of_range, same_domain, same_range, clash, move_fault_of, IsFirstMoveFault, IsMoveRefusal}
 use Rattle.bn_rsm.specs.Pairs.{Numbers, AreNumbers, same_pair, checked}
 use Rattle.bn_rsm.specs.declared.rsm_move.RsmMove.{RsmMove}
 use Rattle.bn_rsm.specs.declared.refusal.RsmRefusal.{RsmRefusal}
@@ -25,7 +25,7 @@ pub record IsFree (s k : ℕ) (earlier : List RsmMove) (m : RsmMove) : Type 0 wh
   pub leaves_none : number_from earlier m.state m.line ≡ None
   pub leads_none : number_to earlier m.next m.out ≡ None
 
-pub faultless : (s k : ℕ) (earlier : List RsmMove) (m : RsmMove) → fault_of s k earlier m ≡ None → IsFree s k earlier m
+pub faultless : (s k : ℕ) (earlier : List RsmMove) (m : RsmMove) → move_fault_of s k earlier m ≡ None → IsFree s k earlier m
 faultless s k earlier m h = by_parts (is_within s k m) (number_from earlier m.state m.line) (number_to earlier m.next m.out) refl refl refl h
   where
     by_parts : (b : Bool) (f t : Option ℕ) → is_within s k m ≡ b → number_from earlier m.state m.line ≡ f → number_to earlier m.next m.out ≡ t → cond b (clash f t) (Some out_of_range) ≡ None → IsFree s k earlier m
@@ -44,7 +44,7 @@ one_more false (Some n) k none = refl
 both_true : (a b c d : ℕ) → (a == c && b == d) ≡ true → (a ≡ c) × (b ≡ d)
 both_true a b c d h = grind (arith, nat_tests)
 
-pub numbers-push : (s k : ℕ) (from to from' to' : Numbers) (earlier : List RsmMove) (m : RsmMove) (number : ℕ) → AreNumbers from to earlier → number ≡ length earlier + 1 → fault_of s k earlier m ≡ None → ((p : ℕ × ℕ) → get same_pair from' p ≡ cond (same_pair (m.state, m.line) p) (Some number) (get same_pair from p)) → ((p : ℕ × ℕ) → get same_pair to' p ≡ cond (same_pair (m.next, m.out) p) (Some number) (get same_pair to p)) → AreNumbers from' to' (earlier ++ m ∷ [])
+pub numbers-push : (s k : ℕ) (from to from' to' : Numbers) (earlier : List RsmMove) (m : RsmMove) (number : ℕ) → AreNumbers from to earlier → number ≡ length earlier + 1 → move_fault_of s k earlier m ≡ None → ((p : ℕ × ℕ) → get same_pair from' p ≡ cond (same_pair (m.state, m.line) p) (Some number) (get same_pair from p)) → ((p : ℕ × ℕ) → get same_pair to' p ≡ cond (same_pair (m.next, m.out) p) (Some number) (get same_pair to p)) → AreNumbers from' to' (earlier ++ m ∷ [])
 numbers-push s k from to from' to' earlier m number numbers counted none froms tos =
     let free = faultless s k earlier m none in
     record {
@@ -100,7 +100,7 @@ map-push : (ms : List RsmMove) (m : RsmMove) → map move_of (ms ++ m ∷ []) �
 map-push [] m = refl
 map-push (x ∷ ms) m = ap (λ xs. move_of x ∷ xs) (map-push ms m)
 
-pub sound-push : (s k : ℕ) (ms : List RsmMove) (m : RsmMove) → AreSound s k ms → fault_of s k ms m ≡ None → AreSound s k (ms ++ m ∷ [])
+pub sound-push : (s k : ℕ) (ms : List RsmMove) (m : RsmMove) → AreSound s k ms → move_fault_of s k ms m ≡ None → AreSound s k (ms ++ m ∷ [])
 sound-push s k ms m sound none =
     let free = faultless s k ms m none in
     let range = in_range s k m free.within in
@@ -128,7 +128,7 @@ take_one_more moves n m stands =
     let within = slice_get_within moves n m stands in
     take_more moves n m within ∙ ap (λ x. take n moves ++ x ∷ []) (get_or_from_slice_get moves n m m stands)
 
-pub one_more_indexed : (s k : ℕ) (from to from' to' : Numbers) (moves : List RsmMove) (n : ℕ) (m : RsmMove) → AreIndexed s k from to moves n → slice_get moves n ≡ Some m → fault_of s k (take n moves) m ≡ None → AreNumbers from' to' (take n moves ++ m ∷ []) → AreIndexed s k from' to' moves (n + 1)
+pub one_more_indexed : (s k : ℕ) (from to from' to' : Numbers) (moves : List RsmMove) (n : ℕ) (m : RsmMove) → AreIndexed s k from to moves n → slice_get moves n ≡ Some m → move_fault_of s k (take n moves) m ≡ None → AreNumbers from' to' (take n moves ++ m ∷ []) → AreIndexed s k from' to' moves (n + 1)
 one_more_indexed s k from to from' to' moves n m is stands none numbers =
     record {
       numbers = subst (AreNumbers from' to') (sym (take_one_more moves n m stands)) numbers;
@@ -142,19 +142,19 @@ checked-Ok (Some (same_domain i)) j u h = absurd (cc)
 checked-Ok (Some (same_range i)) j u h = absurd (cc)
 
 -- a fault that the test finds is the first of the list
-pub refused_at : (s k : ℕ) (moves : List RsmMove) (n : ℕ) (m : RsmMove) → AreSound s k (take n moves) → slice_get moves n ≡ Some m → (refusal : RsmRefusal) → checked (fault_of s k (take n moves) m) (n + 1) ≡ Err refusal → IsRefusal s k moves refusal
-refused_at s k moves n m sound stands refusal h = by_fault (fault_of s k (take n moves) m) refl h
+pub refused_at : (s k : ℕ) (moves : List RsmMove) (n : ℕ) (m : RsmMove) → AreSound s k (take n moves) → slice_get moves n ≡ Some m → (refusal : RsmRefusal) → checked (move_fault_of s k (take n moves) m) (n + 1) ≡ Err refusal → IsMoveRefusal s k moves refusal
+refused_at s k moves n m sound stands refusal h = by_fault (move_fault_of s k (take n moves) m) refl h
   where
-    first : (fault : MoveFault) → fault_of s k (take n moves) m ≡ Some fault → IsFirstFault s k moves (n + 1) fault
+    first : (fault : MoveFault) → move_fault_of s k (take n moves) m ≡ Some fault → IsFirstMoveFault s k moves (n + 1) fault
     first fault found =
         let e : (n + 1) - 1 ≡ n = omega arith in
         record { counted = omega arith; faulty = m; stands = rw e stands; here = rw e found; before = rw e sound }
 
-    by_fault : (o : Option MoveFault) → fault_of s k (take n moves) m ≡ o → checked o (n + 1) ≡ Err refusal → IsRefusal s k moves refusal
+    by_fault : (o : Option MoveFault) → move_fault_of s k (take n moves) m ≡ o → checked o (n + 1) ≡ Err refusal → IsMoveRefusal s k moves refusal
     by_fault None found h = absurd (cc)
-    by_fault (Some out_of_range) found h = let same : Range (n + 1) ≡ refusal = cc in subst (IsRefusal s k moves) same (first out_of_range found)
-    by_fault (Some (same_domain i)) found h = let same : SameDomain i (n + 1) ≡ refusal = cc in subst (IsRefusal s k moves) same (first (same_domain i) found)
-    by_fault (Some (same_range i)) found h = let same : SameRange i (n + 1) ≡ refusal = cc in subst (IsRefusal s k moves) same (first (same_range i) found)
+    by_fault (Some out_of_range) found h = let same : Range (n + 1) ≡ refusal = cc in subst (IsMoveRefusal s k moves) same (first out_of_range found)
+    by_fault (Some (same_domain i)) found h = let same : SameDomain i (n + 1) ≡ refusal = cc in subst (IsMoveRefusal s k moves) same (first (same_domain i) found)
+    by_fault (Some (same_range i)) found h = let same : SameRange i (n + 1) ≡ refusal = cc in subst (IsMoveRefusal s k moves) same (first (same_range i) found)
 
 -- ---- sound moves are not refused
 
@@ -202,17 +202,17 @@ within_at s k (x ∷ ms) zero m within stands =
 within_at s k (x ∷ ms) (suc n) m within stands = within_at s k ms n m within.4 stands
 
 -- in sound moves no move has a fault
-sound-faultless : (s k : ℕ) (ms : List RsmMove) (n : ℕ) (m : RsmMove) → AreSound s k ms → slice_get ms n ≡ Some m → fault_of s k (take n ms) m ≡ None
+sound-faultless : (s k : ℕ) (ms : List RsmMove) (n : ℕ) (m : RsmMove) → AreSound s k ms → slice_get ms n ≡ Some m → move_fault_of s k (take n ms) m ≡ None
 sound-faultless s k ms n m sound stands =
     rw (within_at s k ms n m sound.within stands, no_earlier_from ms n 1 m sound.one_to_one stands, no_earlier_to ms n 1 m sound.one_to_one stands) refl
 
-not_at_fault : (s k : ℕ) (ms : List RsmMove) (j : ℕ) (fault : MoveFault) → AreSound s k ms → IsFirstFault s k ms j fault → ⊥
+not_at_fault : (s k : ℕ) (ms : List RsmMove) (j : ℕ) (fault : MoveFault) → AreSound s k ms → IsFirstMoveFault s k ms j fault → ⊥
 not_at_fault s k ms j fault sound first =
     let none = sound-faultless s k ms (j - 1) first.faulty sound first.stands in
     let here = first.here in
     cc
 
-pub sound-refusal : (s k : ℕ) (ms : List RsmMove) (refusal : RsmRefusal) → AreSound s k ms → IsRefusal s k ms refusal → refusal ≡ NoMemory
+pub sound-refusal : (s k : ℕ) (ms : List RsmMove) (refusal : RsmRefusal) → AreSound s k ms → IsMoveRefusal s k ms refusal → refusal ≡ NoMemory
 sound-refusal s k ms (SameDomain i j) sound is = absurd (not_at_fault s k ms j (same_domain i) sound is)
 sound-refusal s k ms (SameRange i j) sound is = absurd (not_at_fault s k ms j (same_range i) sound is)
 sound-refusal s k ms (Range j) sound is = absurd (not_at_fault s k ms j out_of_range sound is)
@@ -221,7 +221,7 @@ sound-refusal s k ms NoMemory sound is = refl
 -- ---- sound moves, or a first fault
 
 -- a fault behind sound moves is refused
-fault-refused : (s k : ℕ) (ms : List RsmMove) (n : ℕ) (m : RsmMove) (fault : MoveFault) → AreSound s k (take n ms) → slice_get ms n ≡ Some m → fault_of s k (take n ms) m ≡ Some fault → (a : RsmRefusal) × (a ≢ NoMemory) × IsRefusal s k ms a
+fault-refused : (s k : ℕ) (ms : List RsmMove) (n : ℕ) (m : RsmMove) (fault : MoveFault) → AreSound s k (take n ms) → slice_get ms n ≡ Some m → move_fault_of s k (take n ms) m ≡ Some fault → (a : RsmRefusal) × (a ≢ NoMemory) × IsMoveRefusal s k ms a
 fault-refused s k ms n m out_of_range sound stands found =
     (Range (n + 1), (λ e. cc), refused_at s k ms n m sound stands (Range (n + 1)) (ap (λ o. checked o (n + 1)) found))
 fault-refused s k ms n m (same_domain i) sound stands found =
@@ -229,25 +229,25 @@ fault-refused s k ms n m (same_domain i) sound stands found =
 fault-refused s k ms n m (same_range i) sound stands found =
     (SameRange i (n + 1), (λ e. cc), refused_at s k ms n m sound stands (SameRange i (n + 1)) (ap (λ o. checked o (n + 1)) found))
 
-first-moves : (s k : ℕ) (ms : List RsmMove) (n : ℕ) → n ≤ length ms → AreSound s k (take n ms) ⊎ ((a : RsmRefusal) × (a ≢ NoMemory) × IsRefusal s k ms a)
+first-moves : (s k : ℕ) (ms : List RsmMove) (n : ℕ) → n ≤ length ms → AreSound s k (take n ms) ⊎ ((a : RsmRefusal) × (a ≢ NoMemory) × IsMoveRefusal s k ms a)
 first-moves s k ms zero h = inl (record { one_to_one = tt; within = tt })
 first-moves s k ms (suc n) h = one-more (first-moves s k ms n (omega arith))
   where
     here : slice_get ms n ≡ Some (get_or ms n no_move)
     here = slice_get-get_or ms n no_move (omega arith)
 
-    tested : (o : Option MoveFault) → fault_of s k (take n ms) (get_or ms n no_move) ≡ o → AreSound s k (take n ms) → AreSound s k (take (suc n) ms) ⊎ ((a : RsmRefusal) × (a ≢ NoMemory) × IsRefusal s k ms a)
+    tested : (o : Option MoveFault) → move_fault_of s k (take n ms) (get_or ms n no_move) ≡ o → AreSound s k (take n ms) → AreSound s k (take (suc n) ms) ⊎ ((a : RsmRefusal) × (a ≢ NoMemory) × IsMoveRefusal s k ms a)
     tested None found sound =
         let count : n + 1 ≡ suc n = omega arith in
         inl (subst (λ j. AreSound s k (take j ms)) count (subst (AreSound s k) (sym (take_one_more ms n (get_or ms n no_move) here)) (sound-push s k (take n ms) (get_or ms n no_move) sound found)))
     tested (Some fault) found sound = inr (fault-refused s k ms n (get_or ms n no_move) fault sound here found)
 
-    one-more : AreSound s k (take n ms) ⊎ ((a : RsmRefusal) × (a ≢ NoMemory) × IsRefusal s k ms a) → AreSound s k (take (suc n) ms) ⊎ ((a : RsmRefusal) × (a ≢ NoMemory) × IsRefusal s k ms a)
+    one-more : AreSound s k (take n ms) ⊎ ((a : RsmRefusal) × (a ≢ NoMemory) × IsMoveRefusal s k ms a) → AreSound s k (take (suc n) ms) ⊎ ((a : RsmRefusal) × (a ≢ NoMemory) × IsMoveRefusal s k ms a)
     one-more (inr refused) = inr refused
-    one-more (inl sound) = tested (fault_of s k (take n ms) (get_or ms n no_move)) refl sound
+    one-more (inl sound) = tested (move_fault_of s k (take n ms) (get_or ms n no_move)) refl sound
 
-pub sound-or-refused : (s k : ℕ) (ms : List RsmMove) → AreSound s k ms ⊎ ((a : RsmRefusal) × (a ≢ NoMemory) × IsRefusal s k ms a)
-sound-or-refused s k ms = subst (λ xs. AreSound s k xs ⊎ ((a : RsmRefusal) × (a ≢ NoMemory) × IsRefusal s k ms a)) (take-length ms) (first-moves s k ms (length ms) (omega arith))
+pub sound-or-refused : (s k : ℕ) (ms : List RsmMove) → AreSound s k ms ⊎ ((a : RsmRefusal) × (a ≢ NoMemory) × IsMoveRefusal s k ms a)
+sound-or-refused s k ms = subst (λ xs. AreSound s k xs ⊎ ((a : RsmRefusal) × (a ≢ NoMemory) × IsMoveRefusal s k ms a)) (take-length ms) (first-moves s k ms (length ms) (omega arith))
 
 -- ---- the moves turned round
 
@@ -291,32 +291,32 @@ take-take ms (suc n) zero within = absurd (omega arith)
 take-take [] (suc n) (suc t) within = refl
 take-take (m ∷ ms) (suc n) (suc t) within = ap (λ xs. m ∷ xs) (take-take ms n t (omega arith))
 
-not_before : (s k : ℕ) (ms : List RsmMove) (i j : ℕ) (f g : MoveFault) → IsFirstFault s k ms i f → IsFirstFault s k ms j g → i < j → ⊥
+not_before : (s k : ℕ) (ms : List RsmMove) (i j : ℕ) (f g : MoveFault) → IsFirstMoveFault s k ms i f → IsFirstMoveFault s k ms j g → i < j → ⊥
 not_before s k ms i j f g first second below =
     let counted : 0 < i = first.counted in
     let earlier : i - 1 < j - 1 = omega arith in
     let stands = slice_get-take ms (i - 1) (j - 1) earlier ∙ first.stands in
     let none = sound-faultless s k (take (j - 1) ms) (i - 1) first.faulty second.before stands in
     let same = take-take ms (i - 1) (j - 1) (omega arith) in
-    let none' : fault_of s k (take (i - 1) ms) first.faulty ≡ None = subst (λ xs. fault_of s k xs first.faulty ≡ None) same none in
+    let none' : move_fault_of s k (take (i - 1) ms) first.faulty ≡ None = subst (λ xs. move_fault_of s k xs first.faulty ≡ None) same none in
     let here = first.here in
     cc
 
-first_once : (s k : ℕ) (ms : List RsmMove) (i j : ℕ) (f g : MoveFault) → IsFirstFault s k ms i f → IsFirstFault s k ms j g → (i ≡ j) × (f ≡ g)
+first_once : (s k : ℕ) (ms : List RsmMove) (i j : ℕ) (f g : MoveFault) → IsFirstMoveFault s k ms i f → IsFirstMoveFault s k ms j g → (i ≡ j) × (f ≡ g)
 first_once s k ms i j f g first second =
     let below = not_before s k ms i j f g first second in
     let above = not_before s k ms j i g f second first in
     let same : i ≡ j = grind (arith, nat_tests, below, above) in
-    (same, same_fault (subst (λ x. IsFirstFault s k ms x f) same first))
+    (same, same_fault (subst (λ x. IsFirstMoveFault s k ms x f) same first))
   where
-    same_fault : IsFirstFault s k ms j f → f ≡ g
+    same_fault : IsFirstMoveFault s k ms j f → f ≡ g
     same_fault at_j =
         let faulty : at_j.faulty ≡ second.faulty = (let a = at_j.stands in let b = second.stands in cc) in
-        let here : fault_of s k (take (j - 1) ms) second.faulty ≡ Some f = subst (λ m. fault_of s k (take (j - 1) ms) m ≡ Some f) faulty at_j.here in
+        let here : move_fault_of s k (take (j - 1) ms) second.faulty ≡ Some f = subst (λ m. move_fault_of s k (take (j - 1) ms) m ≡ Some f) faulty at_j.here in
         let there = second.here in
         cc
 
-pub refusal_once : (s k : ℕ) (ms : List RsmMove) (a b : RsmRefusal) → IsRefusal s k ms a → IsRefusal s k ms b → a ≢ NoMemory → b ≢ NoMemory → a ≡ b
+pub refusal_once : (s k : ℕ) (ms : List RsmMove) (a b : RsmRefusal) → IsMoveRefusal s k ms a → IsMoveRefusal s k ms b → a ≢ NoMemory → b ≢ NoMemory → a ≡ b
 refusal_once s k ms NoMemory b is_a is_b not_a not_b = absurd (not_a refl)
 refusal_once s k ms (SameDomain i j) NoMemory is_a is_b not_a not_b = absurd (not_b refl)
 refusal_once s k ms (SameRange i j) NoMemory is_a is_b not_a not_b = absurd (not_b refl)

@@ -2,7 +2,7 @@
 -- over numbers alone (this project's own profile). States and lines are counted from 0. A machine with n states and k
 -- lines is n columns of k rows.
 use Rattle.std.specs.Prelude.{ℕ, ◌+◌, ◌-◌, ◌*◌, Option, Some, None}
-use Rattle.bn_theory.specs.Tables.{Table}
+use Rattle.bn_element.specs.Tables.{Table}
 
 -- past one column that isn't marked, along row i of its k rows
 abbrev pub pass_cost : ℕ → ℕ → ℕ

@@ -43,22 +43,22 @@ clash (Some i) to = Some (same_domain i)
 clash None (Some i) = Some (same_range i)
 clash None None = None
 
-abbrev pub fault_of : ℕ → ℕ → List RsmMove → RsmMove → Option MoveFault
-fault_of states lines earlier m =
+abbrev pub move_fault_of : ℕ → ℕ → List RsmMove → RsmMove → Option MoveFault
+move_fault_of states lines earlier m =
     if is_within states lines m then clash (number_from earlier m.state m.line) (number_to earlier m.next m.out)
     else Some out_of_range
 
 -- Move j is the first with a fault, and this is its first: the moves before it make a machine.
-pub record IsFirstFault (states lines : ℕ) (moves : List RsmMove) (j : ℕ) (fault : MoveFault) : Type 0 where
+pub record IsFirstMoveFault (states lines : ℕ) (moves : List RsmMove) (j : ℕ) (fault : MoveFault) : Type 0 where
   pub counted : 0 < j
   pub faulty : RsmMove
   pub stands : slice_get moves (j - 1) ≡ Some faulty
-  pub here : fault_of states lines (take (j - 1) moves) faulty ≡ Some fault
+  pub here : move_fault_of states lines (take (j - 1) moves) faulty ≡ Some fault
   pub before : AreSound states lines (take (j - 1) moves)
 
 -- what a refusal says of the moves; want of memory says nothing
-abbrev pub IsRefusal : ℕ → ℕ → List RsmMove → RsmRefusal → Type 0
-IsRefusal states lines moves (SameDomain i j) = IsFirstFault states lines moves j (same_domain i)
-IsRefusal states lines moves (SameRange i j) = IsFirstFault states lines moves j (same_range i)
-IsRefusal states lines moves (Range j) = IsFirstFault states lines moves j out_of_range
-IsRefusal states lines moves NoMemory = Unit {0}
+abbrev pub IsMoveRefusal : ℕ → ℕ → List RsmMove → RsmRefusal → Type 0
+IsMoveRefusal states lines moves (SameDomain i j) = IsFirstMoveFault states lines moves j (same_domain i)
+IsMoveRefusal states lines moves (SameRange i j) = IsFirstMoveFault states lines moves j (same_range i)
+IsMoveRefusal states lines moves (Range j) = IsFirstMoveFault states lines moves j out_of_range
+IsMoveRefusal states lines moves NoMemory = Unit {0}

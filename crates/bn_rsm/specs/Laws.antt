@@ -1,7 +1,7 @@
 -- Laws on machines and on what their moves cost.
 use Rattle.std.specs.Prelude.{◌≡◌, ◌≢◌, ℕ, ◌+◌, ◌*◌, ◌<◌, ◌≤◌, ◌⊎◌, List}
 use Rattle.bn_rsm.specs.Machines.{AreSound}
-use Rattle.bn_rsm.specs.Faults.{IsRefusal}
+use Rattle.bn_rsm.specs.Faults.{IsMoveRefusal}
 use Rattle.bn_rsm.specs.Costs.{move_cost, loose_cost}
 use Rattle.bn_rsm.specs.declared.rsm_move.RsmMove.{RsmMove}
 use Rattle.bn_rsm.specs.declared.refusal.RsmRefusal.{RsmRefusal}
@@ -9,19 +9,19 @@ use Rattle.bn_rsm.specs.declared.refusal.RsmRefusal.TheVariants.{NoMemory}
 
 abbrev pub RefusalsAreOne : Type 0
 RefusalsAreOne =
-    (states lines : ℕ) (moves : List RsmMove) (a b : RsmRefusal) → IsRefusal states lines moves a
-    → IsRefusal states lines moves b → a ≢ NoMemory → b ≢ NoMemory → a ≡ b
+    (states lines : ℕ) (moves : List RsmMove) (a b : RsmRefusal) → IsMoveRefusal states lines moves a
+    → IsMoveRefusal states lines moves b → a ≢ NoMemory → b ≢ NoMemory → a ≡ b
 
 abbrev pub SoundMovesAreTaken : Type 0
 SoundMovesAreTaken =
     (states lines : ℕ) (moves : List RsmMove) (a : RsmRefusal) → AreSound states lines moves
-    → IsRefusal states lines moves a → a ≡ NoMemory
+    → IsMoveRefusal states lines moves a → a ≡ NoMemory
 
 -- moves make a machine, or they have a first fault
 abbrev pub MovesAreSoundOrRefused : Type 0
 MovesAreSoundOrRefused =
     (states lines : ℕ) (moves : List RsmMove)
-    → AreSound states lines moves ⊎ ((a : RsmRefusal) × (a ≢ NoMemory) × IsRefusal states lines moves a)
+    → AreSound states lines moves ⊎ ((a : RsmRefusal) × (a ≢ NoMemory) × IsMoveRefusal states lines moves a)
 
 -- n columns of k rows have n * (k + 1) elements
 abbrev pub CostsAreBounded : Type 0

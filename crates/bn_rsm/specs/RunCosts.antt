@@ -3,10 +3,10 @@
 use Rattle.std.specs.Prelude.{ℕ, ◌+◌, List, slice_get}
 use Rattle.std.specs.Option.{option_map_or}
 use Rattle.std.proofs.Common.{zero, suc}
-use Rattle.bn_theory.specs.Circuits.{Circuit}
-use Rattle.bn_theory.specs.Situations.{Situation, turn}
-use Rattle.bn_theory.specs.declared.place.Place.{Place}
-use Rattle.bn_theory.specs.declared.place.Place.TheVariants.{Enter, Left}
+use Rattle.bn_circuits.specs.Circuits.{Circuit}
+use Rattle.bn_circuits.specs.Situations.{Situation, turn}
+use Rattle.bn_circuits.specs.declared.place.Place.{Place}
+use Rattle.bn_circuits.specs.declared.place.Place.TheVariants.{Enter, Left}
 use Rattle.bn_rsm.specs.Costs.{table_cost}
 
 -- the cost of the step from here: that of the entered machine's move, or of the way to its loose line where it has

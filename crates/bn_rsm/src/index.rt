@@ -3,7 +3,7 @@ ghost use Rattle.std.specs.Prelude.{ℕ, ◌≡◌, ◌<◌, ◌^◌, ◌+◌, �
 ghost use Rattle.std.specs.Prelude.{IfOk, OnOk, IfErr};
 ghost use Rattle.std.specs.HashMap.{get};
 ghost use Rattle.bn_rsm.specs.Machines.{AreSound};
-ghost use Rattle.bn_rsm.specs.Faults.{IsRefusal, fault_of};
+ghost use Rattle.bn_rsm.specs.Faults.{IsMoveRefusal, move_fault_of};
 ghost use Rattle.bn_rsm.specs.Pairs.{AreNumbers, checked, same_pair};
 ghost use Rattle.bn_rsm.specs.declared.rsm_move.RsmMove.{RsmMove};
 
@@ -32,7 +32,7 @@ impl Index {
         requires { length moves.now < 2 ^ 32 }
         ensures numbers { IfOk result (λ x. AreNumbers x.from x.to moves.now) }
         ensures sound { OnOk result (AreSound states lines moves.now) }
-        ensures refused { IfErr result (IsRefusal states lines moves.now) }
+        ensures refused { IfErr result (IsMoveRefusal states lines moves.now) }
     {
         let mut index = Index {
             from: HashMap::new(alloc),
@@ -50,7 +50,7 @@ impl Index {
     // counted from 1.
     fn check(&self, step: &RsmMove, states: u32, lines: u32, number: u32) -> Result<(), RsmRefusal>
         ensures { (earlier : List RsmMove) → AreNumbers self.now.from self.now.to earlier
-            → result ≡ checked (fault_of states lines earlier step.now) number }
+            → result ≡ checked (move_fault_of states lines earlier step.now) number }
     {
         let within = step.state < states
             && step.line < lines
@@ -72,7 +72,7 @@ impl Index {
     fn add(&mut self, step: &RsmMove, number: u32) -> Result<(), NoMemory>
         ensures { OnOk result ((states lines : ℕ) (earlier : List RsmMove)
             → AreNumbers self.old.from self.old.to earlier → number ≡ length earlier + 1
-            → fault_of states lines earlier step.now ≡ None
+            → move_fault_of states lines earlier step.now ≡ None
             → AreNumbers self.new.from self.new.to (earlier ++ step.now ∷ [])) }
     {
         put(&mut self.from, (step.state, step.line), number)?;

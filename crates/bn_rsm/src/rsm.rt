@@ -40,7 +40,7 @@ impl Model for Rsm {
 
 impl Rsm {
     ghost use Rattle.bn_rsm.specs.Machines.{IsMadeOf, IsBackward};
-    ghost use Rattle.bn_rsm.specs.Faults.{IsRefusal};
+    ghost use Rattle.bn_rsm.specs.Faults.{IsMoveRefusal};
 
     /// The machine of these moves with so many states and lines. Moves are taken in order, and the
     /// first faulty one is named: `Range` where a number of it is out of range, else `SameDomain` where
@@ -55,7 +55,7 @@ impl Rsm {
         requires { length moves.items < 2 ^ 32 }
         ensures made { IfOk result (λ m. IsMadeOf m states lines moves.items) }
         ensures sound { OnOk result (AreSound states lines moves.items) }
-        ensures refused { IfErr result (IsRefusal states lines moves.items) }
+        ensures refused { IfErr result (IsMoveRefusal states lines moves.items) }
     {
         let index = Index::try_new(alloc, states, lines, moves.as_slice())?;
         Ok(Rsm {

@@ -10,7 +10,7 @@ use Rattle.std.proofs.lemmas.Str.Parse.{IsNumeralModel, numerals_by_value, tells
 use Rattle.bn_base.specs.Number.{AreDigits, read_number}
 use Rattle.bn_base.proofs.NumberLemmas.{read_number-again, read_number-takes}
 use Rattle.bn_base.specs.declared.numbers.Digits.{Digits}
-use Rattle.bn_entries.specs.Lines.{is_plain, is_plain_byte}
+use Rattle.bn_csv.specs.Lines.{is_plain, is_plain_byte}
 use Rattle.bn_base.specs.declared.limits.TheConstants.{MOST_COUNT}
 use Rattle.bn_rsmtable.specs.Faults.{is_count, is_number}
 

@@ -4,7 +4,7 @@ use Rattle.std.proofs.Common.{zero, suc, sym, ap, subst, ◌∙◌, arith}
 use Rattle.std.proofs.lemmas.List.Elements.{All-append, All-cons}
 use Rattle.std.proofs.lemmas.Bool.Decides.{nat_tests}
 use Rattle.bn_rsm.specs.Faults as moves
-use Rattle.bn_rsm.specs.Faults.{MoveFault, out_of_range, same_domain, same_range, clash, fault_of, is_within}
+use Rattle.bn_rsm.specs.Faults.{MoveFault, out_of_range, same_domain, same_range, clash, move_fault_of, is_within}
 use Rattle.bn_rsm.specs.declared.rsm_move.RsmMove.{RsmMove}
 use Rattle.bn_rsm.specs.declared.refusal.RsmRefusal.TheVariants as refused
 use Rattle.bn_base.specs.declared.limits.TheConstants.{MOST_COUNT}
@@ -49,7 +49,7 @@ no_clash_there None (Some i) e = cc
 no_clash_there None None e = cc
 
 -- no move is out of the range of what all name
-pub never_outside : (ms : List RsmMove) (j : ℕ) → moves.IsRefusal (states_named ms) (lines_named ms) ms (refused.Range j) → ⊥
+pub never_outside : (ms : List RsmMove) (j : ℕ) → moves.IsMoveRefusal (states_named ms) (lines_named ms) ms (refused.Range j) → ⊥
 never_outside ms j h =
     let named = is_within_by (states_named ms) (lines_named ms) h.faulty (named_at ms (j - 1) h.faulty h.stands) in
     no_clash_there _ _ (rw named at h.here)

@@ -14,8 +14,8 @@ drafted d = entries_by d.moves.items
 
 -- what a refusal says of moves that make no machine
 abbrev pub IsTold : List RsmMove → RsmTableRefusal → Type 0
-IsTold ms (refusal.SameDomain i j) = moves.IsRefusal (states_named ms) (lines_named ms) ms (clash.SameDomain i j)
-IsTold ms (refusal.SameRange i j) = moves.IsRefusal (states_named ms) (lines_named ms) ms (clash.SameRange i j)
+IsTold ms (refusal.SameDomain i j) = moves.IsMoveRefusal (states_named ms) (lines_named ms) ms (clash.SameDomain i j)
+IsTold ms (refusal.SameRange i j) = moves.IsMoveRefusal (states_named ms) (lines_named ms) ms (clash.SameRange i j)
 IsTold ms refusal.NoMemory = ⊤
 IsTold ms refusal.Empty = ms ≡ []
 IsTold ms (refusal.FieldCount i) = ⊥

@@ -6,11 +6,11 @@ use Rattle.bn_rsmtable.specs.declared.entry.TheConstants.{MOST_ENTRIES}
 use Rattle.bn_base.specs.declared.limits.TheConstants.{MOST_COUNT}
 
 -- the entry of a move: state, input line, next state, output line
-abbrev pub entry_of : RsmMove → List (List ℕ)
-entry_of m = decimal (m.state + 1) ∷ decimal (m.line + 1) ∷ decimal (m.next + 1) ∷ decimal (m.out + 1) ∷ []
+abbrev pub move_entry : RsmMove → List (List ℕ)
+move_entry m = decimal (m.state + 1) ∷ decimal (m.line + 1) ∷ decimal (m.next + 1) ∷ decimal (m.out + 1) ∷ []
 
 abbrev pub entries_by : List RsmMove → List (List (List ℕ))
-entries_by ms = map entry_of ms
+entries_by ms = map move_entry ms
 
 -- the move's numbers may stand in an entry
 pub record IsMove (m : RsmMove) : Type 0 where

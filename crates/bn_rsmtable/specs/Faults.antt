@@ -3,7 +3,7 @@ use Rattle.std.specs.Prelude.{ℕ, Bool, false, ◌==◌, ◌&&◌, not, nat_le,
 use Rattle.std.specs.Prelude.{Option, Some, None, Result, Ok, Err}
 use Rattle.bn_base.specs.Number.{read_number}
 use Rattle.bn_base.specs.declared.numbers.Digits.{Digits}
-use Rattle.bn_entries.specs.Faults.{first_fault, limited}
+use Rattle.bn_csv.specs.Faults.{first_fault, limited}
 use Rattle.bn_rsmtable.specs.declared.entry.TheConstants.{MOST_ENTRIES}
 use Rattle.bn_base.specs.declared.limits.TheConstants.{MOST_COUNT}
 use Rattle.bn_rsmtable.specs.declared.refusal.RsmTableRefusal.{RsmTableRefusal}
@@ -19,8 +19,8 @@ abbrev pub is_number : List ℕ → Bool
 is_number field = is_count (length field) (read_number field 0)
 
 -- the first field, in order, that is no number
-abbrev pub field_fault : ℕ → List ℕ → List ℕ → List ℕ → List ℕ → Option RsmTableRefusal
-field_fault entry state line next out =
+abbrev pub move_field_fault : ℕ → List ℕ → List ℕ → List ℕ → List ℕ → Option RsmTableRefusal
+move_field_fault entry state line next out =
     if not (is_number state) then Some (refusal.Number entry 1)
     else if not (is_number line) then Some (refusal.Number entry 2)
     else if not (is_number next) then Some (refusal.Number entry 3)
@@ -28,14 +28,14 @@ field_fault entry state line next out =
     else None
 
 -- the fault of an entry's fields: there are not four, or one is no number
-abbrev pub form_fault : ℕ → List (List ℕ) → Option RsmTableRefusal
-form_fault entry (state ∷ line ∷ next ∷ out ∷ []) = field_fault entry state line next out
-form_fault entry fields = Some (refusal.FieldCount entry)
+abbrev pub move_form_fault : ℕ → List (List ℕ) → Option RsmTableRefusal
+move_form_fault entry (state ∷ line ∷ next ∷ out ∷ []) = move_field_fault entry state line next out
+move_form_fault entry fields = Some (refusal.FieldCount entry)
 
 -- the first fault of the entry with this number: it comes after as many as a table may have, or its fields have a fault
-abbrev pub entry_fault : ℕ → List (List ℕ) → Option RsmTableRefusal
-entry_fault entry fields = limited MOST_ENTRIES refusal.TooMany form_fault entry fields
+abbrev pub move_entry_fault : ℕ → List (List ℕ) → Option RsmTableRefusal
+move_entry_fault entry fields = limited MOST_ENTRIES refusal.TooMany move_form_fault entry fields
 
 -- the fault of a table's entries: there is none, or the first faulty entry's first fault
-abbrev pub fault_of : List (List (List ℕ)) → Option RsmTableRefusal
-fault_of entries = first_fault refusal.Empty entry_fault entries
+abbrev pub move_table_fault : List (List (List ℕ)) → Option RsmTableRefusal
+move_table_fault entries = first_fault refusal.Empty move_entry_fault entries

@@ -2,15 +2,15 @@
 
 ghost use Rattle.std.specs.Prelude.{◌≡◌, ◌≢◌, ◌≤◌, ◌+◌, ◌++◌, ◌∷◌, [], length, None, Some, OnOk, IfOk, IfErr};
 ghost use Rattle.bn_rsmtable.specs.Draft.{IsDraft};
-ghost use Rattle.bn_rsmtable.specs.Entry.{IsMove, entry_of, states_named, lines_named};
-ghost use Rattle.bn_rsmtable.specs.Faults.{entry_fault};
+ghost use Rattle.bn_rsmtable.specs.Entry.{IsMove, move_entry, states_named, lines_named};
+ghost use Rattle.bn_rsmtable.specs.Faults.{move_entry_fault};
 ghost use Rattle.bn_rsmtable.specs.Drafted.{drafted, IsTold};
 ghost use Rattle.bn_rsmtable.specs.declared.entry.TheConstants.{MOST_ENTRIES};
 ghost use Rattle.bn_rsmtable.specs.declared.refusal.RsmTableRefusal.TheVariants as refusal;
 
 use crate::entry::read_move;
 use crate::refusal::RsmTableRefusal;
-use bn_entries::{Entry, NoMemory};
+use bn_csv::{Entry, NoMemory};
 use bn_rsm::{Rsm, RsmMove, RsmRefusal};
 use std::alloc::Global;
 
@@ -55,9 +55,9 @@ pub fn add_entry(draft: &mut Draft, entry: &Entry) -> Result<(), RsmTableRefusal
     requires few { length draft.old.moves.items ≤ MOST_ENTRIES }
     ensures draft { OnOk result (IsDraft draft.new) }
     ensures more { OnOk result (drafted draft.new ≡ drafted draft.old ++ entry.now ∷ []) }
-    ensures passes { OnOk result (entry_fault (length draft.old.moves.items + 1) entry.now ≡ None) }
+    ensures passes { OnOk result (move_entry_fault (length draft.old.moves.items + 1) entry.now ≡ None) }
     ensures fault { IfErr result (λ e. e ≢ refusal.NoMemory
-        → entry_fault (length draft.old.moves.items + 1) entry.now ≡ Some e) }
+        → move_entry_fault (length draft.old.moves.items + 1) entry.now ≡ Some e) }
 {
     let number = draft.moves.len() as u32 + 1;
     let step = read_move(entry, number)?;

@@ -1,14 +1,14 @@
 //! One entry of a table of moves.
 
 ghost use Rattle.std.specs.Prelude.{◌≡◌, ◌<◌, ◌+◌, ◌∷◌, [], true, false, decimal, MatchOption, IfOk, ◌^◌};
-ghost use Rattle.bn_rsmtable.specs.Entry.{IsMove, entry_of};
+ghost use Rattle.bn_rsmtable.specs.Entry.{IsMove, move_entry};
 ghost use Rattle.bn_rsmtable.specs.Faults as fault;
-ghost use Rattle.bn_rsmtable.specs.Faults.{entry_fault, field_fault};
+ghost use Rattle.bn_rsmtable.specs.Faults.{move_entry_fault, move_field_fault};
 ghost use Rattle.bn_rsmtable.specs.Fields.{err_of};
 
 use crate::refusal::RsmTableRefusal;
 use bn_base::{MOST_COUNT, read_u64};
-use bn_entries::Entry;
+use bn_csv::Entry;
 use bn_rsm::RsmMove;
 
 /// The most entries of a table.
@@ -44,9 +44,9 @@ fn four_fields(
     next: &[u8],
     out: &[u8],
 ) -> Result<RsmMove, RsmTableRefusal>
-    ensures says { IfOk result (λ m. entry_of m ≡ state.now ∷ line.now ∷ next.now ∷ out.now ∷ []) }
+    ensures says { IfOk result (λ m. move_entry m ≡ state.now ∷ line.now ∷ next.now ∷ out.now ∷ []) }
     ensures within { IfOk result IsMove }
-    ensures fault { field_fault entry state.now line.now next.now out.now ≡ err_of result }
+    ensures fault { move_field_fault entry state.now line.now next.now out.now ≡ err_of result }
 {
     let Some(state) = number_of(state) else {
         return Err(RsmTableRefusal::Number { entry, field: 1 });
@@ -70,9 +70,9 @@ fn four_fields(
 
 /// The move of an entry, where it is the one with this number, counted from 1; else its first fault.
 pub fn read_move(entry: &Entry, number: u32) -> Result<RsmMove, RsmTableRefusal>
-    ensures says { IfOk result (λ m. entry_of m ≡ entry.now) }
+    ensures says { IfOk result (λ m. move_entry m ≡ entry.now) }
     ensures within { IfOk result IsMove }
-    ensures fault { entry_fault number entry.now ≡ err_of result }
+    ensures fault { move_entry_fault number entry.now ≡ err_of result }
 {
     if number > MOST_ENTRIES {
         return Err(RsmTableRefusal::TooMany { entry: number });

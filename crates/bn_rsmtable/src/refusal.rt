@@ -1,6 +1,6 @@
 //! Why bytes are refused as a table.
 
-use bn_entries::NoMemory;
+use bn_csv::NoMemory;
 
 /// Why some bytes are no table of a reversible sequential machine. Entries, fields and moves are counted from 1.
 /// The first faulty entry is named, with its first fault in this order: too many entries, the count of fields, the

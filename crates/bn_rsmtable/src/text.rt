@@ -1,15 +1,15 @@
 //! Reading and writing the text of a table.
 
 ghost use Rattle.std.specs.Prelude.{◌≡◌, ◌≤◌, ◌<◌, ◌++◌, IfOk, IfErr, OnOk, length};
-ghost use Rattle.bn_entries.specs.Entries.{entries_of};
-ghost use Rattle.bn_entries.specs.Lines.{line_of, lines_of};
-ghost use Rattle.bn_rsmtable.specs.Entry.{AreReadAs, entry_of, entries_by, lines_named, states_named};
-ghost use Rattle.bn_rsmtable.specs.Reading.{IsRefusal, Reads};
+ghost use Rattle.bn_csv.specs.Entries.{entries_of};
+ghost use Rattle.bn_csv.specs.Lines.{line_of, lines_of};
+ghost use Rattle.bn_rsmtable.specs.Entry.{AreReadAs, move_entry, entries_by, lines_named, states_named};
+ghost use Rattle.bn_rsmtable.specs.Reading.{IsMoveTableRefusal, ReadsMoves};
 ghost use Rattle.bn_rsmtable.specs.Writing.{IsTable};
 
 use crate::draft::{add_entry, into_machine, new_draft};
 use crate::refusal::RsmTableRefusal;
-use bn_entries::{Entries, Entry, EntryWriter, NoMemory};
+use bn_csv::{Entries, Entry, EntryWriter, NoMemory};
 use bn_rsm::{Rsm, RsmMove};
 use itoa::Buffer;
 use std::alloc::Global;
@@ -18,8 +18,8 @@ use std::alloc::Global;
 /// output line, numbers from 1 to `MOST_COUNT`. It answers the bytes' machine, where they have one; the machine has as
 /// many states and lines as the moves name. Each refusal but `NoMemory` comes exactly where it is the first.
 pub fn read_rsm(alloc: Global, bytes: &[u8]) -> Result<Rsm, RsmTableRefusal>
-    ensures ok { IfOk result (Reads bytes.now) }
-    ensures refused { IfErr result (IsRefusal bytes.now) }
+    ensures ok { IfOk result (ReadsMoves bytes.now) }
+    ensures refused { IfErr result (IsMoveTableRefusal bytes.now) }
 {
     let mut entries = Entries::new(alloc, bytes);
     let mut entry = Entry::new(alloc);
@@ -32,7 +32,7 @@ pub fn read_rsm(alloc: Global, bytes: &[u8]) -> Result<Rsm, RsmTableRefusal>
 
 // Writes the entry of a move.
 fn write_move(writer: &mut EntryWriter, step: &RsmMove) -> Result<(), NoMemory>
-    ensures { OnOk result (writer.new ≡ writer.old ++ line_of (entry_of step.now)) }
+    ensures { OnOk result (writer.new ≡ writer.old ++ line_of (move_entry step.now)) }
 {
     let mut state = Buffer::new();
     let mut line = Buffer::new();
@@ -50,7 +50,7 @@ fn write_move(writer: &mut EntryWriter, step: &RsmMove) -> Result<(), NoMemory>
 /// machine, where it has 1 to `MOST_ENTRIES` moves and as many states and lines as they name, at most `MOST_COUNT`.
 pub fn write_rsm(alloc: Global, rsm: &Rsm) -> Result<Vec<u8>, NoMemory>
     ensures text { IfOk result (λ text. text.items ≡ lines_of (entries_by rsm.now.moves)) }
-    ensures read_back { IfOk result (λ text. IsTable rsm.now → Reads text.items rsm.now) }
+    ensures read_back { IfOk result (λ text. IsTable rsm.now → ReadsMoves text.items rsm.now) }
 {
     let mut writer = EntryWriter::new(alloc);
     for step in rsm.moves() {

@@ -10,8 +10,8 @@ use Rattle.std.proofs.lemmas.Option.{same_Some}
 use Rattle.std.specs.Map.{lookup}
 use Rattle.indexmap.specs.IndexMap.{insert_entry, shift_remove_entry}
 use Rattle.slab.specs.Slab.{Slab, get, Updates}
-use Rattle.bn_theory.specs.declared.place.Place.{Place}
-use Rattle.bn_theory.specs.declared.place.Place.TheVariants.{Enter, Left}
+use Rattle.bn_circuits.specs.declared.place.Place.{Place}
+use Rattle.bn_circuits.specs.declared.place.Place.TheVariants.{Enter, Left}
 use Rattle.bn_session.specs.Labels.{stands}
 use Rattle.bn_session.specs.Breakpoints.{Breakpoint, breakpoint, holds, first_label, some_holds, labels_of, without_break}
 use Rattle.bn_session.specs.Kept.{Entry, condition_at, kept_break, kept_breaks, HaveValues, IsFree, mark_at, IsMarked, with_mark, AreKept}

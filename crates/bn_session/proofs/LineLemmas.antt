@@ -10,8 +10,8 @@ use Rattle.std.proofs.lemmas.Str.Parse.{IsNumeralModel, numerals_by_value, tells
 use Rattle.bn_base.specs.Line.{IsInLine}
 use Rattle.bn_base.proofs.LineLemmas.{lines-agree}
 use Rattle.bn_base.specs.Number.{greatest, AreDigits}
-use Rattle.bn_entries.specs.Forms.{is_name_byte, is_state_name}
-use Rattle.bn_session.specs.Sentences.{Sentence, Step, Back, Go, Rev, BreakState, BreakElement, Drop, View, is_label, sentence_text, IsSayable}
+use Rattle.bn_csv.specs.Forms.{is_name_byte, is_state_name}
+use Rattle.bn_session.specs.Sentences.{ScriptSentence, Step, Back, Go, Rev, BreakState, BreakElement, Drop, View, is_label, script_sentence_text, IsSayableInScript}
 use Rattle.bn_session.proofs.ReadingLemmas.{sentence_in-again, third_of}
 use Rattle.bn_session.specs.Reading.{sentence_in}
 
@@ -48,7 +48,7 @@ behind : (xs ys : List ℕ) → IsInLine xs → IsInLine ys → IsInLine (xs ++ 
 behind xs ys a b = All-append Ten xs ys a b
 
 -- a line of a script holds no byte 10
-pub sentence_text-in_line : (s : Sentence) → IsSayable s → IsInLine (sentence_text s)
+pub sentence_text-in_line : (s : ScriptSentence) → IsSayableInScript s → IsInLine (script_sentence_text s)
 sentence_text-in_line (Step e) h = behind (codes "step ") (decimal e) (word (codes "step ") refl) (number e h)
 sentence_text-in_line (Back e) h = behind (codes "back ") (decimal e) (word (codes "back ") refl) (number e h)
 sentence_text-in_line (Go e) h = behind (codes "go ") (decimal e) (word (codes "go ") refl) (number e h.1)
@@ -62,15 +62,15 @@ sentence_text-in_line (BreakElement l e) h =
 sentence_text-in_line (Drop l) h = behind (codes "drop ") l (word (codes "drop ") refl) (label l h)
 sentence_text-in_line View h = word (codes "view") refl
 
-same_sentence : (s t : Sentence) → ◌≡◌ {A = Option Sentence} (Some s) (Some t) → s ≡ t
+same_sentence : (s t : ScriptSentence) → ◌≡◌ {A = Option ScriptSentence} (Some s) (Some t) → s ≡ t
 same_sentence s t e = cc
 
 -- a line says one thing
-pub sentence_text-injective : (s t : Sentence) → IsSayable s → IsSayable t → sentence_text s ≡ sentence_text t → s ≡ t
+pub sentence_text-injective : (s t : ScriptSentence) → IsSayableInScript s → IsSayableInScript t → script_sentence_text s ≡ script_sentence_text t → s ≡ t
 sentence_text-injective s t hs ht e = same_sentence s t (sym (sentence_in-again s hs) ∙ ap sentence_in e ∙ sentence_in-again t ht)
 
 -- so two texts that begin with a line are one where they are equal
-pub lines-same : (s t : Sentence) (rest other : List ℕ) → IsSayable s → IsSayable t → sentence_text s ++ 10 ∷ rest ≡ sentence_text t ++ 10 ∷ other → (s ≡ t) × (rest ≡ other)
+pub lines-same : (s t : ScriptSentence) (rest other : List ℕ) → IsSayableInScript s → IsSayableInScript t → script_sentence_text s ++ 10 ∷ rest ≡ script_sentence_text t ++ 10 ∷ other → (s ≡ t) × (rest ≡ other)
 lines-same s t rest other hs ht e =
-    let both = lines-agree (sentence_text s) (sentence_text t) rest other (sentence_text-in_line s hs) (sentence_text-in_line t ht) e in
+    let both = lines-agree (script_sentence_text s) (script_sentence_text t) rest other (sentence_text-in_line s hs) (sentence_text-in_line t ht) e in
     (sentence_text-injective s t hs ht both.0, both.1)

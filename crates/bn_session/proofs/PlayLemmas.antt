@@ -4,17 +4,17 @@ use Rattle.std.specs.Borrow.{Bor}
 use Rattle.std.specs.Option.{option_copied}
 use Rattle.std.proofs.Common.{sym, ap, subst, ◌∙◌, append_assoc, get_or}
 use Rattle.std.proofs.lemmas.List.{append-nil, map-append, take-append-drop, take_more, drop_more}
-use Rattle.bn_theory.specs.Circuits.{Circuit}
-use Rattle.bn_theory.specs.declared.config.Config.{Config}
-use Rattle.bn_column.specs.Nets.{rotary_circuit}
-use Rattle.bn_layout.specs.Layouts.{moment_at}
+use Rattle.bn_circuits.specs.Circuits.{Circuit}
+use Rattle.bn_circuits.specs.declared.config.Config.{Config}
+use Rattle.bn_net.specs.RotaryNets.{rotary_circuit}
+use Rattle.bn_board.specs.Layouts.{moment_at}
 use Rattle.bn_flat.specs.Flattened.{Flattened, IsSameBoard}
 use Rattle.bn_session.specs.Labels.{without, standing_after, IsOrderly, AreOrderly}
 use Rattle.bn_session.specs.Breakpoints.{Breakpoint, labels_of, without_break}
-use Rattle.bn_session.specs.Sentences.{Sentence}
+use Rattle.bn_session.specs.Sentences.{ScriptSentence}
 use Rattle.bn_session.specs.Sentences.{Step, Back, Go, Rev, BreakState, BreakElement, Drop, View}
 use Rattle.bn_session.specs.Scripts.{Asks, AskFor}
-use Rattle.bn_session.specs.Plays.{Session, session, named, place_line, PlaysOne, Plays}
+use Rattle.bn_session.specs.Plays.{Session, session, label_that_holds, place_line, PlaysOne, Plays}
 use Rattle.bn_session.specs.Boards.{board_at, shown_on, PlaysOneOn, IsPlayed, IsStopped, IsOnePlayed, IsOneLeft, IsPlayedTo, Grows, GrowsByFront}
 use Rattle.bn_session.specs.declared.command.Command.{Command}
 use Rattle.bn_session.specs.declared.command.Command.TheVariants as commands
@@ -38,10 +38,10 @@ view_written shows b breaks x old new is grows =
     subst (λ z. IsOnePlayed shows b breaks z (session b.config breaks) old new) (sym is) (record { text = grows.0; plays = (refl, grows.1); written = grows.2 })
 
 -- the label that is answered is the one that is named
-pub named_is : (a b : Flattened) → IsSameBoard a b → (breaks : List Breakpoint) (c : Config) (o : Option (Bor (List ℕ))) → MatchOption o (named (moment_at b.layout) breaks c b.config ≡ None) (λ label. named (moment_at b.layout) breaks c b.config ≡ Some label.now)
-    → option_copied o ≡ named (moment_at a.layout) breaks c b.config
-named_is a b same breaks c None h = sym h ∙ ap (λ l. named (moment_at l) breaks c b.config) same.layout
-named_is a b same breaks c (Some label) h = sym h ∙ ap (λ l. named (moment_at l) breaks c b.config) same.layout
+pub named_is : (a b : Flattened) → IsSameBoard a b → (breaks : List Breakpoint) (c : Config) (o : Option (Bor (List ℕ))) → MatchOption o (label_that_holds (moment_at b.layout) breaks c b.config ≡ None) (λ label. label_that_holds (moment_at b.layout) breaks c b.config ≡ Some label.now)
+    → option_copied o ≡ label_that_holds (moment_at a.layout) breaks c b.config
+named_is a b same breaks c None h = sym h ∙ ap (λ l. label_that_holds (moment_at l) breaks c b.config) same.layout
+named_is a b same breaks c (Some label) h = sym h ∙ ap (λ l. label_that_holds (moment_at l) breaks c b.config) same.layout
 
 -- a command was played, and the line of its place written
 pub place_written : (shows : Flattened → List ℕ → Type 0) (b : Flattened) (breaks : List Breakpoint) (x y : Command) (end : Session) (label other : Option (List ℕ)) (old new : List ℕ) → x ≡ y → PlaysOneOn shows b breaks y end (place_line end.config other) → label ≡ other
@@ -72,7 +72,7 @@ labels_after k moment shows (commands.Drop label) s t text p = ap (λ u. labels_
 labels_after k moment shows commands.View s t text p = ap (λ u. labels_of u.breaks) p.0
 
 -- a script that was read is in order
-asks_orderly : (names standing : List (List ℕ)) (s : Sentence) (x : Command) → Asks names standing s x → IsOrderly standing x
+asks_orderly : (names standing : List (List ℕ)) (s : ScriptSentence) (x : Command) → Asks names standing s x → IsOrderly standing x
 asks_orderly names standing (Step e) x a = subst (IsOrderly standing) (sym a) tt
 asks_orderly names standing (Back e) x a = subst (IsOrderly standing) (sym a) tt
 asks_orderly names standing (Go e) x a = subst (IsOrderly standing) (sym a) tt
@@ -82,7 +82,7 @@ asks_orderly names standing (BreakElement label e) x a = subst (IsOrderly standi
 asks_orderly names standing (Drop label) x a = subst (IsOrderly standing) (sym a.1) a.0
 asks_orderly names standing View x a = subst (IsOrderly standing) (sym a) tt
 
-pub asked_orderly : (names standing : List (List ℕ)) (ss : List Sentence) (xs : List Command) → AskFor names standing ss xs → AreOrderly standing xs
+pub asked_orderly : (names standing : List (List ℕ)) (ss : List ScriptSentence) (xs : List Command) → AskFor names standing ss xs → AreOrderly standing xs
 asked_orderly names standing [] xs none = subst (AreOrderly standing) (sym none) tt
 asked_orderly names standing (s ∷ ss) xs (x, more, is, sayable, asks, rest) =
     subst (AreOrderly standing) (sym is) (asks_orderly names standing s x asks, asked_orderly names (standing_after standing x) ss more rest)

@@ -2,16 +2,16 @@
 use Rattle.std.specs.Prelude.{◌≡◌, ℕ, ◌+◌, ◌-◌, ◌<◌, ◌≤◌, Bool, true, false, List, [], ◌∷◌, ◌++◌, Option, None, refl, ◌⊎◌, codes}
 use Rattle.std.proofs.Common.{zero, suc, arith, sym, ap, subst, ◌∙◌, inl, inr}
 use Rattle.std.proofs.lemmas.Bool.{cases_lt, cases_order, cases_Bool, false≢true}
-use Rattle.bn_theory.specs.Runs.{Reaches}
-use Rattle.bn_theory.specs.Circuits.{Circuit, Goes, IsCircuit, IsStuck}
-use Rattle.bn_theory.specs.Stepping.{run, back}
-use Rattle.bn_theory.specs.RunLaws.{Makes}
-use Rattle.bn_theory.proofs.RunsLemmas.{runs_join}
-use Rattle.bn_theory.proofs.RunPartLemmas.{runs_split}
-use Rattle.bn_theory.proofs.RunLemmas.{Reaches-run, Reaches-back, run_composes, back-zero, back_composes, run_makes, run-stuck}
-use Rattle.bn_theory.specs.declared.config.Config.{Config}
+use Rattle.bn_lists.specs.Runs.{Reaches}
+use Rattle.bn_circuits.specs.Circuits.{Circuit, Goes, IsCircuit, IsStuck}
+use Rattle.bn_circuits.specs.Stepping.{run, back}
+use Rattle.bn_circuits.specs.RunLaws.{Makes}
+use Rattle.bn_lists.proofs.RunsLemmas.{runs_join}
+use Rattle.bn_circuits.proofs.RunPartLemmas.{runs_split}
+use Rattle.bn_circuits.proofs.RunLemmas.{Reaches-run, Reaches-back, run_composes, back-zero, back_composes, run_makes, run-stuck}
+use Rattle.bn_circuits.specs.declared.config.Config.{Config}
 use Rattle.bn_session.specs.Breakpoints.{breakpoint, without_break}
-use Rattle.bn_session.specs.Plays.{Session, session, IsStop, at_hit, at_last, stops, named, given, place_line, label_line, PlaysOne, Plays}
+use Rattle.bn_session.specs.Plays.{Session, session, IsStop, at_hit, at_last, stops, label_that_holds, given, place_line, label_line, PlaysOne, Plays}
 use Rattle.bn_session.specs.Laws.{PlaysAreOne, PlaysAreThere, PlacesAreOfTheRun, PlaysAgree, IsOnRun, IsLeastHit, is_hit, is_none, GoesStopAtLeast}
 use Rattle.bn_session.specs.declared.command.Command.{Command}
 use Rattle.bn_session.specs.declared.command.Command.TheVariants.{Step, Back, Go, Rev, BreakState, BreakElement, Drop, View}
@@ -64,10 +64,10 @@ module _ (k : Circuit) (moment : Config → Option ℕ) (shows : Config → List
     one-by (Back e) s t u text other p q = let same = p.0 ∙ sym q.0 in (same, p.1 ∙ ap (λ (z : Session). place_line z.config None) same ∙ sym q.1)
     one-by (Go e) s t u text other p q =
         let at = stop-one (stops moment s.breaks) (run k s.config) e t.config u.config p.0 q.0 in
-        (same_session t u at (p.1 ∙ sym q.1), p.2 ∙ ap (λ (z : Config). place_line z (named moment s.breaks s.config z)) at ∙ sym q.2)
+        (same_session t u at (p.1 ∙ sym q.1), p.2 ∙ ap (λ (z : Config). place_line z (label_that_holds moment s.breaks s.config z)) at ∙ sym q.2)
     one-by (Rev e) s t u text other p q =
         let at = stop-one (stops moment s.breaks) (back k s.config) e t.config u.config p.0 q.0 in
-        (same_session t u at (p.1 ∙ sym q.1), p.2 ∙ ap (λ (z : Config). place_line z (named moment s.breaks s.config z)) at ∙ sym q.2)
+        (same_session t u at (p.1 ∙ sym q.1), p.2 ∙ ap (λ (z : Config). place_line z (label_that_holds moment s.breaks s.config z)) at ∙ sym q.2)
     one-by (BreakState label a) s t u text other p q = (p.0 ∙ sym q.0, p.1 ∙ sym q.1)
     one-by (BreakElement label e) s t u text other p q = (p.0 ∙ sym q.0, p.1 ∙ sym q.1)
     one-by (Drop label) s t u text other p q = (p.0 ∙ sym q.0, p.1 ∙ sym q.1)
@@ -89,10 +89,10 @@ module _ (k : Circuit) (moment : Config → Option ℕ) (shows : Config → List
     there-by (Back e) s fits = (session (back k s.config e) s.breaks, place_line (back k s.config e) None, (refl, refl))
     there-by (Go e) s fits =
         let stop = stop-there (stops moment s.breaks) (run k s.config) e in
-        (session stop.0 s.breaks, place_line stop.0 (named moment s.breaks s.config stop.0), (stop.1, refl, refl))
+        (session stop.0 s.breaks, place_line stop.0 (label_that_holds moment s.breaks s.config stop.0), (stop.1, refl, refl))
     there-by (Rev e) s fits =
         let stop = stop-there (stops moment s.breaks) (back k s.config) e in
-        (session stop.0 s.breaks, place_line stop.0 (named moment s.breaks s.config stop.0), (stop.1, refl, refl))
+        (session stop.0 s.breaks, place_line stop.0 (label_that_holds moment s.breaks s.config stop.0), (stop.1, refl, refl))
     there-by (BreakState label a) s fits = (session s.config (s.breaks ++ breakpoint label (AtState a) ∷ []), label_line (codes "break ") label, (refl, refl))
     there-by (BreakElement label e) s fits = (session s.config (s.breaks ++ breakpoint label (AtElement e) ∷ []), label_line (codes "break ") label, (refl, refl))
     there-by (Drop label) s fits = (session s.config (without_break label s.breaks), label_line (codes "drop ") label, (refl, refl))

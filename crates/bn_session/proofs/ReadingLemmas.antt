@@ -10,17 +10,17 @@ use Rattle.std.proofs.lemmas.List.{take-append-drop}
 use Rattle.std.proofs.lemmas.Option.{option_and_then_some, cond_some, same_Some}
 use Rattle.std.proofs.Math.Seq.{drop-append_seam, take-append_seam}
 use Rattle.bn_base.specs.Number.{greatest}
-use Rattle.bn_entries.specs.Forms.{is_state_name}
-use Rattle.bn_netlist.specs.Reading.{word_taken, number_after}
-use Rattle.bn_netlist.proofs.LineReadingLemmas.{word_taken-takes, word_taken-again}
-use Rattle.bn_netlist.proofs.SentenceLemmas.{number_after-takes, number_after-again}
-use Rattle.bn_session.specs.Sentences.{Sentence, Step, Back, Go, Rev, BreakState, BreakElement, Drop, View, is_label, sentence_text, IsSayable}
+use Rattle.bn_csv.specs.Forms.{is_state_name}
+use Rattle.bn_netlist_laws.specs.Reading.{word_taken, number_after}
+use Rattle.bn_netlist_laws.proofs.LineReadingLemmas.{word_taken-takes, word_taken-again}
+use Rattle.bn_netlist_laws.proofs.FormLemmas.{number_after-takes, number_after-again}
+use Rattle.bn_session.specs.Sentences.{ScriptSentence, Step, Back, Go, Rev, BreakState, BreakElement, Drop, View, is_label, script_sentence_text, IsSayableInScript}
 use Rattle.bn_session.specs.Reading.{at_least_one, ordinal_after, label_by, label_after, name_by, name_after, label_len, condition_in, labelled, breakpoint_in, breakpoint_after, view_in, sentence_in}
 
 -- the line says this
-pub record IsSaid (line : List ℕ) (s : Sentence) : Type 0 where
-  pub spelled : line ≡ sentence_text s
-  pub sayable : IsSayable s
+pub record IsSaid (line : List ℕ) (s : ScriptSentence) : Type 0 where
+  pub spelled : line ≡ script_sentence_text s
+  pub sayable : IsSayableInScript s
 
 or_some : {X : Type 0} (a b : Option X) (x : X) → option_or a b ≡ Some x → (a ≡ Some x) ⊎ (b ≡ Some x)
 or_some (Some y) b x e = inl e
@@ -57,23 +57,23 @@ name-takes word line name h =
     let same : rest ≡ name = both.1 in
     (subst (λ r. is_state_name r ≡ true) same both.0, word_taken-takes word line rest is ∙ ap (λ r. word ++ r) same))
 
-condition-takes : (label words : List ℕ) (s : Sentence) → is_label label ≡ true → condition_in label words ≡ Some s → IsSaid (codes "break " ++ (label ++ words)) s
+condition-takes : (label words : List ℕ) (s : ScriptSentence) → is_label label ≡ true → condition_in label words ≡ Some s → IsSaid (codes "break " ++ (label ++ words)) s
 unfolding condition_in
 condition-takes label words s form h =
     elim (or_some (option_map (BreakState label) (name_after (codes " state ") words)) (option_map (BreakElement label) (number_after (codes " element ") words)) s h) [
       | inl state ↦
           map_some (BreakState label) (name_after (codes " state ") words) s state (λ name is made.
           let taken = name-takes (codes " state ") words name is in
-          let line : codes "break " ++ (label ++ words) ≡ sentence_text (BreakState label name) = ap (λ r. codes "break " ++ (label ++ r)) taken.1 in
+          let line : codes "break " ++ (label ++ words) ≡ script_sentence_text (BreakState label name) = ap (λ r. codes "break " ++ (label ++ r)) taken.1 in
           subst (IsSaid (codes "break " ++ (label ++ words))) made (record { spelled = line; sayable = (form, taken.0) }))
       | inr element ↦
           map_some (BreakElement label) (number_after (codes " element ") words) s element (λ e is made.
           let taken = number_after-takes (codes " element ") words e is in
-          let line : codes "break " ++ (label ++ words) ≡ sentence_text (BreakElement label e) = ap (λ r. codes "break " ++ (label ++ r)) taken.1 in
+          let line : codes "break " ++ (label ++ words) ≡ script_sentence_text (BreakElement label e) = ap (λ r. codes "break " ++ (label ++ r)) taken.1 in
           subst (IsSaid (codes "break " ++ (label ++ words))) made (record { spelled = line; sayable = (form, taken.0) }))
     ]
 
-breakpoint-takes : (line : List ℕ) (s : Sentence) → breakpoint_after (codes "break ") line ≡ Some s → IsSaid line s
+breakpoint-takes : (line : List ℕ) (s : ScriptSentence) → breakpoint_after (codes "break ") line ≡ Some s → IsSaid line s
 unfolding breakpoint_after breakpoint_in
 breakpoint-takes line s h =
     option_and_then_some breakpoint_in (word_taken (codes "break ") line) s h (λ words is said.
@@ -84,54 +84,54 @@ breakpoint-takes line s h =
     let whole : codes "break " ++ (take k words ++ drop k words) ≡ line = ap (λ r. codes "break " ++ r) split ∙ sym first in
     subst (λ l. IsSaid l s) whole (condition-takes (take k words) (drop k words) s both.0 both.1))
   where
-    labelled-some : (label words : List ℕ) (s : Sentence) → labelled label words ≡ Some s → (is_label label ≡ true) × (condition_in label words ≡ Some s)
+    labelled-some : (label words : List ℕ) (s : ScriptSentence) → labelled label words ≡ Some s → (is_label label ≡ true) × (condition_in label words ≡ Some s)
     labelled-some label words s e = by (is_label label) refl e
       where
         by : (b : Bool) → is_label label ≡ b → cond b (condition_in label words) None ≡ Some s → (is_label label ≡ true) × (condition_in label words ≡ Some s)
         by true form e = (form, e)
         by false form e = absurd (cc)
 
-view-takes : (line : List ℕ) (s : Sentence) → view_in line ≡ Some s → IsSaid line s
+view-takes : (line : List ℕ) (s : ScriptSentence) → view_in line ≡ Some s → IsSaid line s
 view-takes line s h =
     let both = cond_some (bytes_eq line (codes "view")) View s h in
     let same : line ≡ codes "view" = (bytes_eq-Decides line (codes "view")).0 both.0 in
     subst (IsSaid line) both.1 (record { spelled = same; sayable = tt })
 
-drop-takes : (line : List ℕ) (s : Sentence) → option_map Drop (label_after (codes "drop ") line) ≡ Some s → IsSaid line s
+drop-takes : (line : List ℕ) (s : ScriptSentence) → option_map Drop (label_after (codes "drop ") line) ≡ Some s → IsSaid line s
 drop-takes line s h =
     map_some Drop (label_after (codes "drop ") line) s h (λ label is made.
     let taken = label-takes (codes "drop ") line label is in
     subst (IsSaid line) made (record { spelled = taken.1; sayable = taken.0 }))
 
-step-takes : (line : List ℕ) (s : Sentence) → option_map Step (number_after (codes "step ") line) ≡ Some s → IsSaid line s
+step-takes : (line : List ℕ) (s : ScriptSentence) → option_map Step (number_after (codes "step ") line) ≡ Some s → IsSaid line s
 step-takes line s h =
     map_some Step (number_after (codes "step ") line) s h (λ e is made.
     let taken = number_after-takes (codes "step ") line e is in
     subst (IsSaid line) made (record { spelled = taken.1; sayable = taken.0 }))
 
-back-takes : (line : List ℕ) (s : Sentence) → option_map Back (number_after (codes "back ") line) ≡ Some s → IsSaid line s
+back-takes : (line : List ℕ) (s : ScriptSentence) → option_map Back (number_after (codes "back ") line) ≡ Some s → IsSaid line s
 back-takes line s h =
     map_some Back (number_after (codes "back ") line) s h (λ e is made.
     let taken = number_after-takes (codes "back ") line e is in
     subst (IsSaid line) made (record { spelled = taken.1; sayable = taken.0 }))
 
-go-takes : (line : List ℕ) (s : Sentence) → option_map Go (ordinal_after (codes "go ") line) ≡ Some s → IsSaid line s
+go-takes : (line : List ℕ) (s : ScriptSentence) → option_map Go (ordinal_after (codes "go ") line) ≡ Some s → IsSaid line s
 go-takes line s h =
     map_some Go (ordinal_after (codes "go ") line) s h (λ e is made.
     let taken = ordinal-takes (codes "go ") line e is in
     subst (IsSaid line) made (record { spelled = taken.2; sayable = (taken.0, taken.1) }))
 
-rev-takes : (line : List ℕ) (s : Sentence) → option_map Rev (ordinal_after (codes "rev ") line) ≡ Some s → IsSaid line s
+rev-takes : (line : List ℕ) (s : ScriptSentence) → option_map Rev (ordinal_after (codes "rev ") line) ≡ Some s → IsSaid line s
 rev-takes line s h =
     map_some Rev (ordinal_after (codes "rev ") line) s h (λ e is made.
     let taken = ordinal-takes (codes "rev ") line e is in
     subst (IsSaid line) made (record { spelled = taken.2; sayable = (taken.0, taken.1) }))
 
-either_said : (line : List ℕ) (s : Sentence) (first later : Option Sentence) → (first ≡ Some s → IsSaid line s) → (later ≡ Some s → IsSaid line s) → option_or first later ≡ Some s → IsSaid line s
+either_said : (line : List ℕ) (s : ScriptSentence) (first later : Option ScriptSentence) → (first ≡ Some s → IsSaid line s) → (later ≡ Some s → IsSaid line s) → option_or first later ≡ Some s → IsSaid line s
 either_said line s first later a b h = elim (or_some first later s h) [ inl e ↦ a e | inr e ↦ b e ]
 
 -- a line says what is read from it
-pub sentence_in-takes : (line : List ℕ) (s : Sentence) → sentence_in line ≡ Some s → IsSaid line s
+pub sentence_in-takes : (line : List ℕ) (s : ScriptSentence) → sentence_in line ≡ Some s → IsSaid line s
 unfolding sentence_in
 sentence_in-takes line s h =
     either_said line s _ _ (step-takes line s) (
@@ -176,7 +176,7 @@ third_of true true c e = e
 third_of true false c e = absurd (cc)
 third_of false b c e = absurd (cc)
 
-labelled-again : (label rest : List ℕ) (s : Sentence) → is_label label ≡ true → condition_in label (32 ∷ rest) ≡ Some s → breakpoint_in (label ++ 32 ∷ rest) ≡ Some s
+labelled-again : (label rest : List ℕ) (s : ScriptSentence) → is_label label ≡ true → condition_in label (32 ∷ rest) ≡ Some s → breakpoint_in (label ++ 32 ∷ rest) ≡ Some s
 unfolding breakpoint_in
 labelled-again label rest s form condition =
     let len : label_len (label ++ 32 ∷ rest) ≡ length label = run_len label rest (third_of (nat_le 1 (length label)) (nat_le (length label) 16) (list_all is_ascii_alphanumeric label) form) in
@@ -191,7 +191,7 @@ unfolding condition_in name_after word_taken
 element-again label e small = rw (number_after-again (codes " element ") e small) refl
 
 -- what a line says is read from it
-pub sentence_in-again : (s : Sentence) → IsSayable s → sentence_in (sentence_text s) ≡ Some s
+pub sentence_in-again : (s : ScriptSentence) → IsSayableInScript s → sentence_in (script_sentence_text s) ≡ Some s
 unfolding sentence_in ordinal_after label_after breakpoint_after number_after word_taken
 sentence_in-again (Step e) h = ap (λ o. option_or (option_map Step o) None) (number_after-again (codes "step ") e h)
 sentence_in-again (Back e) h = ap (λ o. option_or (option_map Back o) None) (number_after-again (codes "back ") e h)

@@ -9,11 +9,11 @@ use Rattle.std.proofs.lemmas.List.Folds.{list_any_at}
 use Rattle.std.proofs.lemmas.Option.{slice_get_within, slice_get-get_or}
 use Rattle.std.proofs.lemmas.Slice.Eq.{bytes_eq-Decides}
 use Rattle.bn_base.specs.Line.{IsInLine}
-use Rattle.bn_entries.proofs.PlaceFacts.{found, missing}
+use Rattle.bn_csv.proofs.PlaceFacts.{found, missing}
 use Rattle.bn_session.specs.Labels.{stands, standing_after, standing_by}
-use Rattle.bn_session.specs.Sentences.{Sentence, Step, Back, Go, Rev, BreakState, BreakElement, Drop, View}
+use Rattle.bn_session.specs.Sentences.{ScriptSentence, Step, Back, Go, Rev, BreakState, BreakElement, Drop, View}
 use Rattle.bn_session.specs.Reading.{sentence_in}
-use Rattle.bn_session.specs.Scripts.{Asks, IsScript, Fault, malformed, no_state, same_break, no_break, IsFaulty, BeginsWithFault, IsFirstFault}
+use Rattle.bn_session.specs.Scripts.{Asks, IsScript, ScriptFault, malformed, no_state, same_break, no_break, IsFaultyLine, BeginsWithFaultyLine, IsFirstScriptFault}
 use Rattle.bn_session.specs.Progress.{AsksNext, HasRead}
 use Rattle.bn_session.specs.Laws.{ScriptsReadOrFault}
 use Rattle.bn_session.specs.declared.command.Command.{Command}
@@ -42,14 +42,14 @@ not_among names name none (k, inside, here) =
 
 module _ (names standing : List (List ℕ)) where
   -- a sentence asks for a command, or has a fault
-  asks_or_fails : (s : Sentence) → ((x : Command) × Asks names standing s x) ⊎ ((fault : Fault) × IsFaulty names standing s fault)
+  asks_or_fails : (s : ScriptSentence) → ((x : Command) × Asks names standing s x) ⊎ ((fault : ScriptFault) × IsFaultyLine names standing s fault)
   asks_or_fails (Step e) = inl (commands.Step e, refl)
   asks_or_fails (Back e) = inl (commands.Back e, refl)
   asks_or_fails (Go e) = inl (commands.Go e, refl)
   asks_or_fails (Rev e) = inl (commands.Rev e, refl)
   asks_or_fails (BreakState label name) = by (position (bytes_eq name) names) refl (cases_Bool (stands label standing))
     where
-      by : (o : Option ℕ) → position (bytes_eq name) names ≡ o → (stands label standing ≡ true) ⊎ (stands label standing ≡ false) → ((x : Command) × Asks names standing (BreakState label name) x) ⊎ ((fault : Fault) × IsFaulty names standing (BreakState label name) fault)
+      by : (o : Option ℕ) → position (bytes_eq name) names ≡ o → (stands label standing ≡ true) ⊎ (stands label standing ≡ false) → ((x : Command) × Asks names standing (BreakState label name) x) ⊎ ((fault : ScriptFault) × IsFaultyLine names standing (BreakState label name) fault)
       by None e stand = inr (no_state, not_among names name (missing name names e))
       by (Some n) e (inr new) = inl (commands.BreakState label n, (n, (found name names n e).1, new, refl))
       by (Some n) e (inl stand) =
@@ -67,9 +67,9 @@ module _ (names standing : List (List ℕ)) where
   data Next (left : List ℕ) : Type 0 where
     ended : left ≡ [] → Next left
     asks : (x : Command) (behind : List ℕ) → AsksNext names standing left x behind (standing_after standing x) → Next left
-    fails : (fault : Fault) → BeginsWithFault names standing left fault → Next left
+    fails : (fault : ScriptFault) → BeginsWithFaultyLine names standing left fault → Next left
 
-  next_line : (left line rest : List ℕ) (o : Option Sentence) → sentence_in line ≡ o → IsInLine line → left ≡ line ++ 10 ∷ rest → Next left
+  next_line : (left line rest : List ℕ) (o : Option ScriptSentence) → sentence_in line ≡ o → IsInLine line → left ≡ line ++ 10 ∷ rest → Next left
   next_line left line rest None e in_line begins = fails malformed (line_fault_begins names standing left line rest malformed in_line begins (unsaid line e))
   next_line left line rest (Some s) e in_line begins =
       let said : IsSaid line s = sentence_in-takes line s e in
@@ -93,7 +93,7 @@ module _ (names standing : List (List ℕ)) where
 pub read_or_fault : ScriptsReadOrFault
 read_or_fault names bytes = from (suc (length bytes)) bytes [] (omega arith) (none_read names bytes)
   where
-    from : (n : ℕ) (left : List ℕ) (xs : List Command) → length left < n → HasRead names bytes left xs → ((ys : List Command) × IsScript names bytes ys) ⊎ ((line : ℕ) × (fault : Fault) × IsFirstFault names bytes line fault)
+    from : (n : ℕ) (left : List ℕ) (xs : List Command) → length left < n → HasRead names bytes left xs → ((ys : List Command) × IsScript names bytes ys) ⊎ ((line : ℕ) × (fault : ScriptFault) × IsFirstScriptFault names bytes line fault)
     from zero left xs short has = absurd (omega arith)
     from (suc n) left xs short has = elim (next_of names (standing_by xs) left) [
       | ended none ↦ inl (xs, all_read names bytes left xs has none)

@@ -2,13 +2,13 @@
 use Rattle.std.specs.Prelude.{◌≡◌, ℕ, ◌+◌, ◌-◌, ◌<◌, ◌≤◌, Bool, List, true, false, refl, ◌⊎◌}
 use Rattle.std.proofs.Common.{zero, suc, arith, sym, ap, subst, ◌∙◌, inl, inr}
 use Rattle.std.proofs.lemmas.Bool.{cases_Bool}
-use Rattle.bn_theory.specs.Circuits.{Circuit, IsCircuit, IsConfig, Goes, IsStuck, IsFirst}
-use Rattle.bn_theory.specs.Stepping.{run, back, advance, retreat}
-use Rattle.bn_theory.proofs.RunLemmas.{run-zero, back-zero, run_composes, back_composes, next-stuck, previous-first}
-use Rattle.bn_theory.proofs.StepLemmas.{Goes-next, Goes-previous, previous-IsConfig}
-use Rattle.bn_theory.specs.declared.config.Config.{Config}
-use Rattle.bn_column.specs.Nets.{rotary_circuit}
-use Rattle.bn_layout.specs.Layouts.{moment_at}
+use Rattle.bn_circuits.specs.Circuits.{Circuit, IsCircuit, IsConfig, Goes, IsStuck, IsFirst}
+use Rattle.bn_circuits.specs.Stepping.{run, back, advance, retreat}
+use Rattle.bn_circuits.proofs.RunLemmas.{run-zero, back-zero, run_composes, back_composes, next-stuck, previous-first}
+use Rattle.bn_circuits.proofs.StepLemmas.{Goes-next, Goes-previous, previous-IsConfig}
+use Rattle.bn_circuits.specs.declared.config.Config.{Config}
+use Rattle.bn_net.specs.RotaryNets.{rotary_circuit}
+use Rattle.bn_board.specs.Layouts.{moment_at}
 use Rattle.bn_flat.specs.Flattened.{Flattened, IsSameBoard}
 use Rattle.bn_session.specs.Breakpoints.{Breakpoint}
 use Rattle.bn_session.specs.Plays.{IsStop, at_hit, at_last, stops}

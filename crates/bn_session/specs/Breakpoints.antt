@@ -1,8 +1,8 @@
 -- Breakpoints, and where they hold.
 use Rattle.std.specs.Prelude.{bytes_eq, ℕ, ◌==◌, Bool, false, List, [], ◌∷◌, Option, Some, None, map, if◌then◌else◌}
 use Rattle.std.specs.List.{list_any}
-use Rattle.bn_theory.specs.declared.place.Place.{Place}
-use Rattle.bn_theory.specs.declared.place.Place.TheVariants.{Enter, Left}
+use Rattle.bn_circuits.specs.declared.place.Place.{Place}
+use Rattle.bn_circuits.specs.declared.place.Place.TheVariants.{Enter, Left}
 use Rattle.bn_session.specs.declared.condition.Condition.{Condition}
 use Rattle.bn_session.specs.declared.condition.Condition.TheVariants.{AtState, AtElement}
 
@@ -15,9 +15,9 @@ abbrev pub breakpoint : List ℕ → Condition → Breakpoint
 breakpoint label condition = record { label = label; condition = condition }
 
 -- the number is there, and it is this one
-abbrev pub is_number : ℕ → Option ℕ → Bool
-is_number n None = false
-is_number n (Some m) = m == n
+abbrev pub is_state_number : ℕ → Option ℕ → Bool
+is_state_number n None = false
+is_state_number n (Some m) = m == n
 
 -- the signal is about to enter this element
 abbrev pub enters : ℕ → Place → Bool
@@ -26,7 +26,7 @@ enters e (Left f line) = false
 
 -- whether a breakpoint holds where the signal is at this place, and this is a moment of this state, or no moment
 abbrev pub holds : Place → Option ℕ → Condition → Bool
-holds place moment (AtState state) = is_number state moment
+holds place moment (AtState state) = is_state_number state moment
 holds place moment (AtElement e) = enters e place
 
 -- the label of the first of the breakpoints that holds, in the order in which they were set

@@ -5,8 +5,8 @@ use Rattle.std.specs.Prelude.{slice_set, IsSome, if◌then◌else◌}
 use Rattle.std.specs.Option.{unwrap_or}
 use Rattle.std.proofs.Common.{Vec, Global}
 use Rattle.slab.specs.Slab.{Slab, get}
-use Rattle.bn_theory.specs.declared.place.Place.{Place}
-use Rattle.bn_theory.specs.declared.place.Place.TheVariants.{Enter, Left}
+use Rattle.bn_circuits.specs.declared.place.Place.{Place}
+use Rattle.bn_circuits.specs.declared.place.Place.TheVariants.{Enter, Left}
 use Rattle.bn_session.specs.Breakpoints.{Breakpoint, breakpoint}
 use Rattle.bn_session.specs.declared.condition.Condition.{Condition}
 use Rattle.bn_session.specs.declared.condition.Condition.TheVariants.{AtState, AtElement}

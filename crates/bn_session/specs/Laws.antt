@@ -1,11 +1,11 @@
 -- What holds of all scripts, and how they are played.
 use Rattle.std.specs.Prelude.{◌≡◌, ℕ, ◌+◌, ◌<◌, ◌≤◌, Bool, true, false, List, Option, ◌⊎◌}
-use Rattle.bn_theory.specs.Runs.{Reaches}
-use Rattle.bn_theory.specs.Circuits.{Circuit, Goes, IsCircuit}
-use Rattle.bn_theory.specs.Stepping.{run}
-use Rattle.bn_theory.specs.declared.config.Config.{Config}
+use Rattle.bn_lists.specs.Runs.{Reaches}
+use Rattle.bn_circuits.specs.Circuits.{Circuit, Goes, IsCircuit}
+use Rattle.bn_circuits.specs.Stepping.{run}
+use Rattle.bn_circuits.specs.declared.config.Config.{Config}
 use Rattle.bn_quad.specs.Names.{AreApart}
-use Rattle.bn_session.specs.Scripts.{IsScript, IsFirstFault, Fault}
+use Rattle.bn_session.specs.Scripts.{IsScript, IsFirstScriptFault, ScriptFault}
 use Rattle.bn_session.specs.Plays.{Session, stops, given, PlaysOne, Plays}
 use Rattle.bn_session.specs.declared.command.Command.{Command}
 use Rattle.bn_session.specs.declared.command.Command.TheVariants.{Go}
@@ -19,21 +19,22 @@ ScriptsAreOne =
 -- bytes with a first fault are no script
 abbrev pub FaultyScriptsAreNone : Type 0
 FaultyScriptsAreNone =
-    (names : List (List ℕ)) (bytes : List ℕ) (line : ℕ) (fault : Fault) (xs : List Command) → AreApart names
-    → IsFirstFault names bytes line fault → IsScript names bytes xs → ⊥
+    (names : List (List ℕ)) (bytes : List ℕ) (line : ℕ) (fault : ScriptFault) (xs : List Command) → AreApart names
+    → IsFirstScriptFault names bytes line fault → IsScript names bytes xs → ⊥
 
 -- there is one first fault
 abbrev pub FirstFaultsAreOne : Type 0
 FirstFaultsAreOne =
-    (names : List (List ℕ)) (bytes : List ℕ) (line number : ℕ) (fault other : Fault) → AreApart names
-    → IsFirstFault names bytes line fault → IsFirstFault names bytes number other → (line ≡ number) × (fault ≡ other)
+    (names : List (List ℕ)) (bytes : List ℕ) (line number : ℕ) (fault other : ScriptFault) → AreApart names
+    → IsFirstScriptFault names bytes line fault → IsFirstScriptFault names bytes number other
+    → (line ≡ number) × (fault ≡ other)
 
 -- bytes are a script, or have a first fault
 abbrev pub ScriptsReadOrFault : Type 0
 ScriptsReadOrFault =
     (names : List (List ℕ)) (bytes : List ℕ)
     → ((xs : List Command) × IsScript names bytes xs)
-    ⊎ ((line : ℕ) × (fault : Fault) × IsFirstFault names bytes line fault)
+    ⊎ ((line : ℕ) × (fault : ScriptFault) × IsFirstScriptFault names bytes line fault)
 
 -- ---- how scripts are played
 

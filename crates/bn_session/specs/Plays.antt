@@ -2,10 +2,10 @@
 -- of it may show (this project's own profile).
 use Rattle.std.specs.Prelude.{◌≡◌, ℕ, ◌<◌, ◌≤◌, ◌==◌, Bool, true, false, List, [], ◌∷◌, ◌++◌, Option, Some, None, codes}
 use Rattle.std.specs.Prelude.{decimal, if◌then◌else◌}
-use Rattle.bn_theory.specs.Circuits.{Circuit}
-use Rattle.bn_theory.specs.Stepping.{run, back}
-use Rattle.bn_theory.specs.declared.config.Config.{Config}
-use Rattle.bn_netlist.specs.Sentences.{place_text}
+use Rattle.bn_circuits.specs.Circuits.{Circuit}
+use Rattle.bn_circuits.specs.Stepping.{run, back}
+use Rattle.bn_circuits.specs.declared.config.Config.{Config}
+use Rattle.bn_netlist_laws.specs.Sentences.{place_text}
 use Rattle.bn_session.specs.Breakpoints.{Breakpoint, breakpoint, first_label, some_holds, without_break}
 use Rattle.bn_session.specs.declared.command.Command.{Command}
 use Rattle.bn_session.specs.declared.command.Command.TheVariants.{Step, Back, Go, Rev, BreakState, BreakElement, Drop}
@@ -33,8 +33,8 @@ stops moment breaks c = some_holds c.place (moment c) breaks
 
 -- the label that is named where a way from c has ended at d: that of the first breakpoint that holds there, and none
 -- where no step was made
-abbrev pub named : (Config → Option ℕ) → List Breakpoint → Config → Config → Option (List ℕ)
-named moment breaks c d = if d.steps == c.steps then None else first_label d.place (moment d) breaks
+abbrev pub label_that_holds : (Config → Option ℕ) → List Breakpoint → Config → Config → Option (List ℕ)
+label_that_holds moment breaks c d = if d.steps == c.steps then None else first_label d.place (moment d) breaks
 
 -- ---- lines
 
@@ -66,10 +66,10 @@ PlaysOne k moment shows (Back e) s t text =
     (t ≡ session (back k s.config e) s.breaks) × (text ≡ place_line t.config None)
 PlaysOne k moment shows (Go e) s t text =
     IsStop (stops moment s.breaks) (run k s.config) e t.config × (t.breaks ≡ s.breaks)
-    × (text ≡ place_line t.config (named moment s.breaks s.config t.config))
+    × (text ≡ place_line t.config (label_that_holds moment s.breaks s.config t.config))
 PlaysOne k moment shows (Rev e) s t text =
     IsStop (stops moment s.breaks) (back k s.config) e t.config × (t.breaks ≡ s.breaks)
-    × (text ≡ place_line t.config (named moment s.breaks s.config t.config))
+    × (text ≡ place_line t.config (label_that_holds moment s.breaks s.config t.config))
 PlaysOne k moment shows (BreakState label state) s t text =
     (t ≡ session s.config (s.breaks ++ breakpoint label (AtState state) ∷ []))
     × (text ≡ label_line (codes "break ") label)

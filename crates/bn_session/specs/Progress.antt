@@ -1,43 +1,43 @@
 -- How far a script has been read.
 use Rattle.std.specs.Prelude.{◌≡◌, ◌≢◌, ℕ, List, [], ◌∷◌, ◌++◌, length, Option, Some, None}
 use Rattle.bn_session.specs.Labels.{standing_after}
-use Rattle.bn_session.specs.Sentences.{Sentence, IsSayable, sentence_text, lines_text}
-use Rattle.bn_session.specs.Scripts.{Asks, AskFor, Fault, malformed, IsFaulty}
+use Rattle.bn_session.specs.Sentences.{ScriptSentence, IsSayableInScript, script_sentence_text, script_text}
+use Rattle.bn_session.specs.Scripts.{Asks, AskFor, ScriptFault, malformed, IsFaultyLine}
 use Rattle.bn_session.specs.declared.command.Command.{Command}
 
 -- the fault is in the line of this number
-abbrev pub AtLine : ℕ → (Fault → Type 0) → ℕ → Fault → Type 0
+abbrev pub AtLine : ℕ → (ScriptFault → Type 0) → ℕ → ScriptFault → Type 0
 AtLine number IsOf line fault = (line ≡ number) × IsOf fault
 
 -- the sentence asks for this command, after which these labels stand
-abbrev pub AsksFor : List (List ℕ) → List (List ℕ) → Sentence → Command → List (List ℕ) → Type 0
+abbrev pub AsksFor : List (List ℕ) → List (List ℕ) → ScriptSentence → Command → List (List ℕ) → Type 0
 AsksFor names standing s x after = Asks names standing s x × (after ≡ standing_after standing x)
 
 -- the line asks for this command, after which these labels stand
 pub record IsAsked (names standing : List (List ℕ)) (line : List ℕ) (x : Command) (after : List (List ℕ)) : Type 0 where
-  pub says : Sentence
-  pub spelled : line ≡ sentence_text says
-  pub sayable : IsSayable says
+  pub says : ScriptSentence
+  pub spelled : line ≡ script_sentence_text says
+  pub sayable : IsSayableInScript says
   pub asked : AsksFor names standing says x after
 
 -- the line has a form, and this fault
-pub record HasFault (names standing : List (List ℕ)) (line : List ℕ) (fault : Fault) : Type 0 where
-  pub says : Sentence
-  pub spelled : line ≡ sentence_text says
-  pub sayable : IsSayable says
-  pub faulty : IsFaulty names standing says fault
+pub record HasFault (names standing : List (List ℕ)) (line : List ℕ) (fault : ScriptFault) : Type 0 where
+  pub says : ScriptSentence
+  pub spelled : line ≡ script_sentence_text says
+  pub sayable : IsSayableInScript says
+  pub faulty : IsFaultyLine names standing says fault
 
 -- the first fault of a whole line
-abbrev pub IsLineFault : List (List ℕ) → List (List ℕ) → List ℕ → Fault → Type 0
-IsLineFault names standing line malformed = (s : Sentence) → IsSayable s → line ≢ sentence_text s
+abbrev pub IsLineFault : List (List ℕ) → List (List ℕ) → List ℕ → ScriptFault → Type 0
+IsLineFault names standing line malformed = (s : ScriptSentence) → IsSayableInScript s → line ≢ script_sentence_text s
 IsLineFault names standing line fault = HasFault names standing line fault
 
 -- what is left begins with a line that asks for this command, after which these labels stand, and this is behind it
 pub record AsksNext (names standing : List (List ℕ)) (left : List ℕ) (x : Command) (behind : List ℕ)
     (after : List (List ℕ)) : Type 0 where
-  pub says : Sentence
-  pub begins : left ≡ sentence_text says ++ 10 ∷ behind
-  pub sayable : IsSayable says
+  pub says : ScriptSentence
+  pub begins : left ≡ script_sentence_text says ++ 10 ∷ behind
+  pub sayable : IsSayableInScript says
   pub asked : AsksFor names standing says x after
 
 -- a line was read; or nothing was left
@@ -47,7 +47,7 @@ Advances names standing left (Some x) behind after = AsksNext names standing lef
 
 -- the bytes are lines that ask for these commands, and what is left
 pub record HasRead (names : List (List ℕ)) (bytes left : List ℕ) (xs : List Command) : Type 0 where
-  pub sentences : List Sentence
-  pub begins : bytes ≡ lines_text sentences ++ left
+  pub sentences : List ScriptSentence
+  pub begins : bytes ≡ script_text sentences ++ left
   pub asked : AskFor names [] sentences xs
   pub counted : length sentences ≡ length xs

@@ -4,14 +4,14 @@ use Rattle.std.specs.Prelude.{if◌then◌else◌, codes}
 use Rattle.std.specs.List.{prefix_len}
 use Rattle.std.specs.Option.{option_or}
 use Rattle.std.specs.Char.{is_ascii_alphanumeric}
-use Rattle.bn_entries.specs.Forms.{is_state_name}
-use Rattle.bn_netlist.specs.Reading.{word_taken, number_after}
-use Rattle.bn_session.specs.Sentences.{Sentence, Step, Back, Go, Rev, BreakState, BreakElement, Drop, View, is_label}
+use Rattle.bn_csv.specs.Forms.{is_state_name}
+use Rattle.bn_netlist_laws.specs.Reading.{word_taken, number_after}
+use Rattle.bn_session.specs.Sentences.{ScriptSentence, Step, Back, Go, Rev, BreakState, BreakElement, Drop, View, is_label}
 use Rattle.bn_session.specs.declared.sentence.Sentence.{Sentence as Kept}
 use Rattle.bn_session.specs.declared.sentence.Sentence.TheVariants as kept
 
 -- what the program keeps of a sentence says this
-abbrev pub said : Kept → Sentence
+abbrev pub said : Kept → ScriptSentence
 said (kept.Step e) = Step e
 said (kept.Back e) = Back e
 said (kept.Go e) = Go e
@@ -47,26 +47,26 @@ abbrev pub label_len : List ℕ → ℕ
 label_len bytes = prefix_len is_ascii_alphanumeric bytes
 
 -- what stands behind the label of a breakpoint
-unfoldable pub condition_in : List ℕ → List ℕ → Option Sentence
+unfoldable pub condition_in : List ℕ → List ℕ → Option ScriptSentence
 condition_in label words =
     option_or (option_map (BreakState label) (name_after (codes " state ") words))
     (option_map (BreakElement label) (number_after (codes " element ") words))
 
 -- a label and what stands behind it
-abbrev pub labelled : List ℕ → List ℕ → Option Sentence
+abbrev pub labelled : List ℕ → List ℕ → Option ScriptSentence
 labelled label words = if is_label label then condition_in label words else None
 
-unfoldable pub breakpoint_in : List ℕ → Option Sentence
+unfoldable pub breakpoint_in : List ℕ → Option ScriptSentence
 breakpoint_in words = labelled (take (label_len words) words) (drop (label_len words) words)
 
-unfoldable pub breakpoint_after : List ℕ → List ℕ → Option Sentence
+unfoldable pub breakpoint_after : List ℕ → List ℕ → Option ScriptSentence
 breakpoint_after word line = option_and_then breakpoint_in (word_taken word line)
 
-abbrev pub view_in : List ℕ → Option Sentence
+abbrev pub view_in : List ℕ → Option ScriptSentence
 view_in line = if bytes_eq line (codes "view") then Some View else None
 
 -- what a line says
-unfoldable pub sentence_in : List ℕ → Option Sentence
+unfoldable pub sentence_in : List ℕ → Option ScriptSentence
 sentence_in line =
     option_or (option_map Step (number_after (codes "step ") line))
     (option_or (option_map Back (number_after (codes "back ") line))

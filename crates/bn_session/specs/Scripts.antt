@@ -2,15 +2,15 @@
 -- before it ask for.
 use Rattle.std.specs.Prelude.{◌≡◌, ◌≢◌, ℕ, ◌+◌, true, false, List, [], ◌∷◌, ◌++◌, length, slice_get, Some, Contains}
 use Rattle.bn_session.specs.Labels.{stands, standing_after, standing_by}
-use Rattle.bn_session.specs.Sentences.{Sentence, Step, Back, Go, Rev, BreakState, BreakElement, Drop, View, IsSayable}
-use Rattle.bn_session.specs.Sentences.{sentence_text, lines_text}
+use Rattle.bn_session.specs.Sentences.{ScriptSentence, Step, Back, Go, Rev, BreakState, BreakElement, Drop, View, IsSayableInScript}
+use Rattle.bn_session.specs.Sentences.{script_sentence_text, script_text}
 use Rattle.bn_session.specs.declared.command.Command.{Command}
 use Rattle.bn_session.specs.declared.command.Command.TheVariants as commands
 use Rattle.bn_session.specs.declared.refusal.ScriptRefusal.{ScriptRefusal}
 use Rattle.bn_session.specs.declared.refusal.ScriptRefusal.TheVariants as refusals
 
 -- among states with these names, where these labels stand, the sentence asks for this command
-abbrev pub Asks : List (List ℕ) → List (List ℕ) → Sentence → Command → Type 0
+abbrev pub Asks : List (List ℕ) → List (List ℕ) → ScriptSentence → Command → Type 0
 Asks names standing (Step e) x = x ≡ commands.Step e
 Asks names standing (Back e) x = x ≡ commands.Back e
 Asks names standing (Go e) x = x ≡ commands.Go e
@@ -23,65 +23,66 @@ Asks names standing (Drop label) x = (stands label standing ≡ true) × (x ≡ 
 Asks names standing View x = x ≡ commands.View
 
 -- the sentences, one after another, ask for these commands, where these labels stand before the first
-abbrev pub AskFor : List (List ℕ) → List (List ℕ) → List Sentence → List Command → Type 0
+abbrev pub AskFor : List (List ℕ) → List (List ℕ) → List ScriptSentence → List Command → Type 0
 AskFor names standing [] xs = xs ≡ []
 AskFor names standing (s ∷ ss) xs =
-    (x : Command) × (more : List Command) × (xs ≡ x ∷ more) × IsSayable s × Asks names standing s x
+    (x : Command) × (more : List Command) × (xs ≡ x ∷ more) × IsSayableInScript s × Asks names standing s x
     × AskFor names (standing_after standing x) ss more
 
 -- among states with these names the bytes are a script of these commands
 pub record IsScript (names : List (List ℕ)) (bytes : List ℕ) (xs : List Command) : Type 0 where
-  pub sentences : List Sentence
-  pub spelled : bytes ≡ lines_text sentences
+  pub sentences : List ScriptSentence
+  pub spelled : bytes ≡ script_text sentences
   pub asked : AskFor names [] sentences xs
 
 -- ---- faults
 
 -- The faults of a line: it has no form; no state has the name; the label stands already; the label doesn't stand.
-pub data Fault : Type 0 where
-  malformed : Fault
-  no_state : Fault
-  same_break : Fault
-  no_break : Fault
+pub data ScriptFault : Type 0 where
+  malformed : ScriptFault
+  no_state : ScriptFault
+  same_break : ScriptFault
+  no_break : ScriptFault
 
 -- the first fault of a line that has its form and says this
-abbrev pub IsFaulty : List (List ℕ) → List (List ℕ) → Sentence → Fault → Type 0
-IsFaulty names standing (BreakState label name) no_state = ¬ Contains names name
-IsFaulty names standing (BreakState label name) same_break = Contains names name × (stands label standing ≡ true)
-IsFaulty names standing (BreakElement label e) same_break = stands label standing ≡ true
-IsFaulty names standing (Drop label) no_break = stands label standing ≡ false
-IsFaulty names standing _ _ = ⊥
+abbrev pub IsFaultyLine : List (List ℕ) → List (List ℕ) → ScriptSentence → ScriptFault → Type 0
+IsFaultyLine names standing (BreakState label name) no_state = ¬ Contains names name
+IsFaultyLine names standing (BreakState label name) same_break = Contains names name × (stands label standing ≡ true)
+IsFaultyLine names standing (BreakElement label e) same_break = stands label standing ≡ true
+IsFaultyLine names standing (Drop label) no_break = stands label standing ≡ false
+IsFaultyLine names standing _ _ = ⊥
 
 -- something is left, and it doesn't begin with a whole line that has a form
-pub record IsMalformed (left : List ℕ) : Type 0 where
+pub record IsMalformedLine (left : List ℕ) : Type 0 where
   pub some : left ≢ []
-  pub unsaid : (s : Sentence) (behind : List ℕ) → IsSayable s → left ≢ sentence_text s ++ 10 ∷ behind
+  pub unsaid : (s : ScriptSentence) (behind : List ℕ) → IsSayableInScript s
+      → left ≢ script_sentence_text s ++ 10 ∷ behind
 
 -- what is left begins with a whole line that has a form and this fault
-pub record BeginsFaulty (names standing : List (List ℕ)) (left : List ℕ) (fault : Fault) : Type 0 where
-  pub says : Sentence
+pub record BeginsFaulty (names standing : List (List ℕ)) (left : List ℕ) (fault : ScriptFault) : Type 0 where
+  pub says : ScriptSentence
   pub behind : List ℕ
-  pub begins : left ≡ sentence_text says ++ 10 ∷ behind
-  pub sayable : IsSayable says
-  pub faulty : IsFaulty names standing says fault
+  pub begins : left ≡ script_sentence_text says ++ 10 ∷ behind
+  pub sayable : IsSayableInScript says
+  pub faulty : IsFaultyLine names standing says fault
 
 -- what is left begins with a line whose first fault is this
-abbrev pub BeginsWithFault : List (List ℕ) → List (List ℕ) → List ℕ → Fault → Type 0
-BeginsWithFault names standing left malformed = IsMalformed left
-BeginsWithFault names standing left fault = BeginsFaulty names standing left fault
+abbrev pub BeginsWithFaultyLine : List (List ℕ) → List (List ℕ) → List ℕ → ScriptFault → Type 0
+BeginsWithFaultyLine names standing left malformed = IsMalformedLine left
+BeginsWithFaultyLine names standing left fault = BeginsFaulty names standing left fault
 
 -- The line of this number, counted from 1, is the first with a fault, and this is its first.
-pub record IsFirstFault (names : List (List ℕ)) (bytes : List ℕ) (line : ℕ) (fault : Fault) : Type 0 where
-  pub before : List Sentence
+pub record IsFirstScriptFault (names : List (List ℕ)) (bytes : List ℕ) (line : ℕ) (fault : ScriptFault) : Type 0 where
+  pub before : List ScriptSentence
   pub commands : List Command
   pub left : List ℕ
-  pub begins : bytes ≡ lines_text before ++ left
+  pub begins : bytes ≡ script_text before ++ left
   pub counted : line ≡ length before + 1
   pub asked : AskFor names [] before commands
-  pub here : BeginsWithFault names (standing_by commands) left fault
+  pub here : BeginsWithFaultyLine names (standing_by commands) left fault
 
 -- the refusal names a line and a fault of which this holds, or there was no memory
-abbrev pub IsRefusalOf : (ℕ → Fault → Type 0) → ScriptRefusal → Type 0
+abbrev pub IsRefusalOf : (ℕ → ScriptFault → Type 0) → ScriptRefusal → Type 0
 IsRefusalOf holds (refusals.Form line) = holds line malformed
 IsRefusalOf holds (refusals.NoState line) = holds line no_state
 IsRefusalOf holds (refusals.SameBreak line) = holds line same_break

@@ -1,7 +1,7 @@
 -- A watched way, taken step by step.
 use Rattle.std.specs.Prelude.{ℕ, Bool, if◌then◌else◌}
 use Rattle.std.proofs.Common.{zero, suc}
-use Rattle.bn_theory.specs.declared.config.Config.{Config}
+use Rattle.bn_circuits.specs.declared.config.Config.{Config}
 
 -- at most so many steps, and none behind one after which the test holds
 unfoldable pub walk : (Config → Bool) → (Config → Config) → ℕ → Config → Config

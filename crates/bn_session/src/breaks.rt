@@ -8,7 +8,7 @@ ghost use Rattle.bn_session.specs.Kept.{kept_breaks, HaveValues, mark_at, with_m
 
 use crate::condition::Condition;
 use bn_base::NoMemory;
-use bn_theory::Place;
+use bn_circuits::Place;
 use indexmap::IndexMap;
 use slab::Slab;
 use std::alloc::Global;

@@ -2,7 +2,7 @@
 
 ghost use Rattle.std.specs.Prelude.{◌≡◌, ◌<◌, ◌++◌, ◌∷◌, [], OnOk, OnErr, IfOk, codes, decimal};
 ghost use Rattle.std.specs.Option.{option_copied};
-ghost use Rattle.bn_netlist.specs.Sentences.{line_at, line_text, place_text};
+ghost use Rattle.bn_netlist_laws.specs.Sentences.{line_of_place, line_text, place_text};
 ghost use Rattle.bn_session.specs.Plays.{named_text, place_line, label_line};
 
 use bn_base::{NoMemory, push_u64};
@@ -68,7 +68,7 @@ fn label_line(alloc: Global, word: &[u8], label: &[u8]) -> Result<Vec<u8>, NoMem
 
 // Appends where the signal is.
 fn push_place(text: &mut Vec<u8>, place: Place) -> Result<(), NoMemory>
-    requires { (line_at place).line < 4 }
+    requires { (line_of_place place).line < 4 }
     ensures { OnOk result (text.new.items ≡ text.old.items ++ place_text place) }
 {
     match place {

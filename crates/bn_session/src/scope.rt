@@ -2,9 +2,9 @@
 
 ghost use Rattle.std.specs.Prelude.{◌≡◌, ◌++◌, ◌∷◌, [], IfOk, IfErr, OnOk, true, false};
 ghost use Rattle.bn_session.specs.Labels.{stands};
-ghost use Rattle.bn_session.specs.Sentences.{IsSayable, is_label, BreakState, BreakElement, Drop};
+ghost use Rattle.bn_session.specs.Sentences.{IsSayableInScript, is_label, BreakState, BreakElement, Drop};
 ghost use Rattle.bn_session.specs.Reading.{said};
-ghost use Rattle.bn_session.specs.Scripts.{IsFaulty, IsRefusalOf, BeginsWithFault};
+ghost use Rattle.bn_session.specs.Scripts.{IsFaultyLine, IsRefusalOf, BeginsWithFaultyLine};
 ghost use Rattle.bn_session.specs.Progress.{Advances, AtLine, AsksFor, IsAsked, IsLineFault};
 
 use crate::command::Command;
@@ -48,7 +48,7 @@ impl<'a> Scope<'a> {
         ensures read { IfOk result (λ command.
             Advances self.old.states self.old.standing lines.old command lines.new self.new.standing) }
         ensures refused { IfErr result (IsRefusalOf
-            (AtLine number (BeginsWithFault self.old.states self.old.standing lines.old))) }
+            (AtLine number (BeginsWithFaultyLine self.old.states self.old.standing lines.old))) }
         ensures states { self.new.states ≡ self.old.states }
     {
         match lines.next_line() {
@@ -77,11 +77,11 @@ impl<'a> Scope<'a> {
 
     // The command for which a sentence asks.
     fn command_of(&mut self, sentence: Sentence<'_>, number: u64) -> Result<Command, ScriptRefusal>
-        requires { IsSayable (said sentence) }
+        requires { IsSayableInScript (said sentence) }
         ensures asked { IfOk result (λ x.
             AsksFor self.old.states self.old.standing (said sentence.entry) x self.new.standing) }
         ensures refused { IfErr result (IsRefusalOf
-            (AtLine number (IsFaulty self.old.states self.old.standing (said sentence.entry)))) }
+            (AtLine number (IsFaultyLine self.old.states self.old.standing (said sentence.entry)))) }
         ensures states { self.new.states ≡ self.old.states }
     {
         match sentence {
@@ -107,7 +107,7 @@ impl<'a> Scope<'a> {
         ensures asked { IfOk result (λ x.
             AsksFor self.old.states self.old.standing (BreakState label.now name.now) x self.new.standing) }
         ensures refused { IfErr result (IsRefusalOf
-            (AtLine number (IsFaulty self.old.states self.old.standing (BreakState label.now name.now)))) }
+            (AtLine number (IsFaultyLine self.old.states self.old.standing (BreakState label.now name.now)))) }
         ensures states { self.new.states ≡ self.old.states }
     {
         let Some(state) = self.states.find(name)? else {
@@ -131,7 +131,7 @@ impl<'a> Scope<'a> {
         ensures asked { IfOk result (λ x.
             AsksFor self.old.states self.old.standing (BreakElement label.now element) x self.new.standing) }
         ensures refused { IfErr result (IsRefusalOf
-            (AtLine number (IsFaulty self.old.states self.old.standing (BreakElement label.now element)))) }
+            (AtLine number (IsFaultyLine self.old.states self.old.standing (BreakElement label.now element)))) }
         ensures states { self.new.states ≡ self.old.states }
     {
         if self.standing.contains(label) {
@@ -147,7 +147,7 @@ impl<'a> Scope<'a> {
         ensures asked { IfOk result (λ x.
             AsksFor self.old.states self.old.standing (Drop label.now) x self.new.standing) }
         ensures refused { IfErr result (IsRefusalOf
-            (AtLine number (IsFaulty self.old.states self.old.standing (Drop label.now)))) }
+            (AtLine number (IsFaultyLine self.old.states self.old.standing (Drop label.now)))) }
         ensures states { self.new.states ≡ self.old.states }
     {
         if !self.standing.contains(label) {

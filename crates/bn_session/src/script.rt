@@ -1,7 +1,7 @@
 //! Scripts, and how they are read.
 
 ghost use Rattle.std.specs.Prelude.{IfOk, IfErr};
-ghost use Rattle.bn_session.specs.Scripts.{IsScript, IsFirstFault, IsRefusalOf};
+ghost use Rattle.bn_session.specs.Scripts.{IsScript, IsFirstScriptFault, IsRefusalOf};
 
 use crate::command::Command;
 use crate::refusal::ScriptRefusal;
@@ -50,7 +50,7 @@ impl Script {
 /// (This project's own profile.)
 pub fn read_script(alloc: Global, bytes: &[u8], names: &QuadNames) -> Result<Script, ScriptRefusal>
     ensures read { IfOk result (λ script. IsScript names.now.states bytes.now script) }
-    ensures refused { IfErr result (IsRefusalOf (IsFirstFault names.now.states bytes.now)) }
+    ensures refused { IfErr result (IsRefusalOf (IsFirstScriptFault names.now.states bytes.now)) }
 {
     let mut lines = Lines::new(bytes);
     let mut scope = Scope::new(alloc, names);

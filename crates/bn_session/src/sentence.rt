@@ -2,13 +2,13 @@
 
 ghost use Rattle.std.specs.Prelude.{◌≡◌, ◌==◌, ◌≤◌, length, None, Some, MatchOption};
 ghost use Rattle.std.specs.Option.{option_map};
-ghost use Rattle.bn_netlist.specs.Reading.{word_taken, number_after};
+ghost use Rattle.bn_netlist_laws.specs.Reading.{word_taken, number_after};
 ghost use Rattle.bn_session.specs.Reading.{said, ordinal_after, label_after, name_after, label_len, condition_in};
 ghost use Rattle.bn_session.specs.Reading.{breakpoint_in, breakpoint_after, sentence_in};
 
 use crate::label::is_label;
 use bn_base::read_u64;
-use bn_entries::is_state_name;
+use bn_csv::is_state_name;
 
 /// What a line of a script says, before its names are looked up.
 #[derive(Clone, Copy)]
@@ -130,7 +130,7 @@ fn ordinal_after(line: &[u8], word: &[u8]) -> Option<u64>
 }
 
 // The number in a line that is this word and a number.
-#[tactic(auto, unfolding(bn_netlist::specs::Reading::number_after, bn_netlist::specs::Reading::number_taken))]
+#[tactic(auto, unfolding(bn_netlist_laws::specs::Reading::number_after, bn_netlist_laws::specs::Reading::number_taken))]
 fn number_after(line: &[u8], word: &[u8]) -> Option<u64>
     ensures { result ≡ number_after word.now line.now }
 {

@@ -1,13 +1,13 @@
 //! Watched ways on a board.
 
 ghost use Rattle.std.specs.Prelude.{◌≡◌, None, Some, MatchOption};
-ghost use Rattle.bn_theory.specs.Stepping.{run, back, advance, retreat};
-ghost use Rattle.bn_column.specs.Nets.{rotary_circuit};
-ghost use Rattle.bn_layout.specs.Layouts.{moment_at};
+ghost use Rattle.bn_circuits.specs.Stepping.{run, back, advance, retreat};
+ghost use Rattle.bn_net.specs.RotaryNets.{rotary_circuit};
+ghost use Rattle.bn_board.specs.Layouts.{moment_at};
 ghost use Rattle.bn_flat.specs.Flattened.{IsSameBoard};
-ghost use Rattle.bn_session.specs.Plays.{IsStop, stops, named};
+ghost use Rattle.bn_session.specs.Plays.{IsStop, stops, label_that_holds};
 ghost use Rattle.bn_session.specs.Walks.{walk};
-ghost use Rattle.bn_theory.specs.declared.config.Config.{Config};
+ghost use Rattle.bn_circuits.specs.declared.config.Config.{Config};
 
 use crate::breaks::Breaks;
 use bn_flat::Board;
@@ -68,8 +68,8 @@ fn breaks_at(board: &Board, breaks: &Breaks) -> bool
 // The label that is named where a way has ended that began when so many steps were made.
 pub(crate) fn named<'a>(board: &Board, breaks: &'a Breaks, steps: u64) -> Option<&'a [u8]>
     ensures { (c : Config) → steps ≡ c.steps → MatchOption result
-        (named (moment_at board.now.layout) breaks.now c board.now.config ≡ None)
-        (λ label. named (moment_at board.now.layout) breaks.now c board.now.config ≡ Some label.now) }
+        (label_that_holds (moment_at board.now.layout) breaks.now c board.now.config ≡ None)
+        (λ label. label_that_holds (moment_at board.now.layout) breaks.now c board.now.config ≡ Some label.now) }
 {
     if board.steps() == steps {
         return None;

@@ -21,10 +21,11 @@ abbrev pub IsLeastFinal : List Quint → ℕ → Type 0
 IsLeastFinal qs = IsLeast (UsesFinal qs)
 
 -- when each refusal comes: all demands before its own are met. Want of memory is free.
-abbrev pub IsRefusal : List Quint → Why → Type 0
-IsRefusal qs (Repeat i j) = IsLeastRepeat qs i j
-IsRefusal qs First = IsUnambiguous qs × (BeginsWell qs → ⊥)
-IsRefusal qs (StartUsed i) = IsUnambiguous qs × BeginsWell qs × IsLeastStart qs i
-IsRefusal qs Last = IsUnambiguous qs × BeginsWell qs × HasLoneStart qs × (EndsWell qs → ⊥)
-IsRefusal qs (FinalUsed i) = IsUnambiguous qs × BeginsWell qs × HasLoneStart qs × EndsWell qs × IsLeastFinal qs i
-IsRefusal qs NoMemory = ⊤
+abbrev pub IsStandardRefusal : List Quint → Why → Type 0
+IsStandardRefusal qs (Repeat i j) = IsLeastRepeat qs i j
+IsStandardRefusal qs First = IsUnambiguous qs × (BeginsWell qs → ⊥)
+IsStandardRefusal qs (StartUsed i) = IsUnambiguous qs × BeginsWell qs × IsLeastStart qs i
+IsStandardRefusal qs Last = IsUnambiguous qs × BeginsWell qs × HasLoneStart qs × (EndsWell qs → ⊥)
+IsStandardRefusal qs (FinalUsed i) = IsUnambiguous qs × BeginsWell qs × HasLoneStart qs × EndsWell qs
+    × IsLeastFinal qs i
+IsStandardRefusal qs NoMemory = ⊤

@@ -1,7 +1,7 @@
 //! Machines in standard form, and the test.
 ghost use Rattle.std.specs.Prelude.{◌≡◌, IfOk, OnOk, IfErr};
 ghost use Rattle.bn_standard.specs.Standard.{IsStandard};
-ghost use Rattle.bn_standard.specs.Verdict.{IsRefusal};
+ghost use Rattle.bn_standard.specs.Verdict.{IsStandardRefusal};
 
 use crate::demands::{begins_well, ends_well, first_final_use, first_repeat, first_start_use};
 use crate::why::Why;
@@ -44,7 +44,7 @@ impl Standard<'_> {
 pub fn check<'a>(alloc: Global, machine: &'a Machine) -> Result<Standard<'a>, Why>
     ensures made { IfOk result (λ s. s ≡ machine.now) }
     ensures standard { OnOk result (IsStandard machine.now.quints) }
-    ensures refused { IfErr result (IsRefusal machine.now.quints) }
+    ensures refused { IfErr result (IsStandardRefusal machine.now.quints) }
 {
     // (the test needs no memory; callers hand it over all the same)
     let _ = alloc;

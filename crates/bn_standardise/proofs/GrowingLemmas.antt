@@ -3,8 +3,8 @@ use Rattle.std.proofs.Common.{◌≡◌, ◌∙◌, ◌≤◌, ◌<◌, ◌+◌,
 use Rattle.std.proofs.lemmas.Bool.{cases_Bool}
 use Rattle.std.proofs.lemmas.List.{length-take-le, map-append, take-append-drop, take_more}
 use Rattle.std.specs.List.{list_any}
-use Rattle.bn_entries.specs.Numbering.{firsts_by}
-use Rattle.bn_entries.proofs.NumberingLemmas.{apart-firsts, firsts-append, firsts-push, length-firsts, number_stays, one_number}
+use Rattle.bn_csv.specs.Numbering.{firsts_by}
+use Rattle.bn_csv.proofs.NumberingLemmas.{apart-firsts, firsts-append, firsts-push, length-firsts, number_stays, one_number}
 use Rattle.bn_machine.specs.declared.quint.Quint.{Quint}
 use Rattle.bn_standardise.specs.Numbering.{distinct_names, is_same, names_of, number_of, with_name}
 use Rattle.bn_standardise.specs.Standardised.{numbered}

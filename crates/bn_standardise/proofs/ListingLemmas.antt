@@ -2,25 +2,25 @@
 use Rattle.std.proofs.Common.{◌≡◌, ◌∙◌, ◌≤◌, ◌<◌, ◌+◌, ◌-◌, ◌++◌, ◌∷◌, ℕ, zero, suc, List, [], length, map, take, get_or, sym, ap, arith, append_assoc}
 use Rattle.std.proofs.lemmas.List.{append-nil, map-append, take_all, take_more}
 use Rattle.bn_machine.specs.declared.quint.Quint.{Quint}
-use Rattle.bn_standardise.specs.Rules.{renamed, back_over, back_over_all}
+use Rattle.bn_standardise.specs.Rules.{own_rule, back_over, back_over_all}
 use Rattle.bn_standardise.specs.declared.rule.Rule.{Rule}
 
 -- ---- the machine's own quintuples
 
-pub own_none : (list : List Rule) (qs : List Quint) → list ≡ list ++ map renamed (take 0 qs)
+pub own_none : (list : List Rule) (qs : List Quint) → list ≡ list ++ map own_rule (take 0 qs)
 own_none list qs = sym (append-nil list)
 
-pub own_more : (old list new : List Rule) (qs : List Quint) (i : ℕ) (d : Quint) (r : Rule) → i < length qs → list ≡ old ++ map renamed (take i qs) →
-    r ≡ renamed (get_or qs i d) → new ≡ list ++ r ∷ [] → new ≡ old ++ map renamed (take (i + 1) qs)
+pub own_more : (old list new : List Rule) (qs : List Quint) (i : ℕ) (d : Quint) (r : Rule) → i < length qs → list ≡ old ++ map own_rule (take i qs) →
+    r ≡ own_rule (get_or qs i d) → new ≡ list ++ r ∷ [] → new ≡ old ++ map own_rule (take (i + 1) qs)
 own_more old list new qs i d r inside before is now =
     now
     ∙ ap (λ (l : List Rule). l ++ r ∷ []) before
-    ∙ append_assoc old (map renamed (take i qs)) (r ∷ [])
-    ∙ ap (λ (s : Rule). old ++ (map renamed (take i qs) ++ s ∷ [])) is
-    ∙ ap (λ (l : List Rule). old ++ l) (sym (map-append renamed (take i qs) (get_or qs i d ∷ [])) ∙ ap (map renamed) (sym (take_more qs i d inside)))
+    ∙ append_assoc old (map own_rule (take i qs)) (r ∷ [])
+    ∙ ap (λ (s : Rule). old ++ (map own_rule (take i qs) ++ s ∷ [])) is
+    ∙ ap (λ (l : List Rule). old ++ l) (sym (map-append own_rule (take i qs) (get_or qs i d ∷ [])) ∙ ap (map own_rule) (sym (take_more qs i d inside)))
 
-pub own_all : (old list : List Rule) (qs : List Quint) (i : ℕ) → length qs ≤ i → list ≡ old ++ map renamed (take i qs) → list ≡ old ++ map renamed qs
-own_all old list qs i past all = all ∙ ap (λ (l : List Quint). old ++ map renamed l) (take_all i qs past)
+pub own_all : (old list : List Rule) (qs : List Quint) (i : ℕ) → length qs ≤ i → list ≡ old ++ map own_rule (take i qs) → list ≡ old ++ map own_rule qs
+own_all old list qs i past all = all ∙ ap (λ (l : List Quint). old ++ map own_rule l) (take_all i qs past)
 
 -- ---- the steps back
 

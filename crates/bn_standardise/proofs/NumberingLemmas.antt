@@ -5,12 +5,12 @@ use Rattle.std.proofs.lemmas.Bool.{cases_Bool}
 use Rattle.std.proofs.lemmas.Bool.Decides.{Decides-eqb}
 use Rattle.std.proofs.lemmas.List.{length-map}
 use Rattle.std.specs.Bool.{Decides}
-use Rattle.bn_entries.specs.Numbering.{firsts_by, AreNumberedByFirst}
-use Rattle.bn_entries.proofs.NumberingLemmas.{AreNumbersOf, numbered-by-first, length-firsts}
+use Rattle.bn_csv.specs.Numbering.{firsts_by, AreNumberedByFirst}
+use Rattle.bn_csv.proofs.NumberingLemmas.{AreNumbersOf, numbered-by-first, length-firsts}
 use Rattle.bn_table.specs.Rows.{states_in, FitsTable}
 use Rattle.bn_machine.specs.Machine.{Program, IsMachine, final_of}
 use Rattle.bn_lists.specs.Lists.{Has}
-use Rattle.bn_standardise.specs.Rules.{renamed, leaving, rules_of}
+use Rattle.bn_standardise.specs.Rules.{own_rule, leaving, rules_of}
 use Rattle.bn_standardise.specs.declared.name.Name.{Name}
 use Rattle.bn_standardise.specs.declared.name.Name.TheVariants.{First, Own, Last}
 use Rattle.bn_standardise.specs.declared.rule.Rule.{Rule}
@@ -121,7 +121,7 @@ final_named p = (names_in (rules_of p) (leaving (final_of p.quints)) (leaving_in
 -- each state that occurs is named
 own_named : (p : Program) (s : ℕ) → Occurs p.quints s → Has (names_of (rules_of p)) (Own s)
 own_named p s occurs =
-    let names = names_in (rules_of p) (renamed occurs.quint) (renamed_in p occurs.quint occurs.stands) in
+    let names = names_in (rules_of p) (own_rule occurs.quint) (renamed_in p occurs.quint occurs.stands) in
     elim occurs.names [
       | inl e ↦ subst (λ t. Has (names_of (rules_of p)) (Own t)) e names.0
       | inr e ↦ subst (λ t. Has (names_of (rules_of p)) (Own t)) e names.1

@@ -11,9 +11,9 @@ use Rattle.std.proofs.lemmas.Option.{get_or_from_slice_get, slice_get-get_or, sl
 use Rattle.std.proofs.lemmas.Slice.Eq.{bytes_eq-Decides}
 use Rattle.std.proofs.lemmas.Str.Parse.{IsNumeralModel, numerals_by_value, tells_by_index}
 use Rattle.bn_base.specs.Number.{AreDigits}
-use Rattle.bn_entries.specs.Forms.{is_name_byte, is_state_name}
-use Rattle.bn_entries.specs.Numbering.{firsts, firsts_by}
-use Rattle.bn_entries.proofs.NumberingLemmas.{any-at, firsts-push}
+use Rattle.bn_csv.specs.Forms.{is_name_byte, is_state_name}
+use Rattle.bn_csv.specs.Numbering.{firsts, firsts_by}
+use Rattle.bn_csv.proofs.NumberingLemmas.{any-at, firsts-push}
 use Rattle.bn_machine.specs.Machine.{Program, IsInRange, IsMachine, final_of}
 use Rattle.bn_lists.proofs.ListLemmas.{nth-get_or}
 use Rattle.bn_machine.specs.declared.quint.Quint.{Quint}
@@ -21,7 +21,7 @@ use Rattle.bn_table.specs.Rows.{FitsTable, IsTable, Named, blank, letters_in, na
 use Rattle.bn_table.proofs.RowsLemmas.{blank_first}
 use Rattle.bn_table.proofs.MachineLemmas.{table_machine}
 use Rattle.bn_lists.specs.Lists.{Has}
-use Rattle.bn_standardise.specs.Rules.{back_over_all, leaving, middle_of, renamed, rules_of}
+use Rattle.bn_standardise.specs.Rules.{back_over_all, leaving, middle_of, own_rule, rules_of}
 use Rattle.bn_standardise.specs.Numbering.{distinct_names, is_same, names_of, number_of}
 use Rattle.bn_standardise.specs.Standardised.{Occurs, numbered, standardised}
 use Rattle.bn_standardise.specs.Refusals.{count_of}
@@ -201,7 +201,7 @@ letters_joined : (letters : List ℕ) (rs ss : List Rule) → letters_in (map (r
 letters_joined letters [] ss = refl
 letters_joined letters (r ∷ rs) ss = ap (λ ws. get_or letters r.read 0 ∷ get_or letters r.write 0 ∷ ws) (letters_joined letters rs ss)
 
-own_letters : (names : List (List ℕ)) (letters : List ℕ) (qs : List Quint) → letters_in (map (rule_entry letters) (map renamed qs)) ≡ letters_in (rows_by names letters qs)
+own_letters : (names : List (List ℕ)) (letters : List ℕ) (qs : List Quint) → letters_in (map (rule_entry letters) (map own_rule qs)) ≡ letters_in (rows_by names letters qs)
 own_letters names letters [] = refl
 own_letters names letters (q ∷ qs) = ap (λ ws. get_or letters q.read 0 ∷ get_or letters q.write 0 ∷ ws) (own_letters names letters qs)
 
@@ -229,18 +229,18 @@ module _ (t : Named) (table : IsTable t) (fits : FitsTable t.machine) (few : cou
   tail_rules = back_over_all (final_of t.machine.quints) 1 (t.machine.symbols - 1) ++ leaving (final_of t.machine.quints) ∷ []
 
   in_tail_rules : (r : Rule) → Has tail_rules r → Has (rules_of t.machine) r
-  in_tail_rules r h = inr (subst (λ l. Has l r) (sym (append_assoc (map renamed t.machine.quints) (back_over_all (final_of t.machine.quints) 1 (t.machine.symbols - 1)) (leaving (final_of t.machine.quints) ∷ [])))
-      (in_append_right (map renamed t.machine.quints) tail_rules r h))
+  in_tail_rules r h = inr (subst (λ l. Has l r) (sym (append_assoc (map own_rule t.machine.quints) (back_over_all (final_of t.machine.quints) 1 (t.machine.symbols - 1)) (leaving (final_of t.machine.quints) ∷ [])))
+      (in_append_right (map own_rule t.machine.quints) tail_rules r h))
 
   -- all letters that are written, behind the blank
   all_letters : letters_in (map (rule_entry t.letters) (rules_of t.machine)) ≡ blank ∷ blank ∷ letters_in (rows_of t) ++ letters_in (map (rule_entry t.letters) tail_rules)
   all_letters =
       let first : get_or t.letters 0 0 ≡ blank = get_or_from_slice_get t.letters 0 blank 0 (blank_first t table) in
-      let group : middle_of t.machine ++ leaving (final_of t.machine.quints) ∷ [] ≡ map renamed t.machine.quints ++ tail_rules =
-      append_assoc (map renamed t.machine.quints) (back_over_all (final_of t.machine.quints) 1 (t.machine.symbols - 1)) (leaving (final_of t.machine.quints) ∷ []) in
+      let group : middle_of t.machine ++ leaving (final_of t.machine.quints) ∷ [] ≡ map own_rule t.machine.quints ++ tail_rules =
+      append_assoc (map own_rule t.machine.quints) (back_over_all (final_of t.machine.quints) 1 (t.machine.symbols - 1)) (leaving (final_of t.machine.quints) ∷ []) in
       ap (λ b. b ∷ b ∷ letters_in (map (rule_entry t.letters) (middle_of t.machine ++ leaving (final_of t.machine.quints) ∷ []))) first
       ∙ ap (λ (rs : List Rule). blank ∷ blank ∷ letters_in (map (rule_entry t.letters) rs)) group
-      ∙ ap (λ ws. blank ∷ blank ∷ ws) (letters_joined t.letters (map renamed t.machine.quints) tail_rules ∙ ap (λ ws. ws ++ letters_in (map (rule_entry t.letters) tail_rules)) (own_letters t.names t.letters t.machine.quints))
+      ∙ ap (λ ws. blank ∷ blank ∷ ws) (letters_joined t.letters (map own_rule t.machine.quints) tail_rules ∙ ap (λ ws. ws ++ letters_in (map (rule_entry t.letters) tail_rules)) (own_letters t.names t.letters t.machine.quints))
 
   letters_first : t.letters ≡ firsts_by nat_eq (blank ∷ letters_in (map (rule_entry t.letters) (rules_of t.machine)))
   letters_first =

@@ -6,7 +6,7 @@ use Rattle.bn_machine.specs.Machine.{Program, IsMachine, start_of, final_of}
 use Rattle.bn_machine.specs.declared.quint.Quint.{Quint}
 use Rattle.bn_machine.specs.declared.quint.Shift.TheVariants.{Stay}
 use Rattle.bn_lists.specs.Lists.{Has}
-use Rattle.bn_standardise.specs.Rules.{entering, renamed, back_over, back_over_all, leaving, middle_of, rules_of}
+use Rattle.bn_standardise.specs.Rules.{entering, own_rule, back_over, back_over_all, leaving, middle_of, rules_of}
 use Rattle.bn_standardise.specs.declared.name.Name.{Name}
 use Rattle.bn_standardise.specs.declared.name.Name.TheVariants.{Own}
 use Rattle.bn_standardise.specs.declared.rule.Rule.{Rule}
@@ -68,9 +68,9 @@ pub record IsOwn (qs : List Quint) (r : Rule) : Type 0 where
 
 -- each rule of the middle is such a one
 pub middle_own : (p : Program) (r : Rule) → 0 < length p.quints → Has (middle_of p) r → IsOwn p.quints r
-middle_own p r some h = elim (in_append_cases (map renamed p.quints) (back_over_all (final_of p.quints) 1 (p.symbols - 1)) r h) [
+middle_own p r some h = elim (in_append_cases (map own_rule p.quints) (back_over_all (final_of p.quints) 1 (p.symbols - 1)) r h) [
   | inl own ↦
-      let q = in_map_cases renamed p.quints r own in
+      let q = in_map_cases own_rule p.quints r own in
       record {
         state = q.0.state;
         next = q.0.next;
@@ -105,12 +105,12 @@ earlier_next p r some (inl e) = (start_of p.quints, start_occurs p.quints some, 
 earlier_next p r some (inr mid) = let own = middle_own p r some mid in (own.next, own.next_occurs, own.next_is)
 
 -- which rules are among all
-pub renamed_in : (p : Program) (q : Quint) → Has p.quints q → Has (rules_of p) (renamed q)
-renamed_in p q h = inr (in_append_left (middle_of p) _ (renamed q) (in_append_left (map renamed p.quints) _ (renamed q) (in_map renamed p.quints q h)))
+pub renamed_in : (p : Program) (q : Quint) → Has p.quints q → Has (rules_of p) (own_rule q)
+renamed_in p q h = inr (in_append_left (middle_of p) _ (own_rule q) (in_append_left (map own_rule p.quints) _ (own_rule q) (in_map own_rule p.quints q h)))
 
 -- the rule back over a known letter is one of all
 pub back_over_here : (p : Program) (x : ℕ) → x ≢ 0 → x < p.symbols → Has (rules_of p) (back_over (final_of p.quints) x)
-back_over_here p x letter known = inr (in_append_left (middle_of p) _ (back_over (final_of p.quints) x) (in_append_right (map renamed p.quints) _ (back_over (final_of p.quints) x)
+back_over_here p x letter known = inr (in_append_left (middle_of p) _ (back_over (final_of p.quints) x) (in_append_right (map own_rule p.quints) _ (back_over (final_of p.quints) x)
     (back_over_in (final_of p.quints) 1 (p.symbols - 1) (x - 1) x (omega arith) (omega arith))))
 
 -- the last rule is one of all
@@ -136,14 +136,14 @@ back_over_apart number halt first (suc count) = (
 )
 
 -- a rule of the machine's own and one that leaves the halting state
-own_apart : (number : Name → ℕ) (p : Program) → IsLoose p → TellsApart number p → (q : Quint) (y : Rule) → Has p.quints q → y.state ≡ Own (final_of p.quints) → RulesApart number (renamed q) y
+own_apart : (number : Name → ℕ) (p : Program) → IsLoose p → TellsApart number p → (q : Quint) (y : Rule) → Has p.quints q → y.state ≡ Own (final_of p.quints) → RulesApart number (own_rule q) y
 own_apart number p loose tells q y h e state read =
     let occurs : Occurs p.quints q.state = record { quint = q; stands = h; names = inl refl } in
     let there = in_nth p.quints q h in
     loose.halts.none there.0 (record { quint = q; stands = there.1; leaves = tells.states q.state (final_of p.quints) occurs (final_occurs p.quints loose.machine.some) (state ∙ ap number e) })
 
 -- two of the machine's own
-owns_apart : (number : Name → ℕ) (p : Program) → TellsApart number p → (q r : Quint) → Has p.quints q → Has p.quints r → Apart q r → RulesApart number (renamed q) (renamed r)
+owns_apart : (number : Name → ℕ) (p : Program) → TellsApart number p → (q r : Quint) → Has p.quints q → Has p.quints r → Apart q r → RulesApart number (own_rule q) (own_rule r)
 owns_apart number p tells q r h k apart state read =
     let occurs : Occurs p.quints q.state = record { quint = q; stands = h; names = inl refl } in
     let also : Occurs p.quints r.state = record { quint = r; stands = k; names = inl refl } in
@@ -151,9 +151,9 @@ owns_apart number p tells q r h k apart state read =
 
 -- a rule of the middle and the last one
 last_apart : (number : Name → ℕ) (p : Program) → IsLoose p → TellsApart number p → (x : Rule) → Has (middle_of p) x → RulesApart number x (leaving (final_of p.quints))
-last_apart number p loose tells x h state read = elim (in_append_cases (map renamed p.quints) (back_over_all (final_of p.quints) 1 (p.symbols - 1)) x h) [
+last_apart number p loose tells x h state read = elim (in_append_cases (map own_rule p.quints) (back_over_all (final_of p.quints) 1 (p.symbols - 1)) x h) [
   | inl own ↦
-      let q = in_map_cases renamed p.quints x own in
+      let q = in_map_cases own_rule p.quints x own in
       own_apart number p loose tells q.0 (leaving (final_of p.quints)) q.1 refl (ap (λ (r : Rule). number r.state) (sym q.2) ∙ state) (ap (λ (r : Rule). r.read) (sym q.2) ∙ read)
   | inr back ↦
       let letter = back_over_cases (final_of p.quints) 1 (p.symbols - 1) x back in
@@ -163,11 +163,11 @@ last_apart number p loose tells x h state read = elim (in_append_cases (map rena
 
 -- the rules of the middle
 middle_apart : (number : Name → ℕ) (p : Program) → IsLoose p → TellsApart number p → Pairwise (RulesApart number) (middle_of p)
-middle_apart number p loose tells = pairwise_append (RulesApart number) (map renamed p.quints) (back_over_all (final_of p.quints) 1 (p.symbols - 1))
-    (pairwise_map Apart (RulesApart number) renamed p.quints (λ q r h k apart. owns_apart number p tells q r h k apart) (unambiguous_pairwise p.quints loose.unambiguous))
+middle_apart number p loose tells = pairwise_append (RulesApart number) (map own_rule p.quints) (back_over_all (final_of p.quints) 1 (p.symbols - 1))
+    (pairwise_map Apart (RulesApart number) own_rule p.quints (λ q r h k apart. owns_apart number p tells q r h k apart) (unambiguous_pairwise p.quints loose.unambiguous))
     (back_over_apart number (final_of p.quints) 1 (p.symbols - 1))
     (λ x y h k.
-    let q = in_map_cases renamed p.quints x h in
+    let q = in_map_cases own_rule p.quints x h in
     let letter = back_over_cases (final_of p.quints) 1 (p.symbols - 1) y k in
     subst (λ r. RulesApart number r y) (sym q.2) (own_apart number p loose tells q.0 y q.1 (ap (λ (r : Rule). r.state) letter.2)))
 
@@ -199,8 +199,8 @@ pub rules_counted : (number : Name → ℕ) (p : Program) → IsMachine p → le
 rules_counted number p machine =
     let all : length (standardised_by number p).quints ≡ length (rules_of p) = length-map (rules_of p) (numbered number) in
     let tail : length (middle_of p ++ leaving (final_of p.quints) ∷ []) ≡ length (middle_of p) + 1 = length-append (middle_of p) (leaving (final_of p.quints) ∷ []) in
-    let middle : length (middle_of p) ≡ length (map renamed p.quints) + length (back_over_all (final_of p.quints) 1 (p.symbols - 1)) = length-append (map renamed p.quints) (back_over_all (final_of p.quints) 1 (p.symbols - 1)) in
-    let own : length (map renamed p.quints) ≡ length p.quints = length-map p.quints renamed in
+    let middle : length (middle_of p) ≡ length (map own_rule p.quints) + length (back_over_all (final_of p.quints) 1 (p.symbols - 1)) = length-append (map own_rule p.quints) (back_over_all (final_of p.quints) 1 (p.symbols - 1)) in
+    let own : length (map own_rule p.quints) ≡ length p.quints = length-map p.quints own_rule in
     let back : length (back_over_all (final_of p.quints) 1 (p.symbols - 1)) ≡ p.symbols - 1 = length-back_over_all (final_of p.quints) 1 (p.symbols - 1) in
     let known : 0 < p.symbols = some_symbol p machine in
     let sum : length (rules_of p) ≡ length p.quints + p.symbols + 1 = omega (arith, tail, middle, own, back, known) in

@@ -1,10 +1,10 @@
 -- The lines of the list, one after another.
 use Rattle.std.proofs.Common.{◌≡◌, ◌∙◌, ◌≤◌, ◌<◌, ◌+◌, ◌++◌, ◌∷◌, ℕ, List, [], length, map, take, get_or, sym, ap}
 use Rattle.std.proofs.lemmas.List.{map-append, take_all, take_more}
-use Rattle.bn_entries.specs.Lines.{line_of, lines_of}
-use Rattle.bn_entries.proofs.LinesLemmas.{lines_of-push}
+use Rattle.bn_csv.specs.Lines.{line_of, lines_of}
+use Rattle.bn_csv.proofs.LinesLemmas.{lines_of-push}
 use Rattle.bn_table.specs.Entry.{entry_of, said}
-use Rattle.bn_entries.specs.Shifts.{shift_text}
+use Rattle.bn_machine.specs.Shifts.{shift_text}
 use Rattle.bn_standardise.specs.Printed.{name_text, rule_entry}
 use Rattle.bn_standardise.specs.declared.rule.Rule.{Rule}
 

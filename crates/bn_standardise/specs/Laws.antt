@@ -1,7 +1,7 @@
 -- What the laws of this crate say, each the contract of a function with an empty body.
 use Rattle.std.specs.Prelude.{◌≡◌, ◌≢◌, ℕ, ◌+◌, ◌^◌, ◌<◌, ◌≤◌, ◌↔◌, List, [], ◌∷◌, length}
 use Rattle.bn_machine.specs.Tape.{Tape}
-use Rattle.bn_machine.specs.Machine.{Program, program_of, Moment, IsMachine, IsFinal, IsStuck}
+use Rattle.bn_machine.specs.Machine.{Program, program_of, Moment, IsMachine, IsFinal, IsMachineStuck}
 use Rattle.bn_machine.specs.Run.{After}
 use Rattle.bn_machine.specs.declared.quint.Quint.{Quint}
 use Rattle.bn_machine.specs.declared.quint.Shift.{Shift}
@@ -80,8 +80,8 @@ HaltsBehind =
 abbrev pub SticksAlike : Type 0
 SticksAlike =
     (p : Program) → IsLoose p → (word : List ℕ) → IsWord p.symbols word
-    → (v : ℕ) (c : Moment) → Loose p word v c → IsStuck p c
-    → (e : Moment) × After (standardised p) word (v + 1) e × IsStuck (standardised p) e
+    → (v : ℕ) (c : Moment) → Loose p word v c → IsMachineStuck p c
+    → (e : Moment) × After (standardised p) word (v + 1) e × IsMachineStuck (standardised p) e
     × (e.state ≡ numbering_of p (Own c.state)) × (e.tape ≡ c.tape)
 
 -- the new machine halts on a word exactly where the loose run halts
@@ -94,8 +94,8 @@ HaltsTogether =
 abbrev pub SticksTogether : Type 0
 SticksTogether =
     (p : Program) → IsLoose p → (word : List ℕ) → IsWord p.symbols word
-    → (n : ℕ) (e : Moment) → After (standardised p) word n e → IsStuck (standardised p) e
-    → (v : ℕ) × (c : Moment) × (n ≡ v + 1) × Loose p word v c × IsStuck p c
+    → (n : ℕ) (e : Moment) → After (standardised p) word n e → IsMachineStuck (standardised p) e
+    → (v : ℕ) × (c : Moment) × (n ≡ v + 1) × Loose p word v c × IsMachineStuck p c
 
 -- ---- an example
 

@@ -1,9 +1,9 @@
 -- The text of the machine in standard form, with printed names for its states and the table's letters for its symbols
 -- (this project's own profile).
 use Rattle.std.specs.Prelude.{ℕ, ◌+◌, ◌<◌, List, [], ◌∷◌, map, slice_index, decimal}
-use Rattle.bn_entries.specs.Lines.{lines_of}
+use Rattle.bn_csv.specs.Lines.{lines_of}
 use Rattle.bn_table.specs.Entry.{entry_of}
-use Rattle.bn_table.specs.Rows.{Named, named}
+use Rattle.bn_table.specs.Rows.{Named, named_program}
 use Rattle.bn_standardise.specs.Limits.{most_states}
 use Rattle.bn_standardise.specs.Rules.{rules_of}
 use Rattle.bn_standardise.specs.Numbering.{distinct_names}
@@ -34,7 +34,8 @@ standard_lines t = lines_of (map (rule_entry t.letters) (rules_of t.machine))
 
 -- the table: the machine in standard form, its states' printed names, and the table's own letters
 abbrev pub standard_table : Named → Named
-standard_table t = named (standardised t.machine) (map name_text (distinct_names (rules_of t.machine))) t.letters
+standard_table t =
+    named_program (standardised t.machine) (map name_text (distinct_names (rules_of t.machine))) t.letters
 
 -- a name whose number may be that of a state of a table
 abbrev pub IsSmall : Name → Type 0

@@ -12,8 +12,8 @@ abbrev pub entering : ℕ → Rule
 entering start = record { state = First; read = 0; write = 0; shift = Right; next = Own start }
 
 -- a quintuple of the machine's own, with names for its states
-abbrev pub renamed : Quint → Rule
-renamed q = record { state = Own q.state; read = q.read; write = q.write; shift = q.shift; next = Own q.next }
+abbrev pub own_rule : Quint → Rule
+own_rule q = record { state = Own q.state; read = q.read; write = q.write; shift = q.shift; next = Own q.next }
 
 -- the halted machine steps back over a letter
 abbrev pub back_over : ℕ → ℕ → Rule
@@ -30,7 +30,7 @@ leaving halt = record { state = Own halt; read = 0; write = 0; shift = Stay; nex
 
 -- the machine's own rules, and those back over every symbol but the blank
 abbrev pub middle_of : Program → List Rule
-middle_of p = map renamed p.quints ++ back_over_all (final_of p.quints) 1 (p.symbols - 1)
+middle_of p = map own_rule p.quints ++ back_over_all (final_of p.quints) 1 (p.symbols - 1)
 
 -- the list, where the machine's halting state is the last quintuple's next
 abbrev pub rules_of : Program → List Rule

@@ -10,8 +10,6 @@ mod name;
 mod numbering;
 mod refusal;
 mod rule;
-#[cfg(test)]
-mod tests;
 mod text;
 
 pub use laws::{
@@ -22,3 +20,6 @@ pub use laws::{
 pub use machine::standardise;
 pub use refusal::LooseRefusal;
 pub use text::standard_text;
+
+#[cfg(test)]
+mod tests;

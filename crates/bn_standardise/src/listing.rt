@@ -4,7 +4,7 @@ ghost use Rattle.std.specs.Prelude.{◌≡◌, ◌-◌, ◌<◌, ◌++◌, ◌�
 ghost use Rattle.bn_standardise.specs.Rules as rules;
 
 use crate::rule::{Rule, back_over, entering, leaving, renamed};
-use bn_entries::NoMemory;
+use bn_csv::NoMemory;
 use bn_machine::{Machine, Quint};
 use std::alloc::Global;
 
@@ -20,7 +20,7 @@ fn add(list: &mut Vec<Rule>, rule: Rule) -> Result<(), NoMemory>
 
 // Adds the machine's own quintuples.
 fn add_own(list: &mut Vec<Rule>, quints: &[Quint]) -> Result<(), NoMemory>
-    ensures { OnOk result (list.new.items ≡ list.old.items ++ map rules.renamed quints.now) }
+    ensures { OnOk result (list.new.items ≡ list.old.items ++ map rules.own_rule quints.now) }
 {
     for quint in quints {
         add(list, renamed(quint))?;

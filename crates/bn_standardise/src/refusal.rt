@@ -1,6 +1,6 @@
 //! Why a machine isn't brought into standard form.
 
-use bn_entries::NoMemory;
+use bn_csv::NoMemory;
 
 /// Why a machine isn't brought into standard form: the first of three tests, in this order, that it doesn't pass.
 /// Quintuples are counted from 1.

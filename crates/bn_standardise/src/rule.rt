@@ -31,7 +31,7 @@ pub(crate) fn entering(start: u32) -> Rule
 
 /// A quintuple of the machine's own.
 pub(crate) fn renamed(quint: &Quint) -> Rule
-    ensures { result ≡ rules.renamed quint.now }
+    ensures { result ≡ rules.own_rule quint.now }
 {
     Rule {
         state: Name::Own(quint.state),

@@ -1,7 +1,7 @@
 //! The machine in standard form as the text of a table.
 
 ghost use Rattle.std.specs.Prelude.{◌≡◌, ◌++◌, All, IfOk, IfErr, OnOk, map};
-ghost use Rattle.bn_entries.specs.Lines.{line_of, lines_of};
+ghost use Rattle.bn_csv.specs.Lines.{line_of, lines_of};
 ghost use Rattle.bn_table.specs.Reading.{Reads};
 ghost use Rattle.bn_table.specs.Rows.{IsTable};
 ghost use Rattle.bn_standardise.specs.Rules.{rules_of};
@@ -13,7 +13,7 @@ use crate::listing::list_rules;
 use crate::name::text_of;
 use crate::refusal::LooseRefusal;
 use crate::rule::Rule;
-use bn_entries::{EntryWriter, NoMemory};
+use bn_csv::{EntryWriter, NoMemory};
 use bn_table::{Table, write_row};
 use std::alloc::Global;
 

@@ -8,13 +8,13 @@ use Rattle.std.proofs.lemmas.List.{length-map}
 use Rattle.std.proofs.lemmas.List.Elements.{All-head, All-tail}
 use Rattle.std.proofs.lemmas.Option.{slice_get-get_or}
 use Rattle.std.proofs.lemmas.Slice.Eq.{bytes_eq-Decides}
-use Rattle.bn_entries.specs.Forms.{is_symbol_byte}
-use Rattle.bn_entries.specs.Numbering.{AreNumberedByFirst, firsts, numbers_from}
-use Rattle.bn_entries.proofs.NumberingLemmas.{AreNumbersOf, apart-firsts, both_true, length-firsts, no_more_than, numbered-by-first}
+use Rattle.bn_csv.specs.Forms.{is_symbol_byte}
+use Rattle.bn_csv.specs.Numbering.{AreNumberedByFirst, firsts, numbers_from}
+use Rattle.bn_csv.proofs.NumberingLemmas.{AreNumbersOf, apart-firsts, both_true, length-firsts, no_more_than, numbered-by-first}
 use Rattle.bn_machine.specs.Machine.{IsInRange}
 use Rattle.bn_machine.specs.declared.quint.Quint.{Quint}
 use Rattle.bn_table.specs.declared.entry.TheConstants.{MOST_ENTRIES}
-use Rattle.bn_table.specs.Rows.{FitsTable, IsTable, Named, Spells, blank, letters_in, names_in, rows_by, rows_of, states_in}
+use Rattle.bn_table.specs.Rows.{FitsTable, IsTable, Named, SpellsQuintuples, blank, letters_in, names_in, rows_by, rows_of, states_in}
 
 in-numbers : (first count b : ℕ) → first ≤ b → b < first + count → list_any (nat_eq b) (numbers_from first count) ≡ true
 unfolding numbers_from
@@ -65,7 +65,7 @@ names-count : (entries : List (List (List ℕ))) → length (names_in entries) �
 names-count [] = refl
 names-count (fields ∷ rest) = let later = names-count rest in omega arith
 
-pub few-names : (names : List (List ℕ)) (letters : List ℕ) (quints : List Quint) (entries : List (List (List ℕ))) → Spells names letters quints entries
+pub few-names : (names : List (List ℕ)) (letters : List ℕ) (quints : List Quint) (entries : List (List (List ℕ))) → SpellsQuintuples names letters quints entries
     → length names ≤ 2 * length quints
 few-names names letters quints entries h =
     let most : length (firsts (names_in entries)) ≤ length (names_in entries) = length-firsts bytes_eq bytes_eq-Decides (names_in entries) in
@@ -73,7 +73,7 @@ few-names names letters quints entries h =
     let is : length names ≡ length (firsts (names_in entries)) = ap (λ (t : List (List ℕ)). length t) h.names_by_first in
     omega (arith, names-count entries)
 
-pub few-letters : (names : List (List ℕ)) (letters : List ℕ) (quints : List Quint) (entries : List (List (List ℕ))) → Spells names letters quints entries
+pub few-letters : (names : List (List ℕ)) (letters : List ℕ) (quints : List Quint) (entries : List (List (List ℕ))) → SpellsQuintuples names letters quints entries
     → length letters ≤ 91
 few-letters names letters quints entries h =
     let apart = rw (← h.letters_by_first) at (apart-firsts nat_eq Decides-eqb (blank ∷ letters_in entries)) in

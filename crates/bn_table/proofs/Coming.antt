@@ -1,7 +1,7 @@
 -- What the reader of a table keeps from one entry to the next.
 use Rattle.std.proofs.Common.{◌≡◌, ◌+◌, ◌∷◌, ◌++◌, ℕ, List, [], length, None}
 use Rattle.std.proofs.lemmas.List.{length-map}
-use Rattle.bn_entries.proofs.FaultLemmas.{HasTaken, taken_more, taken_none}
+use Rattle.bn_csv.proofs.FaultLemmas.{HasTaken, taken_more, taken_none}
 use Rattle.bn_table.specs.Draft.{IsDraft, drafted}
 use Rattle.bn_table.specs.Faults.{entry_fault, form_fault}
 use Rattle.bn_table.specs.declared.draft.Draft.{Draft}

@@ -6,14 +6,15 @@ use Rattle.std.proofs.lemmas.List.{map-append}
 use Rattle.std.proofs.lemmas.List.Concat.{flat_map-append}
 use Rattle.std.proofs.lemmas.List.Elements.{All-nil, All-push, All-head, All-tail, All-weaker}
 use Rattle.std.proofs.lemmas.Option.{slice_get_within, get_or_from_slice_get}
-use Rattle.bn_entries.specs.Forms.{is_state_name, is_symbol_byte}
-use Rattle.bn_entries.specs.Numbering.{firsts, firsts_by, with_name}
-use Rattle.bn_entries.proofs.NumberingLemmas.{firsts-push, firsts_push}
-use Rattle.bn_entries.proofs.AddedLemmas.{front, new_all, new_grows}
+use Rattle.bn_csv.specs.Forms.{is_state_name, is_symbol_byte}
+use Rattle.bn_csv.specs.Numbering.{firsts, firsts_by, with_name}
+use Rattle.bn_csv.proofs.NumberingLemmas.{firsts-push, firsts_push}
+use Rattle.bn_csv.proofs.AddedLemmas.{front, new_all, new_grows}
 use Rattle.bn_machine.specs.Machine.{IsInRange}
 use Rattle.bn_machine.specs.declared.quint.Quint.{Quint}
 use Rattle.bn_table.specs.Entry.{Said, entry_of}
-use Rattle.bn_table.specs.Rows.{Spells, blank, field_at, letters_in, names_in, rows_by, said_of, with_letter}
+use Rattle.bn_table.specs.Rows.{SpellsQuintuples, blank, letters_in, names_in, rows_by, said_of, with_letter}
+use Rattle.bn_csv.specs.Entries.{field_at}
 
 -- the entries of quintuples stay when names and letters are added
 rows-stay : (names more : List (List ℕ)) (letters extra : List ℕ) (quints : List Quint) → All (IsInRange (length names) (length letters)) quints
@@ -67,8 +68,8 @@ letters-after entries s =
 
 -- one more entry, and its quintuple
 pub spells-more : (names : List (List ℕ)) (letters : List ℕ) (quints : List Quint) (entries : List (List (List ℕ))) (s : Said) (q : Quint) (names2 : List (List ℕ)) (letters2 : List ℕ)
-    → Spells names letters quints entries → Adds names letters s q names2 letters2
-    → Spells names2 letters2 (quints ++ q ∷ []) (entries ++ entry_of s ∷ [])
+    → SpellsQuintuples names letters quints entries → Adds names letters s q names2 letters2
+    → SpellsQuintuples names2 letters2 (quints ++ q ∷ []) (entries ++ entry_of s ∷ [])
 spells-more names letters quints entries s q names2 letters2 h a =
     let (m1, first) = new_grows bytes_eq names s.state in
     let (m2, second) = new_grows bytes_eq (with_name names s.state) s.next in
@@ -95,24 +96,24 @@ spells-more names letters quints entries s q names2 letters2 h a =
     }
 
 -- no entry
-pub spells-none : Spells [] (blank ∷ []) [] []
+pub spells-none : SpellsQuintuples [] (blank ∷ []) [] []
 unfolding firsts_by
 spells-none = record { rows = refl; in_range = All-nil (IsInRange 0 1); names_by_first = refl; letters_by_first = refl; names_form = refl; letters_form = refl }
 
 pub none-drafted : (names : List (List ℕ)) (letters : List ℕ) (quints : List Quint) → names ≡ [] → letters ≡ blank ∷ [] → quints ≡ []
-    → Spells names letters quints (rows_by names letters quints) × (rows_by names letters quints ≡ [])
+    → SpellsQuintuples names letters quints (rows_by names letters quints) × (rows_by names letters quints ≡ [])
 none-drafted names letters quints a b c = rw (a, b, c) (spells-none, refl)
 
 -- quintuples have their own entries
-pub spells-own : (names : List (List ℕ)) (letters : List ℕ) (quints : List Quint) (entries : List (List (List ℕ))) → Spells names letters quints entries
-    → Spells names letters quints (rows_by names letters quints)
+pub spells-own : (names : List (List ℕ)) (letters : List ℕ) (quints : List Quint) (entries : List (List (List ℕ))) → SpellsQuintuples names letters quints entries
+    → SpellsQuintuples names letters quints (rows_by names letters quints)
 spells-own names letters quints entries h =
-    let P : List (List (List ℕ)) → Type 0 = λ rows. Spells names letters quints rows in subst P (sym h.rows) h
+    let P : List (List (List ℕ)) → Type 0 = λ rows. SpellsQuintuples names letters quints rows in subst P (sym h.rows) h
 
 -- one more entry of a draft
 pub one-drafted : (names : List (List ℕ)) (letters : List ℕ) (quints : List Quint) (s : Said) (q : Quint) (names2 : List (List ℕ)) (letters2 : List ℕ) (quints2 : List Quint)
-    → Spells names letters quints (rows_by names letters quints) → Adds names letters s q names2 letters2 → quints2 ≡ quints ++ q ∷ []
-    → Spells names2 letters2 quints2 (rows_by names2 letters2 quints2) × (rows_by names2 letters2 quints2 ≡ rows_by names letters quints ++ entry_of s ∷ [])
+    → SpellsQuintuples names letters quints (rows_by names letters quints) → Adds names letters s q names2 letters2 → quints2 ≡ quints ++ q ∷ []
+    → SpellsQuintuples names2 letters2 quints2 (rows_by names2 letters2 quints2) × (rows_by names2 letters2 quints2 ≡ rows_by names letters quints ++ entry_of s ∷ [])
 one-drafted names letters quints s q names2 letters2 quints2 h a e =
     let more = spells-more names letters quints (rows_by names letters quints) s q names2 letters2 h a in
     rw e (spells-own names2 letters2 (quints ++ q ∷ []) (rows_by names letters quints ++ entry_of s ∷ []) more, more.rows)

@@ -7,7 +7,7 @@ use Rattle.std.proofs.lemmas.Bool.Decides.{Decides-eqb}
 use Rattle.std.proofs.lemmas.List.Folds.{list_any_at}
 use Rattle.std.proofs.lemmas.List.Quantifiers.{position-Some}
 use Rattle.std.proofs.lemmas.Option.{slice_get-get_or}
-use Rattle.bn_entries.proofs.NumberingLemmas.{any-at}
+use Rattle.bn_csv.proofs.NumberingLemmas.{any-at}
 
 -- a letter that has a place is there
 pub found : (letter : ℕ) (letters : List ℕ) (n : ℕ) → position (λ known. known == letter) letters ≡ Some n

@@ -3,17 +3,17 @@ use Rattle.std.proofs.Common.{◌≡◌, ◌≤◌, ◌∷◌, ◌∙◌, ℕ, t
 use Rattle.std.specs.Prelude.{◌==◌}
 use Rattle.std.proofs.lemmas.Bool.{false≢true}
 use Rattle.std.proofs.lemmas.Bool.Decides.{Decides-eqb}
-use Rattle.bn_entries.specs.Forms.{is_letter, is_state_name, is_symbol_byte}
-use Rattle.bn_entries.proofs.FaultLemmas.{in_number, passed, within_number}
-use Rattle.bn_entries.proofs.NumberingLemmas.{both_true}
+use Rattle.bn_csv.specs.Forms.{is_letter, is_state_name, is_symbol_byte}
+use Rattle.bn_csv.proofs.FaultLemmas.{in_number, passed, within_number}
+use Rattle.bn_csv.proofs.NumberingLemmas.{both_true}
 use Rattle.bn_machine.specs.declared.quint.Shift.{Shift}
 use Rattle.bn_machine.specs.declared.quint.Shift.TheVariants.{Left, Stay, Right}
 use Rattle.bn_table.specs.Entry.{Said, HasForms, entry_of}
-use Rattle.bn_entries.specs.Shifts.{is_shift, shift_text}
+use Rattle.bn_machine.specs.Shifts.{is_shift, shift_text}
 use Rattle.bn_table.specs.Faults.{entry_fault, field_fault, form_fault}
 use Rattle.bn_table.specs.declared.entry.TheConstants.{MOST_ENTRIES}
 use Rattle.bn_table.specs.declared.refusal.TableRefusal.TheVariants as refusal
-use Rattle.bn_entries.proofs.ShiftLemmas.{shift_is}
+use Rattle.bn_machine.proofs.ShiftLemmas.{shift_is}
 
 -- five fields
 pub five_is : (fields : List (List ℕ)) (a b c d e : List ℕ) → length fields ≡ 5 → slice_get fields 0 ≡ Some a → slice_get fields 1 ≡ Some b

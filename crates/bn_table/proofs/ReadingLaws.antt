@@ -6,24 +6,24 @@ use Rattle.std.proofs.lemmas.Bool.Decides.{Decides-eqb}
 use Rattle.std.proofs.lemmas.List.Elements.{All-head, All-tail}
 use Rattle.std.proofs.lemmas.Option.{slice_get-get_or}
 use Rattle.std.proofs.lemmas.Slice.Eq.{bytes_eq-Decides}
-use Rattle.bn_entries.specs.Forms.{is_state_name, is_symbol_byte}
-use Rattle.bn_entries.proofs.FormsLemmas.{all-at}
-use Rattle.bn_entries.specs.Numbering.{with_name}
-use Rattle.bn_entries.specs.NumberingLaws.{AreApart}
-use Rattle.bn_entries.proofs.AddedLemmas.{first_number, last_number, same_at}
-use Rattle.bn_entries.proofs.FaultLemmas.{kept_to_last, none_faulty}
-use Rattle.bn_entries.proofs.NumberingLemmas.{apart-firsts}
+use Rattle.bn_csv.specs.Forms.{is_state_name, is_symbol_byte}
+use Rattle.bn_csv.proofs.FormsLemmas.{all-at}
+use Rattle.bn_csv.specs.Numbering.{with_name}
+use Rattle.bn_csv.specs.NumberingLaws.{AreApart}
+use Rattle.bn_csv.proofs.AddedLemmas.{first_number, last_number, same_at}
+use Rattle.bn_csv.proofs.FaultLemmas.{kept_to_last, none_faulty}
+use Rattle.bn_csv.proofs.NumberingLemmas.{apart-firsts}
 use Rattle.bn_machine.specs.Machine.{IsInRange, program_of}
 use Rattle.bn_machine.specs.declared.quint.Quint.{Quint}
 use Rattle.bn_table.specs.Entry.{Said, HasForms, entry_of}
-use Rattle.bn_entries.specs.Shifts.{shift_text}
-use Rattle.bn_table.specs.Faults.{entry_fault, fault_of}
-use Rattle.bn_table.specs.Rows.{IsTableOf, Named, Spells, blank, letters_in, named, names_in, rows_by, said_of, with_letter}
+use Rattle.bn_machine.specs.Shifts.{shift_text}
+use Rattle.bn_table.specs.Faults.{entry_fault, table_fault}
+use Rattle.bn_table.specs.Rows.{IsTableOf, Named, SpellsQuintuples, blank, letters_in, named_program, names_in, rows_by, said_of, with_letter}
 use Rattle.bn_table.specs.declared.entry.TheConstants.{MOST_ENTRIES}
 use Rattle.bn_table.specs.declared.refusal.TableRefusal.TheVariants as refusal
 use Rattle.bn_table.proofs.Growing.{Adds, spells-more, spells-none}
 use Rattle.bn_table.proofs.Passing.{no_fault, says}
-use Rattle.bn_entries.proofs.ShiftLemmas.{one_shift}
+use Rattle.bn_machine.proofs.ShiftLemmas.{one_shift}
 
 -- ---- one reading
 
@@ -64,11 +64,11 @@ same-rows names letters a b (q ∷ qs) (r ∷ rs) h k e =
     λ i. one i ∷ rest i
 
 one-spelling : (entries : List (List (List ℕ))) (names names2 : List (List ℕ)) (letters letters2 : List ℕ) (qs rs : List Quint)
-    → names2 ≡ names → letters2 ≡ letters → Spells names letters qs entries → Spells names2 letters2 rs entries → qs ≡ rs
+    → names2 ≡ names → letters2 ≡ letters → SpellsQuintuples names letters qs entries → SpellsQuintuples names2 letters2 rs entries → qs ≡ rs
 one-spelling entries names names2 letters letters2 qs rs e f h k =
     let apart = rw (← h.names_by_first) at (apart-firsts bytes_eq bytes_eq-Decides (names_in entries)) in
     let free = rw (← h.letters_by_first) at (apart-firsts nat_eq Decides-eqb (blank ∷ letters_in entries)) in
-    let other : Spells names letters rs entries = rw (e, f) at k in
+    let other : SpellsQuintuples names letters rs entries = rw (e, f) at k in
     same-rows names letters apart free qs rs h.in_range other.in_range (h.rows ∙ sym other.rows)
 
 pub one_reading : (entries : List (List (List ℕ))) (t u : Named) → IsTableOf entries t → IsTableOf entries u → t ≡ u
@@ -87,10 +87,10 @@ record Spelling (entries : List (List (List ℕ))) : Type 0 where
   names : List (List ℕ)
   letters : List ℕ
   quints : List Quint
-  spells : Spells names letters quints entries
+  spells : SpellsQuintuples names letters quints entries
   few : length entries ≤ MOST_ENTRIES
 
-one-more : (names : List (List ℕ)) (letters : List ℕ) (quints : List Quint) (done : List (List (List ℕ))) (s : Said) → HasForms s → Spells names letters quints done → length done + 1 ≤ MOST_ENTRIES
+one-more : (names : List (List ℕ)) (letters : List ℕ) (quints : List Quint) (done : List (List (List ℕ))) (s : Said) → HasForms s → SpellsQuintuples names letters quints done → length done + 1 ≤ MOST_ENTRIES
     → Spelling (done ++ entry_of s ∷ [])
 one-more names letters quints done s f h few =
     let (n1, state) = first_number bytes_eq bytes_eq-Decides names s.state s.next in
@@ -128,10 +128,10 @@ next-spelling done fields so here =
     let (s, is, f) = said in
     rw is (one-more so.names so.letters so.quints done s f so.spells few)
 
-pub reading_of : (entries : List (List (List ℕ))) → fault_of entries ≡ None → (t : Named) × IsTableOf entries t
+pub reading_of : (entries : List (List (List ℕ))) → table_fault entries ≡ None → (t : Named) × IsTableOf entries t
 reading_of entries e =
     let (some, so) = kept_to_last refusal.Empty entry_fault Spelling nothing next-spelling entries e in (
-      named (program_of so.quints (length so.names) (length so.letters)) so.names so.letters,
+      named_program (program_of so.quints (length so.names) (length so.letters)) so.names so.letters,
       record { spelled = so.spells; some = some; few = so.few; states = refl; symbols = refl },
     )
 
@@ -144,7 +144,7 @@ row-forms names letters q f g h = record {
   next = all-at is_state_name names q.next _ f (slice_get-get_or names q.next [] h.next);
 }
 
-pub no_fault_of : (entries : List (List (List ℕ))) (t : Named) → IsTableOf entries t → fault_of entries ≡ None
+pub no_fault_of : (entries : List (List (List ℕ))) (t : Named) → IsTableOf entries t → table_fault entries ≡ None
 no_fault_of entries t h =
     let s = h.spelled in
     let In : Quint → Type 0 = IsInRange (length t.names) (length t.letters) in

@@ -3,8 +3,8 @@ use Rattle.std.proofs.Common.{◌≡◌, ℕ, List, Some, slice_get, nat_eq, ref
 use Rattle.std.specs.Prelude.{bytes_eq}
 use Rattle.std.proofs.lemmas.Bool.Decides.{Decides-eqb}
 use Rattle.std.proofs.lemmas.Slice.Eq.{bytes_eq-Decides}
-use Rattle.bn_entries.specs.Numbering.{firsts_by}
-use Rattle.bn_entries.proofs.NumberingLemmas.{apart-firsts, one_number}
+use Rattle.bn_csv.specs.Numbering.{firsts_by}
+use Rattle.bn_csv.proofs.NumberingLemmas.{apart-firsts, one_number}
 use Rattle.bn_table.specs.Rows.{IsTable, Named, blank, letters_in, names_in, rows_of}
 
 -- symbol 0 has the blank's letter

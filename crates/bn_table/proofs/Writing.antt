@@ -3,17 +3,17 @@ use Rattle.std.proofs.Common.{◌≡◌, ◌<◌, ◌≤◌, ◌+◌, ◌∷◌,
 use Rattle.std.specs.List.{list_all}
 use Rattle.std.proofs.lemmas.List.{map-append, take_all, take_more}
 use Rattle.std.proofs.lemmas.List.Elements.{All-head, All-tail}
-use Rattle.bn_entries.specs.Entries.{entries_of}
-use Rattle.bn_entries.specs.Forms.{is_state_name, is_symbol_byte}
-use Rattle.bn_entries.proofs.FormsLemmas.{plain-state-name, plain-symbol-byte}
-use Rattle.bn_entries.specs.Lines.{is_plain, is_plain_entry, line_of, lines_of}
-use Rattle.bn_entries.proofs.LinesLemmas.{entries_of-lines_of, lines_of-push}
+use Rattle.bn_csv.specs.Entries.{entries_of}
+use Rattle.bn_csv.specs.Forms.{is_state_name, is_symbol_byte}
+use Rattle.bn_csv.proofs.FormsLemmas.{plain-state-name, plain-symbol-byte}
+use Rattle.bn_csv.specs.Lines.{is_plain, is_plain_entry, line_of, lines_of}
+use Rattle.bn_csv.proofs.LinesLemmas.{entries_of-lines_of, lines_of-push}
 use Rattle.bn_machine.specs.Machine.{IsInRange}
 use Rattle.bn_machine.specs.declared.quint.Quint.{Quint}
 use Rattle.bn_machine.specs.declared.quint.Shift.{Shift}
 use Rattle.bn_machine.specs.declared.quint.Shift.TheVariants.{Left, Stay, Right}
 use Rattle.bn_table.specs.Entry.{Said, HasForms, entry_of}
-use Rattle.bn_entries.specs.Shifts.{shift_text}
+use Rattle.bn_machine.specs.Shifts.{shift_text}
 use Rattle.bn_table.specs.Reading.{Reads}
 use Rattle.bn_table.specs.Rows.{IsTable, IsTableOf, Named, rows_by, rows_of, said_of}
 use Rattle.bn_table.proofs.ReadingLaws.{row-forms}

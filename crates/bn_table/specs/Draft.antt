@@ -1,6 +1,6 @@
 -- What a table that is being read has come to.
 use Rattle.std.specs.Prelude.{ℕ, List}
-use Rattle.bn_table.specs.Rows.{Spells, rows_by}
+use Rattle.bn_table.specs.Rows.{SpellsQuintuples, rows_by}
 use Rattle.bn_table.specs.declared.draft.Draft.{Draft}
 
 -- the entries of a draft's quintuples
@@ -9,4 +9,4 @@ drafted d = rows_by d.names d.letters.items d.quints.items
 
 -- the draft's names and letters are those of its entries
 abbrev pub IsDraft : Draft → Type 0
-IsDraft d = Spells d.names d.letters.items d.quints.items (drafted d)
+IsDraft d = SpellsQuintuples d.names d.letters.items d.quints.items (drafted d)

@@ -1,8 +1,8 @@
 -- The five fields of a quintuple's entry (this project's own profile).
 use Rattle.std.specs.Prelude.{◌≡◌, true, ℕ, List, [], ◌∷◌}
-use Rattle.bn_entries.specs.Forms.{is_state_name, is_symbol_byte}
+use Rattle.bn_csv.specs.Forms.{is_state_name, is_symbol_byte}
 use Rattle.bn_machine.specs.declared.quint.Shift.{Shift}
-use Rattle.bn_entries.specs.Shifts.{shift_text}
+use Rattle.bn_machine.specs.Shifts.{shift_text}
 
 -- what an entry says: a state's name, the letter read, the letter written, a shift, and the next state's name
 pub record Said : Type 0 where

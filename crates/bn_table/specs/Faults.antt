@@ -1,8 +1,8 @@
 -- The first fault of a table's entries. Entries and fields are counted from 1.
 use Rattle.std.specs.Prelude.{ℕ, not, if◌then◌else◌, List, [], ◌∷◌, Option, Some, None}
-use Rattle.bn_entries.specs.Faults.{first_fault, limited}
-use Rattle.bn_entries.specs.Forms.{is_letter, is_state_name}
-use Rattle.bn_entries.specs.Shifts.{is_shift}
+use Rattle.bn_csv.specs.Faults.{first_fault, limited}
+use Rattle.bn_csv.specs.Forms.{is_letter, is_state_name}
+use Rattle.bn_machine.specs.Shifts.{is_shift}
 use Rattle.bn_table.specs.declared.entry.TheConstants.{MOST_ENTRIES}
 use Rattle.bn_table.specs.declared.refusal.TableRefusal.{TableRefusal}
 use Rattle.bn_table.specs.declared.refusal.TableRefusal.TheVariants as refusal
@@ -27,5 +27,5 @@ abbrev pub entry_fault : ℕ → List (List ℕ) → Option TableRefusal
 entry_fault entry fields = limited MOST_ENTRIES refusal.TooMany form_fault entry fields
 
 -- the fault of a table's entries: there is none, or the first faulty entry's first fault
-abbrev pub fault_of : List (List (List ℕ)) → Option TableRefusal
-fault_of entries = first_fault refusal.Empty entry_fault entries
+abbrev pub table_fault : List (List (List ℕ)) → Option TableRefusal
+table_fault entries = first_fault refusal.Empty entry_fault entries

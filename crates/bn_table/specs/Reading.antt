@@ -1,7 +1,7 @@
 -- The reading of bytes as a table of quintuples (this project's own profile).
 use Rattle.std.specs.Prelude.{◌≡◌, ℕ, List, None, ◌↔◌}
-use Rattle.bn_entries.specs.Entries.{entries_of}
-use Rattle.bn_table.specs.Faults.{fault_of}
+use Rattle.bn_csv.specs.Entries.{entries_of}
+use Rattle.bn_table.specs.Faults.{table_fault}
 use Rattle.bn_table.specs.Rows.{IsTableOf, Named}
 
 -- the bytes read as this table: it has the bytes' entries
@@ -14,4 +14,4 @@ OneReading = (bytes : List ℕ) (t u : Named) → Reads bytes t → Reads bytes 
 
 -- bytes have a reading exactly where their entries have no fault
 abbrev pub ReadingOrFault : Type 0
-ReadingOrFault = (bytes : List ℕ) → (fault_of (entries_of bytes) ≡ None) ↔ ((t : Named) × Reads bytes t)
+ReadingOrFault = (bytes : List ℕ) → (table_fault (entries_of bytes) ≡ None) ↔ ((t : Named) × Reads bytes t)

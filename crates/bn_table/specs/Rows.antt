@@ -2,12 +2,13 @@
 use Rattle.std.specs.Prelude.{◌≡◌, ℕ, ◌<◌, ◌≤◌, ◌∷◌, ◌++◌, [], List, true, length, map, All, if◌then◌else◌}
 use Rattle.std.specs.Prelude.{◌*◌, nat_eq, slice_index, slice_index_or}
 use Rattle.std.specs.List.{flat_map, list_all, list_any}
-use Rattle.bn_entries.specs.Forms.{is_state_name, is_symbol_byte}
-use Rattle.bn_entries.specs.Numbering.{AreNumberedByFirst, firsts, firsts_by}
+use Rattle.bn_csv.specs.Forms.{is_state_name, is_symbol_byte}
+use Rattle.bn_csv.specs.Numbering.{AreNumberedByFirst, firsts, firsts_by}
 use Rattle.bn_machine.specs.Machine.{IsInRange, Program}
 use Rattle.bn_machine.specs.declared.quint.Quint.{Quint}
 use Rattle.bn_table.specs.Entry.{Said, entry_of}
 use Rattle.bn_table.specs.declared.entry.TheConstants.{MOST_ENTRIES}
+use Rattle.bn_csv.specs.Entries.{field_at}
 
 -- a machine whose states have names and whose symbols have letters, each by its number
 pub record Named : Type 0 where
@@ -15,8 +16,8 @@ pub record Named : Type 0 where
   pub names : List (List ℕ)
   pub letters : List ℕ
 
-abbrev pub named : Program → List (List ℕ) → List ℕ → Named
-named p names letters = record { machine = p; names = names; letters = letters }
+abbrev pub named_program : Program → List (List ℕ) → List ℕ → Named
+named_program p names letters = record { machine = p; names = names; letters = letters }
 
 -- what a quintuple's entry says, by the names of its states and the letters of its symbols
 abbrev pub said_of : List (List ℕ) → List ℕ → Quint → Said
@@ -36,10 +37,6 @@ rows_by names letters quints = map (λ q. entry_of (said_of names letters q)) qu
 abbrev pub rows_of : Named → List (List (List ℕ))
 rows_of t = rows_by t.names t.letters t.machine.quints
 
--- a field of an entry, by its place counted from 0
-abbrev pub field_at : List (List ℕ) → ℕ → List ℕ
-field_at fields place = slice_index_or fields place []
-
 -- the names of states in entries, in the order in which they appear: in each entry its first field, then its last
 abbrev pub names_in : List (List (List ℕ)) → List (List ℕ)
 names_in entries = flat_map (λ fields. field_at fields 0 ∷ field_at fields 4 ∷ []) entries
@@ -54,7 +51,7 @@ blank = 95
 
 -- these quintuples have these entries, where the states' names and the letters are numbered by their first
 -- appearance in the entries, the blank's letter before all others
-pub record Spells
+pub record SpellsQuintuples
     (names : List (List ℕ)) (letters : List ℕ) (quints : List Quint) (entries : List (List (List ℕ))) : Type 0 where
   pub rows : rows_by names letters quints ≡ entries
   pub in_range : All (IsInRange (length names) (length letters)) quints
@@ -65,7 +62,7 @@ pub record Spells
 
 -- a table has these entries, of which there is one at least, and as many at most as a table may have
 pub record IsTableOf (entries : List (List (List ℕ))) (t : Named) : Type 0 where
-  pub spelled : Spells t.names t.letters t.machine.quints entries
+  pub spelled : SpellsQuintuples t.names t.letters t.machine.quints entries
   pub some : 0 < length entries
   pub few : length entries ≤ MOST_ENTRIES
   pub states : t.machine.states ≡ length t.names

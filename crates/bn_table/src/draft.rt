@@ -13,7 +13,7 @@ ghost use Rattle.bn_table.specs.declared.entry.TheConstants.{MOST_ENTRIES};
 use crate::entry::{Fields, read_fields};
 use crate::refusal::TableRefusal;
 use crate::table::{Table, place_of};
-use bn_entries::{Entry, Names, NoMemory};
+use bn_csv::{Entry, Names, NoMemory};
 use bn_machine::{Machine, MachineRefusal, Quint};
 use std::alloc::Global;
 

@@ -1,14 +1,14 @@
 //! One entry of a table of quintuples.
 
 ghost use Rattle.std.specs.Prelude.{◌≡◌, ◌∷◌, [], true, false, MatchOption, IfOk};
-ghost use Rattle.bn_entries.specs.Forms.{is_letter as letter_form};
+ghost use Rattle.bn_csv.specs.Forms.{is_letter as letter_form};
 ghost use Rattle.bn_table.specs.Entry.{entry_of};
 ghost use Rattle.bn_table.specs.Fields.{said, err_of};
 ghost use Rattle.bn_table.specs.Faults.{entry_fault, field_fault};
 
 use crate::refusal::TableRefusal;
-use bn_entries::{Entry, is_letter, is_state_name, shift_of};
-use bn_machine::Shift;
+use bn_csv::{Entry, is_letter, is_state_name};
+use bn_machine::{Shift, shift_of};
 
 /// The most entries of a table.
 pub const MOST_ENTRIES: u32 = 4000;

@@ -2,7 +2,7 @@
 
 ghost use Rattle.std.specs.Prelude.{◌≡◌, ◌<◌, Some, slice_get, IfSome, IfNone, Contains, position, ◌==◌};
 
-use bn_entries::Names;
+use bn_csv::Names;
 use bn_machine::Machine;
 use std::marker::Model;
 
@@ -25,13 +25,13 @@ pub struct Table {
 }
 
 impl Model for Table {
-    ghost use Rattle.bn_table.specs.Rows.{Named, named, IsTable};
+    ghost use Rattle.bn_table.specs.Rows.{Named, named_program, IsTable};
 
     ghost Value = { Named };
 
-    ghost view = { λ t. named t.machine t.names t.letters.items };
+    ghost view = { λ t. named_program t.machine t.names t.letters.items };
 
-    ghost invariant = { λ t. IsTable (named t.machine t.names t.letters.items) };
+    ghost invariant = { λ t. IsTable (named_program t.machine t.names t.letters.items) };
 }
 
 impl Table {

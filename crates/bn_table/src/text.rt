@@ -1,11 +1,11 @@
 //! Reading and writing the text of a table.
 
 ghost use Rattle.std.specs.Prelude.{◌≡◌, ◌<◌, ◌++◌, ◌∷◌, [], true, ◌≢◌, Some, IfOk, IfErr, OnOk};
-ghost use Rattle.bn_entries.specs.Entries.{entries_of};
-ghost use Rattle.bn_entries.specs.Lines.{is_plain_entry, line_of, lines_of};
+ghost use Rattle.bn_csv.specs.Entries.{entries_of};
+ghost use Rattle.bn_csv.specs.Lines.{is_plain_entry, line_of, lines_of};
 ghost use Rattle.bn_machine.specs.Machine.{IsInRange};
 ghost use Rattle.bn_table.specs.Entry.{HasForms, entry_of, said};
-ghost use Rattle.bn_table.specs.Faults.{fault_of};
+ghost use Rattle.bn_table.specs.Faults.{table_fault};
 ghost use Rattle.bn_table.specs.Reading.{Reads};
 ghost use Rattle.bn_table.specs.Rows.{IsTable, rows_of, said_of};
 ghost use Rattle.bn_table.specs.declared.refusal.TableRefusal.TheVariants as refusal;
@@ -13,8 +13,8 @@ ghost use Rattle.bn_table.specs.declared.refusal.TableRefusal.TheVariants as ref
 use crate::draft::{add_entry, into_table, new_draft};
 use crate::refusal::TableRefusal;
 use crate::table::Table;
-use bn_entries::{Entries, Entry, EntryWriter, NoMemory, text_of_shift};
-use bn_machine::{Quint, Shift};
+use bn_csv::{Entries, Entry, EntryWriter, NoMemory};
+use bn_machine::{Quint, Shift, text_of_shift};
 use std::alloc::Global;
 
 /// Reads the bytes of a table: csv records without a header, each with a state's name, the letter read, the
@@ -22,7 +22,7 @@ use std::alloc::Global;
 /// one; each refusal but `NoMemory` comes exactly where it is the entries' first fault.
 pub fn read_quints(alloc: Global, bytes: &[u8]) -> Result<Table, TableRefusal>
     ensures ok { IfOk result (Reads bytes.now) }
-    ensures refused { IfErr result (λ e. e ≢ refusal.NoMemory → fault_of (entries_of bytes.now) ≡ Some e) }
+    ensures refused { IfErr result (λ e. e ≢ refusal.NoMemory → table_fault (entries_of bytes.now) ≡ Some e) }
 {
     let mut entries = Entries::new(alloc, bytes);
     let mut entry = Entry::new(alloc);

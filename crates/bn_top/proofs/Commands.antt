@@ -1,52 +1,55 @@
 -- What each command's form needs of proofs: the law that it has one answer and only one, and that its reply is the one to the request.
 use Rattle.std.specs.Prelude.{◌≡◌, ℕ, ◌≤◌, List, [], Option, Some, None, Result, slice_get, IfOk, OnErr, refl}
 use Rattle.std.proofs.Common.{sym, subst, ◌∙◌}
-use Rattle.bn_theory.specs.declared.place.Place.{Place}
+use Rattle.bn_circuits.specs.declared.place.Place.{Place}
 use Rattle.bn_machine.specs.Outcome.{Limits}
 use Rattle.bn_words.specs.Forms.{most_increments, row_of}
 use Rattle.bn_base.specs.declared.limits.TheConstants.{MOST_COUNT}
 use Rattle.bn_words.specs.Requests.{AreWithin, HasForm, Request, letters_at, number_at}
 use Rattle.bn_words.specs.declared.form.Form.{Form}
 use Rattle.bn_words.specs.declared.form.Form.TheVariants.{Step, Back, Check, Machine, Reversible, Bennett, Realise, Standard}
-use Rattle.bn_words.specs.declared.form.Form.TheVariants.{Compile, Run, RunWithin, View, Session, Plan, Generate, Erase, EraseRun}
+use Rattle.bn_words.specs.declared.form.Form.TheVariants.{Compile, Run, RunWithin, RunAuto, View, Session, Plan, Migrate, Generate, Erase, EraseRun}
 use Rattle.bn_words.specs.declared.kind.Kind.{Kind}
 use Rattle.bn_words.specs.declared.kind.Kind.TheVariants.{Count, Ordinal}
 use Rattle.bn_words.proofs.ArgumentLemmas.{count_most, form-AreWithin, ordinal_least, ordinal_most}
+use Rattle.bn_windows_laws.specs.AutoReply.{AutoReplies}
+use Rattle.bn_reply_windows.proofs.ClosedLemmas.{auto_settled}
 use Rattle.bn_reply.specs.Answering.{IsSettled}
 use Rattle.bn_reply.specs.Replying.{IsReplied, IsUnfinished}
 use Rattle.bn_reply.specs.declared.reply.Reply.{Reply}
 use Rattle.bn_reply.specs.declared.status.Status.{Status}
 use Rattle.bn_lists.specs.declared.memory.NoMemory.{NoMemory as WantOfMemory}
 use Rattle.bn_reply.proofs.ReplyLemmas.{silent}
-use Rattle.bn_erasereply.specs.EraseReply.{EraseReplies, EraseRunReplies}
-use Rattle.bn_erasereply.proofs.SettledLemmas.{erase_settled, erase_run_settled}
+use Rattle.bn_reply_erase.specs.EraseReply.{EraseReplies, EraseRunReplies}
+use Rattle.bn_reply_erase.proofs.SettledLemmas.{erase_settled, erase_run_settled}
 use Rattle.bn_gen.specs.Increments.{IsRoundCount}
-use Rattle.bn_genreply.specs.GenerateReply.{GenerateReplies}
-use Rattle.bn_genreply.proofs.GenerateLemmas.{generate_settled}
-use Rattle.bn_netreply.specs.CircuitReply.{BackReplies, StepReplies}
-use Rattle.bn_netreply.specs.RealiseReply.{RealiseReplies}
-use Rattle.bn_netreply.proofs.CircuitLemmas.{back_settled, step_settled}
-use Rattle.bn_netreply.proofs.RealiseLemmas.{realise_settled}
-use Rattle.bn_standardreply.specs.StandardReply.{StandardTableReplies}
-use Rattle.bn_standardreply.proofs.StandardLemmas.{standard_settled}
-use Rattle.bn_planreply.specs.PlanReply.{PlanReplies}
-use Rattle.bn_planreply.proofs.PlanReplyLemmas.{plan_settled}
-use Rattle.bn_tablereply.specs.BennettReply.{BennettReplies}
-use Rattle.bn_tablereply.specs.CheckReply.{CheckReplies}
-use Rattle.bn_tablereply.specs.MachineReply.{MachineReplies}
-use Rattle.bn_tablereply.specs.ReversibleReply.{ReversibleReplies}
-use Rattle.bn_tablereply.proofs.BennettLemmas.{bennett_settled}
-use Rattle.bn_tablereply.proofs.CheckLemmas.{check_settled}
-use Rattle.bn_tablereply.proofs.MachineLemmas.{machine_settled}
-use Rattle.bn_tablereply.proofs.ReversibleLemmas.{reversible_settled}
-use Rattle.bn_boardanswers.specs.CompileReply.{CompileReplies}
-use Rattle.bn_boardanswers.specs.RunReply.{RunReplies}
-use Rattle.bn_boardanswers.specs.Windows.{AreSmall}
-use Rattle.bn_boardanswers.proofs.ClosedLemmas.{compile_settled, run_settled}
-use Rattle.bn_sessionreply.specs.SessionReply.{SessionReplies}
-use Rattle.bn_sessionreply.proofs.ClosedLemmas.{session_settled}
-use Rattle.bn_viewreply.specs.ViewReply.{ViewReplies}
-use Rattle.bn_viewreply.proofs.ClosedLemmas.{view_settled}
+use Rattle.bn_reply_boards.specs.GenerateReply.{GenerateReplies}
+use Rattle.bn_reply_boards.proofs.GenerateLemmas.{generate_settled}
+use Rattle.bn_reply_circuits_laws.specs.CircuitReply.{BackReplies, StepReplies}
+use Rattle.bn_reply_circuits.specs.RealiseReply.{RealiseReplies}
+use Rattle.bn_reply_circuits_laws.specs.MigrateReply.{MigrateReplies}
+use Rattle.bn_reply_circuits_laws.proofs.SettledLemmas.{back_settled, migrate_settled, step_settled}
+use Rattle.bn_reply_circuits.proofs.RealiseLemmas.{realise_settled}
+use Rattle.bn_reply_tables.specs.StandardReply.{StandardTableReplies}
+use Rattle.bn_reply_tables.proofs.StandardLemmas.{standard_settled}
+use Rattle.bn_reply_circuits.specs.PlanReply.{PlanReplies}
+use Rattle.bn_reply_circuits.proofs.PlanReplyLemmas.{plan_settled}
+use Rattle.bn_reply_tables.specs.BennettReply.{BennettReplies}
+use Rattle.bn_reply_tables.specs.CheckReply.{CheckReplies}
+use Rattle.bn_reply_tables.specs.MachineReply.{MachineReplies}
+use Rattle.bn_reply_tables.specs.ReversibleReply.{ReversibleReplies}
+use Rattle.bn_reply_tables.proofs.BennettLemmas.{bennett_settled}
+use Rattle.bn_reply_tables.proofs.CheckLemmas.{check_settled}
+use Rattle.bn_reply_tables.proofs.MachineLemmas.{machine_settled}
+use Rattle.bn_reply_tables.proofs.ReversibleLemmas.{reversible_settled}
+use Rattle.bn_reply_boards_laws.specs.CompileReply.{CompileReplies}
+use Rattle.bn_reply_boards_laws.specs.RunReply.{RunReplies}
+use Rattle.bn_reply_boards_laws.specs.Windows.{AreSmall}
+use Rattle.bn_reply_boards_laws.proofs.ClosedLemmas.{compile_settled, run_settled}
+use Rattle.bn_reply_views.specs.SessionReply.{SessionReplies}
+use Rattle.bn_reply_views.proofs.SessionClosedLemmas.{session_settled}
+use Rattle.bn_reply_views.specs.ViewReply.{ViewReplies}
+use Rattle.bn_reply_views.proofs.ViewClosedLemmas.{view_settled}
 use Rattle.bn_top.specs.Answers.{Replies, RepliesBy, limits_at}
 
 -- ---- the laws
@@ -90,12 +93,14 @@ settled_by Run request within = λ bytes.
 settled_by RunWithin request within = λ bytes.
     run_settled (Some (number_at request 5)) (letters_at request 0) (limits_at request) bytes
     (small_limits (row_of RunWithin).kinds request within refl refl refl refl)
+settled_by RunAuto request within = auto_settled (letters_at request 0)
 settled_by View request within = λ bytes.
     view_settled (number_at request 5) (letters_at request 0) (limits_at request) bytes
     (small_limits (row_of View).kinds request within refl refl refl refl)
 settled_by Session request within = λ bytes.
     session_settled (letters_at request 0) (limits_at request) bytes (small_limits (row_of Session).kinds request within refl refl refl refl)
 settled_by Plan request within = plan_settled
+settled_by Migrate request within = migrate_settled
 settled_by Generate request within = λ bytes. generate_settled (number_at request 0) (round_count request within)
 settled_by Erase request within = erase_settled
 settled_by EraseRun request within = erase_run_settled (letters_at request 0) (number_at request 1)
@@ -182,6 +187,9 @@ module _ (request : Request) (form : Form) (of : form ≡ request.form) (bytes :
     pub plan_reply : form ≡ Plan → Silent result (PlanReplies bytes) → Replied result told told (Replies request bytes)
     plan_reply is h = silent_by Plan is h
 
+    pub migrate_reply : form ≡ Migrate → Silent result (MigrateReplies bytes) → Replied result told told (Replies request bytes)
+    migrate_reply is h = silent_by Migrate is h
+
   module _ (told heard : Option (List Place)) (word : List ℕ) (l : Limits) where
     -- a claim of the answers to the words that ask for a run
     run_by : (other : Form) (number : Option ℕ) → RepliesBy other request ≡ RunReplies number (letters_at request 0) (limits_at request) → form ≡ other →
@@ -211,6 +219,17 @@ module _ (request : Request) (form : Form) (of : form ≡ request.form) (bytes :
     run_within_part e is word_is l_is e_is h =
         run_by RunWithin (Some (number_at request 5)) refl is word_is l_is (Unfinished result told heard)
         (subst (λ n. Unfinished result told heard (RunReplies (Some n) word l bytes)) e_is h)
+
+  module _ (told heard : Option (List Place)) (word : List ℕ) where
+    pub run_auto_reply : form ≡ RunAuto → word ≡ letters_at request 0 → Replied result told heard (AutoReplies word bytes) →
+        Replied result told heard (Replies request bytes)
+    run_auto_reply is word_is h =
+        by_form RunAuto is (Replied result told heard) (subst (λ w. Replied result told heard (AutoReplies w bytes)) word_is h)
+
+    pub run_auto_part : form ≡ RunAuto → word ≡ letters_at request 0 → Unfinished result told heard (AutoReplies word bytes) →
+        Unfinished result told heard (Replies request bytes)
+    run_auto_part is word_is h =
+        by_form RunAuto is (Unfinished result told heard) (subst (λ w. Unfinished result told heard (AutoReplies w bytes)) word_is h)
 
   module _ (told heard : Option (List Place)) (n : ℕ) where
     pub step_reply : form ≡ Step → n ≡ number_at request 0 → Replied result told heard (StepReplies n bytes) →
@@ -261,9 +280,12 @@ pub ruleset replies = (
   run_part,
   run_within_reply,
   run_within_part,
+  run_auto_reply,
+  run_auto_part,
   view_reply,
   session_reply,
   plan_reply,
+  migrate_reply,
   generate_reply,
   generate_part,
 )

@@ -1,7 +1,7 @@
 -- How the top call ends.
 use Rattle.std.specs.Prelude.{◌≡◌, true, false, ℕ, ◌<◌, ◌≤◌, List, [], length, Option, Some, None, IfSome, refl, ◌⊎◌}
 use Rattle.std.proofs.Common.{ap, Bool, inl, inr, sym, subst, ◌∙◌, append-nil}
-use Rattle.bn_theory.specs.declared.place.Place.{Place}
+use Rattle.bn_circuits.specs.declared.place.Place.{Place}
 use Rattle.bn_io.specs.Faults.{Rose}
 use Rattle.bn_io.specs.Told.{Grows, GrowsByFront}
 use Rattle.bn_words.specs.Forms.{reads_input}
@@ -38,7 +38,7 @@ read_as left after items bytes same read =
     by_told left (λ xs. (items ≡ xs) × (after ≡ Some [])) (λ xs. (bytes ≡ xs) × (after ≡ Some [])) (λ xs r. (same ∙ r.0, r.1)) read
 
 -- the status of a reply is that of an answer
-reply_answers : (status : Status) → IsReplyStatus status → IsAnswer status
+pub reply_answers : (status : Status) → IsReplyStatus status → IsAnswer status
 reply_answers Usage h = absurd h
 reply_answers status h = h
 

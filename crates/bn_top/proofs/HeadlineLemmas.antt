@@ -2,7 +2,7 @@
 use Rattle.std.specs.Prelude.{◌≡◌, true, ℕ, ◌≤◌, List, [], ◌∷◌, length, codes, decimal, Option, Some, None, IfSome, refl}
 use Rattle.std.proofs.Common.{arith, subst}
 use Rattle.bn_base.specs.Number.{greatest}
-use Rattle.bn_theory.specs.declared.place.Place.{Place}
+use Rattle.bn_circuits.specs.declared.place.Place.{Place}
 use Rattle.bn_machine.specs.Outcome.{Limits}
 use Rattle.bn_words.specs.Arguments.{AreArguments, Argument, IsNumber, Number, Word}
 use Rattle.bn_words.specs.Forms.{reads_input}
@@ -13,15 +13,15 @@ use Rattle.bn_words.specs.declared.kind.Kind.{Kind}
 use Rattle.bn_words.specs.declared.kind.Kind.TheVariants.{Count, Letters}
 use Rattle.bn_words.proofs.FormLemmas.{one_form}
 use Rattle.bn_gen.specs.Increments.{IsRoundCount}
-use Rattle.bn_genreply.specs.GenerateReply.{GenerateReplies}
-use Rattle.bn_genreply.specs.Laws.{GeneratedRunsTellOutcomes}
+use Rattle.bn_reply_boards.specs.GenerateReply.{GenerateReplies}
+use Rattle.bn_reply_boards.specs.GenerateLaws.{GeneratedRunsTellOutcomes}
 use Rattle.bn_reply.specs.Codes.{IsAnswer}
 use Rattle.bn_reply.specs.declared.status.Status.{Status}
-use Rattle.bn_boardanswers.specs.Headline.{AsksRun, TellsHeadline}
+use Rattle.bn_reply_boards_laws.specs.Headline.{AsksRun, TellsHeadline}
 use Rattle.bn_reply.specs.declared.limits.TheConstants.{MOST_INPUT_BYTES}
-use Rattle.bn_boardanswers.specs.RunReply.{RunReplies}
-use Rattle.bn_boardanswers.specs.Windows.{AreSmall}
-use Rattle.bn_boardanswers.proofs.ClosedLemmas.{headline_told}
+use Rattle.bn_reply_boards_laws.specs.RunReply.{RunReplies}
+use Rattle.bn_reply_boards_laws.specs.Windows.{AreSmall}
+use Rattle.bn_reply_boards_laws.proofs.ClosedLemmas.{headline_told}
 use Rattle.bn_top.specs.Answers.{Answers, no_form, unread, too_long, replied, Replies}
 use Rattle.bn_top.specs.Told.{IsAnswered, TellsGenerate}
 use Rattle.bn_top.proofs.AnswerLemmas.{not_both}

@@ -3,3 +3,8 @@ pub mod AnswerLemmas
 pub mod EndLemmas
 pub mod HeadlineLemmas
 pub mod WindowLemmas
+pub mod ClauseLemmas
+pub mod MachineHeadlineLemmas
+pub mod ClosedLemmas
+pub mod FoundLemmas
+pub mod MemoryLemmas

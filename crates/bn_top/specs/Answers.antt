@@ -1,7 +1,7 @@
 -- The answer of the workbench to words and bytes: a text, a status, and the places that a watch is told (this project's
 -- own profile). It rests on the definitions of texts, tables and circuits alone.
 use Rattle.std.specs.Prelude.{◌≡◌, ℕ, ◌<◌, ◌≤◌, List, [], ◌∷◌, ◌++◌, length, Some, None, true, false, codes}
-use Rattle.bn_theory.specs.declared.place.Place.{Place}
+use Rattle.bn_circuits.specs.declared.place.Place.{Place}
 use Rattle.bn_machine.specs.Outcome.{Limits}
 use Rattle.bn_words.specs.Requests.{Request, HasForm, HasNoForm, letters_at, number_at}
 use Rattle.bn_words.specs.Forms.{reads_input}
@@ -9,22 +9,24 @@ use Rattle.bn_words.specs.declared.form.Form.{Form}
 use Rattle.bn_words.specs.declared.form.Form.TheVariants.{Step, Back, Check, Machine, Reversible, Bennett, Realise}
 use Rattle.bn_words.specs.declared.form.Form.TheVariants.{Standard}
 use Rattle.bn_words.specs.declared.form.Form.TheVariants.{Compile, Run, RunWithin, View, Session, Plan, Generate, Erase}
-use Rattle.bn_words.specs.declared.form.Form.TheVariants.{EraseRun}
-use Rattle.bn_boardanswers.specs.CompileReply.{CompileReplies}
+use Rattle.bn_words.specs.declared.form.Form.TheVariants.{EraseRun, Migrate, RunAuto}
+use Rattle.bn_reply_boards_laws.specs.CompileReply.{CompileReplies}
 use Rattle.bn_reply.specs.declared.limits.TheConstants.{MOST_INPUT_BYTES}
-use Rattle.bn_boardanswers.specs.RunReply.{RunReplies}
-use Rattle.bn_erasereply.specs.EraseReply.{EraseReplies, EraseRunReplies}
-use Rattle.bn_genreply.specs.GenerateReply.{GenerateReplies}
-use Rattle.bn_netreply.specs.CircuitReply.{BackReplies, StepReplies}
-use Rattle.bn_netreply.specs.RealiseReply.{RealiseReplies}
-use Rattle.bn_planreply.specs.PlanReply.{PlanReplies}
-use Rattle.bn_standardreply.specs.StandardReply.{StandardTableReplies}
-use Rattle.bn_tablereply.specs.BennettReply.{BennettReplies}
-use Rattle.bn_tablereply.specs.CheckReply.{CheckReplies}
-use Rattle.bn_tablereply.specs.MachineReply.{MachineReplies}
-use Rattle.bn_tablereply.specs.ReversibleReply.{ReversibleReplies}
-use Rattle.bn_sessionreply.specs.SessionReply.{SessionReplies}
-use Rattle.bn_viewreply.specs.ViewReply.{ViewReplies}
+use Rattle.bn_reply_boards_laws.specs.RunReply.{RunReplies}
+use Rattle.bn_windows_laws.specs.AutoReply.{AutoReplies}
+use Rattle.bn_reply_erase.specs.EraseReply.{EraseReplies, EraseRunReplies}
+use Rattle.bn_reply_boards.specs.GenerateReply.{GenerateReplies}
+use Rattle.bn_reply_circuits_laws.specs.CircuitReply.{BackReplies, StepReplies}
+use Rattle.bn_reply_circuits.specs.RealiseReply.{RealiseReplies}
+use Rattle.bn_reply_circuits.specs.PlanReply.{PlanReplies}
+use Rattle.bn_reply_circuits_laws.specs.MigrateReply.{MigrateReplies}
+use Rattle.bn_reply_tables.specs.StandardReply.{StandardTableReplies}
+use Rattle.bn_reply_tables.specs.BennettReply.{BennettReplies}
+use Rattle.bn_reply_tables.specs.CheckReply.{CheckReplies}
+use Rattle.bn_reply_tables.specs.MachineReply.{MachineReplies}
+use Rattle.bn_reply_tables.specs.ReversibleReply.{ReversibleReplies}
+use Rattle.bn_reply_views.specs.SessionReply.{SessionReplies}
+use Rattle.bn_reply_views.specs.ViewReply.{ViewReplies}
 use Rattle.bn_reply.specs.declared.status.Status.{Status}
 use Rattle.bn_reply.specs.declared.status.Status.TheVariants.{Usage, Size}
 
@@ -70,9 +72,11 @@ RepliesBy Standard request = StandardTableReplies
 RepliesBy Compile request = CompileReplies (letters_at request 0) (limits_at request)
 RepliesBy Run request = RunReplies None (letters_at request 0) (limits_at request)
 RepliesBy RunWithin request = RunReplies (Some (number_at request 5)) (letters_at request 0) (limits_at request)
+RepliesBy RunAuto request = AutoReplies (letters_at request 0)
 RepliesBy View request = ViewReplies (number_at request 5) (letters_at request 0) (limits_at request)
 RepliesBy Session request = SessionReplies (letters_at request 0) (limits_at request)
 RepliesBy Plan request = PlanReplies
+RepliesBy Migrate request = MigrateReplies
 RepliesBy Generate request = λ bytes. GenerateReplies (number_at request 0)
 RepliesBy Erase request = EraseReplies
 RepliesBy EraseRun request = EraseRunReplies (letters_at request 0) (number_at request 1)

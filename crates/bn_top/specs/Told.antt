@@ -1,13 +1,13 @@
 -- What a sink has taken and a watch has heard when the workbench ends.
 use Rattle.std.specs.Prelude.{◌≡◌, ◌≢◌, ℕ, ◌<◌, List, [], ◌∷◌, ◌++◌, false, length, Option, codes, decimal}
-use Rattle.bn_theory.specs.declared.place.Place.{Place}
+use Rattle.bn_circuits.specs.declared.place.Place.{Place}
 use Rattle.bn_io.specs.Faults.{Rose}
 use Rattle.bn_io.specs.Told.{Loses, Grows, GrowsByFront}
 use Rattle.bn_net.specs.Watching.{Hears}
 use Rattle.bn_words.specs.Forms.{reads_input}
 use Rattle.bn_words.specs.Requests.{HasForm, Request}
 use Rattle.bn_gen.specs.Increments.{IsRoundCount}
-use Rattle.bn_genreply.specs.Laws.{TellsGenerated}
+use Rattle.bn_reply_boards.specs.GenerateLaws.{TellsGenerated}
 use Rattle.bn_reply.specs.Codes.{IsAnswer}
 use Rattle.bn_top.specs.Answers.{Answers, usage_text, read_fault_text}
 use Rattle.bn_reply.specs.declared.status.Status.{Status}

@@ -6,17 +6,16 @@ ghost use Rattle.bn_reply.specs.Replying.{IsReplied, IsUnfinished};
 ghost use Rattle.bn_top.specs.Answers.{HasWindow, Replies, limits_at};
 
 use bn_assembly::Windows;
-use bn_boardreply::{reply_compile, reply_run};
-use bn_erasereply::{reply_erase, reply_erase_run};
-use bn_genreply::reply_generate;
 use bn_net::Watch;
-use bn_netreply::{reply_back, reply_realise, reply_step};
-use bn_planreply::reply_plan;
 use bn_reply::{NoMemory, Reply};
-use bn_sessionreply::reply_session;
-use bn_standardreply::reply_standard;
-use bn_tablereply::{reply_bennett, reply_check, reply_machine, reply_reversible};
-use bn_viewreply::reply_view;
+use bn_reply_boards::{reply_compile, reply_generate, reply_run};
+use bn_reply_circuits::{reply_back, reply_migrate, reply_plan, reply_realise, reply_step};
+use bn_reply_erase::{reply_erase, reply_erase_run};
+use bn_reply_tables::{
+    reply_bennett, reply_check, reply_machine, reply_reversible, reply_standard,
+};
+use bn_reply_views::{reply_session, reply_view};
+use bn_reply_windows::reply_run_auto;
 use bn_words::{Form, Request};
 use std::alloc::Global;
 
@@ -64,6 +63,7 @@ pub(crate) fn reply_to<W: Watch>(
             bytes,
             watch,
         ),
+        Form::RunAuto => reply_run_auto(alloc, request.letters(0), bytes, watch),
         Form::View => reply_view(
             alloc,
             request.letters(0),
@@ -73,6 +73,7 @@ pub(crate) fn reply_to<W: Watch>(
         ),
         Form::Session => reply_session(alloc, request.letters(0), &windows_of(request), bytes),
         Form::Plan => reply_plan(alloc, bytes),
+        Form::Migrate => reply_migrate(alloc, bytes),
         Form::Generate => reply_generate(alloc, request.number(0) as u32, watch),
         Form::Erase => reply_erase(alloc, bytes),
         Form::EraseRun => {

@@ -1,10 +1,16 @@
 //! The workbench as one call: words and bytes in, bytes and a status out.
 #![tactic(auto)]
 
+mod call;
 mod dispatch;
 mod laws;
+mod memory;
 mod top;
 
-pub use bn_reply::{NoMemory, Status};
-pub use laws::{each_request_has_an_answer, one_answer};
-pub use top::workbench;
+pub use bn_reply::{NoMemory, Reply, Status};
+pub use call::workbench;
+pub use laws::{
+    answers_tell_machine, each_request_has_an_answer, ends_give_clauses, generate_tells_machine,
+    one_answer,
+};
+pub use memory::reply_in_memory;

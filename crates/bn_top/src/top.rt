@@ -7,14 +7,13 @@ ghost use Rattle.bn_io.specs.Told.{Grows, GrowsByFront};
 ghost use Rattle.bn_net.specs.Watching.{Hears};
 ghost use Rattle.bn_reply.specs.Codes.{IsAnswer};
 ghost use Rattle.bn_words.specs.Requests.{HasNoForm};
-ghost use Rattle.bn_boardanswers.specs.Headline.{TellsHeadline};
+ghost use Rattle.bn_reply_boards_laws.specs.Headline.{TellsHeadline};
 ghost use Rattle.bn_top.specs.Answers.{Replies, read_fault_text};
 ghost use Rattle.bn_reply.specs.Replying.{AnswerEnds};
 ghost use Rattle.bn_top.specs.Told.{EndsWithoutInput, IsAnswered, IsBegun, IsBroken, NeedsNoInput};
 ghost use Rattle.bn_top.specs.Told.{UsageEnds, IsReadFaultCut, GaveMore, TellsGenerate};
 
 use crate::dispatch::reply_to;
-use bn_genreply::generated_runs_tell_outcomes;
 use bn_io::{ReadRefusal, Sink, Source, read_all};
 use bn_net::Watch;
 use bn_reply::{MOST_INPUT_BYTES, Status, finish};
@@ -25,7 +24,7 @@ use std::alloc::Global;
 /// form and its command reads one, gives the answer's text to the sink, and answers the status.
 /// Where the command is `step`, `back`, `run` or `generate`, it tells the watch the place after
 /// each element step.
-pub fn workbench<S: Source, K: Sink, W: Watch>(
+pub(crate) fn answer_words<S: Source, K: Sink, W: Watch>(
     alloc: Global,
     words: &Vec<String>,
     source: &mut S,
@@ -90,8 +89,6 @@ pub fn workbench<S: Source, K: Sink, W: Watch>(
         return finish(sink, b"usage\n", Status::Usage);
     };
     if !request.form().reads_input() {
-        // The law that what `generate` answers tells the outcome of the machine's own run.
-        generated_runs_tell_outcomes();
         return answer(alloc, &request, b"", sink, watch);
     }
     match read_all(alloc, source, MOST_INPUT_BYTES) {

@@ -3,14 +3,14 @@ use Rattle.std.specs.Prelude.{◌≡◌, ℕ, ◌<◌, ◌≤◌, ◌⊎◌, Boo
 use Rattle.std.specs.Bool.{OnTrue, OnFalse}
 use Rattle.std.proofs.Common.{zero, suc, arith, sym, subst, ◌∙◌, inl, inr}
 use Rattle.std.proofs.lemmas.Bool.{cases_lt}
-use Rattle.bn_theory.specs.Runs.{Reaches}
-use Rattle.bn_theory.specs.Circuits.{Circuit, Goes, IsFirst}
-use Rattle.bn_theory.specs.Stepping.{run}
-use Rattle.bn_theory.proofs.RunLemmas.{Reaches-run}
-use Rattle.bn_theory.specs.declared.config.Config.{Config}
-use Rattle.bn_theory.proofs.RunPartLemmas.{runs_split}
-use Rattle.bn_column.specs.Nets.{rotary_circuit}
-use Rattle.bn_layout.specs.Layouts.{moment_at}
+use Rattle.bn_lists.specs.Runs.{Reaches}
+use Rattle.bn_circuits.specs.Circuits.{Circuit, Goes, IsFirst}
+use Rattle.bn_circuits.specs.Stepping.{run}
+use Rattle.bn_circuits.proofs.RunLemmas.{Reaches-run}
+use Rattle.bn_circuits.specs.declared.config.Config.{Config}
+use Rattle.bn_circuits.proofs.RunPartLemmas.{runs_split}
+use Rattle.bn_net.specs.RotaryNets.{rotary_circuit}
+use Rattle.bn_board.specs.Layouts.{moment_at}
 use Rattle.bn_flat.specs.Flattened.{Flattened, IsBoardKept, IsSameBoard, origin}
 use Rattle.bn_view.specs.Shown.{IsQuiet, IsShown, moment, start}
 use Rattle.bn_view.specs.Viewed.{Finds}

@@ -8,8 +8,8 @@ use Rattle.bn_machine.specs.Tape.{shift}
 use Rattle.bn_machine.specs.Window.{anywhere}
 use Rattle.bn_machine.specs.declared.quint.Shift.TheVariants.{Right}
 use Rattle.bn_quad.specs.Quadruples.{Configuration}
-use Rattle.bn_stages.specs.Stages.{Stands, history, computes, computes_within, goes_right, copies_letter, goes_left, passes_letter, retraces, retraces_within}
-use Rattle.bn_stages.specs.declared.name.Name.{Name}
+use Rattle.bn_bennett_laws.specs.Stages.{Stands, history, computes, computes_within, goes_right, copies_letter, goes_left, passes_letter, retraces, retraces_within}
+use Rattle.bn_bennett_laws.specs.declared.name.Name.{Name}
 use Rattle.bn_bennett.specs.Meaning.{machine_state_by}
 use Rattle.bn_view.specs.Viewed.{MachineIsAt}
 

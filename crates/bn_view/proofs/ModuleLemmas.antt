@@ -2,12 +2,12 @@
 use Rattle.std.specs.Prelude.{◌≡◌, ℕ, ◌+◌, ◌-◌, ◌*◌, ◌<◌, ◌≤◌, ℤ, pos, ◌-ℤ◌, Option, Some, None, refl}
 use Rattle.std.proofs.Common.{zero, suc, arith, sym, ap, subst, ◌∙◌}
 use Rattle.std.proofs.lemmas.Nat.{mul-le}
-use Rattle.bn_theory.specs.declared.place.Place.{Place}
-use Rattle.bn_theory.specs.declared.place.Place.TheVariants.{Enter, Left}
+use Rattle.bn_circuits.specs.declared.place.Place.{Place}
+use Rattle.bn_circuits.specs.declared.place.Place.TheVariants.{Enter, Left}
 use Rattle.bn_cell.specs.Sizes.{IsCellSize}
-use Rattle.bn_modules.specs.Cells.{line_of, lines_of}
-use Rattle.bn_modules.specs.Networks.{IsTape, cells_in, left_of, cell_size}
-use Rattle.bn_layout.specs.Layouts.{Layout, letters_at, lines_at, first_element, cell_element}
+use Rattle.bn_network.specs.Cells.{cell_line, cell_line_count}
+use Rattle.bn_network.specs.Networks.{IsTape, cells_in, left_of, cell_size}
+use Rattle.bn_board.specs.Layouts.{Layout, symbol_count_at, lines_at, first_element, cell_element}
 use Rattle.bn_flat.specs.Flattened.{IsLayoutKept}
 use Rattle.bn_flat.specs.Locations.{IsLocated, IsInputLine, in_control, in_cell, left}
 use Rattle.bn_flat.specs.declared.located.Located.{Located}
@@ -15,8 +15,8 @@ use Rattle.bn_flat.specs.declared.located.Located.TheVariants.{Control, Cell, Ou
 use Rattle.bn_view.specs.Modules.{module_by}
 use Rattle.bn_view.specs.Modules.{in_cell as in_cell_at}
 use Rattle.bn_view.specs.declared.layers.ModuleAt.TheVariants.{CellLine as AtLine, CellInside as AtInside}
-use Rattle.bn_modules.specs.Controls.{letters}
-use Rattle.bn_modules.specs.declared.cell_line.CellLine.{CellLine}
+use Rattle.bn_network.specs.Controls.{symbol_count}
+use Rattle.bn_network.specs.declared.cell_line.CellLine.{CellLine}
 use Rattle.bn_lists.specs.Lists.{nth}
 use Rattle.bn_quad.specs.Quadruples.{Quadruples}
 use Rattle.std.proofs.lemmas.Option.{get_or_from_slice_get}
@@ -31,15 +31,15 @@ rises a b c z h = let more : b * z ≤ c * z = mul-le b z c z h (omega arith) in
 
 module _ (b : Layout) where
   -- a cell ends where the next one would begin
-  next_cell : (t c e : ℕ) → e < cell_element b t c + cell_size (letters_at b t) → e < cell_element b t (suc c)
-  next_cell t c e h = by (cell_size (letters_at b t)) h
+  next_cell : (t c e : ℕ) → e < cell_element b t c + cell_size (symbol_count_at b t) → e < cell_element b t (suc c)
+  next_cell t c e h = by (cell_size (symbol_count_at b t)) h
     where
       by : (z : ℕ) → e < first_element b t + c * z + z → e < first_element b t + suc c * z
       by z low = omega arith
 
   -- a tape's cells end where the next tape's begin
   after_tape : (t c : ℕ) → c < cells_in b.limits (suc t) → cell_element b (suc t) (suc c) ≤ first_element b (suc (suc t))
-  after_tape t c h = rises (first_element b (suc t)) (suc c) (cells_in b.limits (suc t)) (cell_size (letters_at b (suc t))) (omega arith)
+  after_tape t c h = rises (first_element b (suc t)) (suc c) (cells_in b.limits (suc t)) (cell_size (symbol_count_at b (suc t))) (omega arith)
 
   begins : (t c : ℕ) → first_element b t ≤ cell_element b t c
   begins t c = omega arith
@@ -70,7 +70,7 @@ module _ (b : Layout) where
   -- and so in a lower cell of one tape
   lower_cell : (t c d e : ℕ) → c < d → e < cell_element b t (suc c) → cell_element b t d ≤ e → ⊥
   lower_cell t c d e less before behind =
-      let rise = rises (first_element b t) (suc c) d (cell_size (letters_at b t)) (omega arith) in
+      let rise = rises (first_element b t) (suc c) d (cell_size (symbol_count_at b t)) (omega arith) in
       omega arith
 
   -- the control's elements come before those of the cells
@@ -99,13 +99,13 @@ entered_left : (e f l k : ℕ) → Enter e l ≡ Left f k → ⊥
 entered_left e f l k h = cc
 
 -- in one cell
-module _ (b : Layout) (t c e l : ℕ) (line : Option ℕ) (is : IsInputLine (cell_element b t c) (lines_of (letters_at b t)) e l line) where
-  in_one_cell : (u d f k : ℕ) → t ≡ u → c ≡ d → e ≡ f → l ≡ k → (other : Option ℕ) → IsInputLine (cell_element b u d) (lines_of (letters_at b u)) f k other
+module _ (b : Layout) (t c e l : ℕ) (line : Option ℕ) (is : IsInputLine (cell_element b t c) (cell_line_count (symbol_count_at b t)) e l line) where
+  in_one_cell : (u d f k : ℕ) → t ≡ u → c ≡ d → e ≡ f → l ≡ k → (other : Option ℕ) → IsInputLine (cell_element b u d) (cell_line_count (symbol_count_at b u)) f k other
       → Cell t (pos c -ℤ pos (left_of b.limits t)) line ≡ Cell u (pos d -ℤ pos (left_of b.limits u)) other
   in_one_cell u d f k tape cell element input other also =
-      let there : IsInputLine (cell_element b u d) (lines_of (letters_at b u)) f k line =
-      subst (λ x. x) (λ i. IsInputLine (cell_element b (tape i) (cell i)) (lines_of (letters_at b (tape i))) (element i) (input i) line) is in
-      let lines = one_line (cell_element b u d) (lines_of (letters_at b u)) f k line other there also in
+      let there : IsInputLine (cell_element b u d) (cell_line_count (symbol_count_at b u)) f k line =
+      subst (λ x. x) (λ i. IsInputLine (cell_element b (tape i) (cell i)) (cell_line_count (symbol_count_at b (tape i))) (element i) (input i) line) is in
+      let lines = one_line (cell_element b u d) (cell_line_count (symbol_count_at b u)) f k line other there also in
       λ i. Cell (tape i) (pos (cell i) -ℤ pos (left_of b.limits (tape i))) (lines i)
 
 in_one_control : (b : Layout) (e l f k : ℕ) (x y : Option ℕ) → e ≡ f → l ≡ k → IsInputLine 0 (lines_at b) e l x → IsInputLine 0 (lines_at b) f k y → Control x ≡ Control y
@@ -148,7 +148,7 @@ modules-one b p x y one two = one.2 ∙ ap (module_by b) (located-one b p one.0 
 -- what is known of a tape on which the signal is located, and of the line of a cell that it enters
 pub record IsCellOf (b : Layout) (t : ℕ) (line : Option ℕ) : Type 0 where
   pub tape : IsTape t
-  pub low : (i : ℕ) → line ≡ Some i → i < lines_of (letters_at b t)
+  pub low : (i : ℕ) → line ≡ Some i → i < cell_line_count (symbol_count_at b t)
 
 pub cell_of : (b : Layout) (p : Place) (t : ℕ) (z : ℤ) (line : Option ℕ) (at : Located) → at ≡ Cell t z line → IsLocated b p at → IsCellOf b t line
 cell_of b p t z line at there (left e l is same) = absurd (let both : Cell t z line ≡ Outside = sym there ∙ same in cc)
@@ -159,11 +159,11 @@ cell_of b p t z line at there (in_cell e l is u q tape inside first last other e
     let lines : line ≡ other = cc in
     record {
       tape = subst IsTape tapes tape;
-      low = λ i some. subst (λ v. i < lines_of (letters_at b v)) tapes ((enters i).0 (sym lines ∙ some)).0;
+      low = λ i some. subst (λ v. i < cell_line_count (symbol_count_at b v)) tapes ((enters i).0 (sym lines ∙ some)).0;
     }
 
 -- a kept layout's tapes have as many symbols as a cell may have
-pub cell_size_of : (b : Layout) → IsLayoutKept b → (t : ℕ) → IsTape t → IsCellSize (letters_at b t)
+pub cell_size_of : (b : Layout) → IsLayoutKept b → (t : ℕ) → IsTape t → IsCellSize (symbol_count_at b t)
 cell_size_of b kept zero tape = absurd (let h = tape.low in omega arith)
 cell_size_of b kept (suc t) tape =
     let high = tape.high in
@@ -172,25 +172,25 @@ cell_size_of b kept (suc t) tape =
 
 -- ---- the module of a cell
 
-letters_found : (m : Quadruples) (t z : ℕ) → nth m.symbols t ≡ Some z → z ≡ letters m t
+letters_found : (m : Quadruples) (t z : ℕ) → nth m.symbols t ≡ Some z → z ≡ symbol_count m t
 letters_found m zero z at = absurd (cc)
 letters_found m (suc t) z at = sym (get_or_from_slice_get m.symbols t z 0 at)
 
-module _ (b : Layout) (m : Quadruples) (same : (t : ℕ) → IsTape t → letters_at b t ≡ letters m t) (p : Place) (at : Located) (is : IsLocated b p at)
+module _ (b : Layout) (m : Quadruples) (same : (t : ℕ) → IsTape t → symbol_count_at b t ≡ symbol_count m t) (p : Place) (at : Located) (is : IsLocated b p at)
     (t : ℕ) (position : ℤ) (line : Option ℕ) (there : at ≡ Cell t position line) where
   -- the symbols of its tape
-  pub cell_letters : (z : ℕ) → nth m.symbols t ≡ Some z → z ≡ letters_at b t
+  pub cell_letters : (z : ℕ) → nth m.symbols t ≡ Some z → z ≡ symbol_count_at b t
   cell_letters z found = letters_found m t z found ∙ sym (same t (cell_of b p t position line at there is).tape)
 
   -- its line is one of a cell's
-  pub line_low : (z i : ℕ) → nth m.symbols t ≡ Some z → line ≡ Some i → i < lines_of z
-  line_low z i found entered = subst (λ x. i < lines_of x) (sym (cell_letters z found)) ((cell_of b p t position line at there is).low i entered)
+  pub line_low : (z i : ℕ) → nth m.symbols t ≡ Some z → line ≡ Some i → i < cell_line_count z
+  line_low z i found entered = subst (λ x. i < cell_line_count x) (sym (cell_letters z found)) ((cell_of b p t position line at there is).low i entered)
 
-  pub at_line : (z i : ℕ) (x : ℤ) (entered : CellLine) → nth m.symbols t ≡ Some z → line ≡ Some i → entered ≡ line_of z i → x ≡ position
+  pub at_line : (z i : ℕ) (x : ℤ) (entered : CellLine) → nth m.symbols t ≡ Some z → line ≡ Some i → entered ≡ cell_line z i → x ≡ position
       → AtLine t x entered ≡ module_by b at
   at_line z i x entered found some named place =
-      (λ j. AtLine t (place j) ((named ∙ ap (λ y. line_of y i) (cell_letters z found)) j))
-      ∙ ap (in_cell_at (letters_at b t) t position) (sym some) ∙ sym (ap (module_by b) there)
+      (λ j. AtLine t (place j) ((named ∙ ap (λ y. cell_line y i) (cell_letters z found)) j))
+      ∙ ap (in_cell_at (symbol_count_at b t) t position) (sym some) ∙ sym (ap (module_by b) there)
 
   pub at_inside : (x : ℤ) → line ≡ None → x ≡ position → AtInside t x ≡ module_by b at
-  at_inside x none place = (λ j. AtInside t (place j)) ∙ ap (in_cell_at (letters_at b t) t position) (sym none) ∙ sym (ap (module_by b) there)
+  at_inside x none place = (λ j. AtInside t (place j)) ∙ ap (in_cell_at (symbol_count_at b t) t position) (sym none) ∙ sym (ap (module_by b) there)

@@ -6,34 +6,34 @@ use Rattle.std.proofs.lemmas.Nat.{mul-le}
 use Rattle.std.proofs.lemmas.Bool.Decides.{eqb_tells}
 use Rattle.std.proofs.lemmas.Option.{slice_get_within}
 use Rattle.std.proofs.lemmas.List.{length-replicate}
-use Rattle.bn_theory.specs.Runs.{Reaches}
-use Rattle.bn_theory.specs.Tables.{Table}
-use Rattle.bn_theory.specs.Circuits.{Circuit, Goes, IsCircuit, inputs_of, target, place_at}
-use Rattle.bn_theory.specs.Stepping.{run}
-use Rattle.bn_theory.proofs.RunLemmas.{Reaches-run}
-use Rattle.bn_theory.specs.declared.line.Line.{Line}
-use Rattle.bn_theory.specs.declared.place.Place.{Place}
-use Rattle.bn_theory.specs.declared.place.Place.TheVariants.{Enter, Left}
-use Rattle.bn_theory.specs.declared.config.Config.{Config}
-use Rattle.bn_theory.proofs.RunPartLemmas.{steps_of_run}
+use Rattle.bn_lists.specs.Runs.{Reaches}
+use Rattle.bn_element.specs.Tables.{Table}
+use Rattle.bn_circuits.specs.Circuits.{Circuit, Goes, IsCircuit, inputs_of, target, place_at}
+use Rattle.bn_circuits.specs.Stepping.{run}
+use Rattle.bn_circuits.proofs.RunLemmas.{Reaches-run}
+use Rattle.bn_circuits.specs.declared.line.Line.{Line}
+use Rattle.bn_circuits.specs.declared.place.Place.{Place}
+use Rattle.bn_circuits.specs.declared.place.Place.TheVariants.{Enter, Left}
+use Rattle.bn_circuits.specs.declared.config.Config.{Config}
+use Rattle.bn_circuits.proofs.RunPartLemmas.{steps_of_run}
 use Rattle.bn_element.specs.Rotary.{rotary, west}
 use Rattle.bn_machine.specs.Outcome.{Outcome}
 use Rattle.bn_machine.proofs.OutcomeLemmas.{outcome_exists}
 use Rattle.bn_quad.specs.Quadruples.{initial_of}
 use Rattle.bn_bennett.specs.Translation.{name_of}
 use Rattle.bn_bennett.specs.Meaning.{machine_state_by, stage_by}
-use Rattle.bn_modules.specs.Cells.{lines_of}
-use Rattle.bn_modules.specs.Networks.{IsTape, cells_in, cell_size, left_of}
-use Rattle.bn_boards.specs.Boards.{base, size, size_of}
-use Rattle.bn_layout.specs.declared.exit.Exit.{Exit}
-use Rattle.bn_layout.specs.declared.exit.Exit.TheVariants as exit
-use Rattle.bn_layout.specs.declared.spelled.Spelled.{Spelled}
-use Rattle.bn_layout.specs.Layouts.{IsExit, IsNamedExit, Layout, cell_element, elements_of, first_element, inside, letters_at, lines_at, named, spelled_by, unnamed}
-use Rattle.bn_layout.specs.Flats.{flat_start, machine_of}
-use Rattle.bn_layout.specs.Laws.{BoardsRead, ExitsAreOne}
-use Rattle.bn_headline.specs.Headline.{RunsToExit}
-use Rattle.bn_headline.specs.Laws.{BoardsRunToTheirExit}
-use Rattle.bn_headline.proofs.CountLemmas.{before_end}
+use Rattle.bn_network.specs.Cells.{cell_line_count}
+use Rattle.bn_network.specs.Networks.{IsTape, cells_in, cell_size, left_of}
+use Rattle.bn_board.specs.Boards.{base, size, size_of}
+use Rattle.bn_board.specs.declared.exit.Exit.{Exit}
+use Rattle.bn_board.specs.declared.exit.Exit.TheVariants as exit
+use Rattle.bn_board.specs.declared.spelled.Spelled.{Spelled}
+use Rattle.bn_board.specs.Layouts.{IsExit, IsNamedExit, Layout, cell_element, elements_of, first_element, inside, symbol_count_at, lines_at, named, spelled_by, unnamed}
+use Rattle.bn_board.specs.Flats.{flat_start, machine_of}
+use Rattle.bn_board.specs.LayoutLaws.{BoardsRead, ExitsAreOne}
+use Rattle.bn_board_laws.specs.Headline.{RunsToExit}
+use Rattle.bn_board_laws.specs.HeadlineLaws.{BoardsRunToTheirExit}
+use Rattle.bn_board_laws.proofs.CountLemmas.{before_end}
 use Rattle.bn_flat.specs.Locations.{IsInputLine, IsLocated, in_cell, in_control, left}
 use Rattle.bn_flat.specs.declared.located.Located.{Located}
 use Rattle.bn_flat.specs.declared.located.Located.TheVariants as located
@@ -118,8 +118,8 @@ module _ (b : Layout) where
 
   in_tape : (t e l : ℕ) → IsTape (suc t) → first_element b (suc t) ≤ e → e < first_element b (suc (suc t)) → (x : Located) × IsLocated b (Enter e l) x
   in_tape t e l tape low high =
-      let c = among (cell_size (letters_at b (suc t))) (first_element b (suc t)) (cells_in b.limits (suc t)) e low high in
-      let line = input_line_there (cell_element b (suc t) c.0) (lines_of (letters_at b (suc t))) e l c.2 in
+      let c = among (cell_size (symbol_count_at b (suc t))) (first_element b (suc t)) (cells_in b.limits (suc t)) e low high in
+      let line = input_line_there (cell_element b (suc t) c.0) (cell_line_count (symbol_count_at b (suc t))) e l c.2 in
       (located.Cell (suc t) (pos c.0 -ℤ pos (left_of b.limits (suc t))) line.0, in_cell e l refl (suc t) c.0 tape c.1 c.2 c.3 line.0 line.1 refl)
 
   entered : (e l : ℕ) → e < first_element b 4 → (x : Located) × IsLocated b (Enter e l) x

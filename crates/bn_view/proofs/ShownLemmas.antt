@@ -2,10 +2,10 @@
 use Rattle.std.specs.Prelude.{◌≡◌, ℕ, ◌<◌, ◌≤◌, ◌⊎◌, Option, Some, None, refl}
 use Rattle.std.proofs.Common.{zero, suc, arith, sym, subst, ◌∙◌, inl, inr}
 use Rattle.std.proofs.lemmas.Bool.{cases_lt}
-use Rattle.bn_theory.specs.Circuits.{Circuit}
-use Rattle.bn_theory.specs.Stepping.{run}
-use Rattle.bn_theory.specs.declared.config.Config.{Config}
-use Rattle.bn_layout.specs.Layouts.{Layout, moment_at}
+use Rattle.bn_circuits.specs.Circuits.{Circuit}
+use Rattle.bn_circuits.specs.Stepping.{run}
+use Rattle.bn_circuits.specs.declared.config.Config.{Config}
+use Rattle.bn_board.specs.Layouts.{Layout, moment_at}
 use Rattle.bn_view.specs.Viewed.{Finds}
 use Rattle.bn_view.specs.Shown.{IsQuiet, IsShown, moment, start}
 use Rattle.bn_view.specs.Laws.{ShownIsOne, ShownIsThere}

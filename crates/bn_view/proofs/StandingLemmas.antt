@@ -2,37 +2,37 @@
 use Rattle.std.specs.Prelude.{◌≡◌, ℕ, ◌<◌, ◌≤◌, All, List, slice_get, slice_index, ◌⊎◌, refl}
 use Rattle.std.proofs.Common.{arith, sym, ap, subst, ◌∙◌, inl, inr}
 use Rattle.std.proofs.lemmas.Bool.{cases_lt}
-use Rattle.bn_theory.specs.Runs.{Reaches}
-use Rattle.bn_theory.specs.Circuits.{Circuit, Goes, IsStuck}
-use Rattle.bn_theory.proofs.StepLemmas.{slice_get-set_other}
-use Rattle.bn_theory.specs.Stepping.{run}
-use Rattle.bn_theory.specs.Situations.{Situation, Turns}
-use Rattle.bn_theory.proofs.RunLemmas.{Reaches-run, run_stops, run-zero}
-use Rattle.bn_theory.specs.declared.place.Place.TheVariants.{Enter}
-use Rattle.bn_theory.specs.declared.config.Config.{Config}
-use Rattle.bn_theory.proofs.RunPartLemmas.{steps_of_run}
+use Rattle.bn_lists.specs.Runs.{Reaches}
+use Rattle.bn_circuits.specs.Circuits.{Circuit, Goes, IsStuck}
+use Rattle.bn_circuits.proofs.StepLemmas.{slice_get-set_other}
+use Rattle.bn_circuits.specs.Stepping.{run}
+use Rattle.bn_circuits.specs.Situations.{Situation, Turns}
+use Rattle.bn_circuits.proofs.RunLemmas.{Reaches-run, run_stops, run-zero}
+use Rattle.bn_circuits.specs.declared.place.Place.TheVariants.{Enter}
+use Rattle.bn_circuits.specs.declared.config.Config.{Config}
+use Rattle.bn_circuits.proofs.RunPartLemmas.{steps_of_run}
 use Rattle.bn_machine.specs.Machine.{Program}
 use Rattle.bn_machine.specs.Outcome.{Limits, Outcome}
 use Rattle.bn_machine.proofs.OutcomeLemmas.{outcome_exists}
 use Rattle.bn_quad.specs.Quadruples.{Configuration, initial_of}
-use Rattle.bn_stages.specs.Renamed.{in_state}
-use Rattle.bn_stages.specs.Stages.{Stands, rooms_of}
+use Rattle.bn_bennett_laws.specs.Renamed.{in_state}
+use Rattle.bn_bennett_laws.specs.Stages.{Stands, rooms_of}
 use Rattle.bn_bennett.specs.Laws.{TranslationsAreUniform, TranslationsStand}
 use Rattle.bn_bennett.specs.Meaning.{machine_state_by}
 use Rattle.bn_bennett.specs.Runs.{Runs, beginning_of}
 use Rattle.bn_bennett.specs.Translation.{name_of}
-use Rattle.bn_modules.specs.Controls.{letters}
-use Rattle.bn_modules.specs.Moments.{HasLetters}
-use Rattle.bn_modules.specs.Networks.{ShowsTapes}
-use Rattle.bn_network.proofs.ShownLemmas.{shown_beside}
-use Rattle.bn_network.specs.Laws.{FirstMoment}
-use Rattle.bn_layout.proofs.LetterLemmas.{letters_are, some_letters}
-use Rattle.bn_layout.proofs.ReadingLemmas.{own_accepted, own_flat}
-use Rattle.bn_layout.specs.Flats.{Flat, IsAccepted, IsFlatOf, flat_start, machine_of, situation_at_start}
-use Rattle.bn_layout.specs.Laws.{BoardsRead}
-use Rattle.bn_headline.specs.Headline.{RunsToExit, Spells}
-use Rattle.bn_headline.specs.Laws.{BoardsRunToTheirExit}
-use Rattle.bn_headline.specs.Moments.{BoardsHaveMoments, HasMoments}
+use Rattle.bn_network.specs.Controls.{symbol_count}
+use Rattle.bn_network.specs.Moments.{HasLetters}
+use Rattle.bn_network.specs.Networks.{ShowsTapes}
+use Rattle.bn_network_laws.proofs.ShownLemmas.{shown_beside}
+use Rattle.bn_network_laws.specs.NetworkLaws.{FirstMoment}
+use Rattle.bn_board.proofs.LetterLemmas.{letters_are, some_letters}
+use Rattle.bn_board.proofs.ReadingLemmas.{own_accepted, own_flat}
+use Rattle.bn_board.specs.Flats.{Flat, IsAccepted, IsFlatOf, flat_start, machine_of, situation_at_start}
+use Rattle.bn_board.specs.LayoutLaws.{BoardsRead}
+use Rattle.bn_board_laws.specs.Headline.{RunsToExit, BoardSpells}
+use Rattle.bn_board_laws.specs.HeadlineLaws.{BoardsRunToTheirExit}
+use Rattle.bn_board_laws.specs.Moments.{BoardsHaveMoments, HasMoments}
 use Rattle.bn_view.specs.Shown.{moment, start}
 use Rattle.bn_view.specs.Viewed.{Comes, Finds, MachineIsAt}
 use Rattle.bn_view.specs.Laws.{ShownIsFound, StandsForMachine, ViewsStand}
@@ -73,14 +73,14 @@ others_stay k s t i turn at e some =
 module _ (uniform : TranslationsAreUniform) (first : FirstMoment) (boards : BoardsRead) (p : Program) (word : List ℕ) (l : Limits) (f : Flat)
     (flat : IsFlatOf p word l f) (accepted : IsAccepted p word l f) where
   -- the cells spell the reversible machine's start
-  starts_spell : Spells f (flat_start f).states (beginning_of f.translation f.word)
+  starts_spell : BoardSpells f (flat_start f).states (beginning_of f.translation f.word)
   starts_spell =
       let m = machine_of f in
       let own = own_flat p word l f flat in
       let fits = own_accepted p word l f flat accepted in
       let read = boards p f.word f.limits f own fits in
       let has : HasLetters m = λ t tape. subst (λ v. 0 < v) (letters_are p word l f flat t) (some_letters p word l f flat accepted t tape.low tape.high) in
-      let known : All (λ x. x < letters m 1) f.word = subst (λ zs. All (λ x. x < slice_index zs 0) f.word) (sym flat.translation.symbols) fits.letters in
+      let known : All (λ x. x < symbol_count m 1) f.word = subst (λ zs. All (λ x. x < slice_index zs 0) f.word) (sym flat.translation.symbols) fits.letters in
       let found = first m f.limits f.names f.network read.0 f.word flat.translation.machine (uniform p f.translation accepted.standard flat.translation).0 has flat.numbering own.is_network read.1.tells known fits.fits in
       let path = found.1.path in
       let end : path.0 ≡ found.0 = path.3 in
@@ -131,7 +131,7 @@ shown-found boards have p word l f flat accepted t s a d path = (
 -- ---- it stands for the machine
 
 module _ (stand : TranslationsStand) (p : Program) (word : List ℕ) (l : Limits) (f : Flat) (flat : IsFlatOf p word l f) (accepted : IsAccepted p word l f) where
-  shows : (s a n : ℕ) (c : Configuration ℕ) → Runs f.translation f.word (rooms_of f.limits) n c → c.state ≡ a → Spells f (run f.circuit (flat_start f) s).states c
+  shows : (s a n : ℕ) (c : Configuration ℕ) → Runs f.translation f.word (rooms_of f.limits) n c → c.state ≡ a → BoardSpells f (run f.circuit (flat_start f) s).states c
       → StandsForMachine p word f s a
   shows s a n c runs state spells =
       let by_word : Runs f.translation word (rooms_of f.limits) n c = subst (λ (w : List ℕ). Runs f.translation w (rooms_of f.limits) n c) flat.word_is runs in
@@ -156,4 +156,4 @@ views-stand uniform stand first read boards have p word l f flat accepted t s a 
 views-stand uniform stand first read boards have p word l f flat accepted t s a d path (start is begins none) =
     let there : flat_start f ≡ run f.circuit (flat_start f) s = sym (run-zero f.circuit (flat_start f)) ∙ ap (run f.circuit (flat_start f)) (sym is) in
     shows stand p word l f flat accepted s a 0 (beginning_of f.translation f.word) refl (sym begins)
-    (subst (λ (x : Config). Spells f x.states (beginning_of f.translation f.word)) there (starts_spell uniform first read p word l f flat accepted))
+    (subst (λ (x : Config). BoardSpells f x.states (beginning_of f.translation f.word)) there (starts_spell uniform first read p word l f flat accepted))

@@ -2,26 +2,26 @@
 use Rattle.std.specs.Prelude.{◌≡◌, ℕ, ◌<◌, pos, List, [], ◌∷◌, length, Option, Some, Result, Ok, Err, IfOk, refl}
 use Rattle.std.proofs.Common.{arith, sym, ap, subst, ◌∙◌}
 use Rattle.std.proofs.lemmas.Option.{slice_get_within}
-use Rattle.bn_theory.specs.Runs.{Reaches}
-use Rattle.bn_theory.specs.Circuits.{Goes}
-use Rattle.bn_theory.specs.Stepping.{run}
-use Rattle.bn_theory.specs.declared.config.Config.{Config}
-use Rattle.bn_column.specs.Nets.{rotary_circuit}
+use Rattle.bn_lists.specs.Runs.{Reaches}
+use Rattle.bn_circuits.specs.Circuits.{Goes}
+use Rattle.bn_circuits.specs.Stepping.{run}
+use Rattle.bn_circuits.specs.declared.config.Config.{Config}
+use Rattle.bn_net.specs.RotaryNets.{rotary_circuit}
 use Rattle.bn_machine.specs.Machine.{Program}
 use Rattle.bn_lists.specs.Lists.{nth}
 use Rattle.bn_machine.specs.Outcome.{Limits}
 use Rattle.bn_quad.specs.Quadruples.{IsQuadMachine, Quadruples, Rule, initial_of}
-use Rattle.bn_stages.specs.Renamed.{in_state}
-use Rattle.bn_stages.specs.Stages.{Stands}
+use Rattle.bn_bennett_laws.specs.Renamed.{in_state}
+use Rattle.bn_bennett_laws.specs.Stages.{Stands}
 use Rattle.bn_bennett.specs.Translation.{Translation, name_of}
 use Rattle.bn_bennett.specs.Meaning.{machine_state_by, stage_by}
-use Rattle.bn_modules.specs.Controls.{letters}
-use Rattle.bn_network.proofs.RangeLemmas.{rule_range}
-use Rattle.bn_layout.specs.Layouts.{IsExit, Layout, is_sent, letters_at, spelled_by, spelled_config}
-use Rattle.bn_layout.specs.Flats.{Flat, flat_start, machine_of}
-use Rattle.bn_layout.specs.declared.spelled.Spelled.{Spelled}
-use Rattle.bn_layout.proofs.FirstLemmas.{position_holds}
-use Rattle.bn_layout.proofs.LetterLemmas.{letters_are}
+use Rattle.bn_network.specs.Controls.{symbol_count}
+use Rattle.bn_network_laws.proofs.RangeLemmas.{rule_range}
+use Rattle.bn_board.specs.Layouts.{IsExit, Layout, is_sent, symbol_count_at, spelled_by, spelled_config}
+use Rattle.bn_board.specs.Flats.{Flat, flat_start, machine_of}
+use Rattle.bn_board.specs.declared.spelled.Spelled.{Spelled}
+use Rattle.bn_board.proofs.FirstLemmas.{position_holds}
+use Rattle.bn_board.proofs.LetterLemmas.{letters_are}
 use Rattle.bn_flat.specs.Flattened.{Flattened, IsBoardKept, IsSameBoard, origin}
 use Rattle.bn_view.specs.Shown.{IsShown, moment, start}
 use Rattle.bn_view.specs.Modules.{IsModuleAt}
@@ -113,9 +113,9 @@ module _ (p : Program) (word : List ℕ) (l : Limits) (f : Flat) (t : Translatio
       subst (λ x. x < t.machine.states) (sym begins) there
 
   -- the tapes have the machine's symbols
-  pub board_letters : (tape : ℕ) → letters_at b.layout tape ≡ letters t.machine tape
+  pub board_letters : (tape : ℕ) → symbol_count_at b.layout tape ≡ symbol_count t.machine tape
   board_letters tape =
-      ap (λ (x : Layout). letters_at x tape) (sym is.layout) ∙ letters_are p word l f is.flat tape ∙ ap (λ (x : Translation). letters x.machine tape) is.translation
+      ap (λ (x : Layout). symbol_count_at x tape) (sym is.layout) ∙ letters_are p word l f is.flat tape ∙ ap (λ (x : Translation). symbol_count x.machine tape) is.translation
 
 -- a board that went back is where the run was then
 pub gone_spelled : (a b : Flattened) → IsSameBoard a b → IsBoardKept b

@@ -1,20 +1,20 @@
 -- What the laws of this crate say, each the contract of a function that only names the laws below it.
 use Rattle.std.specs.Prelude.{◌≡◌, ◌↔◌, ℕ, pos, List}
-use Rattle.bn_theory.specs.Runs.{Reaches}
-use Rattle.bn_theory.specs.Circuits.{Circuit, Goes}
-use Rattle.bn_theory.specs.Stepping.{run}
-use Rattle.bn_theory.specs.declared.config.Config.{Config}
-use Rattle.bn_theory.specs.declared.place.Place.{Place}
+use Rattle.bn_lists.specs.Runs.{Reaches}
+use Rattle.bn_circuits.specs.Circuits.{Circuit, Goes}
+use Rattle.bn_circuits.specs.Stepping.{run}
+use Rattle.bn_circuits.specs.declared.config.Config.{Config}
+use Rattle.bn_circuits.specs.declared.place.Place.{Place}
 use Rattle.bn_machine.specs.Machine.{Program}
 use Rattle.bn_machine.specs.Outcome.{Limits}
 use Rattle.bn_quad.specs.Quadruples.{Configuration, initial_of}
-use Rattle.bn_stages.specs.Renamed.{in_state}
-use Rattle.bn_stages.specs.Stages.{Stands}
+use Rattle.bn_bennett_laws.specs.Renamed.{in_state}
+use Rattle.bn_bennett_laws.specs.Stages.{Stands}
 use Rattle.bn_bennett.specs.Translation.{name_of}
 use Rattle.bn_bennett.specs.Meaning.{machine_state_by}
-use Rattle.bn_layout.specs.Layouts.{Layout}
-use Rattle.bn_layout.specs.Flats.{Flat, IsAccepted, IsFlatOf, flat_start, machine_of}
-use Rattle.bn_headline.specs.Headline.{Spells}
+use Rattle.bn_board.specs.Layouts.{Layout}
+use Rattle.bn_board.specs.Flats.{Flat, IsAccepted, IsFlatOf, flat_start, machine_of}
+use Rattle.bn_board_laws.specs.Headline.{BoardSpells}
 use Rattle.bn_view.specs.declared.layers.Layers.{Layers}
 use Rattle.bn_view.specs.declared.layers.ModuleAt.{ModuleAt}
 use Rattle.bn_view.specs.Shown.{IsShown}
@@ -55,7 +55,7 @@ ModulesAreOne = (b : Layout) (p : Place) (x y : ModuleAt) → IsModuleAt b p x �
 pub record StandsForMachine (p : Program) (word : List ℕ) (f : Flat) (s a : ℕ) : Type 0 where
   pub config : Configuration ℕ
   pub state : config.state ≡ a
-  pub spells : Spells f (run f.circuit (flat_start f) s).states config
+  pub spells : BoardSpells f (run f.circuit (flat_start f) s).states config
   pub stands : Stands p word (in_state (name_of f.translation) config)
   pub step : ℕ
   pub head : config.two.head ≡ pos step

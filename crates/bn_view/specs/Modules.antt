@@ -1,8 +1,8 @@
 -- The module in which the signal of a board is, and the line by which it enters it (this project's own profile).
 use Rattle.std.specs.Prelude.{◌≡◌, ℕ, ℤ, Option, Some, None}
-use Rattle.bn_theory.specs.declared.place.Place.{Place}
-use Rattle.bn_modules.specs.Cells.{line_of}
-use Rattle.bn_layout.specs.Layouts.{Layout, letters_at}
+use Rattle.bn_circuits.specs.declared.place.Place.{Place}
+use Rattle.bn_network.specs.Cells.{cell_line}
+use Rattle.bn_board.specs.Layouts.{Layout, symbol_count_at}
 use Rattle.bn_flat.specs.Locations.{IsLocated}
 use Rattle.bn_flat.specs.declared.located.Located.{Located}
 use Rattle.bn_flat.specs.declared.located.Located.TheVariants as located
@@ -17,12 +17,12 @@ in_control (Some i) = ControlLine i
 
 abbrev pub in_cell : ℕ → ℕ → ℤ → Option ℕ → ModuleAt
 in_cell z tape position None = CellInside tape position
-in_cell z tape position (Some i) = CellLine tape position (line_of z i)
+in_cell z tape position (Some i) = CellLine tape position (cell_line z i)
 
 -- the module of a location on a board, with the lines of cells by their names
 abbrev pub module_by : Layout → Located → ModuleAt
 module_by b (located.Control line) = in_control line
-module_by b (located.Cell tape position line) = in_cell (letters_at b tape) tape position line
+module_by b (located.Cell tape position line) = in_cell (symbol_count_at b tape) tape position line
 module_by b located.Outside = Outside
 
 abbrev pub IsModuleAt : Layout → Place → ModuleAt → Type 0

@@ -1,24 +1,24 @@
 -- A view of a board: every layer of its configuration, and of the last moment that it has reached (Bennett 1973 for
 -- the machines; board, moments and view are this project's own profile).
 use Rattle.std.specs.Prelude.{◌≡◌, ℕ, suc, pos, List, Some}
-use Rattle.bn_theory.specs.Circuits.{Circuit}
-use Rattle.bn_theory.specs.Stepping.{run}
-use Rattle.bn_theory.specs.declared.config.Config.{Config}
-use Rattle.bn_column.specs.Nets.{rotary_circuit}
+use Rattle.bn_circuits.specs.Circuits.{Circuit}
+use Rattle.bn_circuits.specs.Stepping.{run}
+use Rattle.bn_circuits.specs.declared.config.Config.{Config}
+use Rattle.bn_net.specs.RotaryNets.{rotary_circuit}
 use Rattle.bn_machine.specs.Machine.{Program, Moment, GoesBy}
 use Rattle.bn_machine.specs.Outcome.{Limits}
 use Rattle.bn_machine.specs.Run.{After}
 use Rattle.bn_machine.specs.Window.{anywhere}
 use Rattle.bn_quad.specs.Quadruples.{Configuration, initial_of}
-use Rattle.bn_stages.specs.Renamed.{in_state}
-use Rattle.bn_stages.specs.Stages.{Stands}
+use Rattle.bn_bennett_laws.specs.Renamed.{in_state}
+use Rattle.bn_bennett_laws.specs.Stages.{Stands}
 use Rattle.bn_bennett.specs.Translation.{Translation, name_of}
 use Rattle.bn_bennett.specs.Meaning.{stage_by, machine_state_by}
 use Rattle.bn_bennett.specs.declared.translated.MachineState.{MachineState}
 use Rattle.bn_bennett.specs.declared.translated.MachineState.TheVariants.{AtState, Within}
-use Rattle.bn_layout.specs.Layouts.{IsExit, Layout, moment_at, spelled_by, spelled_config}
-use Rattle.bn_layout.specs.BoardMoments.{IsBoardMoment}
-use Rattle.bn_layout.specs.Flats.{Flat, IsAccepted, IsFlatOf, flat_start, machine_of}
+use Rattle.bn_board.specs.Layouts.{IsExit, Layout, moment_at, spelled_by, spelled_config}
+use Rattle.bn_board.specs.BoardMoments.{IsBoardMoment}
+use Rattle.bn_board.specs.Flats.{Flat, IsAccepted, IsFlatOf, flat_start, machine_of}
 use Rattle.bn_flat.specs.Flattened.{Flattened, origin}
 use Rattle.bn_view.specs.declared.layers.Layers.{Layers}
 use Rattle.bn_view.specs.declared.viewer.LastMoment.{LastMoment}

@@ -1,9 +1,9 @@
 //! In which module the signal of a board is.
 
 ghost use Rattle.std.specs.Prelude.{◌≡◌, ℕ};
-ghost use Rattle.bn_modules.specs.Controls.{letters};
-ghost use Rattle.bn_modules.specs.Networks.{IsTape};
-ghost use Rattle.bn_layout.specs.Layouts.{letters_at};
+ghost use Rattle.bn_network.specs.Controls.{symbol_count};
+ghost use Rattle.bn_network.specs.Networks.{IsTape};
+ghost use Rattle.bn_board.specs.Layouts.{symbol_count_at};
 ghost use Rattle.bn_view.specs.Modules.{IsModuleAt};
 
 use crate::layers::ModuleAt;
@@ -13,7 +13,7 @@ use bn_quad::QuadMachine;
 
 // The module in which the signal of a board of this machine is.
 pub(crate) fn module_at(board: &Board, machine: &QuadMachine) -> ModuleAt
-    requires { (t : ℕ) → IsTape t → letters_at board.now.layout t ≡ letters machine.now t }
+    requires { (t : ℕ) → IsTape t → symbol_count_at board.now.layout t ≡ symbol_count machine.now t }
     ensures { IsModuleAt board.now.layout board.now.config.place result }
 {
     // What every board keeps.

@@ -1,11 +1,11 @@
 //! The view of a board.
 
 ghost use Rattle.std.specs.Prelude.{◌≡◌, ℕ, ◌<◌, pos, List, Some, IfOk};
-ghost use Rattle.bn_theory.specs.Stepping.{run};
-ghost use Rattle.bn_column.specs.Nets.{rotary_circuit};
+ghost use Rattle.bn_circuits.specs.Stepping.{run};
+ghost use Rattle.bn_net.specs.RotaryNets.{rotary_circuit};
 ghost use Rattle.bn_machine.specs.Machine.{Program};
 ghost use Rattle.bn_machine.specs.Outcome.{Limits};
-ghost use Rattle.bn_layout.specs.Flats.{Flat};
+ghost use Rattle.bn_board.specs.Flats.{Flat};
 ghost use Rattle.bn_flat.specs.Flattened.{IsBoardKept, IsSameBoard, origin};
 ghost use Rattle.bn_view.specs.Shown.{IsShown};
 ghost use Rattle.bn_view.specs.Viewed.{Finds, IsBoardFor, IsBoardOf, IsLastMoment, IsView, IsViewOf, ShowsMachine};

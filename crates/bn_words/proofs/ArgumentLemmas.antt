@@ -5,15 +5,15 @@ use Rattle.std.proofs.Common.{zero, suc, get_or, arith, sym, ap, subst, ◌∙�
 use Rattle.bn_base.specs.Number.{read_number}
 use Rattle.bn_base.proofs.NumberLemmas.{decimal-once, read_number-no_digit}
 use Rattle.bn_base.specs.declared.numbers.Digits.TheVariants.{NoDigit}
-use Rattle.bn_words.specs.Arguments.{Argument, Number, Word, IsArgument, IsNoArgument, IsNumber, AreArguments, HaveNoArguments, argument_of}
+use Rattle.bn_words.specs.Arguments.{Argument, Number, Word, Fixed, IsArgument, IsNoArgument, IsNumber, AreArguments, HaveNoArguments, argument_of}
 use Rattle.bn_words.specs.Forms.{row_of}
-use Rattle.bn_words.specs.Requests.{AreWithin, HasForm, IsRequest, IsWithin, Request, number_of}
+use Rattle.bn_words.specs.Requests.{AreWithin, HasForm, IsRequest, IsWithin, Request, argument_number}
 use Rattle.std.proofs.lemmas.List.{get_or-map, length-map, length-set, map-append, take_more, take_more_set}
 use Rattle.std.proofs.lemmas.Option.{slice_get-get_or}
 use Rattle.std.proofs.Math.Seq.{take-length}
 use Rattle.bn_words.specs.declared.value.Value.{Value}
 use Rattle.bn_words.specs.declared.kind.Kind.{Kind}
-use Rattle.bn_words.specs.declared.kind.Kind.TheVariants.{Count, Ordinal, Letters}
+use Rattle.bn_words.specs.declared.kind.Kind.TheVariants.{Count, Ordinal, Letters, Auto}
 use Rattle.bn_words.proofs.Numbers.{read-whole}
 
 -- ---- one word
@@ -31,17 +31,25 @@ argument_once Letters word (Word v) (Word w) h k =
 argument_once (Count most) word (Number m) (Word w) h k = absurd k
 argument_once (Ordinal most) word (Number m) (Word w) h k = absurd k
 argument_once Letters word (Word v) (Number n) h k = absurd k
+argument_once Auto word Fixed Fixed h k = refl
+argument_once (Count most) word (Number m) Fixed h k = absurd k
+argument_once (Ordinal most) word (Number m) Fixed h k = absurd k
+argument_once Letters word (Word v) Fixed h k = absurd k
+argument_once Auto word Fixed (Number n) h k = absurd k
+argument_once Auto word Fixed (Word w) h k = absurd k
 argument_once kind word a b h k = absurd h
 
 -- a number that is out of the limits
 pub no_count : (word : List ℕ) (most n : ℕ) → IsNumber word n → most < n → IsNoArgument (Count most) word
 no_count word most n is over (Number m) h = let same = number_once word m n h.0 is in let few = h.1 in absurd (omega arith)
 no_count word most n is over (Word w) h = absurd h
+no_count word most n is over Fixed h = absurd h
 
 pub no_ordinal : (word : List ℕ) (most n : ℕ) → IsNumber word n → (n < 1) ⊎ (most < n) → IsNoArgument (Ordinal most) word
 no_ordinal word most n is (inl low) (Number m) h = let same = number_once word m n h.0 is in let least = h.1 in absurd (omega arith)
 no_ordinal word most n is (inr over) (Number m) h = let same = number_once word m n h.0 is in let few = h.2 in absurd (omega arith)
 no_ordinal word most n is out (Word w) h = absurd h
+no_ordinal word most n is out Fixed h = absurd h
 
 -- no number begins with the byte `=`
 no_letters : (letters : List ℕ) (n : ℕ) → IsNumber (61 ∷ letters) n → ⊥
@@ -69,6 +77,10 @@ not_both Letters (Ordinal most) e word (Word v) (Number n) h k = letters_or_numb
 not_both (Count most) Letters e word (Number n) (Word v) h k = letters_or_number word n v h.0 k
 not_both (Ordinal most) Letters e word (Number n) (Word v) h k = letters_or_number word n v h.0 k
 not_both Letters Letters e word a b h k = cc
+not_both Auto j e word a b h k = cc
+not_both Letters Auto e word a b h k = cc
+not_both (Count m) Auto e word a b h k = cc
+not_both (Ordinal m) Auto e word a b h k = cc
 not_both (Count m) (Count n) e word a b h k = cc
 not_both (Count m) (Ordinal n) e word a b h k = cc
 not_both (Ordinal m) (Count n) e word a b h k = cc
@@ -76,6 +88,9 @@ not_both (Ordinal m) (Ordinal n) e word a b h k = cc
 not_both (Count m) Letters e word (Word w) b h k = absurd h
 not_both (Ordinal m) Letters e word (Word w) b h k = absurd h
 not_both Letters j e word (Number n) b h k = absurd h
+not_both (Count m) Letters e word Fixed b h k = absurd h
+not_both (Ordinal m) Letters e word Fixed b h k = absurd h
+not_both Letters j e word Fixed b h k = absurd h
 not_both k j e word a b h l = absurd l
 
 abbrev pub lists_differ : List Kind → List Kind → Bool
@@ -146,6 +161,7 @@ is_within : (kind : Kind) (word : List ℕ) (x : Argument) → IsArgument kind w
 is_within (Count most) word (Number n) h = h.1
 is_within (Ordinal most) word (Number n) h = (h.1, h.2)
 is_within Letters word (Word w) h = tt
+is_within Auto word Fixed h = tt
 is_within kind word x h = absurd h
 
 pub are_within : (kinds : List Kind) (words : List (List ℕ)) (xs : List Argument) → AreArguments kinds words xs → AreWithin kinds xs
@@ -212,47 +228,50 @@ has_read_all text kinds of_row strings values n same all count h end =
 
 -- what is said of an ordinal is at least 1
 pub ordinal_least : (kinds : List Kind) (xs : List Argument) (n most : ℕ) → AreWithin kinds xs → slice_get kinds n ≡ Some (Ordinal most) →
-    1 ≤ number_of (slice_get xs n)
+    1 ≤ argument_number (slice_get xs n)
 ordinal_least [] xs n most h here = cc
 ordinal_least (k ∷ ks) [] n most h here = absurd h
 ordinal_least (k ∷ ks) (x ∷ xs) zero most h here = of_kind (subst (λ j. IsWithin j x) (let e : k ≡ Ordinal most = cc in e) h.0)
   where
-    of_kind : IsWithin (Ordinal most) x → 1 ≤ number_of (Some x)
+    of_kind : IsWithin (Ordinal most) x → 1 ≤ argument_number (Some x)
     of_kind w = least x w
       where
-        least : (y : Argument) → IsWithin (Ordinal most) y → 1 ≤ number_of (Some y)
+        least : (y : Argument) → IsWithin (Ordinal most) y → 1 ≤ argument_number (Some y)
         least (Number m) v = v.0
         least (Word l) v = absurd v
+        least Fixed v = absurd v
 ordinal_least (k ∷ ks) (x ∷ xs) (suc n) most h here = ordinal_least ks xs n most h.1 here
 
 -- and at most its limit
 pub ordinal_most : (kinds : List Kind) (xs : List Argument) (n most : ℕ) → AreWithin kinds xs → slice_get kinds n ≡ Some (Ordinal most) →
-    number_of (slice_get xs n) ≤ most
+    argument_number (slice_get xs n) ≤ most
 ordinal_most [] xs n most h here = cc
 ordinal_most (k ∷ ks) [] n most h here = absurd h
 ordinal_most (k ∷ ks) (x ∷ xs) zero most h here = of_kind (subst (λ j. IsWithin j x) (let e : k ≡ Ordinal most = cc in e) h.0)
   where
-    of_kind : IsWithin (Ordinal most) x → number_of (Some x) ≤ most
+    of_kind : IsWithin (Ordinal most) x → argument_number (Some x) ≤ most
     of_kind w = greatest x w
       where
-        greatest : (y : Argument) → IsWithin (Ordinal most) y → number_of (Some y) ≤ most
+        greatest : (y : Argument) → IsWithin (Ordinal most) y → argument_number (Some y) ≤ most
         greatest (Number m) v = v.1
         greatest (Word l) v = absurd v
+        greatest Fixed v = absurd v
 ordinal_most (k ∷ ks) (x ∷ xs) (suc n) most h here = ordinal_most ks xs n most h.1 here
 
 -- what is said of a count is at most its limit
 pub count_most : (kinds : List Kind) (xs : List Argument) (n most : ℕ) → AreWithin kinds xs → slice_get kinds n ≡ Some (Count most) →
-    number_of (slice_get xs n) ≤ most
+    argument_number (slice_get xs n) ≤ most
 count_most [] xs n most h here = cc
 count_most (k ∷ ks) [] n most h here = absurd h
 count_most (k ∷ ks) (x ∷ xs) zero most h here = of_kind (subst (λ j. IsWithin j x) (let e : k ≡ Count most = cc in e) h.0)
   where
-    of_kind : IsWithin (Count most) x → number_of (Some x) ≤ most
+    of_kind : IsWithin (Count most) x → argument_number (Some x) ≤ most
     of_kind w = low x w
       where
-        low : (y : Argument) → IsWithin (Count most) y → number_of (Some y) ≤ most
+        low : (y : Argument) → IsWithin (Count most) y → argument_number (Some y) ≤ most
         low (Number m) v = v
         low (Word l) v = absurd v
+        low Fixed v = absurd v
 count_most (k ∷ ks) (x ∷ xs) (suc n) most h here = count_most ks xs n most h.1 here
 
 -- a request of some words is in the limits of its row

@@ -1,5 +1,5 @@
 -- Words have a form, or they have none.
-use Rattle.std.specs.Prelude.{◌≡◌, ◌≢◌, ℕ, ◌+◌, ◌<◌, ◌≤◌, List, [], ◌∷◌, ◌++◌, length, drop, decimal, Option, Some, None, slice_get, Result, Ok, Err}
+use Rattle.std.specs.Prelude.{◌≡◌, ◌≢◌, ℕ, ◌+◌, ◌<◌, ◌≤◌, List, [], ◌∷◌, ◌++◌, length, drop, decimal, Option, Some, None, slice_get, codes, Result, Ok, Err}
 use Rattle.std.specs.Prelude.{refl, ◌⊎◌}
 use Rattle.std.proofs.Common.{zero, suc, arith, sym, ap, subst, ◌∙◌, inl, inr, append-nil}
 use Rattle.std.proofs.lemmas.Bool.{cases_lt}
@@ -9,17 +9,33 @@ use Rattle.std.proofs.lemmas.Option.{slice_get-get_or}
 use Rattle.bn_base.specs.Number.{read_number}
 use Rattle.bn_base.specs.declared.numbers.Digits.{Digits}
 use Rattle.bn_base.proofs.NumberLemmas.{read_number-takes}
-use Rattle.bn_words.specs.Arguments.{Argument, Number, Word, IsArgument, IsNoArgument, IsNumber, IsNoNumber, AreArguments, HaveNoArguments}
+use Rattle.bn_words.specs.Arguments.{Argument, Number, Word, Fixed, IsArgument, IsNoArgument, IsNumber, IsNoNumber, AreArguments, HaveNoArguments}
 use Rattle.bn_words.specs.Forms.{row_of}
 use Rattle.bn_words.specs.Requests.{Request, HasForm, HasNoForm}
 use Rattle.bn_words.specs.Laws.{WordsHaveAFormOrNone}
 use Rattle.bn_words.specs.declared.form.Form.{Form}
 use Rattle.bn_words.specs.declared.form.Form.TheVariants.{Step}
 use Rattle.bn_words.specs.declared.kind.Kind.{Kind}
-use Rattle.bn_words.specs.declared.kind.Kind.TheVariants.{Count, Ordinal, Letters}
+use Rattle.bn_words.specs.declared.kind.Kind.TheVariants.{Count, Ordinal, Letters, Auto}
 use Rattle.bn_words.proofs.ArgumentLemmas.{no_count, no_ordinal}
 use Rattle.bn_words.proofs.FormLemmas.{forms, NoneBefore, none_at_all, none_at_first, none_more, not_of_form}
 use Rattle.bn_words.proofs.Numbers.{no_number, same_end}
+
+-- ---- names
+
+same_or_not : (a b : List ℕ) → (a ≡ b) ⊎ (a ≢ b)
+same_or_not [] [] = inl refl
+same_or_not [] (y ∷ ys) = inr (λ e. cc)
+same_or_not (x ∷ xs) [] = inr (λ e. cc)
+same_or_not (x ∷ xs) (y ∷ ys) =
+    elim (eqb_tells x y) [
+      | inl first ↦
+          (elim (same_or_not xs ys) [
+            | inl later ↦ inl (ap (λ n. n ∷ xs) first.1 ∙ ap (λ ns. y ∷ ns) later)
+            | inr other ↦ inr (λ e. other (cc))
+          ])
+      | inr other ↦ inr (λ e. other.1 (cc))
+    ]
 
 -- ---- one word
 
@@ -60,6 +76,7 @@ argument_or_none (Count most) word =
     numbers : (a : Argument) → IsArgument (Count most) word a → (n : ℕ) × IsNumber word n
     numbers (Number n) h = (n, h.0)
     numbers (Word w) h = absurd h
+    numbers Fixed h = absurd h
 argument_or_none (Ordinal most) word =
     elim (number_or_none word) [
       | inl some ↦
@@ -77,11 +94,13 @@ argument_or_none (Ordinal most) word =
     numbers : (a : Argument) → IsArgument (Ordinal most) word a → (n : ℕ) × IsNumber word n
     numbers (Number n) h = (n, h.0)
     numbers (Word w) h = absurd h
+    numbers Fixed h = absurd h
 argument_or_none Letters [] = inr none
   where
     none : IsNoArgument Letters []
     none (Number n) h = absurd h
     none (Word w) h = cc
+    none Fixed h = absurd h
 argument_or_none Letters (b ∷ bytes) =
     elim (eqb_tells b 61) [
       | inl begins ↦ inl (Word bytes, ap (λ x. x ∷ bytes) begins.1)
@@ -91,6 +110,17 @@ argument_or_none Letters (b ∷ bytes) =
     none : (b ≡ 61 → ⊥) → IsNoArgument Letters (b ∷ bytes)
     none other (Number n) h = absurd h
     none other (Word w) h = other (let e = h in cc)
+    none other Fixed h = absurd h
+argument_or_none Auto word =
+    elim (same_or_not word (codes "auto")) [
+      | inl same ↦ inl (Fixed, same)
+      | inr other ↦ inr (none other)
+    ]
+  where
+    none : (word ≢ codes "auto") → IsNoArgument Auto word
+    none other (Number n) h = absurd h
+    none other (Word w) h = absurd h
+    none other Fixed h = other h
 
 -- ---- the words behind a name
 
@@ -121,22 +151,6 @@ arguments_or_none (k ∷ kinds) (w ∷ words) = joined (argument_or_none k w) (a
     joined (inl first) (inl later) = inl (first.0 ∷ later.0, (first.1, later.1))
     joined (inr none) later = inr (no_first none)
     joined first (inr none) = inr (no_later none)
-
--- ---- names
-
-same_or_not : (a b : List ℕ) → (a ≡ b) ⊎ (a ≢ b)
-same_or_not [] [] = inl refl
-same_or_not [] (y ∷ ys) = inr (λ e. cc)
-same_or_not (x ∷ xs) [] = inr (λ e. cc)
-same_or_not (x ∷ xs) (y ∷ ys) =
-    elim (eqb_tells x y) [
-      | inl first ↦
-          (elim (same_or_not xs ys) [
-            | inl later ↦ inl (ap (λ n. n ∷ xs) first.1 ∙ ap (λ ns. y ∷ ns) later)
-            | inr other ↦ inr (λ e. other (cc))
-          ])
-      | inr other ↦ inr (λ e. other.1 (cc))
-    ]
 
 -- ---- the forms
 

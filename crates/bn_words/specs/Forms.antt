@@ -2,12 +2,12 @@
 use Rattle.std.specs.Prelude.{ℕ, Bool, true, false, List, [], ◌∷◌, codes}
 use Rattle.bn_base.specs.Number.{greatest}
 use Rattle.bn_words.specs.declared.kind.Kind.{Kind}
-use Rattle.bn_words.specs.declared.kind.Kind.TheVariants.{Count, Ordinal, Letters}
+use Rattle.bn_words.specs.declared.kind.Kind.TheVariants.{Count, Ordinal, Letters, Auto}
 use Rattle.bn_words.specs.declared.form.Form.{Form}
 use Rattle.bn_words.specs.declared.form.Form.TheVariants.{Step, Back, Check, Machine, Reversible, Bennett, Realise}
 use Rattle.bn_words.specs.declared.form.Form.TheVariants.{Standard}
 use Rattle.bn_words.specs.declared.form.Form.TheVariants.{Compile, Run, RunWithin, View, Session, Plan, Generate, Erase}
-use Rattle.bn_words.specs.declared.form.Form.TheVariants.{EraseRun}
+use Rattle.bn_words.specs.declared.form.Form.TheVariants.{EraseRun, Migrate, RunAuto}
 use Rattle.bn_base.specs.declared.limits.TheConstants.{MOST_COUNT}
 
 -- a row: the command's name, and the kinds of the words behind it
@@ -38,9 +38,11 @@ row_of Standard = row (codes "standard") []
 row_of Compile = row (codes "compile") (window_kinds [])
 row_of Run = row (codes "run") (window_kinds [])
 row_of RunWithin = row (codes "run") (window_kinds (Count greatest ∷ []))
+row_of RunAuto = row (codes "run") (Letters ∷ Auto ∷ [])
 row_of View = row (codes "view") (window_kinds (Count greatest ∷ []))
 row_of Session = row (codes "session") (window_kinds [])
 row_of Plan = row (codes "plan") []
+row_of Migrate = row (codes "migrate") []
 row_of Generate = row (codes "generate") (Ordinal most_increments ∷ [])
 row_of Erase = row (codes "erase") []
 row_of EraseRun = row (codes "erase") (Letters ∷ Count MOST_COUNT ∷ [])

@@ -1,10 +1,10 @@
 -- What a command line asks for, and its words (this project's own profile).
 use Rattle.std.specs.Prelude.{◌≡◌, ℕ, ◌≤◌, List, [], ◌∷◌, Option, Some, slice_get}
-use Rattle.bn_words.specs.Arguments.{Argument, Number, Word, AreArguments}
+use Rattle.bn_words.specs.Arguments.{Argument, Number, Word, Fixed, AreArguments}
 use Rattle.bn_words.specs.Forms.{row_of}
 use Rattle.bn_words.specs.declared.form.Form.{Form}
 use Rattle.bn_words.specs.declared.kind.Kind.{Kind}
-use Rattle.bn_words.specs.declared.kind.Kind.TheVariants.{Count, Ordinal, Letters}
+use Rattle.bn_words.specs.declared.kind.Kind.TheVariants.{Count, Ordinal, Letters, Auto}
 
 -- a form, and what the words behind the name say
 pub record Request : Type 0 where
@@ -27,25 +27,26 @@ abbrev pub HasNoForm : List (List ℕ) → Type 0
 HasNoForm words = (request : Request) → HasForm words request → ⊥
 
 -- the argument at a place, counted from 0: its number, or its letters
-abbrev pub number_of : Option Argument → ℕ
-number_of (Some (Number n)) = n
-number_of _ = 0
+abbrev pub argument_number : Option Argument → ℕ
+argument_number (Some (Number n)) = n
+argument_number _ = 0
 
-abbrev pub letters_of : Option Argument → List ℕ
-letters_of (Some (Word letters)) = letters
-letters_of _ = []
+abbrev pub argument_letters : Option Argument → List ℕ
+argument_letters (Some (Word letters)) = letters
+argument_letters _ = []
 
 abbrev pub number_at : Request → ℕ → ℕ
-number_at request place = number_of (slice_get request.arguments place)
+number_at request place = argument_number (slice_get request.arguments place)
 
 abbrev pub letters_at : Request → ℕ → List ℕ
-letters_at request place = letters_of (slice_get request.arguments place)
+letters_at request place = argument_letters (slice_get request.arguments place)
 
 -- what is said is in the limits of the row
 abbrev pub IsWithin : Kind → Argument → Type 0
 IsWithin (Count most) (Number n) = n ≤ most
 IsWithin (Ordinal most) (Number n) = (1 ≤ n) × (n ≤ most)
 IsWithin Letters (Word letters) = Unit {0}
+IsWithin Auto Fixed = Unit {0}
 IsWithin _ _ = ⊥
 
 abbrev pub AreWithin : List Kind → List Argument → Type 0

@@ -4,7 +4,7 @@ ghost use Rattle.std.specs.Prelude.{◌≡◌};
 ghost use Rattle.bn_words.specs.Forms.{reads_input, row_of};
 
 use crate::kind::Kind;
-use crate::kind::Kind::{Count, Letters, Ordinal};
+use crate::kind::Kind::{Auto, Count, Letters, Ordinal};
 use bn_base::{GREATEST, MOST_COUNT};
 
 /// The most increments of the machine whose run is generated.
@@ -55,12 +55,16 @@ pub enum Form {
     Run,
     /// `run =W l1 r1 n r3 E`: the run of that board, of at most E steps.
     RunWithin,
+    /// `run =W auto`: the run of that board in a window that the program finds.
+    RunAuto,
     /// `view =W l1 r1 n r3 E`: every layer of that board after at most E steps.
     View,
     /// `session =W l1 r1 n r3`: a script, behind the table and a line `%`, played on that board.
     Session,
     /// `plan`: the floor plan of a circuit, with the least number of tracks.
     Plan,
+    /// `migrate`: a configuration text in version 2.
+    Migrate,
     /// `generate k`: the run of the machine of k increments. It reads no input.
     Generate,
     /// `erase`: the machine of two tables that leaves only its output.
@@ -78,7 +82,7 @@ pub(crate) struct Row {
 
 impl Form {
     /// All forms.
-    pub const ALL: [Form; 17] = [
+    pub const ALL: [Form; 19] = [
         Form::Step,
         Form::Back,
         Form::Check,
@@ -90,9 +94,11 @@ impl Form {
         Form::Compile,
         Form::Run,
         Form::RunWithin,
+        Form::RunAuto,
         Form::View,
         Form::Session,
         Form::Plan,
+        Form::Migrate,
         Form::Generate,
         Form::Erase,
         Form::EraseRun,
@@ -122,9 +128,11 @@ impl Form {
             Form::Compile => Row::new("compile", &WINDOW),
             Form::Run => Row::new("run", &WINDOW),
             Form::RunWithin => Row::new("run", &WINDOW_AND_STEPS),
+            Form::RunAuto => Row::new("run", &[Letters, Auto]),
             Form::View => Row::new("view", &WINDOW_AND_STEPS),
             Form::Session => Row::new("session", &WINDOW),
             Form::Plan => Row::new("plan", &[]),
+            Form::Migrate => Row::new("migrate", &[]),
             Form::Generate => Row::new("generate", &[Ordinal(MOST_INCREMENTS)]),
             Form::Erase => Row::new("erase", &[]),
             Form::EraseRun => Row::new("erase", &[Letters, Count(MOST_COUNT)]),

@@ -15,6 +15,8 @@ pub enum Kind {
     Ordinal(u64),
     /// Letters behind the byte `=`, perhaps none.
     Letters,
+    /// The word `auto`: the program is to find what else would stand there.
+    Auto,
 }
 
 impl Kind {
@@ -27,6 +29,7 @@ impl Kind {
             Kind::Count(most) => count_of(word, most),
             Kind::Ordinal(most) => ordinal_of(word, most),
             Kind::Letters => letters_of(word),
+            Kind::Auto => auto_of(word),
         }
     }
 }
@@ -63,6 +66,18 @@ fn letters_of(word: &str) -> Option<Value<'_>>
     match word.as_bytes() {
         [b'=', letters @ ..] => Some(Value::Letters(letters)),
         _ => None,
+    }
+}
+
+// Nothing more than that the word is `auto`, `None` exactly where it isn't.
+fn auto_of(word: &str) -> Option<Value<'_>>
+    ensures { MatchOption result (IsNoArgument Kind.Auto word.now)
+        (λ value. IsArgument Kind.Auto word.now (argument_of value)) }
+{
+    if word == "auto" {
+        Some(Value::Fixed)
+    } else {
+        None
     }
 }
 

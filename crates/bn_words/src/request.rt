@@ -62,7 +62,7 @@ impl<'a> Request<'a> {
     {
         match self.values[place] {
             Value::Number(number) => number,
-            Value::Letters(_) => unreachable!(),
+            Value::Letters(_) | Value::Fixed => unreachable!(),
         }
     }
 
@@ -73,7 +73,7 @@ impl<'a> Request<'a> {
     {
         match self.values[place] {
             Value::Letters(letters) => letters,
-            Value::Number(_) => unreachable!(),
+            Value::Number(_) | Value::Fixed => unreachable!(),
         }
     }
 }

@@ -1,6 +1,6 @@
 use Rattle.std.proofs.Common.{length, sym, ap, subst, ◌∙◌}
-use Rattle.bn_modules.specs.Controls.{IsNumbering}
-use Rattle.bn_modules.specs.Networks.{elements_by}
+use Rattle.bn_network.specs.Controls.{IsNumbering}
+use Rattle.bn_network.specs.Networks.{elements_by}
 use Rattle.bn_assembly.specs.Assembled.{limits_of}
 use Rattle.bn_assembly.proofs.make.element_count.Goals as goal
 

@@ -1,5 +1,5 @@
-use Rattle.bn_stages.specs.Renamed.{in_state}
-use Rattle.bn_stages.specs.Stages.{rooms_of}
+use Rattle.bn_bennett_laws.specs.Renamed.{in_state}
+use Rattle.bn_bennett_laws.specs.Stages.{rooms_of}
 use Rattle.bn_bennett.specs.Translation.{name_of}
 use Rattle.bn_bennett.proofs.Alike.{run_named}
 use Rattle.bn_bennett.proofs.laws.translations_stand.Goals as goal

@@ -2,7 +2,7 @@
 use Rattle.std.proofs.Common.{◌+◌, refl, arith, get_or}
 use Rattle.bn_machine.specs.declared.quint.Shift.TheVariants.{Left}
 use Rattle.bn_machine.specs.declared.quint.Quint.{Quint}
-use Rattle.bn_stages.specs.List.{compute_pair}
+use Rattle.bn_bennett_laws.specs.List.{compute_pair}
 use Rattle.bn_bennett.specs.Draft.{Grows}
 use Rattle.bn_bennett.proofs.Pieces.{all_forth, room_forth, step_forth}
 use Rattle.bn_bennett.proofs.listing.add_compute.Goals as goal

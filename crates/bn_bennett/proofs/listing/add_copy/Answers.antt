@@ -3,8 +3,8 @@ use Rattle.std.proofs.Common.{◌-◌, ◌∷◌, ◌++◌, [], List, arith, map
 use Rattle.std.proofs.lemmas.Result.{on_ok_weaker}
 use Rattle.std.proofs.lemmas.List.FromFn.{length-map-range_with_len}
 use Rattle.bn_quad.specs.Quadruples.{Rule}
-use Rattle.bn_stages.specs.List.{begins_copy, goes_right, copies_letter, turns_left, goes_left, passes_letter, ends_copy, letters}
-use Rattle.bn_stages.specs.declared.name.Name.{Name}
+use Rattle.bn_bennett_laws.specs.List.{begins_copy, goes_right, copies_letter, turns_left, goes_left, passes_letter, ends_copy, nonblank_symbols}
+use Rattle.bn_bennett_laws.specs.declared.name.Name.{Name}
 use Rattle.bn_bennett.specs.Draft.{Grows}
 use Rattle.bn_bennett.proofs.Pieces.{grows_on, length-grown}
 use Rattle.bn_bennett.proofs.listing.add_copy.Goals as goal
@@ -27,9 +27,9 @@ returns c =
     let n = c.args.n in
     let last = c.args.last in
     let a : List (Rule Name) = begins_copy last n ∷ goes_right ∷ [] in
-    let b : List (Rule Name) = map (copies_letter n) (letters c.args.z) in
+    let b : List (Rule Name) = map (copies_letter n) (nonblank_symbols c.args.z) in
     let d : List (Rule Name) = turns_left n ∷ goes_left ∷ [] in
-    let e : List (Rule Name) = map (passes_letter n) (letters c.args.z) in
+    let e : List (Rule Name) = map (passes_letter n) (nonblank_symbols c.args.z) in
     let one : Grows c.args.draft.now a c.add_two.new.draft = rw (← c.begins_copy.ensures, ← c.goes_right.ensures) c.in_ok-add_two.ensures in
     let three : Grows c.add_copied_letters.new.draft d c.add_two-2.new.draft = rw (← c.turns_left.ensures, ← c.goes_left.ensures) c.in_ok-add_two-2.ensures in
     let front : Grows c.args.draft.now (a ++ b ++ d ++ e) c.add_passed_letters.new.draft =

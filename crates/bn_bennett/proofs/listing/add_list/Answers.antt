@@ -2,7 +2,7 @@
 use Rattle.std.proofs.Common.{◌++◌, ap, arith, length}
 use Rattle.std.proofs.lemmas.Result.{on_ok_weaker}
 use Rattle.bn_machine.specs.Machine.{final_of}
-use Rattle.bn_stages.specs.List.{bennett, compute_rules, copy_rules, retrace_rules}
+use Rattle.bn_bennett_laws.specs.List.{bennett, compute_rules, copy_rules, retrace_rules}
 use Rattle.bn_bennett.specs.Draft.{Grows}
 use Rattle.bn_bennett.proofs.Pieces.{grows_copy, grows_on, length-compute, length-copy, length-grown}
 use Rattle.bn_bennett.proofs.Machines.{some_symbols}

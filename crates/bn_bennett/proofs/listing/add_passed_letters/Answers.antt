@@ -1,7 +1,7 @@
 -- One quadruple for each letter.
 use Rattle.std.proofs.Common.{◌≡◌, ◌≤◌, ◌-◌, ◌∷◌, [], arith, map, ap}
 use Rattle.std.specs.List.{range_with_len}
-use Rattle.bn_stages.specs.List.{passes_letter}
+use Rattle.bn_bennett_laws.specs.List.{passes_letter}
 use Rattle.bn_bennett.specs.Draft.{Grows}
 use Rattle.bn_bennett.proofs.Pieces.{grows_to, room_letters, step_letters}
 use Rattle.bn_bennett.proofs.listing.add_passed_letters.Goals as goal

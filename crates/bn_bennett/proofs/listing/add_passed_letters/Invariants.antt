@@ -1,6 +1,6 @@
 use Rattle.std.proofs.Common.{◌-◌, map}
 use Rattle.std.specs.List.{range_with_len}
-use Rattle.bn_stages.specs.List.{passes_letter}
+use Rattle.bn_bennett_laws.specs.List.{passes_letter}
 use Rattle.bn_bennett.specs.Draft.{Grows}
 use Rattle.bn_bennett.proofs.listing.add_passed_letters.Given as goal
 

@@ -2,7 +2,7 @@
 use Rattle.std.proofs.Common.{◌+◌, ◌-◌, refl, arith, length, get_or}
 use Rattle.bn_machine.specs.declared.quint.Shift.TheVariants.{Left}
 use Rattle.bn_machine.specs.declared.quint.Quint.{Quint}
-use Rattle.bn_stages.specs.List.{retrace_pair}
+use Rattle.bn_bennett_laws.specs.List.{retrace_pair}
 use Rattle.bn_bennett.specs.Draft.{Grows}
 use Rattle.bn_bennett.proofs.Pieces.{room_back, start_back, step_back}
 use Rattle.bn_bennett.proofs.listing.add_retrace.Goals as goal

@@ -1,5 +1,5 @@
 use Rattle.std.proofs.Common.{◌≡◌}
-use Rattle.bn_modules.specs.Cells.{cell_table}
+use Rattle.bn_network.specs.Cells.{cell_table}
 use Rattle.bn_cell.specs.Rows.{rows}
 use Rattle.bn_cell.proofs.make.moves_of.Given as goal
 

@@ -1,5 +1,5 @@
 use Rattle.std.proofs.Common.{sym, ap, ◌∙◌}
-use Rattle.bn_modules.specs.Cells.{cell_table}
+use Rattle.bn_network.specs.Cells.{cell_table}
 use Rattle.bn_cell.proofs.RowLemmas.{row_some, row_none}
 use Rattle.bn_cell.proofs.make.push_row.Goals as goal
 use Rattle.bn_cell.proofs.make.push_row.Goals.{in-Some+in_ok-push, in_default}

@@ -1,5 +1,5 @@
 use Rattle.std.proofs.Common.{◌≡◌, ◌++◌}
-use Rattle.bn_modules.specs.Cells.{cell_table}
+use Rattle.bn_network.specs.Cells.{cell_table}
 use Rattle.bn_cell.specs.Rows.{row}
 use Rattle.bn_cell.proofs.make.push_row.Given as goal
 

@@ -1,7 +1,7 @@
 use Rattle.std.proofs.Common.{◌≡◌, ap, ◌∙◌, arith, length, map, []}
 use Rattle.std.specs.List.{range_with_len}
 use Rattle.std.proofs.lemmas.List.{length-map}
-use Rattle.bn_quad.specs.Quadruples.{final_of}
+use Rattle.bn_quad.specs.Quadruples.{final_state_of}
 use Rattle.bn_quad.specs.Kept.{quad_of}
 use Rattle.bn_control.specs.Entries.{waiting}
 use Rattle.bn_control.proofs.EntryLemmas.{none_yet, all_done, state_low, some_commands, next_entry}
@@ -9,7 +9,7 @@ use Rattle.bn_control.proofs.entries.entries_of.Goals as goal
 
 pub loop-index-init : goal.loop-index-init
 loop-index-init c =
-    none_yet c.args.machine.now c.in_ok-entries.entries.items (c.in_ok-entries.ensures ∙ ap (λ n. map (waiting n) (range_with_len 0 c.states.result)) c.final_state.ensures ∙ ap (λ n. map (waiting (final_of c.args.machine.now.rules)) (range_with_len 0 n)) c.states.ensures)
+    none_yet c.args.machine.now c.in_ok-entries.entries.items (c.in_ok-entries.ensures ∙ ap (λ n. map (waiting n) (range_with_len 0 c.states.result)) c.final_state.ensures ∙ ap (λ n. map (waiting (final_state_of c.args.machine.now.rules)) (range_with_len 0 n)) c.states.ensures)
 
 pub index-requires : goal.index-requires
 index-requires c =

@@ -1,5 +1,5 @@
 use Rattle.std.proofs.Common.{◌≡◌, ◌≤◌, ◌+◌, ◌*◌}
-use Rattle.bn_modules.specs.Controls.{lines_before}
+use Rattle.bn_network.specs.Controls.{lines_before}
 use Rattle.bn_control.proofs.finite.lines_before.Given as goal
 
 abbrev pub invariant-loop-index : goal.invariant-loop-index

@@ -1,5 +1,5 @@
 use Rattle.std.proofs.Common.{◌≡◌, ◌++◌, map, take}
-use Rattle.bn_erasing.specs.declared.name.ErasingName.TheVariants.{Second}
+use Rattle.bn_erase_laws.specs.declared.name.ErasingName.TheVariants.{Second}
 use Rattle.bn_erase.proofs.erasing.add_second.Given as goal
 
 abbrev pub invariant-loop-name : goal.invariant-loop-name

@@ -1,8 +1,8 @@
 -- Each state's text is new.
 use Rattle.std.proofs.Common.{◌≡◌, ◌<◌, ◌∙◌, arith, length, get_or}
-use Rattle.bn_stages.specs.declared.name.Name.TheVariants.{Compute}
+use Rattle.bn_bennett_laws.specs.declared.name.Name.TheVariants.{Compute}
 use Rattle.bn_bennett.proofs.Texts.{states_more}
-use Rattle.bn_erasing.specs.declared.name.ErasingName.TheVariants.{First}
+use Rattle.bn_erase_laws.specs.declared.name.ErasingName.TheVariants.{First}
 use Rattle.bn_erase.specs.Printed.{erasing_text}
 use Rattle.bn_erase.proofs.PrintedLemmas.{state_new, state_room}
 use Rattle.bn_erase.proofs.naming.add_states.Goals as goal

@@ -1,7 +1,7 @@
 -- All names are apart.
 use Rattle.std.proofs.Common.{List, subst, sym}
 use Rattle.bn_machine.specs.Machine.{IsMachine}
-use Rattle.bn_erasing.specs.declared.name.ErasingName.{ErasingName}
+use Rattle.bn_erase_laws.specs.declared.name.ErasingName.{ErasingName}
 use Rattle.bn_erase.specs.Printable.{ArePrintable}
 use Rattle.bn_erase.proofs.PrintedLemmas.{printable}
 use Rattle.bn_erase.proofs.naming.all_names.Goals as goal

@@ -1,14 +1,22 @@
-use Rattle.std.proofs.Common.{◌∙◌}
+use Rattle.std.proofs.Common.{◌∙◌, subst, sym}
+use Rattle.bn_net.specs.Wirings.{AreWiresOf, AreFitting}
+use Rattle.bn_net.specs.RotaryNets.{IsNetOf, rotary_circuit}
+use Rattle.bn_board.specs.Boards.{IsBoardWire, size}
+use Rattle.bn_board.proofs.GrownLemmas.{board-fitting, net-IsBoard}
+use Rattle.bn_circuits.specs.Circuits.{IsConfig}
+use Rattle.bn_net.specs.Parts.{Parts}
+use Rattle.bn_element.specs.declared.rotary.Rotary.{Rotary}
 use Rattle.bn_assembly.specs.Assembled.{network_of}
+use Rattle.bn_flat.specs.BoardWires.{module_circuit}
 use Rattle.bn_flat.proofs.StartLemmas.{kept-modules, kept-few, kept-some, states-counted, states-within, start-IsConfig}
 use Rattle.bn_flat.proofs.WireLemmas.{tables_counted}
 use Rattle.bn_flat.proofs.make.packed_of.Goals as goal
 
-pub board_net-requires-clause-modules : goal.board_net-requires-clause-modules
-board_net-requires-clause-modules c = rw c.net.ensures.net (kept-modules c.args.assembly.now c.net.ensures.kept)
+pub board_list-requires-clause-modules : goal.board_list-requires-clause-modules
+board_list-requires-clause-modules c = rw c.net.ensures.net (kept-modules c.args.assembly.now c.net.ensures.kept)
 
-pub board_net-requires-clause-few : goal.board_net-requires-clause-few
-board_net-requires-clause-few c = rw c.net.ensures.net (kept-few c.args.assembly.now c.net.ensures.kept)
+pub board_list-requires-clause-few : goal.board_list-requires-clause-few
+board_list-requires-clause-few c = rw c.net.ensures.net (kept-few c.args.assembly.now c.net.ensures.kept)
 
 pub start_bars-requires-clause-modules : goal.start_bars-requires-clause-modules
 start_bars-requires-clause-modules c = rw c.net-2.ensures.net (kept-modules c.args.assembly.now c.net.ensures.kept)
@@ -24,10 +32,27 @@ pub start_bars-requires-clause-within : goal.start_bars-requires-clause-within
 start_bars-requires-clause-within c = rw (c.as_slice.ensures, c.config.ensures.config, c.net-2.ensures.net) (states-within c.args.assembly.now
     c.net.ensures.kept)
 
-pub from_net-requires : goal.from_net-requires
-from_net-requires c =
+pub from_wires-requires-clause-apart : goal.from_wires-requires-clause-apart
+from_wires-requires-clause-apart c = rw c.as_slice-2.ensures.value c.in_ok-wires.ensures.apart
+
+pub from_wires-requires-clause-fitting : goal.from_wires-requires-clause-fitting
+from_wires-requires-clause-fitting c =
+    let wires : AreWiresOf (IsBoardWire (module_circuit c.args.assembly.now.net)) c.in_ok-wires.wires.items =
+    subst (λ n. AreWiresOf (IsBoardWire (module_circuit n)) c.in_ok-wires.wires.items) c.net.ensures.net c.in_ok-wires.ensures in
+    rw (c.requires, c.as_slice-2.ensures.value) (board-fitting (module_circuit c.args.assembly.now.net) (kept-modules c.args.assembly.now c.net.ensures.kept) c.in_ok-wires.wires.items wires)
+
+pub from_wires-requires-clause-good : goal.from_wires-requires-clause-good
+from_wires-requires-clause-good c = λ net is.
     let kept = c.net.ensures.kept in
     let a = c.args.assembly.now in
     rw (c.new.ensures, c.in_ok-bars.ensures, c.as_slice.ensures, c.config.ensures.config, c.net-2.ensures.net)
-    (start-IsConfig c.in_ok-net.net (network_of a).tables a.config.states (c.in_ok-net.ensures.elements ∙ c.requires) (states-counted a kept) (kept-some
-    a kept))
+    (start-IsConfig net (network_of a).tables a.config.states (is.elements ∙ c.requires) (states-counted a kept) (kept-some a kept))
+
+pub returns-clause-board : goal.returns-clause-board
+returns-clause-board c =
+    let wires : AreWiresOf (IsBoardWire (module_circuit c.args.assembly.now.net)) c.as_slice-2.result.now =
+    rw c.as_slice-2.ensures.value (subst (λ n. AreWiresOf (IsBoardWire (module_circuit n)) c.in_ok-wires.wires.items) c.net.ensures.net c.in_ok-wires.ensures) in
+    let net : IsNetOf c.in_ok-packed.packed.net (size (network_of c.args.assembly.now).tables) c.as_slice-2.result.now =
+    subst (λ n. IsNetOf c.in_ok-packed.packed.net n c.as_slice-2.result.now) c.requires c.in_ok-packed.ensures.net in
+    net-IsBoard (module_circuit c.args.assembly.now.net) (kept-modules c.args.assembly.now c.net.ensures.kept) c.in_ok-packed.packed.net c.as_slice-2.result.now wires net
+    c.in_ok-packed.ensures.circuit

@@ -1,7 +1,7 @@
 use Rattle.std.proofs.Common.{subst}
 use Rattle.std.specs.Prelude.{length}
-use Rattle.bn_column.specs.Nets.{IsNetOf}
-use Rattle.bn_column.specs.Wirings.{AreWiresOf}
+use Rattle.bn_net.specs.RotaryNets.{IsNetOf}
+use Rattle.bn_net.specs.Wirings.{AreWiresOf}
 use Rattle.bn_flat.specs.BoardWires.{IsTargetBefore}
 use Rattle.bn_flat.proofs.PartLemmas.{told_fits, told_again}
 use Rattle.bn_flat.proofs.parts.net_of.Goals as goal

@@ -1,5 +1,5 @@
 use Rattle.std.proofs.Common.{◌≤◌, ◌+◌, length}
-use Rattle.bn_column.specs.Wirings.{AreWiresOf}
+use Rattle.bn_net.specs.Wirings.{AreWiresOf}
 use Rattle.bn_flat.specs.BoardWires.{IsTargetBefore}
 use Rattle.bn_flat.proofs.parts.push_element.Given as goal
 

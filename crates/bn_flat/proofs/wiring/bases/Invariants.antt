@@ -1,5 +1,5 @@
 use Rattle.std.proofs.Common.{◌≡◌}
-use Rattle.bn_boards.specs.Boards.{base}
+use Rattle.bn_board.specs.Boards.{base}
 use Rattle.bn_flat.specs.BoardWires.{module_circuit}
 use Rattle.bn_flat.proofs.WireLemmas.{AreBasesUpTo}
 use Rattle.bn_flat.proofs.wiring.bases.Given as goal

@@ -1,6 +1,6 @@
 use Rattle.std.proofs.Common.{◌≤◌, ◌*◌, length}
-use Rattle.bn_column.specs.Wirings.{AreWiresOf}
-use Rattle.bn_boards.specs.Boards.{base}
+use Rattle.bn_net.specs.Wirings.{AreWiresOf}
+use Rattle.bn_board.specs.Boards.{base}
 use Rattle.bn_flat.specs.BoardWires.{IsOwnWire, module_circuit}
 use Rattle.bn_flat.proofs.wiring.own_wires.Given as goal
 

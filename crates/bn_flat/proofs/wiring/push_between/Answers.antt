@@ -3,7 +3,7 @@ use Rattle.bn_net.specs.declared.net.TheConstants.{MOST_ELEMENTS}
 use Rattle.bn_flat.proofs.WireLemmas.{line_skipped, line_added}
 use Rattle.std.specs.Prelude.{◌++◌, ◌∷◌, []}
 use Rattle.std.proofs.lemmas.Result.{on_ok_weaker}
-use Rattle.bn_boards.proofs.ModuleLemmas.{found}
+use Rattle.bn_board.proofs.ModuleLemmas.{found}
 use Rattle.bn_flat.proofs.wiring.push_between.Goals as goal
 
 pub returns-in_default-clause-wires : goal.returns-in_default-clause-wires

@@ -1,65 +1,93 @@
-use Rattle.std.proofs.Common.{length, map, Some, ◌-◌, ◌∷◌, [], refl, sym, ap, subst, ◌∙◌, arith}
-use Rattle.bn_theory.specs.Circuits.{source}
-use Rattle.bn_theory.specs.Stepping.{line_before}
-use Rattle.bn_theory.specs.declared.place.Place.TheVariants.{Enter}
+use Rattle.std.proofs.Common.{length, map, Some, None, ◌≡◌, ◌<◌, ◌*◌, ◌/◌, ◌%◌, ◌^◌, ◌-◌, ◌+◌, ◌∷◌, [], refl, sym, ap, subst, ◌∙◌, arith, rules}
+use Rattle.std.specs.Option.{option_map}
+use Rattle.std.proofs.lemmas.List.{length-map}
+use Rattle.bn_circuits.specs.Circuits.{source}
+use Rattle.bn_circuits.specs.Stepping.{line_before}
+use Rattle.bn_circuits.specs.declared.place.Place.TheVariants.{Enter}
 use Rattle.bn_net.specs.Watching.{Hears}
+use Rattle.bn_net.specs.Walking.{HasWalkedBack}
 use Rattle.bn_net.proofs.NetSteps.{first_by_line}
-use Rattle.bn_column.specs.Nets.{rotary_circuit}
+use Rattle.bn_net.specs.RotaryNets.{rotary_circuit}
+use Rattle.bn_packed.specs.Ends.{line_of}
 use Rattle.bn_packed.specs.PackedNets.{config_at}
-use Rattle.bn_packed.proofs.EndLemmas.{input_below, ends_there, ends_read, source_output}
-use Rattle.bn_packed.proofs.StepLemmas.{walked_back_none, leaving_below, walked_back_more}
+use Rattle.bn_packed.proofs.EndLemmas.{input_below}
+use Rattle.bn_packed.proofs.StepLemmas.{walked_back_none}
+use Rattle.bn_packed.proofs.NumberLemmas.{entered, entered_line, entered_by, number_read, entered_low, fed_low, back_low, number_back_more}
 use Rattle.bn_packed.proofs.walk.walk_back_from.Goals as goal
+
+pub number_at-requires : goal.number_at-requires
+number_at-requires g c =
+    let low = entered_low c.args.wiring.now c.len-elements.ensures.circuit c.loop-made.bars c.loop-made.number (c.args.steps - c.loop-made.made)
+    c.loop-made.invariant.good in
+    let count = c.sources-sources.ensures.count in
+    let same : length (map g.C.Cell.tells c.sources-sources.result.now) ≡ length c.sources-sources.result.now = length-map c.sources-sources.result.now g.C.Cell.tells in
+    omega arith
 
 pub loop-made-init : goal.loop-made-init
 loop-made-init g c =
-    walked_back_none (rotary_circuit c.args.wiring.now) c.args.bars.now (Enter c.args.to.element c.args.to.line) c.args.steps _ 0
-    (g.W.Watch.told c.args.watch.now) c.requires.good (omega arith) refl
+    let low = (input_below c.args.wiring.now.elements c.args.to c.requires.good.place).line in
+    let here = entered_line c.args.to c.line_number-number.result low c.line_number-number.ensures in
+    let same : c.args.steps - 0 ≡ c.args.steps = omega arith in
+    subst (λ p. HasWalkedBack (rotary_circuit c.args.wiring.now) (config_at c.args.bars.now (Enter c.args.to.element c.args.to.line) c.args.steps)
+    (config_at c.args.bars.now p (c.args.steps - 0)) 0 (g.W.Watch.told c.args.watch.now) (g.W.Watch.told c.args.watch.now)) here
+    (walked_back_none (rotary_circuit c.args.wiring.now) c.args.bars.now (Enter c.args.to.element c.args.to.line) c.args.steps _ 0
+    (g.W.Watch.told c.args.watch.now) c.requires.good (omega arith) refl)
 
-pub end_of-requires : goal.end_of-requires
-end_of-requires g c =
-    ends_there (source c.args.wiring.now.wires) g.C.Cell.tells (length c.args.wiring.now.elements) c.sources-sources.result.now c.loop-made.at_line
-    c.sources-sources.ensures
-    (input_below c.args.wiring.now.elements c.loop-made.at_line c.loop-made.invariant.good.place)
+pub line_of-requires : goal.line_of-requires
+line_of-requires g c =
+    let within = (input_below c.args.wiring.now.elements (line_of c.loop-made.number) c.loop-made.invariant.good.place).element in
+    let few : length c.args.wiring.now.elements < 2 ^ 32 = search rules in
+    omega arith
 
-pub cross_back-requires-clause-element : goal.cross_back-requires-clause-element
-cross_back-requires-clause-element g c =
-    (leaving_below c.args.wiring.now (config_at c.loop-made.bars (Enter c.loop-made.at_line.element c.loop-made.at_line.line)
-    (c.args.steps - c.loop-made.made)) c.in-Some.from c.loop-made.invariant.good
-    (source_output c.args.wiring.now c.len-elements.ensures.circuit c.loop-made.at_line (Some c.in-Some.from)
-    (sym c.in-Some.is ∙ ends_read (source c.args.wiring.now.wires) (length c.args.wiring.now.elements) (map g.C.Cell.tells c.sources-sources.result.now)
-    c.loop-made.at_line c.end_of.result c.sources-sources.ensures (input_below c.args.wiring.now.elements c.loop-made.at_line
-    c.loop-made.invariant.good.place) c.end_of.ensures))).0
-
-pub cross_back-requires-clause-line : goal.cross_back-requires-clause-line
-cross_back-requires-clause-line g c =
-    (leaving_below c.args.wiring.now (config_at c.loop-made.bars (Enter c.loop-made.at_line.element c.loop-made.at_line.line)
-    (c.args.steps - c.loop-made.made)) c.in-Some.from c.loop-made.invariant.good
-    (source_output c.args.wiring.now c.len-elements.ensures.circuit c.loop-made.at_line (Some c.in-Some.from)
-    (sym c.in-Some.is ∙ ends_read (source c.args.wiring.now.wires) (length c.args.wiring.now.elements) (map g.C.Cell.tells c.sources-sources.result.now)
-    c.loop-made.at_line c.end_of.result c.sources-sources.ensures (input_below c.args.wiring.now.elements c.loop-made.at_line
-    c.loop-made.invariant.good.place) c.end_of.ensures))).1
-
-pub loop-made-preserved : goal.loop-made-preserved
-loop-made-preserved g c =
-    walked_back_more c.args.wiring.now c.len-elements.ensures.circuit (config_at c.args.bars.now (Enter c.args.to.element c.args.to.line) c.args.steps)
-    c.loop-made.bars c.cross_back.new.self
-    (Enter c.loop-made.at_line.element c.loop-made.at_line.line) c.in-Some.from c.cross_back.result c.args.steps c.loop-made.made
-    (g.W.Watch.told c.args.watch.now) (g.W.Watch.told c.loop-made.watch) (g.W.Watch.told c.enter.new.self)
-    c.loop-made.invariant (sym (sym c.in-Some.is ∙ ends_read (source c.args.wiring.now.wires) (length c.args.wiring.now.elements)
-    (map g.C.Cell.tells c.sources-sources.result.now)
-    c.loop-made.at_line c.end_of.result c.sources-sources.ensures (input_below c.args.wiring.now.elements c.loop-made.at_line
-    c.loop-made.invariant.good.place) c.end_of.ensures)) (source_output c.args.wiring.now c.len-elements.ensures.circuit c.loop-made.at_line
-    (Some c.in-Some.from)
-    (sym c.in-Some.is ∙ ends_read (source c.args.wiring.now.wires) (length c.args.wiring.now.elements) (map g.C.Cell.tells c.sources-sources.result.now)
-    c.loop-made.at_line c.end_of.result c.sources-sources.ensures (input_below c.args.wiring.now.elements c.loop-made.at_line
-    c.loop-made.invariant.good.place) c.end_of.ensures)) c.cross_back.ensures (omega (arith, c.requires.counted, c.loop-made-test.true))
-    (subst (λ p. Hears (g.W.Watch.told c.loop-made.watch) (p ∷ []) (g.W.Watch.told c.enter.new.self)) c.entering-in-loop-made.ensures c.enter.ensures)
+pub line_of-requires-2 : goal.line_of-requires-2
+line_of-requires-2 g c =
+    let within = (input_below c.args.wiring.now.elements (line_of c.loop-made.number) c.loop-made.invariant.good.place).element in
+    let few : length c.args.wiring.now.elements < 2 ^ 32 = search rules in
+    omega arith
 
 pub returns-in_default-clause-ended : goal.returns-in_default-clause-ended
 returns-in_default-clause-ended g c fewer =
+    let low = entered_low c.args.wiring.now c.len-elements.ensures.circuit c.loop-made.bars c.loop-made.number (c.args.steps - c.loop-made.made)
+    c.loop-made.invariant.good in
+    let read = number_read (source c.args.wiring.now.wires) (map g.C.Cell.tells c.sources-sources.result.now) c.loop-made.number
+    (length c.args.wiring.now.elements) c.number_at.result c.sources-sources.ensures low c.number_at.ensures in
+    let none : source c.args.wiring.now.wires (line_of c.loop-made.number) ≡ None = sym read ∙ ap (option_map line_of) c.in_default.is in
     first_by_line (rotary_circuit c.args.wiring.now) c.len-elements.ensures.circuit
     (config_at c.loop-made.bars c.entering.result (c.args.steps - c.loop-made.made))
-    (ap (line_before c.args.wiring.now.wires) c.entering.ensures ∙ sym (ends_read (source c.args.wiring.now.wires) (length c.args.wiring.now.elements)
-    (map g.C.Cell.tells c.sources-sources.result.now)
-    c.loop-made.at_line c.end_of.result c.sources-sources.ensures (input_below c.args.wiring.now.elements c.loop-made.at_line
-    c.loop-made.invariant.good.place) c.end_of.ensures) ∙ c.in_default.is)
+    (ap (line_before c.args.wiring.now.wires) (c.entering.ensures ∙ entered_by c.line_of.result c.loop-made.number c.line_of.ensures) ∙ none)
+
+pub cross_back_at-number-requires : goal.cross_back_at-number-requires
+cross_back_at-number-requires g c =
+    let low = entered_low c.args.wiring.now c.len-elements.ensures.circuit c.loop-made.bars c.loop-made.number (c.args.steps - c.loop-made.made)
+    c.loop-made.invariant.good in
+    let read = number_read (source c.args.wiring.now.wires) (map g.C.Cell.tells c.sources-sources.result.now) c.loop-made.number
+    (length c.args.wiring.now.elements) c.number_at.result c.sources-sources.ensures low c.number_at.ensures in
+    let came : Some (line_of c.in-Some.from) ≡ source c.args.wiring.now.wires (line_of c.loop-made.number) = ap (option_map line_of) (sym c.in-Some.is) ∙ read in
+    fed_low c.args.wiring.now c.len-elements.ensures.circuit c.loop-made.bars c.loop-made.number c.in-Some.from (c.args.steps - c.loop-made.made)
+    c.loop-made.invariant.good came
+
+pub line_of-requires-in-loop-made : goal.line_of-requires-in-loop-made
+line_of-requires-in-loop-made g c =
+    let low = entered_low c.args.wiring.now c.len-elements.ensures.circuit c.loop-made.bars c.loop-made.number (c.args.steps - c.loop-made.made)
+    c.loop-made.invariant.good in
+    let read = number_read (source c.args.wiring.now.wires) (map g.C.Cell.tells c.sources-sources.result.now) c.loop-made.number
+    (length c.args.wiring.now.elements) c.number_at.result c.sources-sources.ensures low c.number_at.ensures in
+    let came : Some (line_of c.in-Some.from) ≡ source c.args.wiring.now.wires (line_of c.loop-made.number) = ap (option_map line_of) (sym c.in-Some.is) ∙ read in
+    let within = back_low c.args.wiring.now c.len-elements.ensures.circuit c.loop-made.bars c.cross_back_at-number.new.self c.loop-made.number c.in-Some.from
+    c.cross_back_at-number.result came c.cross_back_at-number.ensures in
+    let few : length c.args.wiring.now.elements < 2 ^ 32 = search rules in
+    omega arith
+
+pub loop-made-preserved : goal.loop-made-preserved
+loop-made-preserved g c =
+    let low = entered_low c.args.wiring.now c.len-elements.ensures.circuit c.loop-made.bars c.loop-made.number (c.args.steps - c.loop-made.made)
+    c.loop-made.invariant.good in
+    let read = number_read (source c.args.wiring.now.wires) (map g.C.Cell.tells c.sources-sources.result.now) c.loop-made.number
+    (length c.args.wiring.now.elements) c.number_at.result c.sources-sources.ensures low c.number_at.ensures in
+    let came : Some (line_of c.in-Some.from) ≡ source c.args.wiring.now.wires (line_of c.loop-made.number) = ap (option_map line_of) (sym c.in-Some.is) ∙ read in
+    number_back_more c.args.wiring.now c.len-elements.ensures.circuit (config_at c.args.bars.now (Enter c.args.to.element c.args.to.line) c.args.steps)
+    c.loop-made.bars c.cross_back_at-number.new.self c.loop-made.number c.in-Some.from c.cross_back_at-number.result c.args.steps c.loop-made.made
+    (g.W.Watch.told c.args.watch.now) (g.W.Watch.told c.loop-made.watch) (g.W.Watch.told c.enter.new.self)
+    c.loop-made.invariant came c.cross_back_at-number.ensures (omega (arith, c.requires.counted, c.loop-made-test.true))
+    (subst (λ p. Hears (g.W.Watch.told c.loop-made.watch) (p ∷ []) (g.W.Watch.told c.enter.new.self))
+    (c.entering-in-loop-made.ensures ∙ entered_by c.line_of-in-loop-made.result c.cross_back_at-number.result c.line_of-in-loop-made.ensures) c.enter.ensures)

@@ -1,11 +1,17 @@
-use Rattle.std.proofs.Common.{length, map, ◌+◌, ◌-◌, ◌∷◌, [], refl, sym, ap, subst, ◌∙◌, arith, not}
-use Rattle.bn_theory.specs.Circuits.{place_at, target}
-use Rattle.bn_theory.specs.declared.place.Place.TheVariants.{Enter}
+use Rattle.std.proofs.Common.{length, map, Some, None, ◌≡◌, ◌<◌, ◌*◌, ◌/◌, ◌%◌, ◌^◌, ◌+◌, ◌-◌, ◌∷◌, [], refl, sym, ap, subst, ◌∙◌, arith, not, rules}
+use Rattle.std.specs.Option.{option_map}
+use Rattle.bn_circuits.specs.Circuits.{place_at, target}
+use Rattle.bn_circuits.specs.declared.place.Place.TheVariants.{Enter, Left}
 use Rattle.bn_net.specs.Watching.{Hears}
-use Rattle.bn_column.specs.Nets.{rotary_circuit}
+use Rattle.bn_net.specs.RotaryNets.{rotary_circuit}
 use Rattle.bn_packed.specs.PackedNets.{config_at}
-use Rattle.bn_packed.proofs.EndLemmas.{output_below, ends_there, ends_read}
-use Rattle.bn_packed.proofs.StepLemmas.{IsOnWay, way_none, way_more, entering_below, crossed-output}
+use Rattle.bn_circuits.specs.declared.line.Line.{Line}
+use Rattle.bn_circuits.specs.declared.place.Place.{Place}
+use Rattle.std.proofs.lemmas.List.{length-map}
+use Rattle.bn_packed.specs.Ends.{line_of}
+use Rattle.bn_packed.proofs.EndLemmas.{input_below}
+use Rattle.bn_packed.proofs.NumberLemmas.{entered, entered_line, entered_by, number_read, crossed_low, led_low, number_more}
+use Rattle.bn_packed.proofs.StepLemmas.{IsOnWay, way_none, entering_below}
 use Rattle.bn_packed.proofs.walk.walk_until.Given.{Over}
 use Rattle.bn_packed.proofs.walk.walk_until.Goals as goal
 
@@ -24,104 +30,132 @@ pub returns-in_default-clause-between : goal.returns-in_default-clause-between
 returns-in_default-clause-between g c = (stays g c).between
 
 pub loop-made-init : goal.loop-made-init
-loop-made-init g c = record {
-  way = way_none (rotary_circuit c.args.wiring.now) (g.S.Stop.stops c.args.stop.now) c.args.bars.now c.args.signal.place (Enter c.in-Enter.element c.in-Enter.line) c.args.signal.steps _ 0
-      (g.W.Watch.told c.args.watch.now)
-      c.requires.good c.in-Enter.is (omega arith) refl;
-  calm = λ some. absurd (omega arith);
-}
+loop-made-init g c =
+    let low = (entering_below c.args.wiring.now (config_at c.args.bars.now c.args.signal.place c.args.signal.steps) c.in-Enter.element c.in-Enter.line
+    c.requires.good c.in-Enter.is).1 in
+    record {
+      way = way_none (rotary_circuit c.args.wiring.now) (g.S.Stop.stops c.args.stop.now) c.args.bars.now c.args.signal.place (entered c.line_number-number.result)
+          c.args.signal.steps _ 0
+          (g.W.Watch.told c.args.watch.now)
+          c.requires.good
+          (c.in-Enter.is ∙ entered_line (record { element = c.in-Enter.element; line = c.in-Enter.line }) c.line_number-number.result low c.line_number-number.ensures)
+          (omega arith) refl;
+      calm = λ some. absurd (omega arith);
+    }
 
-pub cross-requires-clause-element : goal.cross-requires-clause-element
-cross-requires-clause-element g c =
-    (entering_below c.args.wiring.now (config_at c.loop-made.bars (Enter c.loop-made.at_line.element c.loop-made.at_line.line)
-    (c.args.signal.steps + c.loop-made.made)) c.loop-made.at_line.element c.loop-made.at_line.line c.loop-made.invariant.way.walked.good refl).0
+pub cross-from-requires : goal.cross-from-requires
+cross-from-requires g c =
+    (entering_below c.args.wiring.now (config_at c.loop-made.bars (entered c.loop-made.number) (c.args.signal.steps + c.loop-made.made))
+    (c.loop-made.number / 4) (c.loop-made.number % 4) c.loop-made.invariant.way.walked.good refl).0
 
-pub cross-requires-clause-line : goal.cross-requires-clause-line
-cross-requires-clause-line g c =
-    (entering_below c.args.wiring.now (config_at c.loop-made.bars (Enter c.loop-made.at_line.element c.loop-made.at_line.line)
-    (c.args.signal.steps + c.loop-made.made)) c.loop-made.at_line.element c.loop-made.at_line.line c.loop-made.invariant.way.walked.good refl).1
+low_from : (g : Over) (c : goal.After-cross-from g) → c.cross-from.result < 4 * length c.args.wiring.now.elements
+low_from g c =
+    crossed_low c.args.wiring.now c.len-elements.ensures.circuit c.loop-made.bars c.cross-from.new.self c.loop-made.number c.cross-from.result
+    (c.args.signal.steps + c.loop-made.made) c.loop-made.invariant.way.walked.good c.cross-from.ensures
 
-pub end_of-requires : goal.end_of-requires
-end_of-requires g c =
-    ends_there (target c.args.wiring.now.wires) g.C.Cell.tells (length c.args.wiring.now.elements) c.targets-targets.result.now
-    (record { element = c.loop-made.at_line.element; line = c.cross.result }) c.targets-targets.ensures
-    (output_below c.args.wiring.now.elements (record { element = c.loop-made.at_line.element; line = c.cross.result })
-    (crossed-output c.args.wiring.now c.len-elements.ensures.circuit c.loop-made.bars c.cross.new.self
-    (Enter c.loop-made.at_line.element c.loop-made.at_line.line)
-    c.loop-made.at_line.element c.loop-made.at_line.line c.cross.result (c.args.signal.steps + c.loop-made.made) c.loop-made.invariant.way.walked.good refl
-    c.cross.ensures))
+pub number_at-requires : goal.number_at-requires
+number_at-requires g c =
+    let low = low_from g c in
+    let count = c.targets-targets.ensures.count in
+    let same : length (map g.C.Cell.tells c.targets-targets.result.now) ≡ length c.targets-targets.result.now = length-map c.targets-targets.result.now g.C.Cell.tells in
+    omega arith
 
-left : (g : Over) (c : goal.After-struct_known-in_default-end_of-1 g)
-    → IsOnWay (rotary_circuit c.args.wiring.now) (g.S.Stop.stops c.args.stop.now) (config_at c.args.bars.now c.args.signal.place c.args.signal.steps)
-    (config_at c.cross.new.self c.left_by-place.result (c.args.signal.steps + c.loop-made.made + 1)) (c.args.signal.steps + c.loop-made.made + 1 - c.args.signal.steps)
-    (g.W.Watch.told c.args.watch.now) (g.W.Watch.told c.enter.new.self)
-left g c =
-    way_more c.args.wiring.now c.len-elements.ensures.circuit (g.S.Stop.stops c.args.stop.now) (config_at c.args.bars.now c.args.signal.place c.args.signal.steps) c.loop-made.bars
-    c.cross.new.self
-    (Enter c.loop-made.at_line.element c.loop-made.at_line.line) c.left_by-place.result c.loop-made.at_line.element c.loop-made.at_line.line c.cross.result
+pub returns-in_default-number_at-clause-walked : goal.returns-in_default-number_at-clause-walked
+returns-in_default-number_at-clause-walked g c =
+    let low = crossed_low c.args.wiring.now c.len-elements.ensures.circuit c.loop-made.bars c.cross-from.new.self c.loop-made.number c.cross-from.result
+    (c.args.signal.steps + c.loop-made.made) c.loop-made.invariant.way.walked.good c.cross-from.ensures in
+    let read = number_read (target c.args.wiring.now.wires) (map g.C.Cell.tells c.targets-targets.result.now) c.cross-from.result
+    (length c.args.wiring.now.elements) c.number_at.result c.targets-targets.ensures low c.number_at.ensures in
+    let none : None ≡ target c.args.wiring.now.wires (line_of c.cross-from.result) = ap (option_map line_of) (sym c.in_default-number_at.is) ∙ read in
+    let then = c.left_by-place.ensures ∙ (λ i. Left (c.line_of.ensures i).element (c.line_of.ensures i).line)
+    ∙ ap (λ o. place_at o (line_of c.cross-from.result)) none in
+    (number_more c.args.wiring.now c.len-elements.ensures.circuit (g.S.Stop.stops c.args.stop.now)
+    (config_at c.args.bars.now c.args.signal.place c.args.signal.steps) c.loop-made.bars c.cross-from.new.self c.left_by-place.result c.loop-made.number c.cross-from.result
     c.args.signal.steps c.loop-made.made _ _ (g.W.Watch.told c.args.watch.now) (g.W.Watch.told c.loop-made.watch) (g.W.Watch.told c.enter.new.self)
-    c.loop-made.invariant.way c.loop-made.invariant.calm refl c.cross.ensures (c.left_by-place.ensures ∙ ap
-    (λ o. place_at o (record { element = c.loop-made.at_line.element; line = c.cross.result })) (sym c.in_default-end_of.is ∙
-    ends_read (target c.args.wiring.now.wires) (length c.args.wiring.now.elements) (map g.C.Cell.tells c.targets-targets.result.now)
-    (record { element = c.loop-made.at_line.element; line = c.cross.result }) c.end_of.result c.targets-targets.ensures
-    (output_below c.args.wiring.now.elements (record { element = c.loop-made.at_line.element; line = c.cross.result })
-    (crossed-output c.args.wiring.now c.len-elements.ensures.circuit c.loop-made.bars c.cross.new.self
-    (Enter c.loop-made.at_line.element c.loop-made.at_line.line)
-    c.loop-made.at_line.element c.loop-made.at_line.line c.cross.result (c.args.signal.steps + c.loop-made.made) c.loop-made.invariant.way.walked.good refl
-    c.cross.ensures)) c.end_of.ensures))
-    (omega (arith, c.requires.room, c.loop-made-test.true)) (omega arith) (omega arith) c.enter.ensures
+    c.loop-made.invariant.way c.loop-made.invariant.calm c.cross-from.ensures then
+    (omega (arith, c.requires.room, c.loop-made-test.true)) (omega arith) (omega arith) c.enter.ensures).walked
 
-pub returns-in_default-end_of-clause-walked : goal.returns-in_default-end_of-clause-walked
-returns-in_default-end_of-clause-walked g c = (left g c).walked
+pub returns-in_default-number_at-clause-between : goal.returns-in_default-number_at-clause-between
+returns-in_default-number_at-clause-between g c =
+    let low = crossed_low c.args.wiring.now c.len-elements.ensures.circuit c.loop-made.bars c.cross-from.new.self c.loop-made.number c.cross-from.result
+    (c.args.signal.steps + c.loop-made.made) c.loop-made.invariant.way.walked.good c.cross-from.ensures in
+    let read = number_read (target c.args.wiring.now.wires) (map g.C.Cell.tells c.targets-targets.result.now) c.cross-from.result
+    (length c.args.wiring.now.elements) c.number_at.result c.targets-targets.ensures low c.number_at.ensures in
+    let none : None ≡ target c.args.wiring.now.wires (line_of c.cross-from.result) = ap (option_map line_of) (sym c.in_default-number_at.is) ∙ read in
+    let then = c.left_by-place.ensures ∙ (λ i. Left (c.line_of.ensures i).element (c.line_of.ensures i).line)
+    ∙ ap (λ o. place_at o (line_of c.cross-from.result)) none in
+    (number_more c.args.wiring.now c.len-elements.ensures.circuit (g.S.Stop.stops c.args.stop.now)
+    (config_at c.args.bars.now c.args.signal.place c.args.signal.steps) c.loop-made.bars c.cross-from.new.self c.left_by-place.result c.loop-made.number c.cross-from.result
+    c.args.signal.steps c.loop-made.made _ _ (g.W.Watch.told c.args.watch.now) (g.W.Watch.told c.loop-made.watch) (g.W.Watch.told c.enter.new.self)
+    c.loop-made.invariant.way c.loop-made.invariant.calm c.cross-from.ensures then
+    (omega (arith, c.requires.room, c.loop-made-test.true)) (omega arith) (omega arith) c.enter.ensures).between
 
-pub returns-in_default-end_of-clause-between : goal.returns-in_default-end_of-clause-between
-returns-in_default-end_of-clause-between g c = (left g c).between
-
-stopped : (g : Over) (c : goal.After-struct_known-then-stops-1 g)
-    → IsOnWay (rotary_circuit c.args.wiring.now) (g.S.Stop.stops c.args.stop.now) (config_at c.args.bars.now c.args.signal.place c.args.signal.steps)
-    (config_at c.cross.new.self c.entering-then-stops.result (c.args.signal.steps + c.loop-made.made + 1)) (c.args.signal.steps + c.loop-made.made + 1 - c.args.signal.steps)
-    (g.W.Watch.told c.args.watch.now) (g.W.Watch.told c.enter-in-loop-made.new.self)
-stopped g c =
-    way_more c.args.wiring.now c.len-elements.ensures.circuit (g.S.Stop.stops c.args.stop.now) (config_at c.args.bars.now c.args.signal.place c.args.signal.steps) c.loop-made.bars
-    c.cross.new.self
-    (Enter c.loop-made.at_line.element c.loop-made.at_line.line) c.entering-then-stops.result c.loop-made.at_line.element c.loop-made.at_line.line c.cross.result
-    c.args.signal.steps c.loop-made.made _ _ (g.W.Watch.told c.args.watch.now) (g.W.Watch.told c.loop-made.watch) (g.W.Watch.told c.enter-in-loop-made.new.self)
-    c.loop-made.invariant.way c.loop-made.invariant.calm refl c.cross.ensures (c.entering-then-stops.ensures ∙ ap
-    (λ o. place_at o (record { element = c.loop-made.at_line.element; line = c.cross.result })) (sym c.in-Some.is ∙
-    ends_read (target c.args.wiring.now.wires) (length c.args.wiring.now.elements) (map g.C.Cell.tells c.targets-targets.result.now)
-    (record { element = c.loop-made.at_line.element; line = c.cross.result }) c.end_of.result c.targets-targets.ensures
-    (output_below c.args.wiring.now.elements (record { element = c.loop-made.at_line.element; line = c.cross.result })
-    (crossed-output c.args.wiring.now c.len-elements.ensures.circuit c.loop-made.bars c.cross.new.self
-    (Enter c.loop-made.at_line.element c.loop-made.at_line.line)
-    c.loop-made.at_line.element c.loop-made.at_line.line c.cross.result (c.args.signal.steps + c.loop-made.made) c.loop-made.invariant.way.walked.good refl
-    c.cross.ensures)) c.end_of.ensures))
-    (omega (arith, c.requires.room, c.loop-made-test.true)) (omega arith) (omega arith)
-    (subst (λ p. Hears (g.W.Watch.told c.loop-made.watch) (p ∷ []) (g.W.Watch.told c.enter-in-loop-made.new.self)) (c.entering.ensures ∙ sym c.entering-then-stops.ensures)
-    c.enter-in-loop-made.ensures)
+pub line_of-at_line-requires : goal.line_of-at_line-requires
+line_of-at_line-requires g c =
+    let low = crossed_low c.args.wiring.now c.len-elements.ensures.circuit c.loop-made.bars c.cross-from.new.self c.loop-made.number c.cross-from.result
+    (c.args.signal.steps + c.loop-made.made) c.loop-made.invariant.way.walked.good c.cross-from.ensures in
+    let read = number_read (target c.args.wiring.now.wires) (map g.C.Cell.tells c.targets-targets.result.now) c.cross-from.result
+    (length c.args.wiring.now.elements) c.number_at.result c.targets-targets.ensures low c.number_at.ensures in
+    let leads : Some (line_of c.in-Some.to) ≡ target c.args.wiring.now.wires (line_of c.cross-from.result) = ap (option_map line_of) (sym c.in-Some.is) ∙ read in
+    let within = led_low c.args.wiring.now c.len-elements.ensures.circuit c.cross-from.result c.in-Some.to leads in
+    let few : length c.args.wiring.now.elements < 2 ^ 32 = search rules in
+    omega arith
 
 pub returns-then-stops-clause-walked : goal.returns-then-stops-clause-walked
-returns-then-stops-clause-walked g c = (stopped g c).walked
+returns-then-stops-clause-walked g c =
+    let low = crossed_low c.args.wiring.now c.len-elements.ensures.circuit c.loop-made.bars c.cross-from.new.self c.loop-made.number c.cross-from.result
+    (c.args.signal.steps + c.loop-made.made) c.loop-made.invariant.way.walked.good c.cross-from.ensures in
+    let read = number_read (target c.args.wiring.now.wires) (map g.C.Cell.tells c.targets-targets.result.now) c.cross-from.result
+    (length c.args.wiring.now.elements) c.number_at.result c.targets-targets.ensures low c.number_at.ensures in
+    let leads : Some (line_of c.in-Some.to) ≡ target c.args.wiring.now.wires (line_of c.cross-from.result) = ap (option_map line_of) (sym c.in-Some.is) ∙ read in
+    let here = entered_by c.line_of-at_line.result c.in-Some.to c.line_of-at_line.ensures in
+    let then = c.entering-then-stops.ensures ∙ here ∙ ap (λ o. place_at o (line_of c.cross-from.result)) leads in
+    let hears = subst (λ p. Hears (g.W.Watch.told c.loop-made.watch) (p ∷ []) (g.W.Watch.told c.enter-in-loop-made.new.self))
+    (c.entering.ensures ∙ sym c.entering-then-stops.ensures) c.enter-in-loop-made.ensures in
+    (number_more c.args.wiring.now c.len-elements.ensures.circuit (g.S.Stop.stops c.args.stop.now)
+    (config_at c.args.bars.now c.args.signal.place c.args.signal.steps) c.loop-made.bars c.cross-from.new.self c.entering-then-stops.result c.loop-made.number c.cross-from.result
+    c.args.signal.steps c.loop-made.made _ _ (g.W.Watch.told c.args.watch.now) (g.W.Watch.told c.loop-made.watch) (g.W.Watch.told c.enter-in-loop-made.new.self)
+    c.loop-made.invariant.way c.loop-made.invariant.calm c.cross-from.ensures then
+    (omega (arith, c.requires.room, c.loop-made-test.true)) (omega arith) (omega arith) hears).walked
 
 pub returns-then-stops-clause-between : goal.returns-then-stops-clause-between
-returns-then-stops-clause-between g c = (stopped g c).between
+returns-then-stops-clause-between g c =
+    let low = crossed_low c.args.wiring.now c.len-elements.ensures.circuit c.loop-made.bars c.cross-from.new.self c.loop-made.number c.cross-from.result
+    (c.args.signal.steps + c.loop-made.made) c.loop-made.invariant.way.walked.good c.cross-from.ensures in
+    let read = number_read (target c.args.wiring.now.wires) (map g.C.Cell.tells c.targets-targets.result.now) c.cross-from.result
+    (length c.args.wiring.now.elements) c.number_at.result c.targets-targets.ensures low c.number_at.ensures in
+    let leads : Some (line_of c.in-Some.to) ≡ target c.args.wiring.now.wires (line_of c.cross-from.result) = ap (option_map line_of) (sym c.in-Some.is) ∙ read in
+    let here = entered_by c.line_of-at_line.result c.in-Some.to c.line_of-at_line.ensures in
+    let then = c.entering-then-stops.ensures ∙ here ∙ ap (λ o. place_at o (line_of c.cross-from.result)) leads in
+    let hears = subst (λ p. Hears (g.W.Watch.told c.loop-made.watch) (p ∷ []) (g.W.Watch.told c.enter-in-loop-made.new.self))
+    (c.entering.ensures ∙ sym c.entering-then-stops.ensures) c.enter-in-loop-made.ensures in
+    (number_more c.args.wiring.now c.len-elements.ensures.circuit (g.S.Stop.stops c.args.stop.now)
+    (config_at c.args.bars.now c.args.signal.place c.args.signal.steps) c.loop-made.bars c.cross-from.new.self c.entering-then-stops.result c.loop-made.number c.cross-from.result
+    c.args.signal.steps c.loop-made.made _ _ (g.W.Watch.told c.args.watch.now) (g.W.Watch.told c.loop-made.watch) (g.W.Watch.told c.enter-in-loop-made.new.self)
+    c.loop-made.invariant.way c.loop-made.invariant.calm c.cross-from.ensures then
+    (omega (arith, c.requires.room, c.loop-made-test.true)) (omega arith) (omega arith) hears).between
 
 pub loop-made-preserved : goal.loop-made-preserved
-loop-made-preserved g c = record {
-  way = way_more c.args.wiring.now c.len-elements.ensures.circuit (g.S.Stop.stops c.args.stop.now) (config_at c.args.bars.now c.args.signal.place c.args.signal.steps) c.loop-made.bars
-      c.cross.new.self
-      (Enter c.loop-made.at_line.element c.loop-made.at_line.line) (Enter c.in-Some.to.element c.in-Some.to.line) c.loop-made.at_line.element c.loop-made.at_line.line c.cross.result
-      c.args.signal.steps c.loop-made.made _ _ (g.W.Watch.told c.args.watch.now) (g.W.Watch.told c.loop-made.watch) (g.W.Watch.told c.enter-in-loop-made.new.self)
-      c.loop-made.invariant.way c.loop-made.invariant.calm refl c.cross.ensures (ap
-      (λ o. place_at o (record { element = c.loop-made.at_line.element; line = c.cross.result })) (sym c.in-Some.is ∙
-      ends_read (target c.args.wiring.now.wires) (length c.args.wiring.now.elements) (map g.C.Cell.tells c.targets-targets.result.now)
-      (record { element = c.loop-made.at_line.element; line = c.cross.result }) c.end_of.result c.targets-targets.ensures
-      (output_below c.args.wiring.now.elements (record { element = c.loop-made.at_line.element; line = c.cross.result })
-      (crossed-output c.args.wiring.now c.len-elements.ensures.circuit c.loop-made.bars c.cross.new.self
-      (Enter c.loop-made.at_line.element c.loop-made.at_line.line)
-      c.loop-made.at_line.element c.loop-made.at_line.line c.cross.result (c.args.signal.steps + c.loop-made.made) c.loop-made.invariant.way.walked.good refl
-      c.cross.ensures)) c.end_of.ensures))
-      (omega (arith, c.requires.room, c.loop-made-test.true)) (omega arith) refl
-      (subst (λ p. Hears (g.W.Watch.told c.loop-made.watch) (p ∷ []) (g.W.Watch.told c.enter-in-loop-made.new.self)) c.entering.ensures
-      c.enter-in-loop-made.ensures);
-  calm = λ some. ap not (sym c.stops.ensures ∙ c.if-stops.false);
-}
+loop-made-preserved g c =
+    let low = crossed_low c.args.wiring.now c.len-elements.ensures.circuit c.loop-made.bars c.cross-from.new.self c.loop-made.number c.cross-from.result
+    (c.args.signal.steps + c.loop-made.made) c.loop-made.invariant.way.walked.good c.cross-from.ensures in
+    let read = number_read (target c.args.wiring.now.wires) (map g.C.Cell.tells c.targets-targets.result.now) c.cross-from.result
+    (length c.args.wiring.now.elements) c.number_at.result c.targets-targets.ensures low c.number_at.ensures in
+    let leads : Some (line_of c.in-Some.to) ≡ target c.args.wiring.now.wires (line_of c.cross-from.result) = ap (option_map line_of) (sym c.in-Some.is) ∙ read in
+    let here = entered_by c.line_of-at_line.result c.in-Some.to c.line_of-at_line.ensures in
+    let hears = subst (λ p. Hears (g.W.Watch.told c.loop-made.watch) (p ∷ []) (g.W.Watch.told c.enter-in-loop-made.new.self))
+    (c.entering.ensures ∙ here) c.enter-in-loop-made.ensures in
+    record {
+      way = (number_more c.args.wiring.now c.len-elements.ensures.circuit (g.S.Stop.stops c.args.stop.now)
+          (config_at c.args.bars.now c.args.signal.place c.args.signal.steps) c.loop-made.bars c.cross-from.new.self (entered c.in-Some.to) c.loop-made.number c.cross-from.result
+          c.args.signal.steps c.loop-made.made _ _ (g.W.Watch.told c.args.watch.now) (g.W.Watch.told c.loop-made.watch) (g.W.Watch.told c.enter-in-loop-made.new.self)
+          c.loop-made.invariant.way c.loop-made.invariant.calm c.cross-from.ensures (ap (λ o. place_at o (line_of c.cross-from.result)) leads)
+          (omega (arith, c.requires.room, c.loop-made-test.true)) (omega arith) refl hears);
+      calm = λ some. ap not (sym (c.stops.ensures ∙ ap (g.S.Stop.stops c.args.stop.now) c.line_of-at_line.ensures) ∙ c.if-stops.false);
+    }
+
+pub line_of-requires-2 : goal.line_of-requires-2
+line_of-requires-2 g c =
+    let within = (input_below c.args.wiring.now.elements (line_of c.loop-made.number) c.loop-made.invariant.way.walked.good.place).element in
+    let few : length c.args.wiring.now.elements < 2 ^ 32 = search rules in
+    omega arith

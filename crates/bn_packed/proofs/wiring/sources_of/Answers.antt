@@ -1,5 +1,5 @@
 use Rattle.std.proofs.Common.{◌<◌, ◌*◌, sym, subst, ◌∙◌, arith, length, IfSome, ap}
-use Rattle.bn_theory.specs.Circuits.{source}
+use Rattle.bn_circuits.specs.Circuits.{source}
 use Rattle.bn_packed.specs.Ends.{IsLineBelow}
 use Rattle.bn_packed.proofs.EndLemmas.{below_input, line_below, source_within, more_ends}
 use Rattle.bn_packed.proofs.wiring.sources_of.Goals as goal

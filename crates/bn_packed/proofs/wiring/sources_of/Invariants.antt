@@ -1,5 +1,5 @@
 use Rattle.std.proofs.Common.{◌≡◌, length}
-use Rattle.bn_theory.specs.Circuits.{source}
+use Rattle.bn_circuits.specs.Circuits.{source}
 use Rattle.bn_packed.specs.Ends.{AreEnds}
 use Rattle.bn_packed.proofs.wiring.sources_of.Given as goal
 

@@ -1,5 +1,5 @@
 use Rattle.std.proofs.Common.{◌<◌, ◌*◌, sym, subst, ◌∙◌, arith, length, IfSome, ap}
-use Rattle.bn_theory.specs.Circuits.{target}
+use Rattle.bn_circuits.specs.Circuits.{target}
 use Rattle.bn_packed.specs.Ends.{IsLineBelow}
 use Rattle.bn_packed.proofs.EndLemmas.{below_output, line_below, target_within, more_ends}
 use Rattle.bn_packed.proofs.wiring.targets_of.Goals as goal

@@ -1,5 +1,5 @@
 use Rattle.std.proofs.Common.{◌≡◌, length}
-use Rattle.bn_theory.specs.Circuits.{target}
+use Rattle.bn_circuits.specs.Circuits.{target}
 use Rattle.bn_packed.specs.Ends.{AreEnds}
 use Rattle.bn_packed.proofs.wiring.targets_of.Given as goal
 

@@ -1,9 +1,9 @@
 -- One more entry, and its quadruple.
 use Rattle.std.proofs.Common.{◌≡◌, ◌+◌, ◌++◌, ◌∷◌, [], arith, rules, true, length}
 use Rattle.std.specs.Result.{is_ok}
-use Rattle.bn_entries.proofs.FaultLemmas.{in_number}
-use Rattle.bn_qtable.specs.Entry.{entry_of}
-use Rattle.bn_qtable.specs.Faults.{form_fault}
+use Rattle.bn_csv.proofs.FaultLemmas.{in_number}
+use Rattle.bn_qtable.specs.Entry.{quadruple_entry}
+use Rattle.bn_qtable.specs.Faults.{quadruple_form_fault}
 use Rattle.bn_qtable.specs.Fields.{said}
 use Rattle.bn_qtable.specs.declared.entry.TheConstants.{MOST_ENTRIES}
 use Rattle.bn_qtable.specs.declared.refusal.QuadTableRefusal.TheVariants as refusal
@@ -14,7 +14,7 @@ use Rattle.bn_qtable.proofs.draft.add_fields.Goals as goal
 pub number-requires-clause-room : goal.number-requires-clause-room
 number-requires-clause-room c =
     let d = c.args.draft.now in
-    let few = (in_number MOST_ENTRIES refusal.TooMany form_fault (length d.quads.items + 1) (entry_of (said c.args.fields.now)) c.requires.passes).0 in
+    let few = (in_number MOST_ENTRIES refusal.TooMany quadruple_form_fault (length d.quads.items + 1) (quadruple_entry (said c.args.fields.now)) c.requires.passes).0 in
     let all = few-draft d c.requires.draft in
     record { states = omega (arith, all.states); one = omega (arith, all.one); two = omega (arith, all.two); three = omega (arith, all.three) }
 

@@ -1,5 +1,5 @@
 -- Entries without a fault are those of a table, and those of a table have no fault.
-use Rattle.bn_entries.specs.Entries.{entries_of}
+use Rattle.bn_csv.specs.Entries.{entries_of}
 use Rattle.bn_qtable.proofs.ReadingLaws.{no_fault_of, reading_of}
 use Rattle.bn_qtable.proofs.laws.bytes_have_a_reading_or_a_fault.Goals as goal
 

@@ -1,5 +1,5 @@
 -- Entries are those of one table at most.
-use Rattle.bn_entries.specs.Entries.{entries_of}
+use Rattle.bn_csv.specs.Entries.{entries_of}
 use Rattle.bn_qtable.proofs.ReadingLaws.{one_reading}
 use Rattle.bn_qtable.proofs.laws.bytes_have_one_reading.Goals as goal
 

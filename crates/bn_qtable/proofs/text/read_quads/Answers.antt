@@ -1,9 +1,9 @@
 -- By what is kept from one entry to the next.
 use Rattle.std.proofs.Common.{◌∙◌, refl, sym, ap, Some}
 use Rattle.std.proofs.lemmas.Result.{MatchResult-weaker, err_from_is_err_and}
-use Rattle.bn_entries.specs.Entries.{entries_of}
-use Rattle.bn_entries.proofs.FaultLemmas.{fault_of_next, no_entry, taken_all}
-use Rattle.bn_qtable.specs.Faults.{entry_fault}
+use Rattle.bn_csv.specs.Entries.{entries_of}
+use Rattle.bn_csv.proofs.FaultLemmas.{fault_of_next, no_entry, taken_all}
+use Rattle.bn_qtable.specs.Faults.{quadruple_entry_fault}
 use Rattle.bn_qtable.specs.declared.refusal.QuadTableRefusal.{QuadTableRefusal}
 use Rattle.bn_qtable.specs.declared.refusal.QuadTableRefusal.TheVariants as refusal
 use Rattle.bn_qtable.proofs.Coming.{come-first, come-further}
@@ -29,7 +29,7 @@ returns-clause-refused c =
     let none = (rw c.if-branch.false at c.in_ok-read_entry.ensures.ok).0 in
     let all = taken_all c.entries.invariant.taken none in
     MatchResult-weaker c.into_table.result c.into_table.ensures.empty (λ t p. tt)
-    (λ e p n. no_entry refusal.Empty entry_fault (entries_of c.args.bytes.now) (sym all ∙ (p n).1) ∙ sym (ap (λ (x : QuadTableRefusal). Some x) (p n).0))
+    (λ e p n. no_entry refusal.Empty quadruple_entry_fault (entries_of c.args.bytes.now) (sym all ∙ (p n).1) ∙ sym (ap (λ (x : QuadTableRefusal). Some x) (p n).0))
 
 pub returns-in_err-read_entry-clause-refused : goal.returns-in_err-read_entry-clause-refused
 returns-in_err-read_entry-clause-refused c =

@@ -2,13 +2,13 @@
 use Rattle.std.proofs.Common.{◌≡◌, ◌∙◌, ap, arith, ◌++◌, ◌∷◌, [], List, ℕ, refl, sym, subst}
 use Rattle.std.specs.Prelude.{OnOk}
 use Rattle.std.proofs.lemmas.Option.{get_or_from_slice_get}
-use Rattle.bn_entries.specs.Lines.{line_of}
+use Rattle.bn_csv.specs.Lines.{line_of}
 use Rattle.bn_machine.specs.declared.quint.Shift.TheVariants.{Stay}
 use Rattle.bn_quad.specs.Kept.{deed_of, read_at, rule_of}
 use Rattle.bn_quad.specs.declared.quad.Act.{Act}
 use Rattle.bn_quad.specs.declared.quad.Act.TheVariants.{Write, Shift}
-use Rattle.bn_qtable.specs.Entry.{act_field, entry_of, read_field}
-use Rattle.bn_qtable.specs.Rows.{said_deed, said_of}
+use Rattle.bn_qtable.specs.Entry.{act_field, quadruple_entry, read_field}
+use Rattle.bn_qtable.specs.Rows.{said_deed, said_of_quadruple}
 use Rattle.bn_qtable.proofs.Writing.{plain-state-at, same-get}
 use Rattle.bn_qtable.proofs.text.write_quad.Goals as goal
 
@@ -44,6 +44,6 @@ returns c =
     let a2 = c.fields_on-2.ensures.act ∙ ap (λ (a : Act). act_field (said_deed c.args.names.now.two (deed_of (read_at c.args.quad.now 1) a))) w2 in
     let a3 = c.fields_on-3.ensures.act ∙ ap (λ (a : Act). act_field (said_deed c.args.names.now.three (deed_of (read_at c.args.quad.now 2) a))) w3 in
     let P : List (List ℕ) → Type 0 = λ fields. OnOk c.write_entry.result (c.write_entry.new.self ≡ c.args.writer.now ++ line_of fields) in
-    let entry : c.state-state.result.now ∷ c.fields_on.result.0.now ∷ c.fields_on-2.result.0.now ∷ c.fields_on-3.result.0.now ∷ c.fields_on.result.1.now ∷ c.fields_on-2.result.1.now ∷ c.fields_on-3.result.1.now ∷ c.state-next.result.now ∷ [] ≡ entry_of (said_of c.args.names.now (rule_of c.args.quad.now)) =
+    let entry : c.state-state.result.now ∷ c.fields_on.result.0.now ∷ c.fields_on-2.result.0.now ∷ c.fields_on-3.result.0.now ∷ c.fields_on.result.1.now ∷ c.fields_on-2.result.1.now ∷ c.fields_on-3.result.1.now ∷ c.state-next.result.now ∷ [] ≡ quadruple_entry (said_of_quadruple c.args.names.now (rule_of c.args.quad.now)) =
     λ i. a i ∷ r1 i ∷ r2 i ∷ r3 i ∷ a1 i ∷ a2 i ∷ a3 i ∷ b i ∷ [] in
     subst P entry c.write_entry.ensures.ok

@@ -1,18 +1,18 @@
 -- One line after another.
 use Rattle.std.proofs.Common.{◌≡◌, ◌∙◌, ◌++◌, sym, List, ℕ, [], ap, get_or, length, take, ◌≤◌, subst}
 use Rattle.std.proofs.lemmas.Result.{IfOk-weaker}
-use Rattle.bn_entries.specs.Entries.{entries_of}
-use Rattle.bn_entries.specs.Lines.{line_of, lines_of}
-use Rattle.bn_entries.proofs.LinesLemmas.{lines_of-nil}
+use Rattle.bn_csv.specs.Entries.{entries_of}
+use Rattle.bn_csv.specs.Lines.{line_of, lines_of}
+use Rattle.bn_csv.proofs.LinesLemmas.{lines_of-nil}
 use Rattle.bn_quad.specs.Kept.{quad_of, rule_of, rules_of}
 use Rattle.bn_quad.proofs.KeptLemmas.{rules_of-quads}
 use Rattle.bn_quad.specs.Names.{Naming}
 use Rattle.bn_quad.specs.Quadruples.{Quadruples, Rule}
 use Rattle.bn_quad.specs.declared.quad.Quad.{Quad}
 use Rattle.std.specs.Prelude.{map}
-use Rattle.bn_qtable.specs.Entry.{entry_of}
-use Rattle.bn_qtable.specs.Reading.{Reads}
-use Rattle.bn_qtable.specs.Rows.{IsTable, IsTableOf, rows_by, said_of, table_of}
+use Rattle.bn_qtable.specs.Entry.{quadruple_entry}
+use Rattle.bn_qtable.specs.Reading.{ReadsQuadruples}
+use Rattle.bn_qtable.specs.Rows.{IsTable, IsQuadTableOf, quadruple_rows_by, said_of_quadruple, table_of}
 use Rattle.bn_qtable.proofs.Drafting.{acts-at, named-at, unmixed-at}
 use Rattle.bn_qtable.proofs.Writing.{all-lines, all-named, entries-back, one-line}
 use Rattle.bn_qtable.proofs.text.write_quads.Goals as goal
@@ -42,25 +42,25 @@ loop-quad-preserved c =
     let quads = c.quads-quad-items.result.now in
     let i = c.loop-quad.quad-index in
     c.in_ok-write_quad.ensures
-    ∙ ap (λ (w : List ℕ). w ++ line_of (entry_of (said_of n (rule_of (get_or quads i no_quad))))) c.loop-quad.invariant
+    ∙ ap (λ (w : List ℕ). w ++ line_of (quadruple_entry (said_of_quadruple n (rule_of (get_or quads i no_quad))))) c.loop-quad.invariant
     ∙ sym (one-line n quads i no_quad c.loop-quad-test.true)
 
 -- the whole text
 whole : (p : Quadruples) (n : Naming) (quads : List Quad) (i : ℕ) (text : List ℕ) → quads ≡ map quad_of p.rules → length quads ≤ i
-    → text ≡ lines_of (rows_by n (rules_of (take i quads))) → text ≡ lines_of (rows_by n p.rules)
+    → text ≡ lines_of (quadruple_rows_by n (rules_of (take i quads))) → text ≡ lines_of (quadruple_rows_by n p.rules)
 whole p n quads i text same all e =
-    e ∙ all-lines n quads i all ∙ ap (λ (rs : List (Rule ℕ)). lines_of (rows_by n rs)) (ap rules_of same ∙ rules_of-quads p.rules)
+    e ∙ all-lines n quads i all ∙ ap (λ (rs : List (Rule ℕ)). lines_of (quadruple_rows_by n rs)) (ap rules_of same ∙ rules_of-quads p.rules)
 
-back : (p : Quadruples) (n : Naming) (text : List ℕ) → entries_of text ≡ rows_by n p.rules → IsTable (table_of p n) → Reads text (table_of p n)
+back : (p : Quadruples) (n : Naming) (text : List ℕ) → entries_of text ≡ quadruple_rows_by n p.rules → IsTable (table_of p n) → ReadsQuadruples text (table_of p n)
 back p n text e h =
-    let P : List (List (List ℕ)) → Type 0 = λ entries. IsTableOf entries (table_of p n) in
+    let P : List (List (List ℕ)) → Type 0 = λ entries. IsQuadTableOf entries (table_of p n) in
     subst P (sym e) h
 
 pub returns-clause-text : goal.returns-clause-text
 returns-clause-text c =
     let p = c.args.machine.now in
     let n = c.args.names.now in
-    IfOk-weaker c.into_text.result (λ text. text.items ≡ c.loop-quad.writer) (λ text. text.items ≡ lines_of (rows_by n p.rules))
+    IfOk-weaker c.into_text.result (λ text. text.items ≡ c.loop-quad.writer) (λ text. text.items ≡ lines_of (quadruple_rows_by n p.rules))
     (λ text e. whole p n c.quads-quad-items.result.now c.loop-quad.quad-index text.items c.quads-quad-items.ensures.value c.loop-quad-test.false (e ∙ c.loop-quad.invariant))
     c.into_text.ensures
 
@@ -68,7 +68,7 @@ pub returns-clause-entries : goal.returns-clause-entries
 returns-clause-entries c =
     let p = c.args.machine.now in
     let n = c.args.names.now in
-    IfOk-weaker c.into_text.result (λ text. text.items ≡ c.loop-quad.writer) (λ text. entries_of text.items ≡ rows_by n p.rules)
+    IfOk-weaker c.into_text.result (λ text. text.items ≡ c.loop-quad.writer) (λ text. entries_of text.items ≡ quadruple_rows_by n p.rules)
     (λ text e. entries-back p n text.items c.quads-quad-items.ensures.valid c.requires (whole p n c.quads-quad-items.result.now c.loop-quad.quad-index text.items c.quads-quad-items.ensures.value c.loop-quad-test.false (e ∙ c.loop-quad.invariant)))
     c.into_text.ensures
 
@@ -76,6 +76,6 @@ pub returns-clause-read_back : goal.returns-clause-read_back
 returns-clause-read_back c =
     let p = c.args.machine.now in
     let n = c.args.names.now in
-    IfOk-weaker c.into_text.result (λ text. text.items ≡ c.loop-quad.writer) (λ text. IsTable (table_of p n) → Reads text.items (table_of p n))
+    IfOk-weaker c.into_text.result (λ text. text.items ≡ c.loop-quad.writer) (λ text. IsTable (table_of p n) → ReadsQuadruples text.items (table_of p n))
     (λ text e. back p n text.items (entries-back p n text.items c.quads-quad-items.ensures.valid c.requires (whole p n c.quads-quad-items.result.now c.loop-quad.quad-index text.items c.quads-quad-items.ensures.value c.loop-quad-test.false (e ∙ c.loop-quad.invariant))))
     c.into_text.ensures

@@ -1,11 +1,11 @@
 use Rattle.std.proofs.Common.{refl, subst}
-use Rattle.bn_standard.specs.Verdict.{IsRefusal}
+use Rattle.bn_standard.specs.Verdict.{IsStandardRefusal}
 use Rattle.bn_reply.proofs.TableLemmas.{why_told}
 use Rattle.bn_reply.proofs.opening.judge_table.Goals as goal
 
 pub returns-in_ok-why_text-in-Err : goal.returns-in_ok-why_text-in-Err
 returns-in_ok-why_text-in-Err c =
-    let first = subst (λ m. IsRefusal m.quints c.in-Err.why) c.machine.ensures.value c.in-Err.ensures.refused in (
+    let first = subst (λ m. IsStandardRefusal m.quints c.in-Err.why) c.machine.ensures.value c.in-Err.ensures.refused in (
       refl,
       why_told c.args.table.now c.in-Err.why c.in_ok-why_text-in-Err.field-0.items first c.in_ok-why_text-in-Err.ensures.0
           c.in_ok-why_text-in-Err.ensures.1,

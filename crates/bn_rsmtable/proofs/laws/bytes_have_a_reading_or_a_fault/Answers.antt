@@ -1,4 +1,4 @@
-use Rattle.bn_entries.specs.Entries.{entries_of}
+use Rattle.bn_csv.specs.Entries.{entries_of}
 use Rattle.bn_rsmtable.proofs.ReadingLaws.{no_fault_of, reading_of}
 use Rattle.bn_rsmtable.proofs.laws.bytes_have_a_reading_or_a_fault.Goals as goal
 

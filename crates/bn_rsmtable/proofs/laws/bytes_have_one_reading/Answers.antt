@@ -1,4 +1,4 @@
-use Rattle.bn_entries.specs.Entries.{entries_of}
+use Rattle.bn_csv.specs.Entries.{entries_of}
 use Rattle.bn_rsmtable.proofs.ReadingLaws.{one_reading}
 use Rattle.bn_rsmtable.proofs.laws.bytes_have_one_reading.Goals as goal
 

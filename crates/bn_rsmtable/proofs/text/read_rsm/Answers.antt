@@ -1,7 +1,7 @@
 -- By what is kept from one entry to the next.
 use Rattle.std.proofs.lemmas.Result.{IfErr-weaker, err_from_is_err_and}
-use Rattle.bn_entries.specs.Entries.{entries_of}
-use Rattle.bn_entries.proofs.FaultLemmas.{fault_of_next}
+use Rattle.bn_csv.specs.Entries.{entries_of}
+use Rattle.bn_csv.proofs.FaultLemmas.{fault_of_next}
 use Rattle.bn_rsmtable.specs.declared.refusal.RsmTableRefusal.TheVariants as refusal
 use Rattle.bn_rsmtable.proofs.Coming.{come-further, come-machine, come-refused}
 use Rattle.bn_rsmtable.proofs.ReadingLaws.{refused_unless}

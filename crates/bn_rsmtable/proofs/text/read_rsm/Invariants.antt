@@ -1,6 +1,6 @@
 -- Entries are read from the front on.
 use Rattle.std.proofs.Common.{length}
-use Rattle.bn_entries.specs.Entries.{entries_of}
+use Rattle.bn_csv.specs.Entries.{entries_of}
 use Rattle.bn_rsmtable.proofs.Coming.{HasCome}
 use Rattle.bn_rsmtable.proofs.text.read_rsm.Given as goal
 

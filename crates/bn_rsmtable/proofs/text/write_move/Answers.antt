@@ -1,6 +1,6 @@
 -- Numbers need no quotes.
 use Rattle.std.proofs.Common.{◌∙◌, ap, arith, refl}
-use Rattle.bn_entries.specs.Lines.{is_plain}
+use Rattle.bn_csv.specs.Lines.{is_plain}
 use Rattle.bn_rsmtable.proofs.Decimals.{plain_decimal}
 use Rattle.bn_rsmtable.proofs.text.write_move.Goals as goal
 

@@ -1,6 +1,6 @@
 -- The lines of the moves so far.
 use Rattle.std.proofs.Common.{◌≡◌, take}
-use Rattle.bn_entries.specs.Lines.{lines_of}
+use Rattle.bn_csv.specs.Lines.{lines_of}
 use Rattle.bn_rsmtable.specs.Entry.{entries_by}
 use Rattle.bn_rsmtable.proofs.text.write_rsm.Given as goal
 

@@ -2,11 +2,11 @@
 use Rattle.std.proofs.Common.{refl, codes, None, ◌++◌, ◌∷◌, []}
 use Rattle.std.specs.Option.{option_copied}
 use Rattle.std.proofs.lemmas.Result.{on_ok_weaker, on_err_weaker}
-use Rattle.bn_theory.specs.Stepping.{run, back}
-use Rattle.bn_column.specs.Nets.{rotary_circuit}
-use Rattle.bn_layout.specs.Layouts.{moment_at}
+use Rattle.bn_circuits.specs.Stepping.{run, back}
+use Rattle.bn_net.specs.RotaryNets.{rotary_circuit}
+use Rattle.bn_board.specs.Layouts.{moment_at}
 use Rattle.bn_session.specs.Breakpoints.{breakpoint, without_break}
-use Rattle.bn_session.specs.Plays.{session, named, place_line, label_line}
+use Rattle.bn_session.specs.Plays.{session, label_that_holds, place_line, label_line}
 use Rattle.bn_session.specs.declared.command.Command.TheVariants.{Step, Back, Go, Rev, BreakState, BreakElement, Drop}
 use Rattle.bn_session.specs.declared.condition.Condition.TheVariants.{AtState, AtElement}
 use Rattle.bn_session.proofs.PlayLemmas.{left_unwritten, left_view, view_written, named_is, place_written}
@@ -22,21 +22,21 @@ returns-in-Back-clause-left g c =
 
 pub returns-in-Go-clause-played : goal.returns-in-Go-clause-played
 returns-in-Go-clause-played g c =
-    on_ok_weaker c.write_place-in-Go.result (λ written. place_written (g.W.Shows.text c.args.shows.now) c.args.board.now c.args.breaks.now c.args.command.now (Go c.in-Go.count) (session c.go.new.board.config c.args.breaks.now) (option_copied c.named.result) (named (moment_at c.args.board.now.layout) c.args.breaks.now c.args.board.now.config c.go.new.board.config) c.args.out.now.items c.write_place-in-Go.new.out.items
+    on_ok_weaker c.write_place-in-Go.result (λ written. place_written (g.W.Shows.text c.args.shows.now) c.args.board.now c.args.breaks.now c.args.command.now (Go c.in-Go.count) (session c.go.new.board.config c.args.breaks.now) (option_copied c.named.result) (label_that_holds (moment_at c.args.board.now.layout) c.args.breaks.now c.args.board.now.config c.go.new.board.config) c.args.out.now.items c.write_place-in-Go.new.out.items
     c.in-Go.is (c.go.ensures.stop, refl, refl) (named_is c.args.board.now c.go.new.board c.go.ensures.same c.args.breaks.now c.args.board.now.config c.named.result (c.named.ensures c.args.board.now.config c.steps-steps.ensures)) written) c.write_place-in-Go.ensures.ok
 
 pub returns-in-Go-clause-left : goal.returns-in-Go-clause-left
 returns-in-Go-clause-left g c =
-    on_err_weaker c.write_place-in-Go.result (λ kept. left_unwritten (g.W.Shows.text c.args.shows.now) c.args.board.now c.args.breaks.now c.args.command.now (Go c.in-Go.count) (session c.go.new.board.config c.args.breaks.now) (place_line c.go.new.board.config (named (moment_at c.args.board.now.layout) c.args.breaks.now c.args.board.now.config c.go.new.board.config)) c.go.new.board.config c.args.out.now.items c.write_place-in-Go.new.out.items c.in-Go.is (c.go.ensures.stop, refl, refl) refl kept) c.write_place-in-Go.ensures.err
+    on_err_weaker c.write_place-in-Go.result (λ kept. left_unwritten (g.W.Shows.text c.args.shows.now) c.args.board.now c.args.breaks.now c.args.command.now (Go c.in-Go.count) (session c.go.new.board.config c.args.breaks.now) (place_line c.go.new.board.config (label_that_holds (moment_at c.args.board.now.layout) c.args.breaks.now c.args.board.now.config c.go.new.board.config)) c.go.new.board.config c.args.out.now.items c.write_place-in-Go.new.out.items c.in-Go.is (c.go.ensures.stop, refl, refl) refl kept) c.write_place-in-Go.ensures.err
 
 pub returns-in-Rev-clause-played : goal.returns-in-Rev-clause-played
 returns-in-Rev-clause-played g c =
-    on_ok_weaker c.write_place-in-Rev.result (λ written. place_written (g.W.Shows.text c.args.shows.now) c.args.board.now c.args.breaks.now c.args.command.now (Rev c.in-Rev.count) (session c.rev.new.board.config c.args.breaks.now) (option_copied c.named-in-Rev.result) (named (moment_at c.args.board.now.layout) c.args.breaks.now c.args.board.now.config c.rev.new.board.config) c.args.out.now.items c.write_place-in-Rev.new.out.items
+    on_ok_weaker c.write_place-in-Rev.result (λ written. place_written (g.W.Shows.text c.args.shows.now) c.args.board.now c.args.breaks.now c.args.command.now (Rev c.in-Rev.count) (session c.rev.new.board.config c.args.breaks.now) (option_copied c.named-in-Rev.result) (label_that_holds (moment_at c.args.board.now.layout) c.args.breaks.now c.args.board.now.config c.rev.new.board.config) c.args.out.now.items c.write_place-in-Rev.new.out.items
     c.in-Rev.is (c.rev.ensures.stop, refl, refl) (named_is c.args.board.now c.rev.new.board c.rev.ensures.same c.args.breaks.now c.args.board.now.config c.named-in-Rev.result (c.named-in-Rev.ensures c.args.board.now.config c.steps-steps-in-Rev.ensures)) written) c.write_place-in-Rev.ensures.ok
 
 pub returns-in-Rev-clause-left : goal.returns-in-Rev-clause-left
 returns-in-Rev-clause-left g c =
-    on_err_weaker c.write_place-in-Rev.result (λ kept. left_unwritten (g.W.Shows.text c.args.shows.now) c.args.board.now c.args.breaks.now c.args.command.now (Rev c.in-Rev.count) (session c.rev.new.board.config c.args.breaks.now) (place_line c.rev.new.board.config (named (moment_at c.args.board.now.layout) c.args.breaks.now c.args.board.now.config c.rev.new.board.config)) c.rev.new.board.config c.args.out.now.items c.write_place-in-Rev.new.out.items c.in-Rev.is (c.rev.ensures.stop, refl, refl) refl kept) c.write_place-in-Rev.ensures.err
+    on_err_weaker c.write_place-in-Rev.result (λ kept. left_unwritten (g.W.Shows.text c.args.shows.now) c.args.board.now c.args.breaks.now c.args.command.now (Rev c.in-Rev.count) (session c.rev.new.board.config c.args.breaks.now) (place_line c.rev.new.board.config (label_that_holds (moment_at c.args.board.now.layout) c.args.breaks.now c.args.board.now.config c.rev.new.board.config)) c.rev.new.board.config c.args.out.now.items c.write_place-in-Rev.new.out.items c.in-Rev.is (c.rev.ensures.stop, refl, refl) refl kept) c.write_place-in-Rev.ensures.err
 
 pub returns-in-BreakState-clause-left : goal.returns-in-BreakState-clause-left
 returns-in-BreakState-clause-left g c =

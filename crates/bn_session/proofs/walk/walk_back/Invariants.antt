@@ -1,9 +1,9 @@
 -- What is left of the way ends where the way does.
 use Rattle.std.proofs.Common.{◌≡◌, ◌-◌}
-use Rattle.bn_theory.specs.Circuits.{IsConfig}
-use Rattle.bn_theory.specs.Stepping.{retreat}
-use Rattle.bn_column.specs.Nets.{rotary_circuit}
-use Rattle.bn_layout.specs.Layouts.{moment_at}
+use Rattle.bn_circuits.specs.Circuits.{IsConfig}
+use Rattle.bn_circuits.specs.Stepping.{retreat}
+use Rattle.bn_net.specs.RotaryNets.{rotary_circuit}
+use Rattle.bn_board.specs.Layouts.{moment_at}
 use Rattle.bn_flat.specs.Flattened.{IsSameBoard}
 use Rattle.bn_session.specs.Plays.{stops}
 use Rattle.bn_session.specs.Walks.{walk}

@@ -1,5 +1,5 @@
 use Rattle.std.proofs.Common.{refl}
-use Rattle.bn_entries.specs.Numbering.{firsts_by}
+use Rattle.bn_csv.specs.Numbering.{firsts_by}
 use Rattle.bn_standardise.specs.Rules.{back_over_all}
 use Rattle.bn_standardise.proofs.laws.inverts_example.Goals as goal
 

@@ -1,5 +1,5 @@
 use Rattle.std.proofs.Common.{ap, sym}
-use Rattle.bn_entries.specs.Lines.{lines_of}
+use Rattle.bn_csv.specs.Lines.{lines_of}
 use Rattle.bn_table.proofs.MachineLemmas.{tables_machines}
 use Rattle.bn_table.proofs.Writing.{reads-back}
 use Rattle.bn_standardise.specs.Standardised.{numbering_of}

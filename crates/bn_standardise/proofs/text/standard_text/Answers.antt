@@ -1,6 +1,6 @@
 -- The rules of a table's machine can be written, and what is written is read as the table.
 use Rattle.std.proofs.Common.{◌≡◌, ◌∙◌, ap, subst, sym, map, List, All}
-use Rattle.bn_entries.specs.Lines.{lines_of}
+use Rattle.bn_csv.specs.Lines.{lines_of}
 use Rattle.bn_machine.specs.Machine.{Program}
 use Rattle.bn_table.specs.Rows.{rows_of}
 use Rattle.bn_table.proofs.MachineLemmas.{table_machine}

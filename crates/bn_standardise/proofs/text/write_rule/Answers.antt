@@ -2,9 +2,9 @@
 use Rattle.std.proofs.Common.{◌≡◌, ◌∙◌, ◌++◌, ap, subst, List, ℕ}
 use Rattle.std.specs.Prelude.{OnOk, true}
 use Rattle.std.proofs.lemmas.Option.{get_or_from_slice_get}
-use Rattle.bn_entries.specs.Forms.{is_state_name, is_symbol_byte}
-use Rattle.bn_entries.proofs.FormsLemmas.{all-at}
-use Rattle.bn_entries.specs.Lines.{line_of}
+use Rattle.bn_csv.specs.Forms.{is_state_name, is_symbol_byte}
+use Rattle.bn_csv.proofs.FormsLemmas.{all-at}
+use Rattle.bn_csv.specs.Lines.{line_of}
 use Rattle.bn_standardise.specs.Printed.{IsSmall, name_text}
 use Rattle.bn_standardise.specs.declared.name.Name.{Name}
 use Rattle.bn_standardise.proofs.PrintedLemmas.{name_form}

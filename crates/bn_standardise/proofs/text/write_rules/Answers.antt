@@ -1,8 +1,8 @@
 -- One rule after another.
 use Rattle.std.proofs.Common.{◌≡◌, ◌∙◌, sym, map}
 use Rattle.std.proofs.lemmas.Result.{IfOk-weaker}
-use Rattle.bn_entries.specs.Lines.{lines_of}
-use Rattle.bn_entries.proofs.LinesLemmas.{lines_of-nil}
+use Rattle.bn_csv.specs.Lines.{lines_of}
+use Rattle.bn_csv.proofs.LinesLemmas.{lines_of-nil}
 use Rattle.bn_machine.specs.declared.quint.Shift.TheVariants.{Left}
 use Rattle.bn_standardise.specs.Printed.{rule_entry}
 use Rattle.bn_standardise.specs.declared.name.Name.TheVariants.{First}

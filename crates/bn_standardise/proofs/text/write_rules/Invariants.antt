@@ -1,5 +1,5 @@
 use Rattle.std.proofs.Common.{◌≡◌, map, take}
-use Rattle.bn_entries.specs.Lines.{lines_of}
+use Rattle.bn_csv.specs.Lines.{lines_of}
 use Rattle.bn_standardise.specs.Printed.{rule_entry}
 use Rattle.bn_standardise.proofs.text.write_rules.Given as goal
 

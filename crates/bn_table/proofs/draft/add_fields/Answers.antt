@@ -3,8 +3,8 @@ use Rattle.std.proofs.Common.{◌≡◌, ◌≤◌, ◌<◌, ◌+◌, ◌++◌, 
 use Rattle.std.specs.Result.{is_ok}
 use Rattle.std.proofs.Common.{nat_eq}
 use Rattle.std.specs.Prelude.{bytes_eq}
-use Rattle.bn_entries.specs.Numbering.{with_name}
-use Rattle.bn_entries.proofs.AddedLemmas.{new_length, new_stays}
+use Rattle.bn_csv.specs.Numbering.{with_name}
+use Rattle.bn_csv.proofs.AddedLemmas.{new_length, new_stays}
 use Rattle.bn_machine.specs.declared.quint.Quint.{Quint}
 use Rattle.bn_table.specs.Draft.{drafted}
 use Rattle.bn_table.specs.Fields.{said}

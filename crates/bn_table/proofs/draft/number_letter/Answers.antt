@@ -2,7 +2,7 @@
 use Rattle.std.proofs.Common.{◌≡◌, sym, refl, rules, true, position, Some, None, vec_len, length, arith}
 use Rattle.std.specs.Prelude.{◌==◌}
 use Rattle.std.specs.Result.{is_ok}
-use Rattle.bn_entries.proofs.NumberingLemmas.{number_of_last}
+use Rattle.bn_csv.proofs.NumberingLemmas.{number_of_last}
 use Rattle.bn_table.proofs.Letters.{found, missing}
 use Rattle.bn_table.proofs.draft.number_letter.Goals as goal
 

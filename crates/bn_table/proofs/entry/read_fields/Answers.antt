@@ -1,7 +1,7 @@
 -- The five fields are the entry.
 use Rattle.std.proofs.Common.{◌≡◌, List, ℕ, ◌∙◌, sym, subst, arith}
 use Rattle.std.specs.Prelude.{IfOk}
-use Rattle.bn_entries.proofs.FaultLemmas.{within_number}
+use Rattle.bn_csv.proofs.FaultLemmas.{within_number}
 use Rattle.bn_table.specs.Entry.{entry_of}
 use Rattle.bn_table.specs.Faults.{form_fault}
 use Rattle.bn_table.specs.Fields.{said}

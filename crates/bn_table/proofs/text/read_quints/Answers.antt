@@ -1,8 +1,8 @@
 -- By what is kept from one entry to the next.
 use Rattle.std.proofs.Common.{◌∙◌, sym, ap, Some}
 use Rattle.std.proofs.lemmas.Result.{MatchResult-weaker, err_from_is_err_and}
-use Rattle.bn_entries.specs.Entries.{entries_of}
-use Rattle.bn_entries.proofs.FaultLemmas.{fault_of_next, no_entry, taken_all}
+use Rattle.bn_csv.specs.Entries.{entries_of}
+use Rattle.bn_csv.proofs.FaultLemmas.{fault_of_next, no_entry, taken_all}
 use Rattle.bn_table.specs.Faults.{entry_fault}
 use Rattle.bn_table.specs.declared.refusal.TableRefusal.{TableRefusal}
 use Rattle.bn_table.specs.declared.refusal.TableRefusal.TheVariants as refusal

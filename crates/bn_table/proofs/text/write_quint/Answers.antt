@@ -1,8 +1,8 @@
 -- A table's names and letters have their forms.
 use Rattle.std.proofs.Common.{[]}
 use Rattle.std.proofs.lemmas.Option.{get_or_from_slice_get}
-use Rattle.bn_entries.specs.Forms.{is_state_name, is_symbol_byte}
-use Rattle.bn_entries.proofs.FormsLemmas.{all-at}
+use Rattle.bn_csv.specs.Forms.{is_state_name, is_symbol_byte}
+use Rattle.bn_csv.proofs.FormsLemmas.{all-at}
 use Rattle.bn_table.proofs.text.write_quint.Goals as goal
 
 pub write_row-requires : goal.write_row-requires

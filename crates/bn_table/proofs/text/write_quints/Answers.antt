@@ -1,8 +1,8 @@
 -- One line after another.
 use Rattle.std.proofs.Common.{◌≡◌, ◌∙◌, ◌++◌, sym, List, ℕ, ap, get_or, length, take, ◌≤◌}
 use Rattle.std.proofs.lemmas.Result.{IfOk-weaker}
-use Rattle.bn_entries.specs.Lines.{line_of, lines_of}
-use Rattle.bn_entries.proofs.LinesLemmas.{lines_of-nil}
+use Rattle.bn_csv.specs.Lines.{line_of, lines_of}
+use Rattle.bn_csv.proofs.LinesLemmas.{lines_of-nil}
 use Rattle.bn_machine.specs.Machine.{Program}
 use Rattle.bn_machine.specs.declared.quint.Quint.{Quint}
 use Rattle.bn_machine.specs.declared.quint.Shift.TheVariants.{Left}

@@ -1,6 +1,6 @@
 -- The lines of the quintuples so far.
 use Rattle.std.proofs.Common.{◌≡◌, take}
-use Rattle.bn_entries.specs.Lines.{lines_of}
+use Rattle.bn_csv.specs.Lines.{lines_of}
 use Rattle.bn_table.specs.Rows.{rows_by}
 use Rattle.bn_table.proofs.text.write_quints.Given as goal
 

@@ -1,5 +1,5 @@
 use Rattle.std.proofs.Common.{ℕ, ◌≤◌, ap, ◌∙◌, Some}
-use Rattle.bn_modules.specs.Networks.{IsTape}
+use Rattle.bn_network.specs.Networks.{IsTape}
 use Rattle.bn_assembly.specs.Assembled.{limits_of}
 use Rattle.bn_assembly.proofs.SymbolLemmas.{first_within, first_symbols, no_control}
 use Rattle.bn_assembly.proofs.assembly.Assembly.symbols.Goals as goal

@@ -2,7 +2,7 @@ use Rattle.std.proofs.Common.{◌≡◌, ◌<◌, List, length, get_or, take, ap
 use Rattle.std.proofs.Math.Seq.{take-length}
 use Rattle.std.proofs.lemmas.List.Elements.{All-push}
 use Rattle.bn_control.specs.Controlled.{IsTapeAwaited}
-use Rattle.bn_modules.specs.Controls.{Occurs}
+use Rattle.bn_network.specs.Controls.{Occurs}
 use Rattle.bn_control.specs.declared.state.State.{State}
 use Rattle.bn_control.specs.declared.state.State.TheVariants.{Begin}
 use Rattle.bn_control.specs.States.{name_of, IsProper}

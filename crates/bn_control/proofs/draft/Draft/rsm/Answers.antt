@@ -1,10 +1,11 @@
 use Rattle.std.proofs.Common.{◌≡◌, List, length, ap, subst, sym, ◌∙◌, slice_get, Some, map}
-use Rattle.bn_modules.specs.Controls.{lines_before}
+use Rattle.bn_network.specs.Controls.{lines_before}
 use Rattle.bn_control.specs.declared.named.NamedMove.{NamedMove}
 use Rattle.bn_control.specs.declared.state.State.{State}
 use Rattle.bn_control.specs.Numbered.{HasNumbers, AreNumbered, rsm_move}
 use Rattle.bn_control.proofs.WithinLemmas.{move_numbers}
 use Rattle.bn_control.proofs.TableLemmas.{control_sound, control_table}
+use Rattle.bn_rsm.proofs.SoundLemmas.{sound-refusal}
 use Rattle.bn_control.proofs.draft.Draft.rsm.Goals as goal
 
 pub numbered-requires-clause-known : goal.numbered-requires-clause-known
@@ -35,4 +36,4 @@ want_of_memory-requires c =
     c.in_ok-ordered.ensures.rising c.in_ok-ordered.ensures.each c.in_ok-ordered.ensures.only
     (length c.as_slice-states.result.now) c.lines_before-lines.result c.in_ok-moves.moves.items
     (ap length c.as_slice-states.ensures.value) (c.lines_before-lines.ensures ∙ ap (λ zs. lines_before zs 3) (sym is.symbols)) (c.in_ok-moves.ensures ∙ ap (map rsm_move) c.as_slice-2.ensures.value) in
-    c.sound_moves_are_taken.ensures (length c.as_slice-states.result.now) c.lines_before-lines.result c.in_ok-moves.moves.items c.in-Err.refusal sound c.in-Err.ensures.refused
+    sound-refusal (length c.as_slice-states.result.now) c.lines_before-lines.result c.in_ok-moves.moves.items c.in-Err.refusal sound c.in-Err.ensures.refused

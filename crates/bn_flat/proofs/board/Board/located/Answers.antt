@@ -1,5 +1,5 @@
 use Rattle.std.proofs.Common.{sym, refl, subst}
-use Rattle.bn_theory.specs.declared.place.Place.TheVariants.{Enter}
+use Rattle.bn_circuits.specs.declared.place.Place.TheVariants.{Enter}
 use Rattle.bn_flat.specs.Locations.{IsLocated, left}
 use Rattle.bn_flat.proofs.board.Board.located.Goals as goal
 

@@ -1,6 +1,6 @@
 use Rattle.std.proofs.Common.{Some, subst, sym, ◌∙◌, ap}
-use Rattle.bn_theory.specs.declared.place.Place.TheVariants.{Enter}
-use Rattle.bn_layout.specs.Layouts.{end_place}
+use Rattle.bn_circuits.specs.declared.place.Place.TheVariants.{Enter}
+use Rattle.bn_board.specs.Layouts.{end_place}
 use Rattle.bn_flat.specs.Moments.{IsCommandTo}
 use Rattle.bn_flat.proofs.ExitLemmas.{off_end as other_end}
 use Rattle.bn_flat.proofs.MomentLemmas.{off_west, off_commands, off_end}

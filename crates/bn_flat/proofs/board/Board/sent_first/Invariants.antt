@@ -1,6 +1,6 @@
 use Rattle.std.proofs.Common.{◌≡◌, ℕ, ◌<◌, Option, Some, false}
 use Rattle.std.specs.List.{slice_get}
-use Rattle.bn_layout.specs.Layouts.{is_sent}
+use Rattle.bn_board.specs.Layouts.{is_sent}
 use Rattle.bn_flat.proofs.board.Board.sent_first.Given as goal
 
 abbrev pub invariant-loop-state : goal.invariant-loop-state

@@ -1,6 +1,6 @@
 use Rattle.std.proofs.Common.{◌≡◌, ℕ, ◌≤◌, ◌+◌, ◌-◌, ◌*◌}
-use Rattle.bn_modules.specs.Controls.{lines_before}
-use Rattle.bn_layout.specs.Layouts.{first_element}
+use Rattle.bn_network.specs.Controls.{lines_before}
+use Rattle.bn_board.specs.Layouts.{first_element}
 use Rattle.bn_flat.proofs.MomentLemmas.{IsCommandOf}
 use Rattle.bn_flat.proofs.layout.Layout.command_to.Given as goal
 

@@ -1,4 +1,4 @@
-use Rattle.bn_layout.specs.Layouts.{named}
+use Rattle.bn_board.specs.Layouts.{named}
 use Rattle.bn_flat.proofs.ExitLemmas.{at_end}
 use Rattle.bn_flat.proofs.layout.Layout.exit_by.Goals as goal
 

@@ -1,4 +1,4 @@
-use Rattle.bn_layout.specs.Layouts.{named, inside}
+use Rattle.bn_board.specs.Layouts.{named, inside}
 use Rattle.bn_flat.proofs.layout.Layout.exit_of.Goals as goal
 
 pub returns-in-Enter : goal.returns-in-Enter

@@ -1,6 +1,6 @@
 use Rattle.std.proofs.Common.{rules, sym, subst, ◌∙◌, w64}
 use Rattle.std.proofs.lemmas.Int.{to_z-of_z}
-use Rattle.bn_theory.specs.declared.place.Place.TheVariants.{Enter}
+use Rattle.bn_circuits.specs.declared.place.Place.TheVariants.{Enter}
 use Rattle.bn_flat.specs.Locations.{IsLocated}
 use Rattle.bn_flat.specs.declared.located.Located.TheVariants.{Cell}
 use Rattle.bn_flat.proofs.LocationLemmas.{cell_is}

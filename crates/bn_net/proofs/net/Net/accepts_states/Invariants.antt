@@ -1,5 +1,5 @@
 use Rattle.std.proofs.Common.{◌≡◌, ℕ, ◌<◌, map, Some, slice_get}
-use Rattle.bn_theory.specs.Circuits.{states_of}
+use Rattle.bn_circuits.specs.Circuits.{states_of}
 use Rattle.bn_net.proofs.net.Net.accepts_states.Given as goal
 
 abbrev pub invariant-loop-index : goal.invariant-loop-index

@@ -1,8 +1,8 @@
 use Rattle.std.proofs.Common.{◌-◌, sym, ap}
-use Rattle.bn_theory.specs.Circuits.{Goes}
-use Rattle.bn_theory.proofs.StepLemmas.{previous-IsConfig}
-use Rattle.bn_theory.specs.declared.config.Config.{Config}
-use Rattle.bn_theory.specs.declared.place.Place.TheVariants.{Enter}
+use Rattle.bn_circuits.specs.Circuits.{Goes}
+use Rattle.bn_circuits.proofs.StepLemmas.{previous-IsConfig}
+use Rattle.bn_circuits.specs.declared.config.Config.{Config}
+use Rattle.bn_circuits.specs.declared.place.Place.TheVariants.{Enter}
 use Rattle.bn_net.specs.Parts.{circuit}
 use Rattle.bn_net.proofs.WireLemmas.{view-IsCircuit}
 use Rattle.bn_net.proofs.NetSteps.{output-state, back-Goes, first_by_line, first_by_move}

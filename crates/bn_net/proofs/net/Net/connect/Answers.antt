@@ -1,6 +1,6 @@
 use Rattle.std.proofs.Common.{◌≡◌, None, Some, map, sym, ap, subst, ◌∙◌}
 use Rattle.std.specs.Prelude.{if◌then◌else◌}
-use Rattle.bn_theory.specs.Circuits.{target, source, same_line}
+use Rattle.bn_circuits.specs.Circuits.{target, source, same_line}
 use Rattle.bn_net.specs.Parts.{Parts}
 use Rattle.bn_net.specs.Rows.{wires_of}
 use Rattle.bn_net.specs.Faults.{fault_of}

@@ -1,7 +1,7 @@
 use Rattle.std.proofs.Common.{◌≡◌, map, take, get_or, None, sym, ap, subst, ◌∙◌}
 use Rattle.std.proofs.lemmas.List.{take_all}
 use Rattle.std.proofs.lemmas.Option.{slice_get-get_or}
-use Rattle.bn_theory.specs.Circuits.{target, source}
+use Rattle.bn_circuits.specs.Circuits.{target, source}
 use Rattle.bn_net.specs.Faults.{fault_of}
 use Rattle.bn_net.proofs.WireLemmas.{view-IsCircuit}
 use Rattle.bn_net.proofs.FaultLemmas.{nothing_built, more_built, next_faultless}

@@ -1,8 +1,8 @@
 use Rattle.std.proofs.Common.{◌≡◌, sym, ap, ◌∙◌, arith}
-use Rattle.bn_theory.proofs.RunsLemmas.{runs_more}
-use Rattle.bn_theory.specs.Circuits.{Goes}
-use Rattle.bn_theory.specs.Stepping.{back}
-use Rattle.bn_theory.proofs.RunLemmas.{run_stops, Reaches-back}
+use Rattle.bn_lists.proofs.RunsLemmas.{runs_more}
+use Rattle.bn_circuits.specs.Circuits.{Goes}
+use Rattle.bn_circuits.specs.Stepping.{back}
+use Rattle.bn_circuits.proofs.RunLemmas.{run_stops, Reaches-back}
 use Rattle.bn_net.specs.Parts.{circuit}
 use Rattle.bn_net.proofs.WireLemmas.{view-IsCircuit}
 use Rattle.bn_net.proofs.net.Net.run.Goals as goal

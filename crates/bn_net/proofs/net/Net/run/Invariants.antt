@@ -1,5 +1,5 @@
-use Rattle.bn_theory.specs.Runs.{Reaches}
-use Rattle.bn_theory.specs.Circuits.{Goes, IsConfig}
+use Rattle.bn_lists.specs.Runs.{Reaches}
+use Rattle.bn_circuits.specs.Circuits.{Goes, IsConfig}
 use Rattle.bn_net.specs.Parts.{circuit}
 use Rattle.bn_net.proofs.net.Net.run.Given as goal
 

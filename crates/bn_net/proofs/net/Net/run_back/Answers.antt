@@ -1,8 +1,8 @@
 use Rattle.std.proofs.Common.{◌≡◌, ◌+◌, sym, ap, ◌∙◌, refl, arith}
-use Rattle.bn_theory.proofs.RunsLemmas.{runs_join}
-use Rattle.bn_theory.specs.Circuits.{Goes}
-use Rattle.bn_theory.specs.Stepping.{run}
-use Rattle.bn_theory.proofs.RunLemmas.{back_stops, Reaches-run}
+use Rattle.bn_lists.proofs.RunsLemmas.{runs_join}
+use Rattle.bn_circuits.specs.Circuits.{Goes}
+use Rattle.bn_circuits.specs.Stepping.{run}
+use Rattle.bn_circuits.proofs.RunLemmas.{back_stops, Reaches-run}
 use Rattle.bn_net.specs.Parts.{circuit}
 use Rattle.bn_net.proofs.WireLemmas.{view-IsCircuit}
 use Rattle.bn_net.proofs.net.Net.run_back.Goals as goal

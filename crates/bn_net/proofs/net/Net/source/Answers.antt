@@ -1,5 +1,5 @@
 use Rattle.std.proofs.Common.{sym, ap, ◌∙◌}
-use Rattle.bn_theory.specs.Circuits.{source}
+use Rattle.bn_circuits.specs.Circuits.{source}
 use Rattle.bn_net.specs.Parts.{Parts}
 use Rattle.bn_net.proofs.WireLemmas.{source-wires}
 use Rattle.bn_net.proofs.net.Net.source.Goals as goal

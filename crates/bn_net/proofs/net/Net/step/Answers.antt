@@ -1,6 +1,6 @@
 use Rattle.std.proofs.Common.{◌+◌, ◌≤◌, refl, sym, arith}
-use Rattle.bn_theory.specs.Circuits.{clock, Goes}
-use Rattle.bn_theory.proofs.StepLemmas.{go_arrives, next-IsConfig}
+use Rattle.bn_circuits.specs.Circuits.{clock, Goes}
+use Rattle.bn_circuits.proofs.StepLemmas.{go_arrives, next-IsConfig}
 use Rattle.bn_net.specs.Parts.{circuit}
 use Rattle.bn_net.proofs.WireLemmas.{view-IsCircuit}
 use Rattle.bn_net.proofs.NetSteps.{step-Goes}

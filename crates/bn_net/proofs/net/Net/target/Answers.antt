@@ -1,5 +1,5 @@
 use Rattle.std.proofs.Common.{sym, ap, ◌∙◌}
-use Rattle.bn_theory.specs.Circuits.{target}
+use Rattle.bn_circuits.specs.Circuits.{target}
 use Rattle.bn_net.specs.Parts.{Parts}
 use Rattle.bn_net.proofs.WireLemmas.{target-wires}
 use Rattle.bn_net.proofs.net.Net.target.Goals as goal

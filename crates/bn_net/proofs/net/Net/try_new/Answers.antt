@@ -2,7 +2,7 @@ use Rattle.std.proofs.Common.{◌≡◌, ◌+◌, map, take, get_or, None, Err, 
 use Rattle.std.proofs.lemmas.List.{take_all}
 use Rattle.std.proofs.lemmas.Option.{slice_get-get_or}
 use Rattle.std.proofs.lemmas.Result.{err_from_is_err_and}
-use Rattle.bn_theory.specs.Circuits.{target, source}
+use Rattle.bn_circuits.specs.Circuits.{target, source}
 use Rattle.bn_net.specs.Faults.{fault_of, checked}
 use Rattle.bn_net.proofs.WireLemmas.{view-IsCircuit}
 use Rattle.bn_net.proofs.FaultLemmas.{nothing_built, more_built, checked-Ok, refused_at}

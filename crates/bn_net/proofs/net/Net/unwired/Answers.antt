@@ -2,7 +2,7 @@ use Rattle.std.proofs.Common.{◌≡◌, ◌<◌, ◌^◌, map, length, Option, 
 use Rattle.std.proofs.lemmas.List.{length-map}
 use Rattle.bn_net.specs.Rows.{wires_of}
 use Rattle.bn_net.proofs.WireLemmas.{unwired_rows, counts-outputs, counts-inputs, empty_wires}
-use Rattle.bn_theory.specs.declared.line.Line.{Line}
+use Rattle.bn_circuits.specs.declared.line.Line.{Line}
 use Rattle.bn_net.proofs.net.Net.unwired.Goals as goal
 
 pub invariant_of-result : goal.invariant_of-result

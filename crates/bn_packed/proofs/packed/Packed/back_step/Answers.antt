@@ -1,5 +1,5 @@
-use Rattle.bn_theory.specs.Circuits.{IsFirst}
-use Rattle.bn_column.specs.Nets.{rotary_circuit}
+use Rattle.bn_circuits.specs.Circuits.{IsFirst}
+use Rattle.bn_net.specs.RotaryNets.{rotary_circuit}
 use Rattle.bn_packed.proofs.StepLemmas.{none_made_back}
 use Rattle.bn_packed.proofs.packed.Packed.back_step.Goals as goal
 

@@ -1,6 +1,6 @@
 use Rattle.std.proofs.Common.{◌≡◌, ◌-◌, true, refl}
-use Rattle.bn_theory.specs.Circuits.{clock}
-use Rattle.bn_column.specs.Nets.{rotary_circuit}
+use Rattle.bn_circuits.specs.Circuits.{clock}
+use Rattle.bn_net.specs.RotaryNets.{rotary_circuit}
 use Rattle.bn_packed.specs.PackedNets.{net_in, config_at}
 use Rattle.bn_packed.specs.Stopping.{stops_at}
 use Rattle.bn_packed.proofs.StepLemmas.{until_ended, until_moves}

@@ -1,5 +1,5 @@
 use Rattle.std.proofs.Common.{◌-◌}
-use Rattle.bn_column.specs.Nets.{rotary_circuit}
+use Rattle.bn_net.specs.RotaryNets.{rotary_circuit}
 use Rattle.bn_packed.specs.PackedNets.{net_in, config_at}
 use Rattle.bn_packed.proofs.StepLemmas.{IsRun, packed-IsRun}
 use Rattle.bn_packed.proofs.packed.Packed.run_watched.Given.{Over}

@@ -1,5 +1,5 @@
-use Rattle.bn_theory.specs.Circuits.{IsStuck}
-use Rattle.bn_column.specs.Nets.{rotary_circuit}
+use Rattle.bn_circuits.specs.Circuits.{IsStuck}
+use Rattle.bn_net.specs.RotaryNets.{rotary_circuit}
 use Rattle.bn_packed.proofs.StepLemmas.{none_made}
 use Rattle.bn_packed.proofs.packed.Packed.step.Goals as goal
 

@@ -1,13 +1,13 @@
 -- One name after another.
 use Rattle.std.proofs.Common.{◌≡◌, ◌∷◌, [], refl, sym, subst, arith}
-use Rattle.bn_entries.specs.Numbering.{with_name}
+use Rattle.bn_csv.specs.Numbering.{with_name}
 use Rattle.bn_quad.specs.Names.{Naming, naming_of}
 use Rattle.bn_quad.specs.Kept.{rule_of}
 use Rattle.bn_quad.specs.declared.quad.Quad.{Quad}
 use Rattle.bn_qtable.specs.Draft.{Adds, HasRoom}
 use Rattle.bn_qtable.specs.Fields.{said}
 use Rattle.std.specs.Prelude.{bytes_eq}
-use Rattle.bn_entries.proofs.AddedLemmas.{new_length, new_stays}
+use Rattle.bn_csv.proofs.AddedLemmas.{new_length, new_stays}
 use Rattle.bn_qtable.proofs.Drafting.{quad-kept}
 use Rattle.bn_qtable.proofs.lists.Lists.number.Goals as goal
 

@@ -1,8 +1,9 @@
 use Rattle.std.proofs.Common.{◌+◌, ◌*◌, ◌<◌, ◌≤◌, ◌∙◌, ap, sym, subst}
-use Rattle.bn_theory.specs.Circuits.{IsConfig}
-use Rattle.bn_theory.specs.declared.place.Place.TheVariants.{Enter}
-use Rattle.bn_column.specs.Nets.{rotary_circuit}
+use Rattle.bn_circuits.specs.Circuits.{IsConfig}
+use Rattle.bn_circuits.specs.declared.place.Place.TheVariants.{Enter}
+use Rattle.bn_net.specs.RotaryNets.{rotary_circuit}
 use Rattle.bn_realise.proofs.StartLemmas.{start-IsConfig, start-IsBankEntering, start-ready, resting}
+use Rattle.bn_rsm.proofs.CostLemmas.{costs-bounded}
 use Rattle.bn_realise.proofs.standing.Bank.start.Goals as goal
 use Rattle.bn_net.specs.declared.net.TheConstants.{MOST_ELEMENTS}
 
@@ -23,4 +24,4 @@ pub returns-clause-ready : goal.returns-clause-ready
 returns-clause-ready c =
     let few = subst (λ v. v.states * (v.lines + 1) ≤ MOST_ELEMENTS) c.self.view_is c.self.invariant.1 in
     let bars = c.new.ensures ∙ c.in_ok-states.ensures ∙ ap (λ v. resting v.states v.lines c.args.state) c.self.view_is in
-    start-ready c.costs_are_bounded.ensures c.args.self.now c.args.state c.args.line c.new.result few c.requires.state c.requires.line bars
+    start-ready costs-bounded c.args.self.now c.args.state c.args.line c.new.result few c.requires.state c.requires.line bars

@@ -1,5 +1,5 @@
 use Rattle.std.proofs.Common.{◌≡◌, map, ap, subst, ◌∙◌}
-use Rattle.bn_rsm.specs.Faults.{turned, IsRefusal}
+use Rattle.bn_rsm.specs.Faults.{turned, IsMoveRefusal}
 use Rattle.bn_rsm.proofs.SoundLemmas.{sound-turned, sound-refusal, turned-backward}
 use Rattle.bn_rsm.proofs.rsm.Rsm.inverse.Goals as goal
 
@@ -7,7 +7,7 @@ pub want_of_memory-requires : goal.want_of_memory-requires
 want_of_memory-requires c =
     let m = c.self.inside in
     let moves : c.in-Ok.moves.items ≡ map turned m.moves.items = c.in-Ok.ensures ∙ ap (map turned) c.as_slice.ensures.value in
-    sound-refusal m.states m.lines (map turned m.moves.items) c.in-Err.refusal (sound-turned m.states m.lines m.moves.items m.sound) (subst (λ ms. IsRefusal m.states m.lines ms c.in-Err.refusal) moves c.in-Err.ensures.refused)
+    sound-refusal m.states m.lines (map turned m.moves.items) c.in-Err.refusal (sound-turned m.states m.lines m.moves.items m.sound) (subst (λ ms. IsMoveRefusal m.states m.lines ms c.in-Err.refusal) moves c.in-Err.ensures.refused)
 
 pub returns-in-Ok-try_new-clause-backward : goal.returns-in-Ok-try_new-clause-backward
 returns-in-Ok-try_new-clause-backward c =

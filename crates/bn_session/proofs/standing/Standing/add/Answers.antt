@@ -3,7 +3,7 @@ use Rattle.std.proofs.Common.{◌≡◌, ◌∙◌, sym, refl, false}
 use Rattle.std.specs.Prelude.{bytes_eq}
 use Rattle.std.specs.List.{list_any}
 use Rattle.std.proofs.lemmas.List.{map-append}
-use Rattle.bn_entries.proofs.PlaceFacts.{any-map}
+use Rattle.bn_csv.proofs.PlaceFacts.{any-map}
 use Rattle.bn_session.proofs.standing.Standing.add.Goals as goal
 use Rattle.bn_session.proofs.standing.Standing.add.Goals.{in-Ok-insert, in-Err}
 

@@ -1,6 +1,6 @@
 use Rattle.std.proofs.Common.{◌∙◌, sym}
 use Rattle.std.specs.Prelude.{bytes_eq}
-use Rattle.bn_entries.proofs.PlaceFacts.{any-map}
+use Rattle.bn_csv.proofs.PlaceFacts.{any-map}
 use Rattle.bn_session.proofs.standing.Standing.contains.Goals as goal
 
 pub returns : goal.returns

@@ -1,0 +1,107 @@
+-- The flat board of any circuit of modules (this project's own profile): each module as its bank of columns of rotary
+-- elements, one bank after another. It knows nothing of tapes, cells or controls.
+use Rattle.std.specs.Prelude.{◌≡◌, ◌↔◌, ℕ, zero, suc, ◌+◌, ◌*◌, ◌<◌, List, [], ◌∷◌, ◌++◌, length, replicate, Option}
+use Rattle.std.specs.Prelude.{Some, None, slice_get, slice_set, ◌⊎◌}
+use Rattle.bn_element.specs.Tables.{Table}
+use Rattle.bn_circuits.specs.Circuits.{Circuit, target, IsCircuit, IsPlace}
+use Rattle.bn_circuits.specs.declared.line.Line.{Line}
+use Rattle.bn_circuits.specs.declared.place.Place.{Place}
+use Rattle.bn_circuits.specs.declared.place.Place.TheVariants.{Enter, Left}
+use Rattle.bn_circuits.specs.declared.config.Config.{Config}
+use Rattle.bn_element.specs.Rotary.{rotary, horizontal, vertical, east, west}
+use Rattle.bn_realise.specs.Banks.{IsBankWire, IsResting, AreMarked, bottom_at, bank_input_line, bank_output_line, turning_line}
+use Rattle.bn_circuits.specs.Situations.{Situation}
+
+-- how many elements a bank has; how many the first modules have together, which is the first element of the next; and
+-- how many all have
+abbrev pub size_of : Table → ℕ
+size_of t = t.states * (t.inputs + 1)
+
+abbrev pub base : List Table → ℕ → ℕ
+base ts zero = 0
+base [] (suc m) = 0
+base (t ∷ ts) (suc m) = size_of t + base ts m
+
+abbrev pub size : List Table → ℕ
+size ts = base ts (length ts)
+
+-- modules that can be banks: each is reversible, has a state and a line, and as many lines out as in
+pub record AreModules (n : Circuit) : Type 0 where
+  pub circuit : IsCircuit n
+  pub some_states : (m : ℕ) (t : Table) → slice_get n.tables m ≡ Some t → 0 < t.states
+  pub some_lines : (m : ℕ) (t : Table) → slice_get n.tables m ≡ Some t → 0 < t.inputs
+  pub square : (m : ℕ) (t : Table) → slice_get n.tables m ≡ Some t → t.outputs ≡ t.inputs
+
+-- a board's wires: those of each module's bank; and for each wire between modules, one from the output line of the one
+-- bank to the input line of the other
+pub data IsBoardWire (n : Circuit) (from to : Line) : Type 0 where
+  own : (m : ℕ) (t : Table) → slice_get n.tables m ≡ Some t → IsBankWire (base n.tables m) t from to
+      → IsBoardWire n from to
+  between : (out into : Line) (t : Table) → target n.wires out ≡ Some into → slice_get n.tables out.element ≡ Some t
+      → from ≡ bank_output_line (base n.tables out.element) t out.line
+      → to ≡ bank_input_line (base n.tables into.element) into.line → IsBoardWire n from to
+
+-- the circuit of rotary elements k is the board of the circuit of modules n
+pub record IsBoard (n k : Circuit) : Type 0 where
+  pub circuit : IsCircuit k
+  pub tables : k.tables ≡ replicate (size n.tables) rotary
+  pub wires : (from to : Line) → (target k.wires from ≡ Some to) ↔ IsBoardWire n from to
+
+-- the bars of a board whose modules are in these states
+abbrev pub bars_of : List Table → List ℕ → List ℕ
+bars_of [] qs = []
+bars_of (t ∷ ts) [] = []
+bars_of (t ∷ ts) (q ∷ qs) =
+    slice_set (replicate (size_of t) vertical) (bottom_at 0 t.inputs q) horizontal ++ bars_of ts qs
+
+-- where the signal is on the board that is between two modules
+abbrev pub output_at : List Table → ℕ → Option Table → ℕ → Place
+output_at ts e None o = Left 0 0
+output_at ts e (Some t) o = Left (bank_output_line (base ts e) t o).element east
+
+abbrev pub on_board : List Table → Place → Place
+on_board ts (Enter e i) = Enter (base ts e + i) west
+on_board ts (Left e o) = output_at ts e (slice_get ts e) o
+
+-- the board's configuration for a situation of its modules, with no step made yet
+abbrev pub board_start : List Table → Situation → Config
+board_start ts s = record { states = bars_of ts s.states; place = on_board ts s.place; steps = 0 }
+
+-- the board is between two modules, and each bank rests in its module's state
+pub record StandsFor (n : Circuit) (s : Situation) (c : Config) : Type 0 where
+  pub count : length s.states ≡ length n.tables
+  pub bars : length c.states ≡ size n.tables
+  pub rests : (m : ℕ) (t : Table) (q : ℕ) → slice_get n.tables m ≡ Some t → slice_get s.states m ≡ Some q
+      → (q < t.states) × IsResting c.states (base n.tables m) t.states t.inputs (Some q)
+  pub admissible : IsPlace n s.place
+  pub place : c.place ≡ on_board n.tables s.place
+
+-- Strictly within a move from s to t: the signal enters a line to which one of some bank's own wires leads; and the
+-- marks of each bank are those in s, or in t, or none.
+pub record IsAmid (n : Circuit) (s t : Situation) (d : Config) : Type 0 where
+  pub at_module : ℕ
+  pub table : Table
+  pub has_table : slice_get n.tables at_module ≡ Some table
+  pub from : Line
+  pub to : Line
+  pub own : IsBankWire (base n.tables at_module) table from to
+  pub enters : d.place ≡ Enter to.element to.line
+  pub mark : (m : ℕ) (u : Table) → slice_get n.tables m ≡ Some u → (q : Option ℕ)
+      × AreMarked d.states (base n.tables m) u.states u.inputs q
+      × (((q ≡ slice_get s.states m) ⊎ (q ≡ slice_get t.states m)) ⊎ (q ≡ None))
+
+-- where the module that is entered has no move, the signal leaves by a loose line; the marks of each bank are those in
+-- s, or none
+pub record IsLoose (n : Circuit) (s : Situation) (d : Config) : Type 0 where
+  pub at_module : ℕ
+  pub line : ℕ
+  pub table : Table
+  pub state : ℕ
+  pub enters : s.place ≡ Enter at_module line
+  pub has_table : slice_get n.tables at_module ≡ Some table
+  pub has_state : slice_get s.states at_module ≡ Some state
+  pub no_move : table.go state line ≡ None
+  pub left : d.place ≡ Left (turning_line (base n.tables at_module) table state line).element west
+  pub unmarked : AreMarked d.states (base n.tables at_module) table.states table.inputs None
+  pub mark : (m : ℕ) (u : Table) → slice_get n.tables m ≡ Some u → (q : Option ℕ)
+      × AreMarked d.states (base n.tables m) u.states u.inputs q × ((q ≡ slice_get s.states m) ⊎ (q ≡ None))

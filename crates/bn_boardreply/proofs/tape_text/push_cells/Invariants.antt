@@ -1,7 +1,0 @@
-use Rattle.std.proofs.Common.{◌≡◌, ◌++◌, drop}
-use Rattle.bn_boardanswers.specs.RunText.{cells_text}
-use Rattle.bn_boardreply.proofs.tape_text.push_cells.Given as goal
-
-abbrev pub invariant-loop-cell : goal.invariant-loop-cell
-invariant-loop-cell l =
-    l.initial.text.items ++ cells_text l.table l.tape l.cells ≡ l.text.items ++ cells_text l.table l.tape (drop l.cell-index l.cells)

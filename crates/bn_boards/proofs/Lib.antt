@@ -1,8 +1,0 @@
-pub mod BankedLemmas
-pub mod MovedLemmas
-pub mod LooseLemmas
-pub mod FollowedLemmas
-pub mod VisitedLemmas
-pub mod ModuleLemmas
-pub mod ListedLemmas
-pub mod GrownLemmas

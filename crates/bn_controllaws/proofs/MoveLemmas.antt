@@ -1,8 +1,0 @@
--- The control's moves are one to one.
-use Rattle.bn_controllaws.specs.Laws.{ControlsAreOneToOne}
-use Rattle.bn_controllaws.proofs.ForthLemmas.{forth}
-use Rattle.bn_controllaws.proofs.BackLemmas.{back}
-
--- a move is known from either of its ends
-pub one-to-one : ControlsAreOneToOne
-one-to-one machine is u = record { forth = forth machine u; back = back machine u }

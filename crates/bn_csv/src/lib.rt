@@ -1,0 +1,19 @@
+//! What this project's readers and writers of csv tables share: the entries of some bytes, the forms of
+//! names and symbols, numbering by first appearance, and one line of text for each entry.
+#![tactic(auto)]
+
+mod entries;
+mod forms;
+mod laws;
+mod names;
+mod writer;
+
+pub use bn_lists::NoMemory;
+pub use entries::{Entries, Entry};
+pub use forms::{is_letter, is_state_name, is_symbol};
+pub use laws::{first_appearances_number_names, written_entries_are_read_back};
+pub use names::Names;
+pub use writer::EntryWriter;
+
+#[cfg(test)]
+mod tests;

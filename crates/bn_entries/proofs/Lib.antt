@@ -1,9 +1,0 @@
-pub mod AddedLemmas
-pub mod FaultLemmas
-pub mod FormsLemmas
-pub mod LinesLemmas
-pub mod NumberingLemmas
-pub mod RecordsFromLemmas
-pub mod PlaceFacts
-pub mod RecordsLeft
-pub mod ShiftLemmas

@@ -1,9 +1,0 @@
--- The entries of some bytes: their csv records without a header, as this project's tables are read.
-use Rattle.std.specs.Prelude.{ℕ, List}
-use Rattle.csv.specs.Reading.{default_config, records, strip_bom}
-
--- all entries of some bytes, each the list of its fields: a byte order mark at the start is taken off, commas
--- separate fields, a carriage return, a line feed or both end an entry, lines with nothing are no entries, and
--- quotes are read
-unfoldable pub entries_of : List ℕ → List (List (List ℕ))
-entries_of bytes = records default_config (strip_bom bytes)

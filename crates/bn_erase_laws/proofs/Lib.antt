@@ -1,0 +1,16 @@
+pub mod ErasingLemmas
+pub mod ComparedLemmas
+pub mod TheoremLemmas
+pub mod DecidedLemmas
+pub mod OutcomeLemmas
+pub mod NearLemmas
+pub mod NumberedLemmas
+pub mod DistinctLemmas
+pub mod NamesLemmas
+pub mod LeastLemmas
+pub mod SticksLemmas
+pub mod UnequalLemmas
+pub mod MappedLemmas
+pub mod TurnedLemmas
+pub mod ExchangedLemmas
+pub mod JoinedLemmas

@@ -1,0 +1,5 @@
+pub mod Erasing
+pub mod Outcome
+pub mod ErasingLaws
+pub mod Lists
+pub mod ListLaws

@@ -1,3 +1,0 @@
-pub mod Erasing
-pub mod Outcome
-pub mod Laws

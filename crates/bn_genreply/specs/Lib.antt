@@ -1,2 +1,0 @@
-pub mod GenerateReply
-pub mod Laws

@@ -1,5 +1,0 @@
-use Rattle.bn_headline.proofs.WholeLemmas.{boards-moments}
-use Rattle.bn_headline.proofs.laws.boards_have_moments.Goals as goal
-
-pub returns : goal.returns
-returns c = boards-moments c.translations_are_uniform.ensures c.states_have_entries.ensures c.translations_end_alike.ensures c.translations_stand.ensures c.outcome_is_one.ensures c.first_moment_comes.ensures c.next_moment_comes.ensures c.last_moment_ends.ensures c.heads_stay_one.ensures

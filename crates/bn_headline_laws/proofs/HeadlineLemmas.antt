@@ -1,0 +1,407 @@
+-- The headline by the machine alone, from the reply to a run.
+use Rattle.std.specs.Prelude.{refl, ◌≡◌, ℕ, ◌+◌, ◌-◌, ◌*◌, ◌<◌, ◌≤◌, pos, ◌-ℤ◌, List, [], ◌∷◌, ◌++◌, length, map, replicate, slice_get, Option, Some, None, Bool, true, false, slice_index, decimal}
+use Rattle.std.specs.List.{range_with_len}
+use Rattle.std.specs.Option.{option_map_or}
+use Rattle.std.proofs.Common.{zero, suc, arith, zero-add, ap, subst, ◌∙◌, sym}
+use Rattle.std.proofs.lemmas.Option.{option_and_then_some}
+use Rattle.std.specs.Prelude.{ℤ, nat_lt, position, if◌then◌else◌}
+use Rattle.std.specs.Option.{option_map}
+use Rattle.std.proofs.lemmas.Bool.{ltb-true}
+use Rattle.std.proofs.lemmas.Int.{ints}
+use Rattle.std.proofs.lemmas.List.FromFn.{length-map-range_with_len, length-range_with_len}
+use Rattle.std.proofs.lemmas.List.Quantifiers.{position-Some}
+use Rattle.std.proofs.lemmas.Option.{slice_get-map}
+use Rattle.bn_machine.specs.Window.{IsBetween}
+use Rattle.bn_network.specs.Cells.{cell_line_count}
+use Rattle.bn_realise.specs.Banks.{bottom_at}
+use Rattle.bn_bennett_laws.specs.List.{symbols_of}
+use Rattle.bn_io.specs.Told.{Grows}
+use Rattle.bn_circuits.specs.declared.place.Place.{Place}
+use Rattle.bn_lists.specs.Runs.{Reaches}
+use Rattle.bn_element.specs.Tables.{Table}
+use Rattle.bn_circuits.specs.declared.line.Line.{Line}
+use Rattle.bn_circuits.specs.declared.place.Place.TheVariants.{Enter}
+use Rattle.bn_circuits.specs.Circuits.{Circuit, Goes, IsCircuit}
+use Rattle.bn_circuits.specs.Stepping.{next, run}
+use Rattle.bn_circuits.specs.Counting.{one_if, tally}
+use Rattle.bn_circuits.specs.declared.config.Config.{Config}
+use Rattle.bn_circuits.proofs.RunLemmas.{Reaches-run}
+use Rattle.bn_circuits.proofs.RunPartLemmas.{runs_split, steps_of_run}
+use Rattle.bn_machine.specs.Tape.{cell, word_tape, blank_tape}
+use Rattle.bn_machine.specs.Outcome as outcome
+use Rattle.bn_machine.specs.Outcome.{Limits, Outcome, HasOutcome}
+use Rattle.bn_net.specs.declared.net.TheConstants.{MOST_ELEMENTS}
+use Rattle.bn_element.specs.Rotary.{rotary}
+use Rattle.bn_quad.specs.Quadruples.{Quadruples}
+use Rattle.bn_table.specs.Laws.{TablesAreMachines}
+use Rattle.bn_table.specs.Rows.{Named}
+use Rattle.bn_network.specs.Controls.{ControlState, lines_before}
+use Rattle.bn_network.specs.Networks.{bank_size, cell_size, cells_in, elements_by, left_of}
+use Rattle.bn_board.specs.declared.exit.Exit.TheVariants as exit
+use Rattle.bn_board.specs.Layouts.{Layout, IsLayout, config_tape, elements_of, is_moment, spelled_tape, cell_element, cell_state_at, cells_shown, has_head, head_shown, is_marked_at, symbol_count_at, symbol_by}
+use Rattle.bn_board.specs.Flats.{IsFlatOf, Flat, flat_start}
+use Rattle.bn_board.specs.Costs.{HasCost, bound_of}
+use Rattle.bn_board_laws.specs.Headline.{RunsToExit}
+use Rattle.bn_board_laws.specs.HeadlineLaws.{CostsAreOne}
+use Rattle.bn_reply.specs.declared.status.Status.{Status}
+use Rattle.bn_reply.specs.declared.status.Status.TheVariants as statuses
+use Rattle.bn_reply.specs.TableReply.{WordReplies}
+use Rattle.bn_reply.proofs.SettledLemmas.{standard_tells, word_tells}
+use Rattle.bn_reply.proofs.TableLemmas.{reads_table}
+use Rattle.bn_board.specs.Boards.{size}
+use Rattle.bn_base.specs.Number.{greatest}
+use Rattle.bn_reply.specs.declared.limits.TheConstants.{MOST_INPUT_BYTES}
+use Rattle.bn_reply_boards_laws.specs.Windows.{BoardReplies, long, large, board, ComesTo, CountsElements, large_line}
+use Rattle.bn_reply_boards_laws.specs.RunText.{elements_line, exit_line, output_line, quadruple_line, shown_lines, steps_line, tape_lines}
+use Rattle.bn_reply_boards_laws.specs.RunReply.{RunReplies, TellsRun, board_after}
+use Rattle.bn_reply_boards_laws.specs.Headline as within
+use Rattle.bn_reply_boards_laws.specs.Headline.{ComesOutOn, TellsOutcome, outcome_line, outcome_rest, run_words}
+use Rattle.bn_reply_boards_laws.specs.Laws.{AnswersTellHeadline, BoardsAreCounted, RunsHaveOneOfEach}
+use Rattle.bn_reply_boards_laws.proofs.OutputLemmas.{halted_fits}
+use Rattle.bn_reply_boards_laws.proofs.WindowLemmas.{standard_machine}
+use Rattle.bn_headline_laws.specs.Elements.{elements, most_steps}
+use Rattle.bn_headline_laws.specs.MachineHeadline.{AreLastLines, AreTapes, IsOwnRun, MachineHeadline, MachineHeadlineWithin, Spans, TellsExit, TellsInside, TellsWithin, TookAnswer, least_steps, word_cells}
+use Rattle.bn_headline_laws.specs.Laws.{ElementsAreCounted, RepliesTellMachine}
+use Rattle.bn_headline_laws.proofs.CellLemmas.{cells-word}
+
+-- ---- tapes
+
+-- what the cells spell of a word on a tape
+one_cells : (l : Limits) (symbols : List ℕ) → length symbols ≤ l.right → config_tape l 1 (word_tape symbols) ≡ word_cells l.left l.right symbols
+one_cells l symbols fits = λ i. record {
+  first = pos 0 -ℤ pos l.left;
+  head = Some (pos 0);
+  cells = cells-word l.left l.right symbols fits i;
+}
+
+right_cells : (right : ℕ) (word : List ℕ) → length word ≤ right →
+    map (λ j. Some (cell (word_tape word) (pos j -ℤ pos 0))) (range_with_len 0 (right + 1)) ≡ (word_cells 0 right word).cells
+right_cells right word fits =
+    let same : right + 1 ≡ 0 + right + 1 = omega arith in
+    ap (λ n. map (λ j. Some (cell (word_tape word) (pos j -ℤ pos 0))) (range_with_len 0 n)) same ∙ cells-word 0 right word fits
+
+two_cells : (l : Limits) → config_tape l 2 blank_tape ≡ word_cells 0 l.steps []
+two_cells l = λ i. record {
+  first = pos 0 -ℤ pos 0;
+  head = Some (pos 0);
+  cells = right_cells l.steps [] (omega arith) i;
+}
+
+three_cells : (l : Limits) (y : List ℕ) → length y ≤ l.output → config_tape l 3 (word_tape y) ≡ word_cells 0 l.output y
+three_cells l y fits = λ i. record {
+  first = pos 0 -ℤ pos 0;
+  head = Some (pos 0);
+  cells = right_cells l.output y fits i;
+}
+
+-- a symbol by a cell's state is one of the tape's
+symbol_known : (z q : ℕ) → q < 2 * z → symbol_by z q < z
+symbol_known z q low = by (nat_lt q z) refl
+  where
+    by : (b : Bool) → nat_lt q z ≡ b → (if b then q else q - z) < z
+    by true is = ltb-true q z is
+    by false is = omega arith
+
+-- what the cells of a board show spans the window
+module _ (b : Layout) (l : Limits) (states : List ℕ) (tape left right symbols : ℕ) (same : b.limits ≡ l) (from : left_of l tape ≡ left)
+    (many : cells_in l tape ≡ left + right + 1) (letters : symbol_count_at b tape ≡ symbols) where
+  cells_are : cells_in b.limits tape ≡ left + right + 1
+  cells_are = ap (λ (m : Limits). cells_in m tape) same ∙ many
+
+  left_are : left_of b.limits tape ≡ left
+  left_are = ap (λ (m : Limits). left_of m tape) same ∙ from
+
+  abbrev shows_head : ℕ → Bool
+  shows_head i = has_head (symbol_count_at b tape) (cell_state_at b states tape i)
+
+  abbrev places : List ℕ
+  places = range_with_len 0 (cells_in b.limits tape)
+
+  head_inside : (p : ℤ) → head_shown b states tape ≡ Some p → IsBetween left right p
+  head_inside p h = by (position shows_head places) refl h
+    where
+      by : (o : Option ℕ) → position shows_head places ≡ o → option_map (λ i. pos i -ℤ pos (left_of b.limits tape)) o ≡ Some p → IsBetween left right p
+      by None is e = absurd (cc)
+      by (Some i) is e =
+          let low = (position-Some shows_head places i 0 is).0 in
+          let count = length-range_with_len 0 (cells_in b.limits tape) in
+          let inside : i < left + right + 1 = omega (arith, low, count, cells_are) in
+          let there : pos i -ℤ pos (left_of b.limits tape) ≡ p = cc in
+          subst (IsBetween left right) (ap (λ n. pos i -ℤ pos n) (sym left_are) ∙ there)
+          (record { above = omega (arith, ints); below = omega (arith, ints) })
+
+  cell_known : (k s : ℕ) → slice_get (cells_shown b states tape) k ≡ Some (Some s) → s < symbols
+  cell_known k s h =
+      by (slice_get (range_with_len 0 (cells_in b.limits tape)) k)
+      (sym (slice_get-map (λ i. option_map (symbol_by (symbol_count_at b tape)) (cell_state_at b states tape i)) (range_with_len 0 (cells_in b.limits tape)) k) ∙ h)
+    where
+      at : (i : ℕ) (o : Option ℕ) → cell_state_at b states tape i ≡ o → option_map (symbol_by (symbol_count_at b tape)) o ≡ Some s → s < symbols
+      at i None is e = absurd (cc)
+      at i (Some q) is e =
+          let low = (position-Some (λ j. is_marked_at states (bottom_at (cell_element b tape i) (cell_line_count (symbol_count_at b tape)) j))
+          (range_with_len 0 (2 * symbol_count_at b tape)) q 0 is).0 in
+          let count = length-range_with_len 0 (2 * symbol_count_at b tape) in
+          let inside : q < 2 * symbol_count_at b tape = omega (arith, low, count) in
+          let there : symbol_by (symbol_count_at b tape) q ≡ s = cc in
+          let known = symbol_known (symbol_count_at b tape) q inside in
+          subst (λ z. s < z) letters (subst (λ x. x < symbol_count_at b tape) there known)
+
+      by : (o : Option ℕ) → option_map (λ i. option_map (symbol_by (symbol_count_at b tape)) (cell_state_at b states tape i)) o ≡ Some (Some s) → s < symbols
+      by None e = absurd (cc)
+      by (Some i) e = at i (cell_state_at b states tape i) refl (cc)
+
+  spans : Spans left right symbols (spelled_tape b states tape)
+  spans = record {
+    first = ap (λ n. pos 0 -ℤ pos n) left_are;
+    cells = length-map-range_with_len _ 0 (cells_in b.limits tape) ∙ cells_are;
+    head = head_inside;
+    known = cell_known;
+  }
+
+shown_tapes : (t : Named) (symbols : List ℕ) (l : Limits) (f : Flat) (states : List ℕ) → IsFlatOf t.machine symbols l f → AreTapes t l (shown_lines t f states)
+shown_tapes t symbols l f states flat =
+    let same = flat.is_layout.limits in
+    let letters : f.layout.symbols ≡ symbols_of t.machine = flat.is_layout.symbols ∙ flat.translation.symbols in
+    record {
+      one = spelled_tape f.layout states 1;
+      two = spelled_tape f.layout states 2;
+      three = spelled_tape f.layout states 3;
+      work = spans f.layout l states 1 l.left l.right t.machine.symbols same (λ _. l.left) (λ _. l.left + l.right + 1) (λ i. slice_index (letters i) 0);
+      history = spans f.layout l states 2 0 l.steps (length t.machine.quints + 1) same (λ _. 0) (omega arith) (λ i. slice_index (letters i) 1);
+      output = spans f.layout l states 3 0 l.output t.machine.symbols same (λ _. 0) (omega arith) (λ i. slice_index (letters i) 2);
+      text_is = λ _. shown_lines t f states;
+    }
+
+-- ---- numbers
+
+-- a test holds of as many configurations as there are, at most
+one_low : (b : Bool) → one_if b ≤ 1
+one_low true = omega arith
+one_low false = omega arith
+
+tally_low : (test : Config → Bool) (k : Circuit) (t : ℕ) (c : Config) → tally test k t c ≤ t
+unfolding tally
+tally_low test k zero c = omega arith
+tally_low test k (suc t) c = by (λ d. tally_low test k t d) (next k c)
+  where
+    by : ((d : Config) → tally test k t d ≤ t) → (x : Option Config) → option_map_or (λ d. one_if (test d) + tally test k t d) x 0 ≤ suc t
+    by rest None = omega arith
+    by rest (Some d) = let more = rest d in let here = one_low (test d) in omega (arith, more, here)
+
+-- the layout tells the elements of the network, and with them the bound
+layout_elements : (m : Quadruples) (l : Limits) (names : List ControlState) (b : Layout) → IsLayout m l names b →
+    elements_of b ≡ elements_by m l (length names)
+layout_elements m l names b is = λ i.
+    bank_size (is.states i) (lines_before (is.symbols i) 3) + cells_in (is.limits i) 1 * cell_size (slice_index (is.symbols i) 0)
+    + cells_in (is.limits i) 2 * cell_size (slice_index (is.symbols i) 1) + cells_in (is.limits i) 3 * cell_size (slice_index (is.symbols i) 2)
+
+-- the steps made within a run
+steps_within : (k : Circuit) (n e : ℕ) (c d : Config) → Reaches (Goes k) n c d → e ≤ n → (run k c e).steps ≡ c.steps + e
+steps_within k n e c d path low =
+    let split = runs_split (Goes k) e (n - e) n c d (omega arith) path in
+    ap (λ (x : Config). x.steps) (Reaches-run k e c split.0 split.1) ∙ steps_of_run k e c split.0 split.1
+
+-- an element of a circuit of equal tables is one of so many
+replicated : (t u : Table) (n e : ℕ) → slice_get (replicate n t) e ≡ Some u → (e < n) × (t ≡ u)
+replicated t u zero e h = absurd (cc)
+replicated t u (suc n) zero h = (omega arith, cc)
+replicated t u (suc n) (suc e) h = let rest = replicated t u n e h in let low = rest.0 in (omega arith, rest.1)
+
+-- where a run goes on the signal is about to enter a line of an element
+record IsEntering (k : Circuit) (many lines : ℕ) (c : Config) : Type 0 where
+  line : Line
+  is : c.place ≡ Enter line.element line.line
+  element : line.element < many
+  side : line.line < lines
+
+entering : (k : Circuit) (t : Table) (many : ℕ) → IsCircuit k → k.tables ≡ replicate many t → (c d : Config) → Goes k c d → IsEntering k many t.inputs c
+entering k t many circuit tables c d g =
+    option_and_then_some (λ (u : Table). u.go g.before g.input) (slice_get k.tables g.element) (g.after, g.output) g.moves
+    (λ u stands moves.
+    let at = replicated t u many g.element (sym (ap (λ ts. slice_get ts g.element) tables) ∙ stands) in
+    let range = (circuit.reversible g.element u stands).departs g.before g.input g.after g.output moves in
+    record {
+      line = record { element = g.element; line = g.input };
+      is = g.enters;
+      element = at.0;
+      side = subst (λ (v : Table). g.input < v.inputs) (sym at.1) range.1;
+    })
+
+entering_within : (k : Circuit) (t : Table) (many n e : ℕ) (c d : Config) → IsCircuit k → k.tables ≡ replicate many t → Reaches (Goes k) n c d → e < n →
+    IsEntering k many t.inputs (run k c e)
+entering_within k t many n e c d circuit tables path low =
+    let split = runs_split (Goes k) e (n - e) n c d (omega arith) path in
+    subst (IsEntering k many t.inputs) (sym (Reaches-run k e c split.0 split.1)) (first (n - e) split.0 (omega arith) split.2)
+  where
+    first : (r : ℕ) (x : Config) → 0 < r → Reaches (Goes k) r x d → IsEntering k many t.inputs x
+    first zero x some path = absurd (omega arith)
+    first (suc r) x some path = entering k t many circuit tables x path.0 path.1
+
+module _ (machines : TablesAreMachines) (elements_are : ElementsAreCounted) (counted : BoardsAreCounted) (ones : RunsHaveOneOfEach)
+    (one_cost : CostsAreOne) where
+  module _ (bytes word : List ℕ) (l : Limits) (t : Named) (symbols : List ℕ) (i : ℕ) (o : Outcome) (own : IsOwnRun bytes word l t symbols i o) where
+    -- any count of the board's elements is the machine's
+    count_is : (count : ℕ) → CountsElements t.machine l count → count ≡ elements t.machine l
+    count_is count h =
+        let standard = standard_machine machines bytes t own.given.reads in
+        h.is ∙ elements_are t.machine l h.translation h.names standard.0 standard.1 h.translates h.numbering
+
+    abbrev pub count : ℕ
+    count = (ones bytes word l t symbols own.given).count
+
+    -- with a board the run comes out on it
+    pub on_board : elements t.machine l ≤ MOST_ELEMENTS → ComesOutOn bytes word l t symbols count i o
+    on_board few =
+        let each = ones bytes word l t symbols own.given in
+        let same : count ≡ elements t.machine l = count_is count each.counts in
+        record { given = own.given; fits = own.fits; counts = each.counts; few = omega arith; outcome = own.outcome }
+
+    module _ (f : Flat) (comes : ComesTo t.machine l symbols f) where
+      size_is : size f.network.tables ≡ elements t.machine l
+      size_is = count_is (size f.network.tables) (counted.1 t.machine symbols l f comes.flat)
+
+      limits_are : f.layout.limits ≡ l
+      limits_are = comes.flat.is_layout.limits
+
+      pub bound_is : bound_of f.layout ≡ most_steps t.machine l
+      bound_is =
+          let standard = standard_machine machines bytes t own.given.reads in
+          let many : elements_of f.layout ≡ elements t.machine l = layout_elements f.translation.machine l f.names f.layout comes.flat.is_layout
+          ∙ elements_are t.machine l f.translation f.names standard.0 standard.1 comes.flat.translation comes.flat.numbering in
+          λ j. 48 * many j * (4 * (limits_are j).steps + 4 * (limits_are j).output + 7)
+
+      -- the steps of the reversible machine are no more than those of the signal
+      pub least : (cost : ℕ) → HasCost f cost → RunsToExit t.machine f i o → least_steps i o ≤ cost
+      least cost has ran = by o ran
+        where
+          by : (x : Outcome) → RunsToExit t.machine f i x → least_steps i x ≤ cost
+          by (outcome.Halted y) ran =
+              let d = run f.circuit (flat_start f) ran.cost in
+              let same : ran.cost ≡ cost = one_cost f ran.cost cost ran.has_cost has in
+              let steps : d.steps ≡ 0 + ran.cost = steps_of_run f.circuit ran.cost (flat_start f) d ran.run_to in
+              let low = tally_low (is_moment f.layout) f.circuit d.steps (flat_start f) in
+              let first = one_low (is_moment f.layout (flat_start f)) in
+              omega (arith, low, first, ran.with_tapes.1)
+          by (outcome.Stuck j c) ran = omega arith
+          by (outcome.Outside n s) ran = omega arith
+
+      -- the last lines
+      last_lines : (cost : ℕ) → AreLastLines t l symbols i o (outcome_rest t l symbols f cost i o)
+      last_lines cost = by o own.outcome
+        where
+          by : (x : Outcome) → HasOutcome t.machine symbols l i x → AreLastLines t l symbols i x (outcome_rest t l symbols f cost i x)
+          by (outcome.Halted y) h =
+              let fits = halted_fits t.machine symbols l i y h in
+              let one = one_cells l symbols own.fits in
+              let two = two_cells l in
+              let three = three_cells l y fits.0 in
+              λ j. quadruple_line (4 * i + 4 * length y + 5) ++ (tape_lines t (one j) (two j) (three j) ++ output_line t y)
+          by (outcome.Stuck a c) h = shown_tapes t symbols l f (board_after f cost).states comes.flat
+          by (outcome.Outside n s) h = shown_tapes t symbols l f (board_after f cost).states comes.flat
+
+      -- what tells the outcome tells the exit
+      pub exit_told : (status : Status) (text : List ℕ) → (tells : TellsOutcome t l symbols f i o status text) →
+          TellsExit t l symbols i o tells.cost status text
+      exit_told status text tells = record {
+        last = outcome_rest t l symbols f tells.cost i o;
+        last_lines = last_lines tells.cost;
+        text_is = tells.text_is ∙ (λ j. elements_line (size_is j) ++ (outcome_line t o ++ (steps_line tells.cost ++ outcome_rest t l symbols f tells.cost i o)));
+        status_is = tells.status_is;
+      }
+
+      -- before the exit
+      inside_told : (e : ℕ) (status : Status) (text : List ℕ) → RunsToExit t.machine f i o → (tells : within.TellsWithin e t l symbols f i o status text) →
+          e < tells.cost → TellsInside t l e status text
+      inside_told e status text ran tells low =
+          let d = board_after f e in
+          let same : ran.cost ≡ tells.cost = one_cost f ran.cost tells.cost ran.has_cost tells.has_cost in
+          let steps : d.steps ≡ e = steps_within f.circuit ran.cost e (flat_start f) (run f.circuit (flat_start f) ran.cost) ran.run_to (omega arith)
+          ∙ zero-add e in
+          let at = entering_within f.circuit rotary (size f.network.tables) ran.cost e (flat_start f) (run f.circuit (flat_start f) ran.cost)
+          comes.flat.is_board.circuit comes.flat.is_board.tables ran.run_to (omega arith) in
+          record {
+            place = at.line;
+            element = subst (λ m. at.line.element < m) size_is at.element;
+            side = at.side;
+            last = shown_lines t f d.states;
+            last_lines = shown_tapes t symbols l f d.states comes.flat;
+            text_is = tells.begun low ∙ (λ j. elements_line (size_is j) ++ (exit_line t f (at.is j) exit.Inside ++ (steps_line (steps j) ++ shown_lines t f d.states)));
+            status_is = tells.inside.1 low;
+          }
+
+      within_told : (e : ℕ) (status : Status) (text : List ℕ) → RunsToExit t.machine f i o → (tells : within.TellsWithin e t l symbols f i o status text) →
+          TellsWithin e t l symbols i o tells.cost status text
+      within_told e status text ran tells = record {
+        ended = λ high.
+            let out = tells.ended high in
+            let same : out.cost ≡ tells.cost = one_cost f out.cost tells.cost out.has_cost tells.has_cost in
+            subst (λ n. TellsExit t l symbols i o n status text) same (exit_told status text out);
+        inside = λ low. inside_told e status text ran tells low;
+      }
+
+    -- a circuit with too many elements was refused with their number
+    large_told : (given : Option ℕ) (status : Status) (text : List ℕ) (told : List Place) (taken took : Option (List ℕ)) →
+        RunReplies given word l bytes status text told → Grows taken took text → MOST_ELEMENTS < elements t.machine l →
+        (status ≡ statuses.Size) × Grows taken took (large_line (elements t.machine l))
+    large_told given status text told taken took reply grows many =
+        by (word_tells (BoardReplies (TellsRun given t) t.machine l) t (reads_table bytes t own.given.reads.reads) word symbols status text told
+        own.given.spelled (standard_tells (λ u. WordReplies (BoardReplies (TellsRun given u) u.machine l) u word) bytes t status text told
+        own.given.reads reply))
+      where
+        by : BoardReplies (TellsRun given t) t.machine l symbols status text told →
+            (status ≡ statuses.Size) × Grows taken took (large_line (elements t.machine l))
+        by (long far h e n) = let fits = own.fits in absurd (omega arith)
+        by (large fits count also great h e n) =
+            (e, subst (λ m. Grows taken took (large_line m)) (count_is count also) (subst (Grows taken took) h grows))
+        by (board f comes tells) = let same = size_is f comes in let few = comes.few in absurd (omega arith)
+
+  pub replies-tell_machine : AnswersTellHeadline → RepliesTellMachine
+  unfolding MachineHeadline MachineHeadlineWithin
+  replies-tell_machine tell words bytes status taken took replies = (headline, headline_within)
+    where
+      headline : (word : List ℕ) (l : Limits) → words ≡ run_words word l [] → length bytes ≤ MOST_INPUT_BYTES →
+          (t : Named) (symbols : List ℕ) (i : ℕ) (o : Outcome) → IsOwnRun bytes word l t symbols i o →
+          TookAnswer (TellsExit t l symbols i o) t.machine l i o status taken took
+      headline word l asks short t symbols i o own =
+          let reply = replies word l None asks own.given.small short in
+          record {
+            large = large_told bytes word l t symbols i o own None status reply.0 reply.1 taken took reply.2 reply.3;
+            runs = λ few.
+                let on = on_board bytes word l t symbols i o own few in
+                let given = tell words bytes status taken took replies short word l None asks t symbols (count bytes word l t symbols i o own) i o on in
+                let f = given.flat in
+                let tells = given.tells f given.comes in
+                record {
+                  cost = tells.cost;
+                  above = least bytes word l t symbols i o own f given.comes tells.cost tells.has_cost (given.runs f given.comes);
+                  below = subst (λ m. tells.cost ≤ m) (bound_is bytes word l t symbols i o own f given.comes) tells.bounded;
+                  text = given.text;
+                  told = exit_told bytes word l t symbols i o own f given.comes status given.text tells;
+                  grows = given.grows;
+                };
+          }
+
+      headline_within : (word : List ℕ) (l : Limits) (e : ℕ) → words ≡ run_words word l (decimal e ∷ []) → e ≤ greatest →
+          length bytes ≤ MOST_INPUT_BYTES →
+          (t : Named) (symbols : List ℕ) (i : ℕ) (o : Outcome) → IsOwnRun bytes word l t symbols i o →
+          TookAnswer (TellsWithin e t l symbols i o) t.machine l i o status taken took
+      headline_within word l e asks low short t symbols i o own =
+          let reply = replies word l (Some e) (asks, low) own.given.small short in
+          record {
+            large = large_told bytes word l t symbols i o own (Some e) status reply.0 reply.1 taken took reply.2 reply.3;
+            runs = λ few.
+                let on = on_board bytes word l t symbols i o own few in
+                let given = tell words bytes status taken took replies short word l (Some e) (asks, low) t symbols (count bytes word l t symbols i o own) i o on in
+                let f = given.flat in
+                let tells = given.tells f given.comes in
+                let ran = given.runs f given.comes in
+                let same : ran.cost ≡ tells.cost = one_cost f ran.cost tells.cost ran.has_cost tells.has_cost in
+                record {
+                  cost = tells.cost;
+                  above = least bytes word l t symbols i o own f given.comes tells.cost tells.has_cost ran;
+                  below = subst (λ m. tells.cost ≤ m) (bound_is bytes word l t symbols i o own f given.comes) (subst (λ n. n ≤ bound_of f.layout) same ran.bounded);
+                  text = given.text;
+                  told = within_told bytes word l t symbols i o own f given.comes e status given.text ran tells;
+                  grows = given.grows;
+                };
+          }

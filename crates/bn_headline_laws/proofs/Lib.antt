@@ -1,0 +1,14 @@
+pub mod CellLemmas
+pub mod ElementLemmas
+pub mod HeadlineLemmas
+pub mod WalkLemmas
+pub mod GeneratedLemmas
+pub mod ExampleLemmas
+pub mod ReturnLemmas
+pub mod AgreeLemmas
+pub mod ClosedLemmas
+pub mod FlattenLemmas
+pub mod StuckLemmas
+pub mod ControlLemmas
+pub mod GeneratedBoardLemmas
+pub mod GeneratedRunLemmas

@@ -1,0 +1,11 @@
+pub mod Elements
+pub mod MachineHeadline
+pub mod Generated
+pub mod Laws
+pub mod CircuitHeadline
+pub mod CircuitLaws
+pub mod FlattenLaws
+pub mod StuckLaws
+pub mod ControlLaws
+pub mod GeneratedLaws
+pub mod GeneratedRuns

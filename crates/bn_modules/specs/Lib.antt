@@ -1,4 +1,0 @@
-pub mod Cells
-pub mod Controls
-pub mod Networks
-pub mod Moments

@@ -1,0 +1,21 @@
+//! Nets of rotary elements with given wires.
+ghost use Rattle.std.specs.Prelude.{◌<◌, ◌^◌, length, IfOk};
+ghost use Rattle.bn_net.specs.Wirings.{AreApart, AreFitting};
+ghost use Rattle.bn_net.specs.RotaryNets.{IsNetOf};
+
+use crate::net::Net;
+use bn_circuits::Wire;
+use bn_element::Rotary;
+use bn_lists::NoMemory;
+use std::alloc::Global;
+
+/// The net of `count` rotary elements with these wires.
+pub fn rotary_net(alloc: Global, count: u32, wires: &[Wire]) -> Result<Net<Rotary>, NoMemory>
+    requires few { length wires.now < 2 ^ 32 }
+    requires apart { AreApart wires.now }
+    requires fitting { AreFitting count wires.now }
+    ensures { IfOk result (λ net. IsNetOf net count wires.now) }
+{
+    let elements = vec![in alloc; Rotary; count as usize]?;
+    Net::new(alloc, elements, wires)
+}

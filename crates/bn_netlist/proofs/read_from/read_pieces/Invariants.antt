@@ -1,0 +1,18 @@
+use Rattle.std.proofs.Common.{ℕ, List, ◌≡◌, ◌≤◌, ◌-◌, ◌<◌, length}
+use Rattle.bn_io.specs.Told.{Loses}
+use Rattle.bn_netlist.specs.Coming.{HaveCome}
+use Rattle.bn_netlist.proofs.read_from.read_pieces.Given as goal
+
+-- the bytes taken so far, within the limit, are what the source has lost
+abbrev pub invariant-loop-pieces : goal.invariant-loop-pieces
+invariant-loop-pieces g l =
+    (given : List ℕ)
+    × Loses (g.S.Source.left l.fn.source) (g.S.Source.left l.source) given
+    × (l.taken ≡ length given)
+    × (l.taken ≤ l.limit)
+    × (0 < length l.buffer)
+    × HaveCome l.pieces given
+    × (g.S.Source.faults l.fn.source ≤ g.S.Source.faults l.source)
+
+abbrev pub decreases-loop-pieces : goal.decreases-loop-pieces
+decreases-loop-pieces g l = l.limit - l.taken

@@ -1,0 +1,119 @@
+//! A configuration text of which a front has come.
+
+ghost use Rattle.std.specs.Prelude.{◌≡◌, ◌+◌, ℕ, List, ◌++◌, ◌∷◌, [], length, IfOk, IfErr, OnOk};
+ghost use Rattle.bn_base.specs.Line.{IsInLine};
+ghost use Rattle.bn_netlist_laws.specs.Sentences.{Sentence, lines_text};
+ghost use Rattle.bn_netlist_laws.specs.Spelling.{Spelled};
+ghost use Rattle.bn_netlist_lines.specs.LineReading.{RefusesLine};
+ghost use Rattle.bn_netlist_lines.specs.NetText.{spelling_of, IsTextRefusal};
+ghost use Rattle.bn_netlist_lines.specs.Stages.{AreTaken, HasTaken, TakesTo};
+ghost use Rattle.bn_netlist.specs.Pieces.{HasCome, IsFront, RefusesOn};
+ghost use Rattle.bn_netlist_lines.specs.declared.stage.Stage.{Stage};
+
+use bn_base::{Lines, NextLine};
+use bn_netlist_lines::{NetConfig, NetlistRefusal, Stage};
+use std::alloc::Global;
+
+/// The most bytes of a line that are kept: no line of any form is longer.
+const LONGEST_LINE: usize = 128;
+
+/// A configuration text of which a front has come, no line of it with a fault so far.
+#[derive(Drop)]
+pub(crate) struct Front {
+    /// How far the lines have been read.
+    pub(crate) stage: Stage,
+    /// The bytes behind the last of these lines.
+    pub(crate) line: Vec<u8>,
+}
+
+impl Front {
+    /// A text of which nothing has come.
+    pub(crate) fn new(alloc: Global) -> Result<Front, NetlistRefusal>
+        ensures none { IfOk result (λ f. HasCome [] f.line.items f.stage) }
+        ensures refused { IfErr result (λ r. r ≡ NetlistRefusal.NoMemory) }
+    {
+        let Ok(line) = Vec::with_capacity(alloc, LONGEST_LINE) else {
+            return Err(NetlistRefusal::NoMemory);
+        };
+        Ok(Front {
+            stage: Stage::Title,
+            line,
+        })
+    }
+
+    /// Takes the next piece of the text. A refusal refuses the text whatever comes behind the piece.
+    pub(crate) fn push(self, alloc: Global, piece: &[u8]) -> Result<Front, NetlistRefusal>
+        requires { IsFront self.line.items self.stage }
+        ensures come { IfOk result (λ next. (text : List ℕ) → HasCome text self.line.items self.stage
+            → HasCome (text ++ piece.now) next.line.items next.stage) }
+        ensures refused { IfErr result (λ r. (text : List ℕ) → HasCome text self.line.items self.stage
+            → RefusesOn (text ++ piece.now) r) }
+    {
+        let Front { stage, line } = self;
+        let mut stage = stage;
+        let mut line = line;
+        let mut lines = Lines::new(piece);
+        loop {
+            match lines.next_line() {
+                NextLine::Whole(end) => stage = take_line(alloc, stage, &mut line, end)?,
+                NextLine::Cut(begin) => keep(&mut line, begin, stage.next_line())?,
+                NextLine::End => return Ok(Front { stage, line }),
+            }
+        }
+    }
+
+    /// The configuration of a text that ends here.
+    pub(crate) fn finish(self, alloc: Global) -> Result<NetConfig, NetlistRefusal>
+        requires { IsFront self.line.items self.stage }
+        ensures spelled { IfOk result (λ c. (text : List ℕ) → HasCome text self.line.items self.stage
+            → Spelled c.version (spelling_of c) text) }
+        ensures refused { IfErr result (λ r. (text : List ℕ) → HasCome text self.line.items self.stage
+            → IsTextRefusal text r) }
+    {
+        let Front { stage, line } = self;
+        if !line.is_empty() {
+            return Err(NetlistRefusal::Syntax {
+                line: stage.next_line(),
+            });
+        }
+        stage.finish(alloc)
+    }
+}
+
+// Takes a line that has come in pieces, `end` the last of them, and keeps nothing of it.
+fn take_line(
+    alloc: Global,
+    stage: Stage,
+    line: &mut Vec<u8>,
+    end: &[u8],
+) -> Result<Stage, NetlistRefusal>
+    requires { HasTaken stage }
+    ensures taken { IfOk result (λ next. (lines : List Sentence) → AreTaken lines stage
+        → TakesTo lines (line.old.items ++ end.now) next) }
+    ensures cleared { OnOk result (line.new.items ≡ []) }
+    ensures refused { IfErr result (λ r. (lines : List Sentence) → AreTaken lines stage
+        → IsInLine (line.old.items ++ end.now) → (rest : List ℕ)
+        → IsTextRefusal (lines_text lines ++ ((line.old.items ++ end.now) ++ 10 ∷ rest)) r) }
+{
+    keep(line, end, stage.next_line())?;
+    let next = stage.take(alloc, line.as_slice())?;
+    line.clear();
+    Ok(next)
+}
+
+// Keeps more bytes of a line, which is the text's next one and has this number. A line that grows
+// too long has no form, however it goes on.
+fn keep(line: &mut Vec<u8>, more: &[u8], number: u64) -> Result<(), NetlistRefusal>
+    ensures kept { OnOk result (line.new.items ≡ line.old.items ++ more.now) }
+    ensures refused { IfErr result (λ r. (lines : List Sentence) (stage : Stage) → AreTaken lines stage
+        → number ≡ length lines + 1 → IsInLine (line.old.items ++ more.now) → (rest : List ℕ)
+        → IsTextRefusal (lines_text lines ++ ((line.old.items ++ more.now) ++ rest)) r) }
+{
+    if line.len().saturating_add(more.len()) > LONGEST_LINE {
+        return Err(NetlistRefusal::Syntax { line: number });
+    }
+    let Ok(()) = line.extend_from_slice(more) else {
+        return Err(NetlistRefusal::NoMemory);
+    };
+    Ok(())
+}

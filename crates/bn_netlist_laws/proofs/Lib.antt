@@ -1,0 +1,16 @@
+pub mod WireLemmas
+pub mod LineReadingLemmas
+pub mod FormLemmas
+pub mod ColumnLemmas
+pub mod EntryLemmas
+pub mod SentenceLemmas
+pub mod LineLemmas
+pub mod SaidLemmas
+pub mod AdmittedLemmas
+pub mod TextLemmas
+pub mod BlockLemmas
+pub mod FitLemmas
+pub mod WholeLemmas
+pub mod SpellsLemmas
+pub mod DecideLemmas
+pub mod VersionLemmas

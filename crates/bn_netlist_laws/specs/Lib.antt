@@ -1,0 +1,6 @@
+pub mod Sentences
+pub mod Reading
+pub mod Saying
+pub mod Columns
+pub mod Spelling
+pub mod Faults

@@ -1,0 +1,6 @@
+use Rattle.std.proofs.Common.{◌≡◌, true}
+use Rattle.bn_netlist_laws.specs.Columns.{lead_all, rungs}
+use Rattle.bn_netlist_lines.proofs.column.has_rungs.Given as goal
+
+abbrev pub invariant-loop-row : goal.invariant-loop-row
+invariant-loop-row l = lead_all l.net.wires (rungs l.first l.row) ≡ true

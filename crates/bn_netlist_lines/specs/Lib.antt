@@ -1,0 +1,5 @@
+pub mod NetText
+pub mod Drafting
+pub mod LineReading
+pub mod Stages
+pub mod Finishing

@@ -1,0 +1,134 @@
+//! What stands in a line of a text, from left to right.
+
+ghost use Rattle.std.specs.Prelude.{◌≡◌, ◌==◌, None, Some, length, MatchOption, IfNone};
+ghost use Rattle.bn_netlist_laws.specs.Reading.{Takes, word_taken, number_taken, side_taken, bar_taken, line_taken};
+ghost use Rattle.bn_netlist_laws.specs.Reading.{target_taken, targets_taken};
+
+use bn_base::read_u64;
+use bn_element::{EAST, HORIZONTAL, NORTH, SOUTH, VERTICAL, WEST};
+use std::marker::Model;
+
+/// A place in a line. Callers see it as the bytes that are left.
+#[derive(Drop)]
+pub(crate) struct Cursor<'a> {
+    rest: &'a [u8],
+}
+
+impl<'a> Model for Cursor<'a> {
+    ghost use Rattle.std.specs.Prelude.{ℕ, List};
+
+    ghost Value = { List ℕ };
+
+    ghost view = { λ c. c.rest.now };
+}
+
+impl<'a> Cursor<'a> {
+    /// The beginning of a line.
+    pub(crate) fn new(line: &[u8]) -> Cursor<'_>
+        ensures { result ≡ line.now }
+    {
+        Cursor { rest: line }
+    }
+
+    /// Whether nothing is left.
+    pub(crate) fn is_at_end(&self) -> bool
+        ensures { result ≡ (length self.now == 0) }
+    {
+        self.rest.is_empty()
+    }
+
+    /// Passes over this word. Where it doesn't stand here, nothing is passed over.
+    #[tactic(auto, using(crate::proofs::WordLemmas::words))]
+    pub(crate) fn word(&mut self, word: &[u8]) -> Option<()>
+        ensures taken { MatchOption result
+            (word_taken word.now self.old ≡ None)
+            (λ _. word_taken word.now self.old ≡ Some self.new) }
+        ensures kept { IfNone result (self.new ≡ self.old) }
+    {
+        let Some(rest) = self.rest.strip_prefix(word) else {
+            return None;
+        };
+        self.rest = rest;
+        Some(())
+    }
+
+    /// A number.
+    #[tactic(auto, unfolding(bn_netlist_laws::specs::Reading::number_taken))]
+    pub(crate) fn number(&mut self) -> Option<u64>
+        ensures { Takes result self.new (number_taken self.old) }
+    {
+        let Ok((value, behind)) = read_u64(self.rest, 0) else {
+            return None;
+        };
+        self.rest = &self.rest[behind..];
+        Some(value)
+    }
+
+    /// The letter of a line of an element.
+    #[tactic(auto, unfolding(bn_netlist_laws::specs::Reading::side_taken))]
+    pub(crate) fn side(&mut self) -> Option<u32>
+        ensures { Takes result self.new (side_taken self.old) }
+    {
+        let (letter, rest) = self.rest.split_first()?;
+        let side = match *letter {
+            b'n' => NORTH,
+            b'e' => EAST,
+            b's' => SOUTH,
+            b'w' => WEST,
+            _ => return None,
+        };
+        self.rest = rest;
+        Some(side)
+    }
+
+    /// The letter of a bar.
+    #[tactic(auto, unfolding(bn_netlist_laws::specs::Reading::bar_taken))]
+    pub(crate) fn bar(&mut self) -> Option<u32>
+        ensures { Takes result self.new (bar_taken self.old) }
+    {
+        let (letter, rest) = self.rest.split_first()?;
+        let bar = match *letter {
+            b'H' => HORIZONTAL,
+            b'V' => VERTICAL,
+            _ => return None,
+        };
+        self.rest = rest;
+        Some(bar)
+    }
+
+    /// A line of an element: the element's number and the line's.
+    #[tactic(auto, unfolding(bn_netlist_laws::specs::Reading::line_taken))]
+    pub(crate) fn line(&mut self) -> Option<(u64, u32)>
+        ensures { Takes result self.new (line_taken self.old) }
+    {
+        let element = self.number()?;
+        self.word(b".")?;
+        let side = self.side()?;
+        Some((element, side))
+    }
+
+    /// Where an output leads: nothing at a dash.
+    #[tactic(auto, unfolding(bn_netlist_laws::specs::Reading::target_taken))]
+    pub(crate) fn target(&mut self) -> Option<Option<(u64, u32)>>
+        ensures { Takes result self.new (target_taken self.old) }
+    {
+        self.word(b" ")?;
+        if self.word(b"-").is_some() {
+            return Some(None);
+        }
+        let line = self.line()?;
+        Some(Some(line))
+    }
+
+    /// Where the four outputs of an element lead.
+    #[tactic(auto, unfolding(bn_netlist_laws::specs::Reading::targets_taken))]
+    pub(crate) fn targets(&mut self) -> Option<[Option<(u64, u32)>; 4]>
+        ensures { Takes result self.new (targets_taken self.old) }
+    {
+        let north = self.target()?;
+        let east = self.target()?;
+        let south = self.target()?;
+        let west = self.target()?;
+        Some([north, east, south, west])
+    }
+}

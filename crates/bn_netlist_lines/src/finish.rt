@@ -1,0 +1,83 @@
+//! The net of a text that has been read to its end.
+
+ghost use Rattle.std.specs.Prelude.{◌≡◌, ◌≤◌, ℕ, List, length, IfOk, IfErr, MatchOption};
+ghost use Rattle.bn_net.specs.declared.net.TheConstants.{MOST_ELEMENTS};
+ghost use Rattle.bn_lists.specs.Lists.{IsLeast};
+ghost use Rattle.bn_net.specs.Parts.{circuit};
+ghost use Rattle.bn_element.specs.Rotary.{rotary};
+ghost use Rattle.bn_netlist_laws.specs.declared.version.Version.TheVariants.{Two};
+ghost use Rattle.bn_netlist_lines.specs.Drafting.{IsOwnColumn};
+ghost use Rattle.bn_netlist_laws.specs.Sentences.{Sentence};
+ghost use Rattle.bn_netlist_lines.specs.Finishing.{IsWholeDraft, SpellsAll, RefusesAll};
+
+use crate::entries::Entries;
+use crate::net_config::NetConfig;
+use crate::refusal::NetlistRefusal;
+use crate::spelled_out::first_spelled_out;
+use bn_circuits::{Config, States};
+use bn_element::Rotary;
+use bn_net::Net;
+use bn_netlist_laws::{Header, Version};
+use std::alloc::Global;
+
+impl Entries {
+    /// The net and its configuration, of which all lines have been read, where no column is spelled
+    /// out.
+    pub fn into_net_config(
+        self,
+        alloc: Global,
+        header: &Header,
+    ) -> Result<NetConfig, NetlistRefusal>
+        requires few { header.now.count ≤ MOST_ELEMENTS }
+        requires whole { IsWholeDraft header.now self.lines self.rows self.states.items self.own.items
+            self.ends.wires.items self.ends.fed.items }
+        ensures made { IfOk result (λ c. SpellsAll header.now self.lines self.rows self.states.items self.own.items
+            self.ends.wires.items self.ends.fed.items c) }
+        ensures refused { IfErr result (λ r. RefusesAll header.now self.lines self.rows self.states.items
+            self.own.items self.ends.wires.items self.ends.fed.items r) }
+    {
+        let Entries {
+            states,
+            own,
+            ends,
+            ..
+        } = self;
+        let Ok(elements) = vec![in alloc; Rotary; header.count as usize] else {
+            return Err(NetlistRefusal::NoMemory);
+        };
+        let Ok(net) = Net::new(alloc, elements, &ends.wires) else {
+            return Err(NetlistRefusal::NoMemory);
+        };
+        let states = States::new(states);
+        if let Some(element) = spelled_out_in(header.version, &net, &states, own.as_slice()) {
+            return Err(NetlistRefusal::Spelling {
+                line: u64::from(element) + 7,
+            });
+        }
+        Ok(NetConfig {
+            version: header.version,
+            net,
+            config: Config {
+                states,
+                place: header.place,
+                steps: header.steps,
+            },
+            start: header.start,
+            end: header.end,
+        })
+    }
+}
+
+// The first element at which a column begins that a text of this version spells out.
+fn spelled_out_in(version: Version, net: &Net<Rotary>, states: &States, own: &[bool]) -> Option<u32>
+    requires states { length states.now ≡ length net.now.elements }
+    requires lines { length own.now ≡ length net.now.elements }
+    ensures { MatchOption result
+        ((e : ℕ) → version ≡ Two → IsOwnColumn own.now (circuit (λ _. rotary) net.now) states.now e → ⊥)
+        (λ e. (version ≡ Two) × IsLeast (IsOwnColumn own.now (circuit (λ _. rotary) net.now) states.now) e) }
+{
+    match version {
+        Version::One => None,
+        Version::Two => first_spelled_out(net, states, own),
+    }
+}

@@ -1,0 +1,82 @@
+//! The wires of a column, as a list.
+
+ghost use Rattle.std.specs.Prelude.{◌≡◌, ◌+◌, ◌^◌, ◌<◌, ◌++◌, ◌∷◌, [], Bool, IfOk, OnOk};
+ghost use Rattle.bn_circuits.specs.Circuits.{same_line};
+ghost use Rattle.bn_column.specs.Nets.{wire_of};
+ghost use Rattle.bn_netlist_laws.specs.Faults.{is_left_by};
+ghost use Rattle.bn_netlist_laws.specs.Columns.{inner_wires};
+ghost use Rattle.bn_netlist_laws.specs.Faults.{some_wire};
+
+use bn_circuits::{Line, Place, Wire};
+use bn_column::wire;
+use bn_element::{EAST, NORTH, SOUTH, WEST};
+use bn_lists::NoMemory;
+use std::alloc::Global;
+
+/// The inner wires of a column of `rows` rows whose top row is element `first`, from the top.
+pub(crate) fn inner_wires(alloc: Global, first: u32, rows: u32) -> Result<Vec<Wire>, NoMemory>
+    requires within { first + rows < 2 ^ 32 }
+    ensures { IfOk result (λ v. v.items ≡ inner_wires first rows) }
+{
+    let mut wires = Vec::new(alloc);
+    for row in 0..rows {
+        push_rung(&mut wires, first + row)?;
+    }
+    let bottom = first + rows;
+    push(&mut wires, wire(bottom, SOUTH, bottom, SOUTH))?;
+    push(&mut wires, wire(bottom, WEST, first, NORTH))?;
+    push(&mut wires, wire(first, NORTH, bottom, EAST))?;
+    Ok(wires)
+}
+
+// The wires between this row and the next element, down and up.
+fn push_rung(wires: &mut Vec<Wire>, row: u32) -> Result<(), NoMemory>
+    requires { row + 1 < 2 ^ 32 }
+    ensures { OnOk result (wires.new.items ≡ (wires.old.items ++ wire_of row 2 (row + 1) 0 ∷ [])
+        ++ wire_of (row + 1) 0 row 2 ∷ []) }
+{
+    push(wires, wire(row, SOUTH, row + 1, NORTH))?;
+    push(wires, wire(row + 1, NORTH, row, SOUTH))?;
+    Ok(())
+}
+
+fn push(wires: &mut Vec<Wire>, wire: Wire) -> Result<(), NoMemory>
+    ensures { OnOk result (wires.new.items ≡ wires.old.items ++ wire ∷ []) }
+{
+    wires.push(wire)?;
+    Ok(())
+}
+
+/// Whether one of the wires leaves this output line.
+pub(crate) fn leave(wires: &[Wire], line: Line) -> bool
+    ensures { result ≡ some_wire (λ w. same_line line w.from) wires.now }
+{
+    for index in 0..wires.len() {
+        if line == wires[index].from {
+            return true;
+        }
+    }
+    false
+}
+
+/// Whether one of the wires ends at this input line.
+pub(crate) fn end_at(wires: &[Wire], line: Line) -> bool
+    ensures { result ≡ some_wire (λ w. same_line line w.to) wires.now }
+{
+    for index in 0..wires.len() {
+        if line == wires[index].to {
+            return true;
+        }
+    }
+    false
+}
+
+/// Whether one of the wires leaves the output line by which the signal has left.
+pub(crate) fn leave_behind(wires: &[Wire], place: Place) -> bool
+    ensures { result ≡ some_wire (λ w. is_left_by place w.from) wires.now }
+{
+    match place {
+        Place::Enter { .. } => false,
+        Place::Left { element, line } => leave(wires, Line { element, line }),
+    }
+}

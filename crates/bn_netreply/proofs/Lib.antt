@@ -1,3 +1,0 @@
-pub mod CircuitLemmas
-pub mod BankLemmas
-pub mod RealiseLemmas

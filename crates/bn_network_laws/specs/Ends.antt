@@ -1,0 +1,50 @@
+-- How a run of the network ends, for each reason for which the machine of quadruples goes on no more.
+use Rattle.std.specs.Prelude.{◌≡◌, ℕ, zero, suc, ◌+◌, ◌-◌, ◌<◌, List, [], ◌∷◌, Some}
+use Rattle.bn_circuits.specs.declared.place.Place.TheVariants.{Enter, Left}
+use Rattle.bn_machine.specs.Tape.{Tape, scanned}
+use Rattle.bn_machine.specs.Outcome.{Limits}
+use Rattle.bn_machine.specs.declared.quint.Side.TheVariants as side
+use Rattle.bn_lists.specs.Lists.{nth}
+use Rattle.bn_quad.specs.Quadruples.{Rule, Configuration, Quadruples}
+use Rattle.bn_bennett_laws.specs.Steps.{Exit, Finished, Stopped, Leaving}
+use Rattle.bn_network.specs.declared.cell_line.CellLine.TheVariants.{TakeRight, TakeLeft, Answer, Read}
+use Rattle.bn_circuits.specs.Situations.{Situation}
+use Rattle.bn_network.specs.Cells.{line_number}
+use Rattle.bn_network.specs.Controls.{reads_of, ControlState, End, Reads, Tape as to_tape, IsEntry, symbol_count, in_number}
+use Rattle.bn_network.specs.Networks.{ShowsTapes, IsControlAt, first_cell, cells_in, IsTape}
+
+-- a configuration's tape, counted from 1
+abbrev pub tape_of : Configuration ℕ → ℕ → Tape
+tape_of c zero = c.one
+tape_of c (suc zero) = c.one
+tape_of c (suc (suc zero)) = c.two
+tape_of c (suc (suc (suc t))) = c.three
+
+-- The machine is stuck at its first read: the first command of the state reads tape t, and no quadruple that leaves the
+-- state reads there first what stands there. Nothing is said of a stop at a later read.
+pub record IsStoppedAt (m : Quadruples) (c : Configuration ℕ) (t : ℕ) : Type 0 where
+  pub tape : IsTape t
+  pub entry : IsEntry m c.state (Reads c.state [], to_tape t Read)
+  pub none : (n : ℕ) (r : Rule ℕ) (rest : List (ℕ × ℕ)) → nth m.rules n ≡ Some r → r.from ≡ c.state
+      → reads_of r ≡ (t, scanned (tape_of c t)) ∷ rest → ⊥
+
+-- how the network's run ends: by the control's line to the outside, with the tapes shown; at the control, with an
+-- answer to its first read for which it has no move; by the last or by the first cell of a tape
+pub data EndsBy (m : Quadruples) (l : Limits) (names : List ControlState) (s : Situation) (c : Configuration ℕ) : Exit
+    → Type 0 where
+  by_end : s.place ≡ Left 0 0 → IsControlAt names s.states End → ShowsTapes m l s.states c
+      → EndsBy m l names s c Finished
+  by_stop : (t : ℕ) → IsStoppedAt m c t → s.place ≡ Enter 0 (in_number m (to_tape t (Answer (scanned (tape_of c t)))))
+      → IsControlAt names s.states (Reads c.state []) → scanned (tape_of c t) < symbol_count m t
+      → EndsBy m l names s c Stopped
+  by_right : (t : ℕ) → IsTape t
+      → s.place ≡ Left (first_cell l t + (cells_in l t - 1)) (line_number (symbol_count m t) TakeRight)
+      → EndsBy m l names s c (Leaving t side.Right)
+  by_left : (t : ℕ) → IsTape t → s.place ≡ Left (first_cell l t) (line_number (symbol_count m t) TakeLeft)
+      → EndsBy m l names s c (Leaving t side.Left)
+
+-- the reasons of which the law on the last moment speaks: all but a stop at a later read
+abbrev pub IsEarlyStop : Quadruples → Configuration ℕ → Exit → Type 0
+IsEarlyStop m c Finished = Unit {0}
+IsEarlyStop m c Stopped = (t : ℕ) × IsStoppedAt m c t
+IsEarlyStop m c (Leaving t side) = Unit {0}

@@ -1,0 +1,4 @@
+pub mod Ends
+pub mod NetworkLaws
+pub mod Commands
+pub mod Departures

@@ -1,4 +1,0 @@
-pub mod MappedLemmas
-pub mod TurnedLemmas
-pub mod ExchangedLemmas
-pub mod JoinedLemmas

@@ -1,0 +1,11 @@
+pub mod OpeningLemmas
+pub mod MadeLemmas
+pub mod PieceLemmas
+pub mod CellTextLemmas
+pub mod ShownLemmas
+pub mod RunTextLemmas
+pub mod AnsweredLemmas
+pub mod NameLemmas
+pub mod RunLemmas
+pub mod GenerateLemmas
+pub mod ClosedLemmas

@@ -1,0 +1,23 @@
+-- Numbers with a sign, and pieces of text one behind the other.
+use Rattle.std.specs.Prelude.{◌≡◌, ℕ, ℤ, pos, negsuc, List, ◌++◌, Result, Ok, Err, OnOk, refl}
+use Rattle.std.proofs.Common.{ap, ◌∙◌, append_assoc}
+use Rattle.std.specs.Fmt.{signed_decimal}
+use Rattle.bn_reply_boards_laws.specs.RunText.{position_text}
+
+-- a number with a sign is written as a position is
+pub signed_position : (z : ℤ) → signed_decimal z ≡ position_text z
+signed_position (pos n) = refl
+signed_position (negsuc n) = refl
+
+-- pieces put one behind the other
+pub two_pieces : (first a b one two : List ℕ) → one ≡ first ++ a → two ≡ one ++ b → two ≡ first ++ (a ++ b)
+two_pieces first a b one two h k = k ∙ ap (λ text. text ++ b) h ∙ append_assoc first a b
+
+pub three_pieces : (first a b d one two three : List ℕ) → one ≡ first ++ a → two ≡ one ++ b → three ≡ two ++ d → three ≡ first ++ (a ++ (b ++ d))
+three_pieces first a b d one two three h k l =
+    l ∙ ap (λ text. text ++ d) (two_pieces first a b one two h k) ∙ append_assoc first (a ++ b) d ∙ ap (λ text. first ++ text) (append_assoc a b d)
+
+-- where a call gave a piece, more is known of it
+pub when_done : {T E : Type 0} (result : Result T E) (P Q : Type 0) → OnOk result P → (P → Q) → OnOk result Q
+when_done (Ok x) P Q holds gives = gives holds
+when_done (Err e) P Q holds gives = tt

@@ -1,0 +1,47 @@
+-- What the laws of this crate say, each the contract of a function that only names the laws below it.
+use Rattle.std.specs.Prelude.{◌≡◌, ℕ, List, ◌++◌}
+use Rattle.bn_circuits.specs.declared.place.Place.{Place}
+use Rattle.bn_machine.specs.Outcome.{Outcome}
+use Rattle.bn_board.specs.Boards.{size}
+use Rattle.bn_board.specs.Flats.{Flat}
+use Rattle.bn_board_laws.specs.Headline.{RunsToExit}
+use Rattle.bn_gen.specs.Increments.{IsRoundCount, incrementer}
+use Rattle.bn_gen.specs.Text.{increments_table, increments_text}
+use Rattle.bn_reply.specs.Answering.{IsSettled}
+use Rattle.bn_reply.specs.declared.status.Status.{Status}
+use Rattle.bn_reply_boards_laws.specs.Windows.{ComesTo}
+use Rattle.bn_reply_boards_laws.specs.Headline.{ComesOutOn, IsGiven, TellsOutcome}
+use Rattle.bn_reply_boards.specs.GenerateReply.{GenerateReplies, digits, number, title, window}
+
+-- `generate` has one answer to each number of increments
+abbrev pub GenerateIsSettled : Type 0
+GenerateIsSettled = (k : ℕ) → IsRoundCount k → IsSettled (GenerateReplies k)
+
+-- the text whose run it tells is that of the machine of k increments, in standard form, and the number is a word of its
+-- letters
+abbrev pub GeneratedTablesAreGiven : Type 0
+GeneratedTablesAreGiven =
+    (k : ℕ) → IsRoundCount k → IsGiven (increments_text k) number (window k) (increments_table k) digits
+
+-- The text tells the run of the machine of k increments: whatever its own bounded run comes to, the signal comes in
+-- exactly its cost to the exit of this outcome on every board of the machine, the number and the window, and the text
+-- behind the first line tells this.
+pub record TellsGenerated (k : ℕ) (status : Status) (text : List ℕ) : Type 0 where
+  pub ran : List ℕ
+  pub text_is : text ≡ title k ++ ran
+  pub counted : (count i : ℕ) (o : Outcome)
+      → ComesOutOn (increments_text k) number (window k) (increments_table k) digits count i o
+      → (f : Flat) → ComesTo (incrementer k) (window k) digits f → size f.network.tables ≡ count
+  pub runs : (count i : ℕ) (o : Outcome)
+      → ComesOutOn (increments_text k) number (window k) (increments_table k) digits count i o
+      → (f : Flat) → ComesTo (incrementer k) (window k) digits f → RunsToExit (incrementer k) f i o
+  pub tells : (count i : ℕ) (o : Outcome)
+      → ComesOutOn (increments_text k) number (window k) (increments_table k) digits count i o
+      → (f : Flat) → ComesTo (incrementer k) (window k) digits f
+      → TellsOutcome (increments_table k) (window k) digits f i o status ran
+
+-- what `generate` answers tells the outcome of the machine's own bounded run
+abbrev pub GeneratedRunsTellOutcomes : Type 0
+GeneratedRunsTellOutcomes =
+    (k : ℕ) (status : Status) (text : List ℕ) (told : List Place) → IsRoundCount k
+    → GenerateReplies k status text told → TellsGenerated k status text

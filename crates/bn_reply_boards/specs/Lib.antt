@@ -1,0 +1,5 @@
+pub mod Opened
+pub mod Shown
+pub mod Running
+pub mod GenerateReply
+pub mod GenerateLaws

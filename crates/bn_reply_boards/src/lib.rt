@@ -1,0 +1,23 @@
+//! What the commands answer that make a machine, a word and a window into a board: `compile`, `run` and
+//! `generate`; and the pieces of their texts that other commands share.
+#![tactic(auto)]
+
+mod compile;
+mod generate;
+mod generate_laws;
+mod opening;
+mod pieces;
+mod run;
+mod run_text;
+mod tape_text;
+
+pub use compile::reply_compile;
+pub use generate::reply_generate;
+pub use generate_laws::{
+    generate_has_one_reply, generated_runs_tell_outcomes, generated_tables_are_given,
+};
+pub use opening::{OpenedBoard, OpenedWindow, open_board, open_window, too_long};
+pub use pieces::{push, push_number, push_position};
+pub use run::{Ran, reply_run, run_to_exit, status_of};
+pub use run_text::{push_exit, text_of_run};
+pub use tape_text::push_tapes;

@@ -1,0 +1,45 @@
+//! Pieces of a text.
+
+ghost use Rattle.std.specs.Prelude.{◌≡◌, ◌++◌, ◌∷◌, [], decimal, OnOk};
+ghost use Rattle.bn_reply_boards_laws.specs.RunText.{position_text};
+ghost use Rattle.bn_reply.specs.Lines.{line};
+
+use bn_base::push_u64;
+use bn_reply::NoMemory;
+use std::alloc::Global;
+
+/// Appends some bytes.
+pub fn push(text: &mut Vec<u8>, bytes: &[u8]) -> Result<(), NoMemory>
+    ensures { OnOk result (text.new.items ≡ text.old.items ++ bytes.now) }
+{
+    text.extend_from_slice(bytes)?;
+    Ok(())
+}
+
+/// Appends a number in decimal digits.
+pub fn push_number(text: &mut Vec<u8>, number: u64) -> Result<(), NoMemory>
+    ensures { OnOk result (text.new.items ≡ text.old.items ++ decimal number) }
+{
+    match push_u64(text, number) {
+        Ok(()) => Ok(()),
+        Err(_) => Err(NoMemory),
+    }
+}
+
+// Appends a line that is a word and a number.
+pub(crate) fn push_counted(text: &mut Vec<u8>, word: &[u8], number: u64) -> Result<(), NoMemory>
+    ensures { OnOk result (text.new.items ≡ text.old.items ++ line (word.now ∷ decimal number ∷ [])) }
+{
+    push(text, word)?;
+    push_number(text, number)?;
+    push(text, b"\n")
+}
+
+/// Appends a position on a tape in decimal digits, with a sign where it is below 0.
+#[tactic(auto, using(crate::proofs::PieceLemmas::signed_position))]
+pub fn push_position(alloc: Global, text: &mut Vec<u8>, position: i64) -> Result<(), NoMemory>
+    ensures { OnOk result (text.new.items ≡ text.old.items ++ position_text position) }
+{
+    let digits = format!(in alloc; "{position}")?;
+    push(text, digits.as_bytes())
+}

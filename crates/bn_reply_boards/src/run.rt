@@ -1,0 +1,229 @@
+//! The command `run`.
+
+ghost use Rattle.std.specs.Prelude.{◌≡◌, ℕ, ◌+◌, ◌-◌, All, IfOk, OnErr, is_some};
+ghost use Rattle.bn_circuits.specs.Counting.{one_if};
+ghost use Rattle.bn_assembly.specs.Assembled.{AreSmall, limits_of};
+ghost use Rattle.bn_standard.specs.Standard.{IsStandard};
+ghost use Rattle.bn_board.specs.Layouts.{IsExit, symbol_count_at};
+ghost use Rattle.bn_board.specs.Flats.{Flat};
+ghost use Rattle.bn_board.specs.declared.exit.Exit.{Exit};
+ghost use Rattle.bn_reply.specs.Replying.{IsReplied, IsUnfinished};
+ghost use Rattle.bn_reply.specs.TableReply.{JudgedReplies, WordReplies};
+ghost use Rattle.bn_reply.specs.Words.{IsLetterSymbol};
+ghost use Rattle.bn_reply_boards_laws.specs.RunReply.{RunReplies, TellsRun, exit_status};
+ghost use Rattle.bn_reply_boards_laws.specs.Windows.{BoardReplies};
+ghost use Rattle.bn_bennett.specs.Translation.{Translation};
+ghost use Rattle.bn_reply_boards.specs.Running.{HasRun, IsAnswered, IsAtStart, TellsFound, end_by, steps_for};
+ghost use Rattle.bn_reply_boards.specs.Shown.{HasNames};
+
+use crate::opening::{OpenedBoard, open_board};
+use crate::run_text::text_of_run;
+use bn_assembly::Windows;
+use bn_bennett::Translated;
+use bn_flat::{Board, Exit};
+use bn_net::Watch;
+use bn_reply::{
+    Judged, NoMemory, OpenedTable, OpenedWord, Reply, Status, judge_table, open_table, open_word,
+};
+use bn_standard::Standard;
+use bn_table::Table;
+use std::alloc::Global;
+
+/// What `run` answers to a word, a window, a greatest number of steps if there is one, and some bytes: whether they
+/// are a table with a machine in standard form, the word is one of its letters and fits, and the board hasn't too many
+/// elements; and then how the signal runs on the board, for at most so many steps, or else for as many as its bound
+/// allows. The watch is told the place after each step.
+pub fn reply_run<W: Watch>(
+    alloc: Global,
+    word: &[u8],
+    windows: &Windows,
+    given: Option<u64>,
+    bytes: &[u8],
+    watch: &mut W,
+) -> Result<Reply, NoMemory>
+    requires { AreSmall (limits_of windows.now) }
+    ensures replied { IfOk result (λ r. IsReplied (RunReplies given word.now (limits_of windows.now) bytes.now) r
+        (W.told watch.old) (W.told watch.new)) }
+    ensures interrupted { OnErr result (IsUnfinished (RunReplies given word.now (limits_of windows.now) bytes.now)
+        (W.told watch.old) (W.told watch.new)) }
+{
+    match open_table(alloc, bytes) {
+        Ok(OpenedTable::Refused(reply)) => Ok(reply),
+        Ok(OpenedTable::Read(table)) => run_table(alloc, &table, word, windows, given, watch),
+        Err(_) => Err(NoMemory),
+    }
+}
+
+// What `run` answers to a table.
+fn run_table<W: Watch>(
+    alloc: Global,
+    table: &Table,
+    word: &[u8],
+    windows: &Windows,
+    given: Option<u64>,
+    watch: &mut W,
+) -> Result<Reply, NoMemory>
+    requires { AreSmall (limits_of windows.now) }
+    ensures { IsAnswered (JudgedReplies (WordReplies
+        (BoardReplies (TellsRun given table.now) table.now.machine
+        (limits_of windows.now)) table.now word.now) table.now)
+        result (W.told watch.old) (W.told watch.new) }
+{
+    match judge_table(alloc, table) {
+        Ok(Judged::Refused(reply)) => Ok(reply),
+        Ok(Judged::Standard(standard)) => {
+            run_word(alloc, table, &standard, word, windows, given, watch)
+        }
+        Err(_) => Err(NoMemory),
+    }
+}
+
+// What is answered of a table's machine and a word.
+fn run_word<W: Watch>(
+    alloc: Global,
+    table: &Table,
+    standard: &Standard<'_>,
+    word: &[u8],
+    windows: &Windows,
+    given: Option<u64>,
+    watch: &mut W,
+) -> Result<Reply, NoMemory>
+    requires standard { standard.now ≡ table.now.machine }
+    requires fit { IsStandard table.now.machine.quints }
+    requires windows { AreSmall (limits_of windows.now) }
+    ensures { IsAnswered (WordReplies
+        (BoardReplies (TellsRun given table.now) table.now.machine (limits_of windows.now)) table.now word.now)
+        result (W.told watch.old) (W.told watch.new) }
+{
+    match open_word(alloc, table, word) {
+        Ok(OpenedWord::Refused(reply)) => Ok(reply),
+        Ok(OpenedWord::Symbols(symbols)) => {
+            let symbols = symbols.as_slice();
+            run_symbols(alloc, table, standard, symbols, windows, given, watch)
+        }
+        Err(_) => Err(NoMemory),
+    }
+}
+
+// What is answered of a table's machine and a word of these symbols.
+fn run_symbols<W: Watch>(
+    alloc: Global,
+    table: &Table,
+    standard: &Standard<'_>,
+    symbols: &[u32],
+    windows: &Windows,
+    given: Option<u64>,
+    watch: &mut W,
+) -> Result<Reply, NoMemory>
+    requires standard { standard.now ≡ table.now.machine }
+    requires fit { IsStandard table.now.machine.quints }
+    requires windows { AreSmall (limits_of windows.now) }
+    requires symbols { All (IsLetterSymbol table.now) symbols.now }
+    ensures { IsAnswered (BoardReplies (TellsRun given table.now) table.now.machine (limits_of windows.now) symbols.now)
+        result (W.told watch.old) (W.told watch.new) }
+{
+    // The table's own facts.
+    let _machine = table.machine();
+    match open_board(alloc, table, standard, symbols, windows) {
+        Ok(OpenedBoard::Refused(reply)) => Ok(reply),
+        Ok(OpenedBoard::Made(translated, mut board)) => {
+            // What every board keeps.
+            let _elements = board.len();
+            run_board(alloc, table, &translated, &mut board, given, watch)
+        }
+        Err(_) => Err(NoMemory),
+    }
+}
+
+// What is answered of a board at its start.
+fn run_board<W: Watch>(
+    alloc: Global,
+    table: &Table,
+    translated: &Translated,
+    board: &mut Board,
+    given: Option<u64>,
+    watch: &mut W,
+) -> Result<Reply, NoMemory>
+    requires names { (e : Exit) → IsExit board.old.layout (end_by board.old given).place e
+        → HasNames table.now translated.now e }
+    requires one { symbol_count_at board.old.layout 1 ≡ table.now.machine.symbols }
+    requires three { symbol_count_at board.old.layout 3 ≡ table.now.machine.symbols }
+    ensures { (f : Flat) → IsAtStart f translated.now board.old
+        → IsAnswered (TellsFound given table.now f) result (W.told watch.old) (W.told watch.new) }
+{
+    let ran = run_to_exit(board, given, watch);
+    match text_of_run(
+        alloc,
+        table,
+        translated,
+        board,
+        ran.exit,
+        ran.quadruple_steps,
+    ) {
+        Ok(text) => Ok(Reply {
+            text,
+            status: status_of(ran.exit),
+        }),
+        Err(_) => Err(NoMemory),
+    }
+}
+
+/// Where a run of a board came to.
+#[derive(Clone, Copy, PartialEq, Eq, Debug)]
+pub struct Ran {
+    /// By which exit the signal left, or that it has not left.
+    pub exit: Exit,
+    /// The steps of the machine of quadruples: the moments from the start on, less one.
+    pub quadruple_steps: u64,
+}
+
+/// Runs a board that is at its start for at most so many steps, or else for as many as its bound allows. The watch is
+/// told the place after each step. It takes no memory.
+pub fn run_to_exit<W: Watch>(board: &mut Board, given: Option<u64>, watch: &mut W) -> Ran
+    ensures ran { (f : Flat) (m : Translation) → IsAtStart f m board.old
+        → HasRun given f m board.new result.exit result.quadruple_steps (W.told watch.old) (W.told watch.new) }
+    ensures exit { IsExit board.old.layout (end_by board.old given).place result.exit }
+    ensures layout { board.new.layout ≡ board.old.layout }
+{
+    let budget = budget_of(board, given);
+    let first = board.moment();
+    let moments = board.run_counting(budget, watch);
+    let quadruple_steps = less_one(first, moments);
+    let exit = board.exit_of();
+    Ran {
+        exit,
+        quadruple_steps,
+    }
+}
+
+// The greatest number of steps: the one that is given, or else the board's bound.
+fn budget_of(board: &Board, given: Option<u64>) -> u64
+    ensures { result ≡ steps_for board.now.layout given }
+{
+    match given {
+        Some(steps) => steps,
+        None => board.bound(),
+    }
+}
+
+// The number of moments less one, where this many follow the first configuration, which may be one itself.
+fn less_one(first: Option<u32>, moments: u64) -> u64
+    ensures { result ≡ one_if (is_some first) + moments - 1 }
+{
+    match first {
+        Some(_) => moments,
+        None => moments.saturating_sub(1),
+    }
+}
+
+/// The status of a run with this exit.
+pub fn status_of(exit: Exit) -> Status
+    ensures { result ≡ exit_status exit }
+{
+    match exit {
+        Exit::Inside => Status::Inside,
+        Exit::End | Exit::Unnamed => Status::Done,
+        Exit::Stuck { .. } => Status::Stuck,
+        Exit::Window { .. } => Status::Window,
+    }
+}

@@ -1,0 +1,3 @@
+pub mod RealiseReply
+pub mod Refused
+pub mod PlanReply

@@ -1,0 +1,159 @@
+//! The command `realise`.
+
+ghost use Rattle.std.specs.Prelude.{◌≡◌, ◌≤◌, ◌<◌, [], IfOk};
+ghost use Rattle.bn_netlist_laws.specs.Spelling.{Spelling, Spelled};
+ghost use Rattle.bn_rsm.specs.Machines.{machine_table};
+ghost use Rattle.bn_realise.specs.Banks.{exit_after};
+ghost use Rattle.bn_realise.specs.BankNets.{IsBankOf, bank_elements};
+ghost use Rattle.bn_reply_circuits.specs.Refused.{IsRsmRefused};
+ghost use Rattle.bn_reply_circuits.specs.RealiseReply.{BankReplies, IsBankSpelling, RealiseIsSettled, RealiseReplies};
+
+use bn_element::{EAST, Element, WEST};
+use bn_net::{Line, MOST_ELEMENTS};
+use bn_netlist::{NetConfig, Version, write_config};
+use bn_realise::{Bank, BankRefusal, bank};
+use bn_reply::{NoMemory, Reply, Status, empty_text, field_text, record_text};
+use bn_rsm::Rsm;
+use bn_rsmtable::{RsmTableRefusal, read_rsm};
+use std::alloc::Global;
+
+/// What `realise` answers to a state, an input line, both counted from 1, and some bytes: whether they
+/// are the table of a machine that has both, and then the text of its bank, in version 2.
+pub fn reply_realise(alloc: Global, state: u32, line: u32, bytes: &[u8]) -> Result<Reply, NoMemory>
+    requires state { 1 ≤ state }
+    requires line { 1 ≤ line }
+    ensures { IfOk result (λ r. RealiseReplies state line bytes.now r.status r.text.items []) }
+{
+    match read_rsm(alloc, bytes) {
+        Ok(rsm) => reply_bank(alloc, &rsm, state, line),
+        Err(refusal) => refuse(alloc, refusal),
+    }
+}
+
+// What is answered of bytes that are no table of a machine.
+fn refuse(alloc: Global, refusal: RsmTableRefusal) -> Result<Reply, NoMemory>
+    ensures { IfOk result (λ r. IsRsmRefused refusal r.status r.text.items) }
+{
+    match refusal {
+        RsmTableRefusal::FieldCount { entry } => faulty(record_text(alloc, entry, "fields")?),
+        RsmTableRefusal::Number { entry, field } => {
+            faulty(field_text(alloc, entry, field, "number")?)
+        }
+        RsmTableRefusal::TooMany { entry } => faulty(record_text(alloc, entry, "too many")?),
+        RsmTableRefusal::Empty => faulty(empty_text(alloc)?),
+        RsmTableRefusal::SameDomain { i, j } => Ok(Reply {
+            text: format!(in alloc; "machine: domain {i} {j}\n")?.into_bytes(),
+            status: Status::Machine,
+        }),
+        RsmTableRefusal::SameRange { i, j } => Ok(Reply {
+            text: format!(in alloc; "machine: range {i} {j}\n")?.into_bytes(),
+            status: Status::Machine,
+        }),
+        RsmTableRefusal::NoMemory => Err(NoMemory),
+    }
+}
+
+// The answer that the bytes have a fault, by its line.
+fn faulty(text: Vec<u8>) -> Result<Reply, NoMemory>
+    ensures { IfOk result (λ r. (r.status ≡ Status.Text) × (r.text.items ≡ text.items)) }
+{
+    Ok(Reply {
+        text,
+        status: Status::Text,
+    })
+}
+
+// What is answered of a machine.
+fn reply_bank(alloc: Global, rsm: &Rsm, state: u32, line: u32) -> Result<Reply, NoMemory>
+    requires state { 1 ≤ state }
+    requires line { 1 ≤ line }
+    ensures { IfOk result (λ r. BankReplies rsm.now state line r.status r.text.items []) }
+{
+    if state > rsm.states() {
+        return Ok(Reply {
+            text: Vec::from_slice(alloc, b"word: state\n")?,
+            status: Status::Word,
+        });
+    }
+    if line > rsm.lines_in() {
+        return Ok(Reply {
+            text: Vec::from_slice(alloc, b"word: line\n")?,
+            status: Status::Word,
+        });
+    }
+    match bank(alloc, rsm) {
+        Ok(bank) => Ok(Reply {
+            text: bank_text(alloc, rsm, bank, state - 1, line - 1)?,
+            status: Status::Done,
+        }),
+        Err(BankRefusal::Elements { count }) => Ok(Reply {
+            text: format!(in alloc; "size: elements {count}\n")?.into_bytes(),
+            status: Status::Size,
+        }),
+        Err(BankRefusal::NoMemory) => Err(NoMemory),
+    }
+}
+
+// The text of the machine's bank in a state, with the signal at an input line, both counted from 0.
+fn bank_text(
+    alloc: Global,
+    rsm: &Rsm,
+    bank: Bank,
+    state: u32,
+    line: u32,
+) -> Result<Vec<u8>, NoMemory>
+    requires is { IsBankOf bank (machine_table rsm.now) }
+    requires few { bank_elements rsm.now ≤ MOST_ELEMENTS }
+    requires state { state < rsm.now.states }
+    requires line { line < rsm.now.lines }
+    ensures { IfOk result (λ text. (s : Spelling) × IsBankSpelling rsm.now state line s
+        × Spelled Version.Two s text.items) }
+{
+    // The net's own fact: it is a circuit.
+    let _count = bank.net().len();
+    let end = exit_line(rsm, state, line);
+    let Ok(config) = bank.start(alloc, state, line) else {
+        return Err(NoMemory);
+    };
+    let spelled = NetConfig {
+        version: Version::Two,
+        net: bank.into_net(),
+        config,
+        start: Line {
+            element: line,
+            line: WEST,
+        },
+        end,
+    };
+    match write_config(alloc, &spelled) {
+        Ok(text) => Ok(text),
+        Err(_) => Err(NoMemory),
+    }
+}
+
+// The line by which the signal comes out of the bank: the output line of the move, or the loose line
+// where the pair has no move.
+fn exit_line(rsm: &Rsm, state: u32, line: u32) -> Line
+    requires few { bank_elements rsm.now ≤ MOST_ELEMENTS }
+    requires state { state < rsm.now.states }
+    requires line { line < rsm.now.lines }
+    ensures { result ≡ exit_after 0 (machine_table rsm.now) state line ((machine_table rsm.now).go state line) }
+{
+    let rows = rsm.lines_in() + 1;
+    match rsm.go(state, line) {
+        Some((_, out)) => Line {
+            element: (rsm.states() - 1) * rows + out,
+            line: EAST,
+        },
+        None => Line {
+            element: state * rows + line,
+            line: WEST,
+        },
+    }
+}
+
+/// To all states and lines, counted from 1, and all bytes `realise` has an answer, and only one. The
+/// function does nothing: its contract is the law.
+pub fn realise_has_one_reply()
+    ensures { RealiseIsSettled }
+{}

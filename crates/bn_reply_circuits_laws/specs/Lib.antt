@@ -1,0 +1,2 @@
+pub mod CircuitReply
+pub mod MigrateReply

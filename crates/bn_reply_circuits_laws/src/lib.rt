@@ -1,0 +1,7 @@
+//! What `step`, `back` and `migrate` answer to a configuration text, and that each has one answer and only
+//! one.
+#![tactic(auto)]
+
+mod laws;
+
+pub use laws::{circuits_have_one_reply, migrate_has_one_reply, migrated_stays};

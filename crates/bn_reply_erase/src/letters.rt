@@ -1,0 +1,72 @@
+//! A word of joint letters, and the letters of symbols.
+
+ghost use Rattle.std.specs.Prelude.{◌≡◌, ◌<◌, ◌++◌, All, IfOk, IfErr, OnOk, MatchOption, length};
+ghost use Rattle.bn_reply.specs.Letters.{IsSymbolOf};
+ghost use Rattle.bn_reply.specs.Words.{IsLetterOf, IsSpelledBy, letters_of};
+ghost use Rattle.bn_reply_erase.specs.EraseReply.{lettered};
+ghost use Rattle.bn_reply_erase.specs.EraseRun.{IsOpenedWord};
+
+use bn_erase::Joined;
+use bn_reply::{NoMemory, Reply, Status};
+use std::alloc::Global;
+
+/// The blank's letter.
+const BLANK: u8 = b'_';
+
+/// The symbols of a word, or the answer to a word that has none.
+#[derive(Drop)]
+pub(crate) enum OpenedWord {
+    /// The symbols of the word's letters, none of which is the blank.
+    Symbols(Vec<u32>),
+    /// What is answered to a word with another letter.
+    Refused(Reply),
+}
+
+/// Reads a word in the joint letters.
+pub(crate) fn open_word(alloc: Global, joined: &Joined, word: &[u8]) -> Result<OpenedWord, NoMemory>
+    ensures { IfOk result (IsOpenedWord (lettered joined.now) word.now) }
+{
+    let mut symbols = Vec::new(alloc);
+    for (index, byte) in word.iter().enumerate() {
+        let Some(symbol) = symbol_of(joined, *byte) else {
+            let place = index + 1;
+            return Ok(OpenedWord::Refused(Reply {
+                text: format!(in alloc; "word: {place}\n")?.into_bytes(),
+                status: Status::Word,
+            }));
+        };
+        if symbols.push(symbol).is_err() {
+            return Err(NoMemory);
+        }
+    }
+    Ok(OpenedWord::Symbols(symbols))
+}
+
+// The symbol of a byte, `None` exactly where it is no joint letter or is the blank's.
+fn symbol_of(joined: &Joined, byte: u8) -> Option<u32>
+    ensures { MatchOption result (¬ IsLetterOf (lettered joined.now) byte) (IsSymbolOf (lettered joined.now) byte) }
+{
+    // What two machines over one alphabet keep: symbol 0 is the blank, and no two symbols have one letter.
+    let _machine = joined.first();
+    if byte == BLANK {
+        return None;
+    }
+    joined.symbol_of(byte)
+}
+
+/// Appends the letters of some symbols.
+pub(crate) fn push_letters(
+    text: &mut Vec<u8>,
+    joined: &Joined,
+    symbols: &[u32],
+) -> Result<(), NoMemory>
+    requires { All (λ symbol. symbol < length joined.now.letters) symbols.now }
+    ensures { OnOk result (text.new.items ≡ text.old.items ++ letters_of (lettered joined.now) symbols.now) }
+{
+    for symbol in symbols {
+        if text.push(joined.letter(*symbol)).is_err() {
+            return Err(NoMemory);
+        }
+    }
+    Ok(())
+}

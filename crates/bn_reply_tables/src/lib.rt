@@ -1,0 +1,16 @@
+//! The replies of the commands on one table: `check`, `machine`, `reversible`, `bennett` and `standard`.
+#![tactic(auto)]
+
+mod bennett;
+mod check;
+mod machine;
+mod machine_run;
+mod reversible;
+mod standard;
+
+pub use bennett::{bennett_has_one_reply, reply_bennett};
+pub use check::{check_has_one_reply, reply_check};
+pub use machine::{machine_has_one_reply, reply_machine};
+pub use machine_run::letter_at;
+pub use reversible::{reply_reversible, reversible_has_one_reply};
+pub use standard::{reply_standard, standard_has_one_reply};

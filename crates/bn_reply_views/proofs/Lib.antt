@@ -1,0 +1,13 @@
+pub mod AlikeLemmas
+pub mod SessionSettledLemmas
+pub mod SessionClosedLemmas
+pub mod ShowingLemmas
+pub mod ReplyLemmas
+pub mod RunLemmas
+pub mod ViewSettledLemmas
+pub mod ViewTextLemmas
+pub mod MadeLemmas
+pub mod ViewClosedLemmas
+pub mod SteppedLemmas
+pub mod PlaceLemmas
+pub mod BreakpointLemmas

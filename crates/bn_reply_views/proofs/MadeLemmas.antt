@@ -1,0 +1,70 @@
+-- A board that was made and has run is one of which there are views, and its view is what is told.
+use Rattle.std.specs.Prelude.{◌≡◌, ℕ, List, [], refl}
+use Rattle.std.proofs.Common.{sym, ap, subst, ◌∙◌}
+use Rattle.bn_circuits.specs.Stepping.{run}
+use Rattle.bn_circuits.proofs.RunLemmas.{back-zero}
+use Rattle.bn_circuits.specs.declared.config.Config.{Config}
+use Rattle.bn_net.specs.RotaryNets.{rotary_circuit}
+use Rattle.bn_machine.specs.Outcome.{Limits}
+use Rattle.bn_table.specs.Rows.{Named}
+use Rattle.bn_bennett.specs.Translation.{IsTranslation, Translation}
+use Rattle.bn_board.specs.Layouts.{IsExit, Layout}
+use Rattle.bn_board.specs.Flats.{Flat, IsAccepted, flat_start}
+use Rattle.bn_board.specs.LayoutLaws.{ExitsAreOne}
+use Rattle.bn_board_laws.specs.HeadlineLaws.{BoardsRunToTheirExit}
+use Rattle.bn_flat.specs.Flattened.{Flattened, IsSameBoard, origin, origin_by}
+use Rattle.bn_reply.specs.declared.status.Status.TheVariants as statuses
+use Rattle.bn_reply_boards_laws.specs.Laws.{ExitsAreNamed}
+use Rattle.bn_reply_boards_laws.specs.RunReply.{board_after}
+use Rattle.bn_reply_boards_laws.specs.Windows.{BoardReplies, board}
+use Rattle.bn_reply_boards.specs.Opened.{IsMade}
+use Rattle.bn_reply_boards.specs.Shown.{HasNames}
+use Rattle.bn_reply_boards.proofs.NameLemmas.{exit_names}
+use Rattle.bn_view.specs.Viewed.{IsBoardFor, IsViewOf}
+use Rattle.bn_reply_views.specs.Showing.{IsTableBoard, TellsLayers}
+use Rattle.bn_reply_views.specs.ViewReply.{TellsView}
+use Rattle.bn_reply_views.proofs.ViewSettledLemmas.{has_name}
+
+module _ (t : Named) (l : Limits) (symbols : List ℕ) (f : Flat) (m : Translation) (a b : Flattened) (made : IsMade t.machine l symbols f m a)
+    (accepted : IsAccepted t.machine symbols l f) (same : IsSameBoard a b) (steps : ℕ) (ran : b.config ≡ run (rotary_circuit a.net) a.config steps) where
+  start_is : origin a ≡ flat_start f
+  start_is = ap (origin_by (rotary_circuit a.net)) made.config ∙ back-zero (rotary_circuit a.net) (flat_start f)
+
+  pub made_for : IsBoardFor t.machine symbols l f m b
+  made_for = record {
+    flat = made.comes.flat;
+    accepted = accepted;
+    translation = made.translation;
+    circuit = made.circuit ∙ ap rotary_circuit (sym same.net);
+    layout = made.layout ∙ sym same.layout;
+    start = same.origin_is ∙ start_is;
+  }
+
+  -- where it has come to
+  pub config_is : b.config ≡ board_after f steps
+  config_is = ran ∙ (λ i. run (sym made.circuit i) (made.config i) steps)
+
+  pub table_board : ExitsAreOne → BoardsRunToTheirExit → IsTableBoard t m b
+  table_board ones boards = record {
+    translates = subst (IsTranslation t.machine) made.translation made.comes.flat.translation;
+    word = symbols;
+    limits = l;
+    flat = f;
+    is_for = made_for;
+    names = λ e is. subst (λ x. HasNames t x e) made.translation (exit_names t symbols l f made.comes.flat accepted ones boards steps e
+        (subst (λ (c : Config). IsExit f.layout c.place e) config_is (subst (λ (x : Layout). IsExit x b.config.place e) (same.layout ∙ sym made.layout) is)));
+  }
+
+  -- the text of its view is what is told
+  pub view_replies : ExitsAreNamed → (text : List ℕ) → TellsLayers t f b.config text → BoardReplies (TellsView steps t) t.machine l symbols statuses.Done text []
+  view_replies exits text tells =
+      let there = exits t.machine symbols l f made.comes.flat accepted steps in
+      let view : IsViewOf f (board_after f steps) tells.0 = subst (λ c. IsViewOf f c tells.0) config_is tells.1 in
+      board f made.comes (record {
+        view = tells.0;
+        is_view = view;
+        is_named = has_name f.layout (board_after f steps).place tells.0.exit there.0 there.1 view.exit;
+        status_is = refl;
+        text_is = tells.2;
+        silent = refl;
+      })

@@ -1,0 +1,10 @@
+pub mod SessionReply
+pub mod Viewing
+pub mod Kept
+pub mod SessionLaws
+pub mod ViewText
+pub mod ViewReply
+pub mod Showing
+pub mod ViewLaws
+pub mod PlaceLaws
+pub mod BreakpointLaws

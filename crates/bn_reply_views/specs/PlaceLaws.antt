@@ -1,0 +1,43 @@
+-- One place in all: a view, a session and `step` of one number of steps.
+use Rattle.std.specs.Prelude.{◌≡◌, ℕ, ◌≤◌, List, [], ◌∷◌, ◌++◌, None}
+use Rattle.bn_base.specs.Number.{greatest}
+use Rattle.bn_circuits.specs.declared.place.Place.{Place}
+use Rattle.bn_machine.specs.Outcome.{Limits}
+use Rattle.bn_netlist_laws.specs.Spelling.{Spelling, Spelled}
+use Rattle.bn_netlist_laws.specs.declared.version.Version.TheVariants.{Two}
+use Rattle.bn_reply_circuits_laws.specs.CircuitReply.{StepReplies}
+use Rattle.bn_reply.specs.Cuts.{IsCut}
+use Rattle.bn_reply.specs.declared.status.Status.{Status}
+use Rattle.bn_reply.specs.declared.status.Status.TheVariants.{Done}
+use Rattle.bn_reply_boards_laws.specs.CompileReply.{CompileReplies}
+use Rattle.bn_reply_boards_laws.specs.Windows.{AreSmall}
+use Rattle.bn_session.specs.Plays.{place_line}
+use Rattle.bn_session.specs.Sentences.{Step, View, script_text}
+use Rattle.bn_reply_views.specs.ViewReply.{ViewReplies}
+use Rattle.bn_reply_views.specs.ViewText.{element_line}
+use Rattle.bn_reply_views.specs.SessionReply.{SessionReplies}
+
+-- The text to which `step` takes a compiled text in so many steps, the view after as many, and the answer to the script
+-- of this one step show one place and one number of steps.
+abbrev pub PlacesAreOneInAll : Type 0
+PlacesAreOneInAll =
+    (bytes table script word : List ℕ) (l : Limits) (steps : ℕ) (text stepped seen answered : List ℕ)
+    (status : Status) (told heard none silent : List Place) → IsCut bytes table script
+    → script ≡ script_text (Step steps ∷ []) → steps ≤ greatest → CompileReplies word l table Done text told
+    → StepReplies steps text status stepped heard → ViewReplies steps word l table Done seen none
+    → SessionReplies word l bytes Done answered silent
+    → (s : Spelling) × Spelled Two s stepped
+    × ((rest : List ℕ) × (seen ≡ element_line s.config.place s.config.steps ++ rest))
+    × (answered ≡ place_line s.config None)
+
+-- with a view as second line, the script shows behind the place what the view after as many steps shows
+abbrev pub SessionsShowViews : Type 0
+SessionsShowViews =
+    (bytes table script word : List ℕ) (l : Limits) (steps : ℕ) (text stepped seen answered : List ℕ)
+    (status : Status) (told heard none silent : List Place) → AreSmall l → IsCut bytes table script
+    → script ≡ script_text (Step steps ∷ View ∷ []) → steps ≤ greatest → CompileReplies word l table Done text told
+    → StepReplies steps text status stepped heard → ViewReplies steps word l table Done seen none
+    → SessionReplies word l bytes Done answered silent
+    → (s : Spelling) × Spelled Two s stepped
+    × ((rest : List ℕ) × (seen ≡ element_line s.config.place s.config.steps ++ rest))
+    × (answered ≡ place_line s.config None ++ seen)

@@ -1,0 +1,21 @@
+-- What the laws of this crate say, each the contract of a function that only names the laws below it.
+use Rattle.std.specs.Prelude.{◌≡◌, ℕ, List, ◌++◌}
+use Rattle.bn_circuits.specs.declared.place.Place.{Place}
+use Rattle.bn_machine.specs.Outcome.{Limits}
+use Rattle.bn_netlist_laws.specs.Spelling.{Spelling, Spelled}
+use Rattle.bn_netlist_laws.specs.declared.version.Version.TheVariants.{Two}
+use Rattle.bn_reply_circuits_laws.specs.CircuitReply.{StepReplies}
+use Rattle.bn_reply.specs.declared.status.Status.{Status}
+use Rattle.bn_reply.specs.declared.status.Status.TheVariants.{Done}
+use Rattle.bn_reply_boards_laws.specs.CompileReply.{CompileReplies}
+use Rattle.bn_reply_views.specs.ViewReply.{ViewReplies}
+use Rattle.bn_reply_views.specs.ViewText.{element_line}
+
+-- The view after so many steps begins with the place and the steps to which `step` takes the compiled text in as many.
+abbrev pub ViewsShowSteps : Type 0
+ViewsShowSteps =
+    (bytes word : List ℕ) (l : Limits) (steps : ℕ) (text stepped : List ℕ) (status : Status) (told heard : List Place)
+    → CompileReplies word l bytes Done text told → StepReplies steps text status stepped heard
+    → (seen : List ℕ) (none : List Place) → ViewReplies steps word l bytes Done seen none
+    → (s : Spelling) × Spelled Two s stepped
+    × ((rest : List ℕ) × (seen ≡ element_line s.config.place s.config.steps ++ rest))

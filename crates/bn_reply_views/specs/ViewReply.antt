@@ -1,0 +1,35 @@
+-- What the command `view` answers: every layer of the board of a machine and a word in a window, after a number of
+-- steps (the board and the text are this project's own profile).
+use Rattle.std.specs.Prelude.{◌≡◌, ℕ, List, []}
+use Rattle.bn_circuits.specs.declared.place.Place.{Place}
+use Rattle.bn_machine.specs.Outcome.{Limits}
+use Rattle.bn_table.specs.Rows.{Named}
+use Rattle.bn_board.specs.Layouts.{IsNamedExit}
+use Rattle.bn_board.specs.Flats.{Flat}
+use Rattle.bn_reply.specs.Answering.{IsSettled}
+use Rattle.bn_reply.specs.declared.status.Status.{Status}
+use Rattle.bn_reply.specs.declared.status.Status.TheVariants.{Done}
+use Rattle.bn_reply_boards_laws.specs.RunReply.{board_after}
+use Rattle.bn_reply_boards_laws.specs.Windows.{AreSmall, WindowReplies}
+use Rattle.bn_view.specs.Viewed.{IsViewOf}
+use Rattle.bn_view.specs.declared.layers.Layers.{Layers}
+use Rattle.bn_reply_views.specs.ViewText.{view_text}
+
+-- the text is that of the view of the board after so many steps, or after as many as can be made; and nothing is told
+pub record TellsView (steps : ℕ) (t : Named) (f : Flat) (status : Status) (text : List ℕ)
+    (told : List Place) : Type 0 where
+  pub view : Layers
+  pub is_view : IsViewOf f (board_after f steps) view
+  pub is_named : IsNamedExit f.layout (board_after f steps).place view.exit
+  pub status_is : status ≡ Done
+  pub text_is : text ≡ view_text t f view
+  pub silent : told ≡ []
+
+-- what `view` answers to a greatest number of steps, a word, limits and these bytes
+abbrev pub ViewReplies : ℕ → List ℕ → Limits → List ℕ → Status → List ℕ → List Place → Type 0
+ViewReplies steps = WindowReplies (TellsView steps)
+
+-- it has one answer to all numbers of steps, words, limits that may be asked for, and bytes
+abbrev pub ViewIsSettled : Type 0
+ViewIsSettled = (steps : ℕ) (word : List ℕ) (l : Limits) (bytes : List ℕ) → AreSmall l
+    → IsSettled (ViewReplies steps word l bytes)

@@ -1,0 +1,23 @@
+//! What the commands `view` and `session` answer.
+#![tactic(auto)]
+
+mod line_text;
+mod place_laws;
+mod session;
+mod session_laws;
+mod view;
+mod view_laws;
+mod view_text;
+mod viewer;
+
+pub use place_laws::{
+    boards_show_one_text, breakpoints_hold_at_moments, places_are_one_in_all,
+    steps_taken_back_are_steps,
+};
+pub use session::reply_session;
+pub use session_laws::{session_has_one_reply, sessions_stay_on_the_run};
+pub use view::{layers_text, reply_view};
+pub use view_laws::{view_has_one_reply, views_show_steps};
+
+#[cfg(test)]
+mod view_tests;

@@ -1,0 +1,208 @@
+//! The command `session`.
+
+ghost use Rattle.std.specs.Prelude.{◌≡◌, ℕ, [], All, List, IfOk};
+ghost use Rattle.bn_assembly.specs.Assembled.{AreSmall, limits_of};
+ghost use Rattle.bn_standard.specs.Standard.{IsStandard};
+ghost use Rattle.bn_machine.specs.Outcome.{Limits};
+ghost use Rattle.bn_board.specs.Flats.{Flat, flat_start};
+ghost use Rattle.bn_reply.specs.TableReply.{JudgedReplies, WordReplies};
+ghost use Rattle.bn_reply.specs.Words.{IsLetterSymbol};
+ghost use Rattle.bn_reply_boards_laws.specs.Windows.{BoardReplies, WindowReplies};
+ghost use Rattle.bn_view.specs.Viewed.{IsBoardFor};
+ghost use Rattle.bn_reply_views.specs.SessionReply.{SessionReplies, TellsSession};
+ghost use Rattle.bn_reply_views.specs.Viewing.{IsAnswerTo, IsScriptRefused, MayShow, what_line};
+
+use crate::viewer::Viewer;
+use bn_assembly::Windows;
+use bn_bennett::{Translated, names};
+use bn_flat::Board;
+use bn_reply::{
+    Judged, NoMemory, OpenedTable, OpenedWord, Reply, Status, cut_input, judge_table, open_table,
+    open_word,
+};
+use bn_reply_boards::{OpenedBoard, open_board};
+use bn_session::{Script, ScriptRefusal, play, read_script};
+use bn_standard::Standard;
+use bn_table::Table;
+use std::alloc::Global;
+
+/// What `session` answers to a word, a window and some bytes, which are a table, a line `%` and a script: whether there
+/// is such a line, the table's machine is in standard form, the word is one of its letters and fits, the board hasn't
+/// too many elements, and the script has no fault; and then the script's answers, played on the board from its start.
+pub fn reply_session(
+    alloc: Global,
+    word: &[u8],
+    windows: &Windows,
+    bytes: &[u8],
+) -> Result<Reply, NoMemory>
+    requires { AreSmall (limits_of windows.now) }
+    ensures { IfOk result (λ r. SessionReplies word.now (limits_of windows.now) bytes.now r.status r.text.items []) }
+{
+    match cut_input(bytes) {
+        Some((table, script)) => session_input(alloc, word, windows, table, script),
+        None => Ok(Reply {
+            text: String::from_str(alloc, "text: no script\n")?.into_bytes(),
+            status: Status::Text,
+        }),
+    }
+}
+
+// What `session` answers to the bytes of a table and a script.
+fn session_input(
+    alloc: Global,
+    word: &[u8],
+    windows: &Windows,
+    table: &[u8],
+    script: &[u8],
+) -> Result<Reply, NoMemory>
+    requires { AreSmall (limits_of windows.now) }
+    ensures { IfOk result (λ r. WindowReplies (TellsSession script.now) word.now (limits_of windows.now) table.now
+        r.status r.text.items []) }
+{
+    match open_table(alloc, table)? {
+        OpenedTable::Refused(reply) => Ok(reply),
+        OpenedTable::Read(table) => session_table(alloc, &table, word, windows, script),
+    }
+}
+
+// What `session` answers to a table.
+fn session_table(
+    alloc: Global,
+    table: &Table,
+    word: &[u8],
+    windows: &Windows,
+    script: &[u8],
+) -> Result<Reply, NoMemory>
+    requires { AreSmall (limits_of windows.now) }
+    ensures { IfOk result (λ r. JudgedReplies
+        (WordReplies (BoardReplies (TellsSession script.now table.now) table.now.machine (limits_of windows.now))
+        table.now word.now) table.now r.status r.text.items []) }
+{
+    match judge_table(alloc, table)? {
+        Judged::Refused(reply) => Ok(reply),
+        Judged::Standard(standard) => session_word(alloc, table, &standard, word, windows, script),
+    }
+}
+
+// What is answered of a table's machine and a word.
+fn session_word(
+    alloc: Global,
+    table: &Table,
+    standard: &Standard<'_>,
+    word: &[u8],
+    windows: &Windows,
+    script: &[u8],
+) -> Result<Reply, NoMemory>
+    requires standard { standard.now ≡ table.now.machine }
+    requires fit { IsStandard table.now.machine.quints }
+    requires windows { AreSmall (limits_of windows.now) }
+    ensures { IfOk result (λ r. WordReplies
+        (BoardReplies (TellsSession script.now table.now) table.now.machine (limits_of windows.now))
+        table.now word.now r.status r.text.items []) }
+{
+    match open_word(alloc, table, word)? {
+        OpenedWord::Refused(reply) => Ok(reply),
+        OpenedWord::Symbols(symbols) => {
+            session_symbols(alloc, table, standard, symbols.as_slice(), windows, script)
+        }
+    }
+}
+
+// What is answered of a table's machine and a word of these symbols.
+fn session_symbols(
+    alloc: Global,
+    table: &Table,
+    standard: &Standard<'_>,
+    symbols: &[u32],
+    windows: &Windows,
+    script: &[u8],
+) -> Result<Reply, NoMemory>
+    requires standard { standard.now ≡ table.now.machine }
+    requires fit { IsStandard table.now.machine.quints }
+    requires windows { AreSmall (limits_of windows.now) }
+    requires symbols { All (IsLetterSymbol table.now) symbols.now }
+    ensures { IfOk result (λ r. BoardReplies (TellsSession script.now table.now) table.now.machine
+        (limits_of windows.now) symbols.now r.status r.text.items []) }
+{
+    // The table's own facts.
+    let _machine = table.machine();
+    match open_board(alloc, table, standard, symbols, windows)? {
+        OpenedBoard::Refused(reply) => Ok(reply),
+        OpenedBoard::Made(translated, mut board) => {
+            session_board(alloc, table, &translated, &mut board, script)
+        }
+    }
+}
+
+// What is answered to a script and a board at its start.
+fn session_board(
+    alloc: Global,
+    table: &Table,
+    translated: &Translated,
+    board: &mut Board,
+    script: &[u8],
+) -> Result<Reply, NoMemory>
+    requires { MayShow table.now translated.now board.old }
+    ensures { IfOk result (λ r. (word : List ℕ) (l : Limits) (f : Flat)
+        → IsBoardFor table.now.machine word l f translated.now board.old → board.old.config ≡ flat_start f
+        → TellsSession script.now table.now f r.status r.text.items []) }
+{
+    let Ok(names) = names(alloc, table, translated) else {
+        return Err(NoMemory);
+    };
+    match read_script(alloc, script, &names) {
+        Ok(script) => play_script(alloc, table, translated, board, &script),
+        Err(refusal) => refuse(alloc, refusal),
+    }
+}
+
+// The answer to a script that is played on a board at its start.
+fn play_script(
+    alloc: Global,
+    table: &Table,
+    translated: &Translated,
+    board: &mut Board,
+    script: &Script,
+) -> Result<Reply, NoMemory>
+    requires { MayShow table.now translated.now board.old }
+    ensures status { IfOk result (λ r. r.status ≡ Status.Done) }
+    ensures text { IfOk result (λ r. (word : List ℕ) (l : Limits) (f : Flat)
+        → IsBoardFor table.now.machine word l f translated.now board.old → board.old.config ≡ flat_start f
+        → IsAnswerTo table.now f script.now r.text.items) }
+{
+    // What every board keeps.
+    let _elements = board.len();
+    let mut text = Vec::new(alloc);
+    let viewer = Viewer { table, translated };
+    match play(alloc, board, script, &viewer, &mut text) {
+        Ok(()) => Ok(Reply {
+            text,
+            status: Status::Done,
+        }),
+        Err(_) => Err(NoMemory),
+    }
+}
+
+// The answer to a script with a fault.
+fn refuse(alloc: Global, refusal: ScriptRefusal) -> Result<Reply, NoMemory>
+    ensures { IfOk result (λ r. IsScriptRefused refusal r.status r.text.items) }
+{
+    match refusal {
+        ScriptRefusal::Form { line } => refuse_line(alloc, line, "form"),
+        ScriptRefusal::NoState { line } => refuse_line(alloc, line, "no state"),
+        ScriptRefusal::SameBreak { line } => refuse_line(alloc, line, "same break"),
+        ScriptRefusal::NoBreak { line } => refuse_line(alloc, line, "no break"),
+        ScriptRefusal::NoMemory => Err(NoMemory),
+    }
+}
+
+// The answer to a script with a fault in one of its lines, counted from 1.
+fn refuse_line(alloc: Global, line: u64, what: &str) -> Result<Reply, NoMemory>
+    ensures status { IfOk result (λ r. r.status ≡ Status.Text) }
+    ensures text { IfOk result (λ r. r.text.items ≡ what_line line what.now) }
+{
+    Ok(Reply {
+        text: format!(in alloc; "text: script line {line} {what}\n")?.into_bytes(),
+        status: Status::Text,
+    })
+}

@@ -1,0 +1,124 @@
+//! The command `run` where the program is to find the window.
+
+ghost use Rattle.std.specs.Prelude.{◌≡◌, ◌≢◌, IfOk, OnErr};
+ghost use Rattle.bn_reply.specs.Replying.{IsReplied, IsUnfinished};
+ghost use Rattle.bn_reply.specs.TableReply.{JudgedReplies, WordReplies};
+ghost use Rattle.bn_reply_boards.specs.Running.{IsAnswered};
+ghost use Rattle.bn_windows_laws.specs.AutoReply.{AutoReplies, FindReplies};
+ghost use Rattle.bn_reply_windows.specs.Asked.{IsRead, IsReadStandard, IsReadWord};
+ghost use Rattle.bn_reply_windows.specs.Told.{HearsSearch, TellsSearch};
+
+use crate::rounds::run_rounds;
+use bn_base::MOST_COUNT;
+use bn_bennett::translate;
+use bn_net::Watch;
+use bn_reply::{
+    Judged, NoMemory, OpenedTable, OpenedWord, Reply, Status, judge_table, open_table, open_word,
+};
+use bn_reply_boards::too_long;
+use bn_standard::Standard;
+use bn_table::Table;
+use std::alloc::Global;
+
+/// What `run` answers to a word and some bytes where it is to find the window: whether they are a table with a machine
+/// in standard form, the word is one of its letters, and there aren't too many; and then, from the first window on, how
+/// the signal runs on the board of each window to its exit, until it leaves by no end of a tape, or the next board
+/// would have too many elements. The watch is told the places of all rounds one after another. The answer tells what
+/// the search by the machine's own bounded runs finds.
+pub fn reply_run_auto<W: Watch>(
+    alloc: Global,
+    word: &[u8],
+    bytes: &[u8],
+    watch: &mut W,
+) -> Result<Reply, NoMemory>
+    ensures replied { IfOk result (λ r. IsReplied (AutoReplies word.now bytes.now) r (W.told watch.old)
+        (W.told watch.new)) }
+    ensures interrupted { OnErr result (IsUnfinished (AutoReplies word.now bytes.now) (W.told watch.old)
+        (W.told watch.new)) }
+    ensures found { IfOk result (λ r. TellsSearch bytes.now word.now r.status r.text.items) }
+    ensures told { IfOk result (λ r. HearsSearch bytes.now word.now (W.told watch.old) (W.told watch.new)) }
+    ensures inside { IfOk result (λ r. (r.status ≢ Status.Window) × (r.status ≢ Status.Inside)) }
+{
+    answer_auto(alloc, word, bytes, watch)
+}
+
+// The same by the circuits alone.
+fn answer_auto<W: Watch>(
+    alloc: Global,
+    word: &[u8],
+    bytes: &[u8],
+    watch: &mut W,
+) -> Result<Reply, NoMemory>
+    ensures replied { IfOk result (λ r. IsReplied (AutoReplies word.now bytes.now) r (W.told watch.old)
+        (W.told watch.new)) }
+    ensures interrupted { OnErr result (IsUnfinished (AutoReplies word.now bytes.now) (W.told watch.old)
+        (W.told watch.new)) }
+{
+    match open_table(alloc, bytes) {
+        Ok(OpenedTable::Refused(reply)) => Ok(reply),
+        Ok(OpenedTable::Read(table)) => auto_table(alloc, &table, word, watch),
+        Err(_) => Err(NoMemory),
+    }
+}
+
+// What is answered to a table.
+fn auto_table<W: Watch>(
+    alloc: Global,
+    table: &Table,
+    word: &[u8],
+    watch: &mut W,
+) -> Result<Reply, NoMemory>
+    requires { IsRead table.now }
+    ensures { IsAnswered (JudgedReplies (WordReplies (FindReplies table.now) table.now word.now) table.now)
+        result (W.told watch.old) (W.told watch.new) }
+{
+    match judge_table(alloc, table) {
+        Ok(Judged::Refused(reply)) => Ok(reply),
+        Ok(Judged::Standard(standard)) => auto_word(alloc, table, &standard, word, watch),
+        Err(_) => Err(NoMemory),
+    }
+}
+
+// What is answered of a table's machine and a word.
+fn auto_word<W: Watch>(
+    alloc: Global,
+    table: &Table,
+    standard: &Standard<'_>,
+    word: &[u8],
+    watch: &mut W,
+) -> Result<Reply, NoMemory>
+    requires standard { standard.now ≡ table.now.machine }
+    requires reads { IsReadStandard table.now }
+    ensures { IsAnswered (WordReplies (FindReplies table.now) table.now word.now)
+        result (W.told watch.old) (W.told watch.new) }
+{
+    match open_word(alloc, table, word) {
+        Ok(OpenedWord::Refused(reply)) => Ok(reply),
+        Ok(OpenedWord::Symbols(symbols)) => {
+            auto_symbols(alloc, table, standard, symbols.as_slice(), watch)
+        }
+        Err(_) => Err(NoMemory),
+    }
+}
+
+// What is answered of a table's machine and a word of these symbols. The machine is translated once.
+fn auto_symbols<W: Watch>(
+    alloc: Global,
+    table: &Table,
+    standard: &Standard<'_>,
+    symbols: &[u32],
+    watch: &mut W,
+) -> Result<Reply, NoMemory>
+    requires standard { standard.now ≡ table.now.machine }
+    requires given { IsReadWord table.now symbols.now }
+    ensures { IsAnswered (FindReplies table.now symbols.now) result (W.told watch.old) (W.told watch.new) }
+{
+    let letters = symbols.len();
+    if letters as u64 > MOST_COUNT {
+        return too_long(alloc, letters);
+    }
+    let Ok(translated) = translate(alloc, standard) else {
+        return Err(NoMemory);
+    };
+    run_rounds(alloc, table, &translated, symbols, watch)
+}

@@ -1,4 +1,0 @@
-pub mod SessionReply
-pub mod Viewing
-pub mod Kept
-pub mod Laws

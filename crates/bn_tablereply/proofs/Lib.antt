@@ -1,9 +1,0 @@
-pub mod CheckLemmas
-pub mod MachineLemmas
-mod RunLemmas
-pub mod OutputLemmas
-mod WholeRunLemmas
-pub mod FitLemmas
-mod ClashOrNot
-pub mod ReversibleLemmas
-pub mod BennettLemmas

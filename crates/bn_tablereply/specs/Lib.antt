@@ -1,5 +1,0 @@
-pub mod CheckReply
-pub mod MachineReply
-pub mod MachineRun
-pub mod ReversibleReply
-pub mod BennettReply

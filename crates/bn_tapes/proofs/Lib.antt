@@ -1,6 +1,0 @@
-pub mod NumberLemmas
-pub mod WalkLemmas
-pub mod RowLemmas
-pub mod CarriedLemmas
-pub mod ShownLemmas
-pub mod CommandLemmas

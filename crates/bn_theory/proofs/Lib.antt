@@ -1,8 +1,0 @@
-pub mod StepLemmas
-pub mod RunLemmas
-pub mod RunsLemmas
-pub mod RunPartLemmas
-pub mod CountingLemmas
-pub mod SituationLemmas
-pub mod AlikeLemmas
-pub mod TableLemmas

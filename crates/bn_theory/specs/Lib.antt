@@ -1,9 +1,0 @@
-pub mod Runs
-pub mod Tables
-pub mod Circuits
-pub mod Stepping
-pub mod RunLaws
-pub mod RunParts
-pub mod Situations
-pub mod Counting
-pub mod Alike

@@ -1,0 +1,61 @@
+-- How a call of the workbench ends, over the outside as one thing; and the same clause by clause.
+use Rattle.std.specs.Prelude.{◌≡◌, ◌≢◌, ℕ, ◌≤◌, ◌<◌, List, [], length, Some, IfSome, Bool, true, ◌⊎◌}
+use Rattle.bn_io.specs.Faults.{Rose}
+use Rattle.bn_io.specs.Told.{Grows}
+use Rattle.bn_net.specs.Watching.{Hears}
+use Rattle.bn_words.specs.Requests.{HasNoForm}
+use Rattle.bn_reply.specs.Codes.{IsAnswer}
+use Rattle.bn_reply.specs.declared.limits.TheConstants.{MOST_INPUT_BYTES}
+use Rattle.bn_reply.specs.declared.status.Status.{Status}
+use Rattle.bn_reply.specs.declared.status.Status.TheVariants.{Usage, Size, ReadFault, WriteFault, NoMemory}
+use Rattle.bn_top.specs.Answers.{read_fault_text}
+use Rattle.bn_top.specs.Told as told
+use Rattle.bn_top.specs.Told.{EndsWithoutInput, GaveMore, NeedsNoInput, UsageEnds}
+use Rattle.bn_top.specs.Outside.{Outside, Ends, EndsOn, IsLater, IsWithoutFault, NeedNoInput, ReadsAll}
+
+-- The clauses apart, by their names.
+pub record ClausesApart (words : List (List ℕ)) (status : Status) (b a : Outside) : Type 0 where
+  pub answered : IsAnswer status
+      → IfSome b.left (λ bytes. told.IsAnswered words bytes status b.taken a.taken b.told a.told)
+  pub complete : (Rose b.read_faults a.read_faults → ⊥) → (Rose b.write_faults a.write_faults → ⊥)
+      → IsAnswer status ⊎ (status ≡ NoMemory)
+  pub usage_only : status ≡ Usage → HasNoForm words
+  pub usage : HasNoForm words → UsageEnds status b.taken a.taken
+  pub untold : HasNoForm words → Hears b.told [] a.told
+  pub inputless_ends : NeedsNoInput words → EndsWithoutInput words status b.taken a.taken b.told a.told
+  pub read : (NeedsNoInput words → ⊥) → IsAnswer status → status ≢ Usage
+      → IfSome b.left (λ bytes. length bytes ≤ MOST_INPUT_BYTES → a.left ≡ Some [])
+  pub size : (NeedsNoInput words → ⊥) → IfSome b.left (λ bytes. status ≡ Size → MOST_INPUT_BYTES < length bytes
+      → GaveMore b.left a.left MOST_INPUT_BYTES)
+  pub read_cause : status ≡ ReadFault → Rose b.read_faults a.read_faults
+  pub read_fault : status ≡ ReadFault → Grows b.taken a.taken read_fault_text
+  pub read_fault_told : status ≡ ReadFault → Hears b.told [] a.told
+  pub write_cause : status ≡ WriteFault → Rose b.write_faults a.write_faults
+  pub write_fault : status ≡ WriteFault
+      → told.IsReadFaultCut b.read_faults a.read_faults b.taken a.taken b.told a.told
+      ⊎ IfSome b.left (λ bytes. told.IsBegun words bytes b.taken a.taken b.told a.told)
+  pub no_memory : status ≡ NoMemory
+      → IfSome b.left (λ bytes. told.IsBroken words bytes b.taken a.taken b.told a.told)
+  pub later_source : b.read_faults ≤ a.read_faults
+  pub later_sink : b.write_faults ≤ a.write_faults
+
+-- How the call ends; that without a fault there is an answer unless memory is wanting; when usage comes; how it ends
+-- where the words need no input; how much is read elsewhere; and that no count of faults falls.
+pub record CallEnds (words : List (List ℕ)) (status : Status) (b a : Outside) : Type 0 where
+  pub ends : Ends words status b a
+  pub complete : IsWithoutFault b a → IsAnswer status ⊎ (status ≡ NoMemory)
+  pub usage_only : status ≡ Usage → HasNoForm words
+  pub usage : HasNoForm words → (status ≡ Usage) ⊎ (status ≡ WriteFault)
+  pub unread_ends : NeedNoInput words → EndsOn (λ claim. claim []) words status b a
+  pub read : (NeedsNoInput words → ⊥) → ReadsAll status b a
+  pub later : IsLater b a
+
+-- how the call ends gives each of the clauses apart
+abbrev pub EndsGiveClauses : Type 0
+EndsGiveClauses = (words : List (List ℕ)) (status : Status) (b a : Outside)
+    → CallEnds words status b a → ClausesApart words status b a
+
+-- and they give it
+abbrev pub ClausesGiveEnds : Type 0
+ClausesGiveEnds = (words : List (List ℕ)) (status : Status) (b a : Outside)
+    → ClausesApart words status b a → CallEnds words status b a

@@ -1,0 +1,24 @@
+-- What the whole answer gives for the headline by the machine alone.
+use Rattle.std.specs.Prelude.{ℕ, List, Option, IfSome}
+use Rattle.bn_circuits.specs.declared.place.Place.{Place}
+use Rattle.bn_reply.specs.Codes.{IsAnswer}
+use Rattle.bn_reply.specs.declared.status.Status.{Status}
+use Rattle.bn_top.specs.Told.{IsAnswered, TellsGenerate}
+use Rattle.bn_headline_laws.specs.Generated.{GeneratedHeadline}
+use Rattle.bn_headline_laws.specs.MachineHeadline.{MachineHeadline, MachineHeadlineWithin}
+
+-- the answer gives the headline by the machine alone, and that with a greatest number of steps
+abbrev pub AnswersTellMachine : Type 0
+AnswersTellMachine =
+    (words : List (List ℕ)) (left : Option (List ℕ)) (status : Status) (taken took : Option (List ℕ))
+    (told heard : Option (List Place))
+    → (IsAnswer status → IfSome left (λ bytes. IsAnswered words bytes status taken took told heard))
+    → IsAnswer status
+    → IfSome left (λ bytes. MachineHeadline words bytes status taken took)
+    × IfSome left (λ bytes. MachineHeadlineWithin words bytes status taken took)
+
+-- and what `generate` tells gives its own
+abbrev pub GeneratedClauseTells : Type 0
+GeneratedClauseTells =
+    (words : List (List ℕ)) (status : Status) (taken took : Option (List ℕ))
+    → TellsGenerate words status taken took → GeneratedHeadline words status taken took

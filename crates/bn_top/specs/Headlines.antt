@@ -1,0 +1,31 @@
+-- A reply on an input in memory, with all headlines of its answer as one: what the clauses of the top call say of it,
+-- each by its name.
+use Rattle.std.specs.Prelude.{ℕ, List, [], Option, Some}
+use Rattle.bn_circuits.specs.declared.place.Place.{Place}
+use Rattle.bn_reply.specs.Codes.{IsAnswer}
+use Rattle.bn_reply.specs.Replying.{IsReplied}
+use Rattle.bn_reply.specs.declared.reply.Reply.{Reply}
+use Rattle.bn_reply.specs.declared.status.Status.{Status}
+use Rattle.bn_headline_laws.specs.MachineHeadline.{MachineHeadline, MachineHeadlineWithin}
+use Rattle.bn_headline_laws.specs.CircuitHeadline.{CircuitHeadline}
+use Rattle.bn_headline_laws.specs.Generated.{GeneratedHeadline}
+use Rattle.bn_windows_laws.specs.FoundHeadline.{TellsFoundWindow}
+use Rattle.bn_top.specs.Answers.{Answers}
+
+-- The answer to these words and bytes tells how the machine's own bounded run comes out, with a greatest number of
+-- steps too, by the circuit, where the window is found, and where the words are `generate`.
+pub record TellsHeadlines (words : List (List ℕ)) (bytes : List ℕ) (status : Status)
+    (taken took : Option (List ℕ)) : Type 0 where
+  pub headline : MachineHeadline words bytes status taken took
+  pub headline_within : MachineHeadlineWithin words bytes status taken took
+  pub headline_circuit : CircuitHeadline words bytes status taken took
+  pub found : TellsFoundWindow words bytes status taken took
+  pub generated : GeneratedHeadline words status taken took
+
+-- The reply is the answer to these words and bytes, and the watch heard its places; its status is that of an answer;
+-- and it tells the headlines.
+pub record IsReplyTo (words : List (List ℕ)) (bytes : List ℕ) (reply : Reply)
+    (told heard : Option (List Place)) : Type 0 where
+  pub answered : IsReplied (Answers words bytes) reply told heard
+  pub status : IsAnswer reply.status
+  pub headlines : TellsHeadlines words bytes reply.status (Some []) (Some reply.text.items)

@@ -1,0 +1,102 @@
+-- The outside of the workbench as one thing: what a source, a sink and a watch tell at a moment.
+use Rattle.std.specs.Prelude.{◌≡◌, ◌≢◌, ℕ, ◌≤◌, ◌<◌, List, [], ◌++◌, length, Option, Some, IfSome, ◌⊎◌}
+use Rattle.bn_circuits.specs.declared.place.Place.{Place}
+use Rattle.bn_io.specs.Faults.{Rose}
+use Rattle.bn_io.specs.Told.{Grows}
+use Rattle.bn_net.specs.Watching.{Hears}
+use Rattle.bn_words.specs.Requests.{HasNoForm}
+use Rattle.bn_reply.specs.declared.limits.TheConstants.{MOST_INPUT_BYTES}
+use Rattle.bn_reply.specs.declared.status.Status.{Status}
+use Rattle.bn_reply.specs.declared.status.Status.TheVariants.{Usage, Size, ReadFault, WriteFault, NoMemory}
+use Rattle.bn_reply.specs.Codes.{IsAnswer}
+use Rattle.bn_top.specs.Answers.{Answers, read_fault_text}
+use Rattle.bn_top.specs.Told.{GaveMore, NeedsNoInput}
+
+-- What the source has left and the sink has taken, where they tell it; the places that the watch tells; and how often
+-- reading and writing failed so far.
+pub record Outside : Type 0 where
+  pub left : Option (List ℕ)
+  pub taken : Option (List ℕ)
+  pub told : Option (List Place)
+  pub read_faults : ℕ
+  pub write_faults : ℕ
+
+-- these five, in this order
+abbrev pub outside : Option (List ℕ) → Option (List ℕ) → Option (List Place) → ℕ → ℕ → Outside
+outside left taken told read_faults write_faults = record {
+  left = left;
+  taken = taken;
+  told = told;
+  read_faults = read_faults;
+  write_faults = write_faults;
+}
+
+-- In between, the sink took this text, and the watch heard these places.
+pub record Gave (before after : Outside) (text : List ℕ) (places : List Place) : Type 0 where
+  pub grows : Grows before.taken after.taken text
+  pub hears : Hears before.told places after.told
+
+-- The answer to these words and bytes was given whole.
+pub record IsAnswered (words : List (List ℕ)) (bytes : List ℕ) (status : Status) (before after : Outside) : Type 0 where
+  pub text : List ℕ
+  pub places : List Place
+  pub answers : Answers words bytes status text places
+  pub gave : Gave before after text places
+
+-- The answer to these words and bytes was begun: a front of its text was given, and a front of its places.
+pub record IsBegun (words : List (List ℕ)) (bytes : List ℕ) (before after : Outside) : Type 0 where
+  pub status : Status
+  pub text : List ℕ
+  pub rest : List ℕ
+  pub places : List Place
+  pub more : List Place
+  pub answers : Answers words bytes status (text ++ rest) (places ++ more)
+  pub gave : Gave before after text places
+
+-- Reading failed, and the line that says so was given; or writing failed in it, and a front of it was given.
+abbrev pub ToldReadFault : Status → Outside → Outside → Type 0
+ToldReadFault ReadFault before after = Gave before after read_fault_text []
+ToldReadFault WriteFault before after =
+    Rose before.write_faults after.write_faults
+    × ((text : List ℕ) × (rest : List ℕ) × (read_fault_text ≡ text ++ rest) × Gave before after text [])
+ToldReadFault _ before after = ⊥
+
+-- Reading failed in this call, and so it was told.
+pub record FailsReading (status : Status) (before after : Outside) : Type 0 where
+  pub read : Rose before.read_faults after.read_faults
+  pub told : ToldReadFault status before after
+
+-- How a call ends that doesn't fail in reading, where `told` says something of the bytes that are read: writing failed
+-- in the answer; memory was wanting in it; or it was given whole.
+abbrev pub EndsOn : ((List ℕ → Type 0) → Type 0) → List (List ℕ) → Status → Outside → Outside → Type 0
+EndsOn told words ReadFault before after = ⊥
+EndsOn told words WriteFault before after =
+    Rose before.write_faults after.write_faults × told (λ bytes. IsBegun words bytes before after)
+EndsOn told words NoMemory before after = told (λ bytes. IsBegun words bytes before after)
+EndsOn told words status before after = told (λ bytes. IsAnswered words bytes status before after)
+
+-- How a call ends: it fails in reading, or ends so on the bytes that the source tells.
+abbrev pub Ends : List (List ℕ) → Status → Outside → Outside → Type 0
+Ends words status before after = FailsReading status before after
+    ⊎ EndsOn (IfSome before.left) words status before after
+
+-- The words need no input: they have no form, or ask for what reads none.
+abbrev pub NeedNoInput : List (List ℕ) → Type 0
+NeedNoInput words = HasNoForm words ⊎ NeedsNoInput words
+
+-- Where the words need input, an answer comes after all bytes were read, or more than the limit where they are more.
+pub record ReadsAll (status : Status) (before after : Outside) : Type 0 where
+  pub whole : IsAnswer status → status ≢ Usage
+      → IfSome before.left (λ bytes. length bytes ≤ MOST_INPUT_BYTES → after.left ≡ Some [])
+  pub beyond : IfSome before.left (λ bytes. status ≡ Size → MOST_INPUT_BYTES < length bytes
+      → GaveMore before.left after.left MOST_INPUT_BYTES)
+
+-- No count of faults falls.
+pub record IsLater (before after : Outside) : Type 0 where
+  pub read : before.read_faults ≤ after.read_faults
+  pub write : before.write_faults ≤ after.write_faults
+
+-- No count of faults rose, or stands at its last value.
+pub record IsWithoutFault (before after : Outside) : Type 0 where
+  pub read : Rose before.read_faults after.read_faults → ⊥
+  pub write : Rose before.write_faults after.write_faults → ⊥

@@ -1,0 +1,63 @@
+//! The top call.
+
+ghost use Rattle.std.specs.Prelude.{◌≡◌, map, IfSome};
+ghost use Rattle.std.specs.String.{string_bytes};
+ghost use Rattle.bn_reply.specs.Codes.{IsAnswer};
+ghost use Rattle.bn_headline_laws.specs.MachineHeadline.{MachineHeadline, MachineHeadlineWithin};
+ghost use Rattle.bn_headline_laws.specs.CircuitHeadline.{CircuitHeadline};
+ghost use Rattle.bn_headline_laws.specs.Generated.{GeneratedHeadline};
+ghost use Rattle.bn_windows_laws.specs.FoundHeadline.{TellsFoundWindow};
+ghost use Rattle.bn_top.specs.Outside.{NeedNoInput, outside};
+ghost use Rattle.bn_top.specs.Clauses.{CallEnds};
+
+use crate::top::answer_words;
+use bn_io::{Sink, Source};
+use bn_net::Watch;
+use bn_reply::Status;
+use std::alloc::Global;
+
+/// Answers the words of a command line: reads the input from the source where the words have a
+/// form and its command reads one, gives the answer's text to the sink, and answers the status.
+/// Where the command is `step`, `back`, `run` or `generate`, it tells the watch the place after
+/// each element step.
+pub fn workbench<S: Source, K: Sink, W: Watch>(
+    alloc: Global,
+    words: &Vec<String>,
+    source: &mut S,
+    sink: &mut K,
+    watch: &mut W,
+) -> Status
+    // The headline: the answer to words that ask for a run tells how the machine's own bounded run comes out.
+    ensures headline { IsAnswer result → IfSome (S.left source.old)
+        (λ bytes. MachineHeadline (map string_bytes words.now.items) bytes result (K.taken sink.old)
+        (K.taken sink.new)) }
+
+    // And so with a greatest number of steps.
+    ensures headline_within { IsAnswer result → IfSome (S.left source.old)
+        (λ bytes. MachineHeadlineWithin (map string_bytes words.now.items) bytes result (K.taken sink.old)
+        (K.taken sink.new)) }
+
+    // The headline by the circuit: its signal comes in exactly its cost to that exit, and steps back lead back.
+    ensures headline_circuit { IsAnswer result → IfSome (S.left source.old)
+        (λ bytes. CircuitHeadline (map string_bytes words.now.items) bytes result (K.taken sink.old)
+        (K.taken sink.new)) }
+
+    // The headline where the window is found: it is the one that the machine's own bounded runs name.
+    ensures found { IsAnswer result → IfSome (S.left source.old)
+        (λ bytes. TellsFoundWindow (map string_bytes words.now.items) bytes result (K.taken sink.old)
+        (K.taken sink.new)) }
+
+    // The headline of `generate`, whatever the source tells.
+    ensures generated { IsAnswer result →
+        GeneratedHeadline (map string_bytes words.now.items) result (K.taken sink.old) (K.taken sink.new) }
+
+    // How the call ends: what the sink took and the watch heard, what was read, and the counts of faults.
+    ensures ends { CallEnds (map string_bytes words.now.items) result
+        (outside (S.left source.old) (K.taken sink.old) (W.told watch.old) (S.faults source.old) (K.faults sink.old))
+        (outside (S.left source.new) (K.taken sink.new) (W.told watch.new) (S.faults source.new) (K.faults sink.new)) }
+
+    // Words that need no input: the source is as it was.
+    ensures unread { NeedNoInput (map string_bytes words.now.items) → source.new ≡ source.old }
+{
+    answer_words(alloc, words, source, sink, watch)
+}

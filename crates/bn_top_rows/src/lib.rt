@@ -1,0 +1,38 @@
+//! Worked rows of whole commands: what the workbench answers to words and bytes, held against
+//! answers that were found by hand. The crate has nothing but these tests.
+#![tactic(auto)]
+
+#[cfg(test)]
+mod banks;
+#[cfg(test)]
+mod boards;
+#[cfg(test)]
+mod calls;
+#[cfg(test)]
+mod circuits;
+#[cfg(test)]
+mod desk;
+#[cfg(test)]
+mod erased;
+#[cfg(test)]
+mod faults;
+#[cfg(test)]
+mod generated;
+#[cfg(test)]
+mod layers;
+#[cfg(test)]
+mod machines;
+#[cfg(test)]
+mod plans;
+#[cfg(test)]
+mod quadruples;
+#[cfg(test)]
+mod reversed;
+#[cfg(test)]
+mod sessions;
+#[cfg(test)]
+mod standard;
+#[cfg(test)]
+mod versions;
+#[cfg(test)]
+mod windows;

@@ -1,4 +1,0 @@
-pub mod ViewText
-pub mod ViewReply
-pub mod Showing
-pub mod Laws

@@ -1,0 +1,19 @@
+# Completion for bash: `source tools/completion.bash`, here or in ~/.bashrc, and then the names of commands are completed
+# behind ./workbench, ./try and a link to either; files are, behind `<`. The names are those of tools/front.sh.
+# shellcheck shell=bash
+
+_hithwelor_front=$(cd "$(dirname "${BASH_SOURCE[0]}")" && pwd)/front.sh
+
+# The names of the commands, each once.
+_hithwelor_names() {
+    bash -c '. "$1"; for form in "${forms[@]}"; do form=${form%%|*}; printf "%s\n" "${form%% *}"; done' - "$_hithwelor_front" |
+        sort -u
+}
+
+_hithwelor() {
+    COMPREPLY=()
+    [ "$COMP_CWORD" = 1 ] || return 0
+    mapfile -t COMPREPLY < <(compgen -W "$(_hithwelor_names) help" -- "${COMP_WORDS[1]}")
+}
+
+complete -o bashdefault -o default -F _hithwelor workbench try hithwelor

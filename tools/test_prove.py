@@ -1,0 +1,123 @@
+"""The order in which crates are proved, the processes that each gets, and the estimate: with crates that prove nothing."""
+import contextlib
+import importlib.machinery
+import importlib.util
+import io
+import os
+import sys
+import tempfile
+import threading
+import unittest
+
+from workbench_text import TOP
+
+
+def loaded():
+    """The tool as a module."""
+    loader = importlib.machinery.SourceFileLoader("tool_prove", os.path.join(TOP, "tools", "prove"))
+    module = importlib.util.module_from_spec(importlib.util.spec_from_loader(loader.name, loader))
+    sys.dont_write_bytecode, before = True, sys.dont_write_bytecode
+    try:
+        loader.exec_module(module)
+    finally:
+        sys.dont_write_bytecode = before
+    return module
+
+
+class Crate:
+    """A crate of so many lines, over others, whose proof notes when it was called and ends with a status."""
+
+    called, lock = [], threading.Lock()
+
+    def __init__(self, room, name, lines, *deps, status=0, is_built=False):
+        self.name, self.deps, self.status, self.built = name, deps, status, is_built
+        self.folder = os.path.join(room, name)
+        os.makedirs(os.path.join(self.folder, "src"))
+        with open(os.path.join(self.folder, "src", "lib.rt"), "w", encoding="utf-8") as file:
+            file.write("\n" * lines)
+        with open(os.path.join(self.folder, "src", "tests.rt"), "w", encoding="utf-8") as file:
+            file.write("\n" * 1000)
+
+    def below(self):
+        found = []
+        for dep in self.deps:
+            found += [it for it in [*dep.below(), dep] if it not in found]
+        return found
+
+    def is_built(self):
+        return self.built
+
+    def build_rlib(self, flags, anew):
+        with Crate.lock:
+            Crate.called.append((self.name, int(flags[1]), anew))
+        print(f"{self.name} is proved", file=self.out)
+        return self.status
+
+
+class Proving(unittest.TestCase):
+    def setUp(self):
+        self.tool = loaded()
+        Crate.called = []
+        room = tempfile.TemporaryDirectory()
+        self.addCleanup(room.cleanup)
+        self.room = room.name
+
+    def diamond(self, **of_right):
+        """A base, a short crate and a long one over it, and a top over both."""
+        base = Crate(self.room, "base", 10)
+        short, long = Crate(self.room, "short", 10, base), Crate(self.room, "long", 500, base, **of_right)
+        return [base, short, long, Crate(self.room, "top", 10, short, long)]
+
+    def prove_all(self, crates, lanes):
+        """The names of those that failed, what is said and what is logged."""
+        said, log = io.StringIO(), io.StringIO()
+        with contextlib.redirect_stderr(said), contextlib.redirect_stdout(log):
+            failed = self.tool.prove_all(self.tool.Work(crates), lanes)
+        return failed, said.getvalue(), log.getvalue()
+
+    def test_tests_are_no_lines_of_code(self):
+        self.assertEqual(self.tool.lines_of_code(self.diamond()[2].folder), 500)
+
+    def test_the_longest_chain_goes_first(self):
+        self.prove_all(self.diamond(), 1)
+        self.assertEqual([name for name, _, _ in Crate.called], ["base", "long", "short", "top"])
+
+    def test_a_crate_that_stands_alone_gets_all_processes(self):
+        self.prove_all(self.diamond(), 4)
+        self.assertEqual({name: jobs for name, jobs, _ in Crate.called}, {"base": 4, "long": 2, "short": 2, "top": 4})
+
+    def test_what_is_built_is_not_proved_again(self):
+        crates = self.diamond()
+        crates[0].built = crates[1].built = True
+        self.prove_all(crates, 4)
+        self.assertEqual([(name, anew) for name, _, anew in Crate.called], [("long", False), ("top", False)])
+
+    def test_nothing_is_begun_behind_a_failure(self):
+        failed, said, log = self.prove_all(self.diamond(status=1), 1)
+        self.assertEqual((failed, [name for name, _, _ in Crate.called]), (["long"], ["base", "long"]))
+        self.assertIn("workbench: long isn't proved\n", said)
+        self.assertIn("== long\nlong is proved\n", log)
+
+    def test_each_crate_is_told_with_what_is_left(self):
+        _, said, _ = self.prove_all(self.diamond(), 1)
+        self.assertEqual(len(said.splitlines()), 4)
+        self.assertRegex(said.splitlines()[-1], r"^workbench: 4 of 4 top 0:00, about a minute left$")
+
+    def test_the_estimate_is_the_work_on_one_core_and_no_less_than_the_chain(self):
+        work = self.tool.Work(self.diamond())
+        whole, last = sum(work.seconds.values()), self.tool.LAST_SECONDS
+        self.assertAlmostEqual(work.left([], 1), whole + last)
+        self.assertAlmostEqual(work.left([], 8), max(work.chain.values()) + last)
+        self.assertLess(work.left([], 2), whole + last)
+
+    def test_the_pace_is_that_of_what_was_proved(self):
+        work = self.tool.Work(self.diamond())
+        before = work.left([], 1)
+        work.note(work.crates[0], 1, 0.1)
+        self.assertLess(work.left([], 1), before)
+        work.note(work.crates[1], 1, 1000.0)
+        self.assertGreater(work.left([], 1), before)
+
+
+if __name__ == "__main__":
+    unittest.main()
