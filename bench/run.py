@@ -1,5 +1,6 @@
 #!/usr/bin/env python3
-"""Times `compile` and `run` beside a bare run of the same circuit by `step`. It proves nothing and is no part of rt ci.
+"""Times `compile` and `run` beside a bare run of the same circuit by `step`, and a run whose window the program finds
+beside one in that window. It proves nothing and is no part of rt ci.
 
 Usage: bench/run.py [PROGRAM]
 PROGRAM is the built program, as for bench.py. The machine increments a binary number k times, one time after another, on
@@ -12,8 +13,10 @@ import sys
 sys.dont_write_bytecode = True
 from bench import TOP, launched
 
-# The exit status where the signal is still inside.
-INSIDE = 12
+# The exit statuses where the signal has left by a window, and where it is still inside.
+WINDOW, INSIDE = 11, 12
+# Which of the window's numbers l1 r1 n r3 is doubled for an exit.
+ENDS = {"1 left": 0, "1 right": 1, "2 right": 2, "3 right": 3}
 
 
 def increments(rounds):
@@ -58,6 +61,30 @@ def time_increments(program, rounds):
               f" run makes {bare / loop:.2f} of its speed")
 
 
+def windows_before(program, word, table, found):
+    """The windows that are tried before the one that is found, with the steps of their runs."""
+    window, tried = [1, max(1, len(word)), 1, 1], []
+    while window != found:
+        _, _, out = best(program, ["run", f"={word}", *map(str, window)], table, WINDOW)
+        tried.append((list(window), number_behind("steps", out)))
+        exit_line = next(line for line in out.decode().splitlines() if line.startswith("exit window "))
+        window[ENDS[exit_line.removeprefix("exit window ")]] *= 2
+    return tried
+
+
+def time_found(program, word):
+    """A run whose window the program finds beside one in that window: what the rounds before the last one cost."""
+    table = increments(1)
+    searched, _, out = best(program, ["run", f"={word}", "auto"], table)
+    found = [int(number) for number in out.decode().splitlines()[0].split()[1:]]
+    given, _, last = best(program, ["run", f"={word}", *map(str, found)], table)
+    tried = windows_before(program, word, table, found)
+    steps, before = number_behind("steps", last), sum(made for _, made in tried)
+    print(f"run ={word} auto: {1000 * searched:.1f} ms, in the window {' '.join(map(str, found))} that it finds"
+          f" {1000 * given:.1f} ms; {len(tried)} rounds before the last one make {before} steps beside its {steps},"
+          f" which is {before / (before + steps):.0%} of all")
+
+
 def time_widest(program):
     """One increment in the widest window that a circuit of 1,048,576 elements has."""
     table, words = increments(1), ["=1011", "0", "5", "1527", "5"]
@@ -72,6 +99,8 @@ def main():
     if not os.path.exists(program):
         sys.exit("build the program first: cd crates/bn_main && rt run")
     time_widest(program)
+    for word in ("1011", "1" * 20, "1" * 200):
+        time_found(program, word)
     for rounds in range(1, 5):
         time_increments(program, rounds)
 

@@ -82,9 +82,9 @@ class Proving(unittest.TestCase):
         self.prove_all(self.diamond(), 1)
         self.assertEqual([name for name, _, _ in Crate.called], ["base", "long", "short", "top"])
 
-    def test_a_crate_that_stands_alone_gets_all_processes(self):
+    def test_a_crate_alone_and_the_last_ones_get_all_processes(self):
         self.prove_all(self.diamond(), 4)
-        self.assertEqual({name: jobs for name, jobs, _ in Crate.called}, {"base": 4, "long": 2, "short": 2, "top": 4})
+        self.assertEqual({name: jobs for name, jobs, _ in Crate.called}, {"base": 4, "long": 4, "short": 4, "top": 4})
 
     def test_what_is_built_is_not_proved_again(self):
         crates = self.diamond()

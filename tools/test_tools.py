@@ -266,7 +266,8 @@ class Words(Tools):
 
     def test_faults_of_the_words_are_told_in_one_line(self):
         for tool, words in (("draw", ["--frames", "5001"]), ("draw", ["--svg", "--dot"]), ("tapes", ["="]),
-                            ("tapes", ["1011", "0", "5", "11", "5"]), ("layers", ["=", "0", "2", "02", "1", "5"]),
+                            ("tapes", ["1011", "0", "5", "11", "5"]), ("tapes", ["=", "auto", "5"]),
+                            ("layers", ["=", "0", "2", "02", "1", "5"]), ("layers", ["=", "auto"]),
                             ("import", ["--from", "xml"]), ("plot", ["--x"]), ("gallery", ["x"])):
             status, out, said = called(tool, words)
             self.assertEqual((status, out, said.count("\n")), (2, "", 1), f"{tool} {words}: {said}")
@@ -301,6 +302,16 @@ class WithProgram(Tools):
                              input=LEAST.encode(), capture_output=True, check=True)
         self.assertEqual([line.split()[:3] for line in ran.stdout.decode().splitlines()[:3]], [
             ["0", "compute", "A1"], ["1", "compute", "A1'"], ["2", "compute", "A2"]])
+
+    def test_the_window_may_be_found_by_the_program(self):
+        program = program_at_hand()
+        ran = subprocess.run([program, "run", "=", "auto"], input=LEAST.encode(), capture_output=True, check=True)
+        found = ran.stdout.decode().splitlines()[0].split()[1:]
+        for tool, more in (("tapes", []), ("layers", ["1564"])):
+            pictures = [subprocess.run([os.path.join(TOOLS, tool), "--program", program, "=", *window, *more],
+                                       input=LEAST.encode(), capture_output=True, check=True).stdout
+                        for window in (["auto"], found)]
+            self.assertEqual(*pictures)
 
     def test_an_imported_machine_runs(self):
         program = program_at_hand()

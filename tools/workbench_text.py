@@ -15,6 +15,10 @@ WORKBENCH = os.path.join(TOP, "workbench")
 BUILT = os.path.join(TOP, "crates", "bn_main", "out", "bn_main")
 SIDES = "nesw"
 GREATEST_STEPS = 2 ** 62
+GREATEST_WINDOW = 1048576
+# The word in place of a window's numbers, and the statuses of a run in the window that is found: halted, and stuck.
+AUTO = "auto"
+ENDED = (0, 10)
 
 
 class Fault(Exception):
@@ -341,16 +345,36 @@ def read_view(lines, where):
     return View(lines[0], lines[1], state[1], tapes, lines[6], element[1] == "left", element[2], int(element[3]), machine[1])
 
 
-def window_words(options):
-    """The words =W l1 r1 n r3 of a run, from a tool's options."""
-    return [options.word, *(str(number) for number in options.window)]
-
-
 def add_window(parser):
-    """The positional words of a run: =W l1 r1 n r3."""
+    """The positional words of a run: =W l1 r1 n r3, or =W auto."""
     parser.add_argument("word", metavar="=W", help="the word behind a =, as for run; = alone is the empty word")
-    parser.add_argument("window", metavar="N", nargs=4, type=number_up_to(1048576),
-                        help="the window l1 r1 n r3: tape 1 from -l1 to r1, history 0 to n, output 0 to r3")
+    parser.add_argument("window", metavar="N", nargs="+", type=number_or_auto,
+                        help="the window l1 r1 n r3: tape 1 from -l1 to r1, history 0 to n, output 0 to r3; or auto: the "
+                             "one that `run =W auto` finds")
+
+
+def number_or_auto(word):
+    """A number of a window, or the word auto in place of all four, for argparse."""
+    return word if word == AUTO else number_up_to(GREATEST_WINDOW)(word)
+
+
+def window_words(options, program, table):
+    """The words =W l1 r1 n r3 of a run on a table, from a tool's options; the program finds the window of auto."""
+    numbers = options.window
+    if numbers == [AUTO]:
+        numbers = found_window(program, options.word, table)
+    elif len(numbers) != 4 or AUTO in numbers:
+        raise Fault("a window is the four numbers l1 r1 n r3, or the word auto; --help tells the words")
+    return [options.word, *(str(number) for number in numbers)]
+
+
+def found_window(program, word, table):
+    """The window that the program finds for a word on a table: four numbers as it prints them."""
+    line = program.run(["run", word, AUTO], table, ENDED).partition("\n")[0]
+    found = re.fullmatch(r"window (\d+) (\d+) (\d+) (\d+)", line)
+    if not found:
+        raise Fault(f"what run prints: {line!r} is no line of a window")
+    return found.groups()
 
 
 def checked_word(word):

@@ -18,13 +18,13 @@ use Rattle.bn_realise.specs.Banks.{column_at, bottom_at, bank_input_line}
 use Rattle.bn_realise.proofs.BankWiresLemmas.{bank_wire-IsWithinLines, bank_wire-no_input}
 use Rattle.bn_circuits.specs.Situations.{Situation}
 use Rattle.bn_network.specs.Cells.{cell_table, line_number, cell_line_count}
-use Rattle.bn_network.specs.Controls.{ControlState, End, ControlMove, IsNumbering, is_end, symbol_count, lines_before, out_number, command_offset}
+use Rattle.bn_network.specs.Controls.{ControlState, End, ControlMove, IsNumbering, is_end, symbol_count, lines_before, out_number, command_offset, IsFirstKept, final_kept, sent_kept}
 use Rattle.bn_network.specs.ControlLaws.{HasEntries}
 use Rattle.bn_network.specs.Networks.{IsNetwork, IsTape, commands, cells_in, first_cell}
 use Rattle.bn_circuits.specs.Circuits.{line_at}
 use Rattle.bn_network.specs.Moments.{IsMoment, at_end, sent, IsMomentOf, TellsMoments}
 use Rattle.bn_board.specs.Boards.{AreModules, StandsFor, IsAmid, IsLoose, base, on_board, output_at}
-use Rattle.bn_board.specs.Layouts.{Layout, IsLayout, IsFirstKept, final_kept, sent_kept, same_place, command_place, end_place, is_marked_at, is_sent, moment_at, is_moment, first_element, cell_element, cell_output, symbol_count_at, lines_at}
+use Rattle.bn_board.specs.Layouts.{Layout, IsLayout, same_place, command_place, end_place, is_marked_at, is_sent, moment_at, is_moment, first_element, cell_element, cell_output, symbol_count_at, lines_at}
 use Rattle.bn_board.proofs.MovedLemmas.{in_bank}
 use Rattle.bn_board.proofs.SameLemmas.{number_once}
 use Rattle.bn_board.proofs.FirstLemmas.{bar_zero, position_at, position_holds, position_same, some_holds, none_holds, below, not_below}

@@ -16,11 +16,11 @@ use Rattle.bn_quad.specs.Quadruples.{Quadruples}
 use Rattle.bn_bennett.specs.Laws.{TranslationsAreOne, TranslationsAreUniform}
 use Rattle.bn_bennett.specs.Translation.{Translation}
 use Rattle.bn_realise.specs.Banks.{IsBankWire, bank_input_line, bank_output_line}
-use Rattle.bn_network.specs.Controls.{ControlState, ControlMove, key_of, IsNumbering, IsControlTable, out_number}
+use Rattle.bn_network.specs.Controls.{ControlState, ControlMove, key_of, IsNumbering, IsControlTable, out_number, IsFirstKept, final_kept, sent_kept}
 use Rattle.bn_network.specs.ControlLaws.{HasEntries, ControlsAreOne, StatesHaveEntries}
 use Rattle.bn_network.specs.Networks.{IsNetwork, module_tables, network_start}
 use Rattle.bn_board.specs.Boards.{IsBoard, IsBoardWire, own, between, size, base, board_start}
-use Rattle.bn_board.specs.Layouts.{Layout, IsLayout, IsFirstKept, final_kept, sent_kept}
+use Rattle.bn_board.specs.Layouts.{Layout, IsLayout}
 use Rattle.bn_circuits.specs.Alike.{AreAlike}
 use Rattle.bn_board.specs.LayoutLaws.{FlatsAreOne}
 

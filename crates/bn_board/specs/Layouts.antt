@@ -1,5 +1,5 @@
 -- The numbers by which a board is read (this project's own profile): its exits, its moments, and what its cells spell.
-use Rattle.std.specs.Prelude.{◌≡◌, ◌≢◌, ◌↔◌, ℕ, zero, suc, ◌+◌, ◌-◌, ◌*◌, ◌<◌, ◌≤◌, ℤ, pos, ◌-ℤ◌, Bool, false, not}
+use Rattle.std.specs.Prelude.{◌≡◌, ◌↔◌, ℕ, zero, suc, ◌+◌, ◌-◌, ◌*◌, ◌<◌, ◌≤◌, ℤ, pos, ◌-ℤ◌, Bool, false, not}
 use Rattle.std.specs.Prelude.{List, [], length, map, position, Option, Some, None, slice_get, if◌then◌else◌, ◌==◌, ◌&&◌}
 use Rattle.std.specs.Prelude.{nat_lt, is_some}
 use Rattle.std.specs.List.{range_with_len, slice_index_or}
@@ -13,7 +13,7 @@ use Rattle.bn_realise.specs.Banks.{bottom_at, column_at}
 use Rattle.bn_machine.specs.Outcome.{Limits}
 use Rattle.bn_machine.specs.declared.quint.Side.TheVariants as side
 use Rattle.bn_machine.specs.Tape.{Tape, cell}
-use Rattle.bn_quad.specs.Quadruples.{Configuration, Quadruples, final_state_of}
+use Rattle.bn_quad.specs.Quadruples.{Configuration, Quadruples}
 use Rattle.bn_board.specs.declared.exit.Exit.{Exit}
 use Rattle.bn_board.specs.declared.exit.Exit.TheVariants.{Inside, End, Stuck, Window, Unnamed}
 use Rattle.bn_board.specs.declared.spelled.SpelledTape.{SpelledTape}
@@ -21,8 +21,8 @@ use Rattle.bn_board.specs.declared.spelled.Spelled.{Spelled}
 use Rattle.bn_network.specs.declared.cell_line.CellLine.TheVariants.{Read, TakeRight, TakeLeft}
 use Rattle.bn_circuits.specs.Counting.{tally, one_if}
 use Rattle.bn_network.specs.Cells.{line_number, cell_line_count}
-use Rattle.bn_network.specs.Controls.{ControlState, Reads, Tape as to_tape, ControlMove, IsEntry, lines_before}
-use Rattle.bn_network.specs.Controls.{out_number}
+use Rattle.bn_network.specs.Controls.{ControlState, Reads, Tape as to_tape, IsEntry, lines_before}
+use Rattle.bn_network.specs.Controls.{IsFirstKept}
 use Rattle.bn_network.specs.Networks.{cells_in, left_of, bank_size, cell_size}
 
 -- What a board keeps beside its net: the limits; the numbers of symbols; how many states the control has; for each
@@ -175,12 +175,6 @@ spelled_config l c = record {
 }
 
 -- ---- the layout of a machine's board
-
--- what is kept of the first command of a state of the machine
-pub data IsFirstKept (m : Quadruples) (names : List ControlState) (a : ℕ) : Option (ℕ × ℕ) → Type 0 where
-  final_kept : a ≡ final_state_of m.rules → IsFirstKept m names a None
-  sent_kept : a ≢ final_state_of m.rules → (k : ControlMove) (q : ℕ) → IsEntry m a k → slice_get names q ≡ Some k.0
-      → IsFirstKept m names a (Some (q, out_number m k.1))
 
 pub record IsLayout (m : Quadruples) (l : Limits) (names : List ControlState) (b : Layout) : Type 0 where
   pub limits : b.limits ≡ l

@@ -13,12 +13,12 @@ use Rattle.bn_machine.specs.Outcome.{Limits}
 use Rattle.bn_quad.specs.Quadruples.{Quadruples, IsQuadMachine, quadruples_of}
 use Rattle.bn_realise.specs.Banks.{column_at, bottom_at}
 use Rattle.bn_network.specs.Cells.{line_number}
-use Rattle.bn_network.specs.Controls.{ControlState, ControlMove, IsNumbering, symbol_count, control_lines, lines_before, out_number}
+use Rattle.bn_network.specs.Controls.{ControlState, ControlMove, IsNumbering, symbol_count, control_lines, lines_before, out_number, IsFirstKept, final_kept, sent_kept}
 use Rattle.bn_network.specs.ControlLaws.{HasEntries}
 use Rattle.bn_network.specs.Networks.{IsNetwork, IsNetWire, IsTape, commands, cells_in, first_cell}
 use Rattle.bn_circuits.specs.Circuits.{line_at}
 use Rattle.bn_board.specs.Boards.{base}
-use Rattle.bn_board.specs.Layouts.{Layout, IsLayout, IsFirstKept, final_kept, sent_kept, same_place, command_place, end_place, is_marked_at, is_sent, moment_at, first_element, cell_element, lines_at}
+use Rattle.bn_board.specs.Layouts.{Layout, IsLayout, same_place, command_place, end_place, is_marked_at, is_sent, moment_at, first_element, cell_element, lines_at}
 use Rattle.bn_board.proofs.SameLemmas.{number_once}
 use Rattle.bn_board.proofs.AgreedLemmas.{is_same_place, same_place_is, led_board}
 use Rattle.bn_board.proofs.FirstLemmas.{position_at, position_holds}

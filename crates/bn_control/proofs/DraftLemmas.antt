@@ -6,7 +6,7 @@ use Rattle.bn_quad.specs.Quadruples.{Quadruples, final_state_of}
 use Rattle.bn_network.specs.declared.cell_line.CellLine.{CellLine}
 use Rattle.bn_network.specs.declared.cell_line.CellLine.TheVariants.{Read}
 use Rattle.bn_network.specs.Controls as control
-use Rattle.bn_network.specs.Controls.{ControlState, ControlLine, ControlMove, IsEntry, finishes, leaves, waits, IsFirstOf, to_read, to_shift, reads_of, shifts_of, Occurs, is_begin, is_end, is_open, is_read, is_shift, is_write, symbols_read, out_number}
+use Rattle.bn_network.specs.Controls.{ControlState, ControlLine, ControlMove, IsEntry, finishes, leaves, waits, IsFirstOf, to_read, to_shift, reads_of, shifts_of, Occurs, is_begin, is_end, is_open, is_read, is_shift, is_write, symbols_read, out_number, IsFirstKept, final_kept, sent_kept}
 use Rattle.bn_network.proofs.EntryLemmas.{one_entry}
 use Rattle.bn_network.proofs.GoingLemmas.{end_entry}
 use Rattle.bn_network.proofs.RangeLemmas.{rule_in_range}
@@ -19,7 +19,7 @@ use Rattle.bn_control.specs.declared.state.Symbols.{Symbols}
 use Rattle.bn_control.specs.declared.state.Symbols.TheVariants.{Empty, Leading}
 use Rattle.bn_control.specs.States.{listed, name_of, IsProper}
 use Rattle.bn_control.specs.Commands.{line_of, sending_of}
-use Rattle.bn_control.specs.Controlled.{IsFirstKept, final_kept, sent_kept, IsAwaiting}
+use Rattle.bn_control.specs.Controlled.{IsAwaiting}
 use Rattle.bn_control.specs.Entries.{IsFirstSent}
 use Rattle.bn_control.specs.Ordered.{HasNumber}
 use Rattle.bn_control.specs.Numbered.{IsWithin}

@@ -1,12 +1,12 @@
 -- A control with what its states say of the machine of quadruples.
-use Rattle.std.specs.Prelude.{◌≡◌, ◌≢◌, ◌↔◌, ℕ, ◌+◌, ◌-◌, ◌<◌, ◌≤◌, ◌^◌, List, [], All, length, Option, Some, None}
+use Rattle.std.specs.Prelude.{◌≡◌, ◌↔◌, ℕ, ◌+◌, ◌-◌, ◌<◌, ◌≤◌, ◌^◌, List, [], All, length, Option, Some, None}
 use Rattle.std.specs.Prelude.{slice_get, slice_index, refl}
 use Rattle.std.specs.Coded.{Coded, coded_ℕ, coded_list, coded_option, coded×, code_by}
-use Rattle.bn_quad.specs.Quadruples.{Quadruples, final_state_of}
+use Rattle.bn_quad.specs.Quadruples.{Quadruples}
 use Rattle.bn_rsm.specs.Machines.{Machine, machine_code, machine_table}
 use Rattle.bn_network.specs.declared.cell_line.CellLine.TheVariants.{Read}
-use Rattle.bn_network.specs.Controls.{ControlState, Reads, ControlMove, Tape, IsEntry, IsNumbering, IsControlTable}
-use Rattle.bn_network.specs.Controls.{lines_before, out_number}
+use Rattle.bn_network.specs.Controls.{ControlState, Reads, Tape, IsEntry, IsNumbering, IsControlTable}
+use Rattle.bn_network.specs.Controls.{lines_before, IsFirstKept}
 use Rattle.bn_network.specs.declared.limits.TheConstants.{MOST_SYMBOLS}
 use Rattle.bn_control.specs.declared.make.TheConstants.{MOST_QUADRUPLES, MOST_STATES}
 
@@ -41,12 +41,6 @@ pub record IsWithinLimits (m : Quadruples) : Type 0 where
   pub few_symbols : All (λ z. z ≤ MOST_SYMBOLS) m.symbols
 
 -- ---- the control of a machine
-
--- what is kept of the first command of a state of the machine
-pub data IsFirstKept (m : Quadruples) (names : List ControlState) (a : ℕ) : Option (ℕ × ℕ) → Type 0 where
-  final_kept : a ≡ final_state_of m.rules → IsFirstKept m names a None
-  sent_kept : a ≢ final_state_of m.rules → (k : ControlMove) (q : ℕ) → IsEntry m a k → slice_get names q ≡ Some k.0
-      → IsFirstKept m names a (Some (q, out_number m k.1))
 
 -- the state of the control is the one that awaits the first read of this state of the machine, on this tape
 pub record IsAwaiting (m : Quadruples) (q : ControlState) (a t : ℕ) : Type 0 where

@@ -2,7 +2,7 @@
 use Rattle.std.specs.Prelude.{◌≡◌, ◌↔◌, ℕ, ◌<◌, ◌≤◌, ◌^◌, List, All, map, Option, Some, slice_get, length}
 use Rattle.bn_quad.specs.Quadruples.{Quadruples, IsQuadMachine}
 use Rattle.bn_quad.specs.Calls.{IsUniformMachine}
-use Rattle.bn_network.specs.Controls.{ControlState, Occurs}
+use Rattle.bn_network.specs.Controls.{ControlState, Occurs, IsFirstKept}
 use Rattle.bn_control.specs.declared.draft.Draft.{Draft}
 use Rattle.bn_control.specs.declared.line.Sending.{Sending}
 use Rattle.bn_network.specs.declared.limits.TheConstants.{MOST_SYMBOLS}
@@ -11,7 +11,7 @@ use Rattle.bn_control.specs.States.{name_of, IsProper}
 use Rattle.bn_control.specs.Entries.{AreEntries, IsFirstSent}
 use Rattle.bn_control.specs.Named.{AreMoves}
 use Rattle.bn_control.specs.Ordered.{AreOrdered}
-use Rattle.bn_control.specs.Controlled.{IsFirstKept, IsAwaiting}
+use Rattle.bn_control.specs.Controlled.{IsAwaiting}
 
 -- all is made of this machine, which is uniform
 pub record IsDraft (m : Quadruples) (d : Draft) : Type 0 where

@@ -26,7 +26,8 @@ impl Draft {
     ghost use Rattle.bn_quad.specs.Quadruples.{Quadruples};
     ghost use Rattle.bn_rsm.specs.Machines.{machine_table};
     ghost use Rattle.bn_network.specs.Controls.{IsControlTable, Occurs};
-    ghost use Rattle.bn_control.specs.Controlled.{IsTapeAwaited, IsFirstKept};
+    ghost use Rattle.bn_control.specs.Controlled.{IsTapeAwaited};
+    ghost use Rattle.bn_network.specs.Controls.{IsFirstKept};
     ghost use Rattle.bn_control.specs.Entries.{IsFirstSent};
     ghost use Rattle.bn_control.specs.States.{name_of, IsProper};
     ghost use Rattle.bn_control.specs.Made.{IsDraft, IsSomeDraft, IsSomeEntry, OccursInDraft, AreFirsts, AreAwaited};

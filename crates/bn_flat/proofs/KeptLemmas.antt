@@ -4,13 +4,12 @@ use Rattle.std.proofs.Common.{zero, suc, arith, sym, ap, subst, ◌∙◌}
 use Rattle.std.proofs.lemmas.Option.{slice_get_within, get_or_from_slice_get}
 use Rattle.bn_machine.specs.Outcome.{Limits}
 use Rattle.bn_quad.specs.Quadruples.{Quadruples, IsQuadMachine}
-use Rattle.bn_network.specs.Controls.{ControlState, Begin, Reads, Tape as to_tape, IsEntry, is_begin, symbol_count, lines_before, out_number, command_offset, control_lines}
+use Rattle.bn_network.specs.Controls.{ControlState, Begin, Reads, Tape as to_tape, IsEntry, is_begin, symbol_count, lines_before, out_number, command_offset, control_lines, IsFirstKept, final_kept, sent_kept}
 use Rattle.bn_network.specs.declared.cell_line.CellLine.TheVariants.{Read}
 use Rattle.bn_network.specs.Networks.{elements_by}
-use Rattle.bn_control.specs.Controlled as controlled
-use Rattle.bn_control.specs.Controlled.{Controlled, IsControlOf, IsWithinLimits, IsTapeAwaited}
+use Rattle.bn_control.specs.Controlled.{Controlled, IsControlOf, IsAwaiting, IsWithinLimits, IsTapeAwaited}
 use Rattle.bn_board.proofs.ModuleLemmas.{found}
-use Rattle.bn_board.specs.Layouts.{Layout, IsLayout, IsFirstKept, final_kept, sent_kept, elements_of}
+use Rattle.bn_board.specs.Layouts.{Layout, IsLayout, elements_of}
 use Rattle.bn_board.proofs.CommandLemmas.{command_number, entry-IsCommandMove}
 use Rattle.bn_assembly.specs.Assembled.{Assembled, IsAssembled, IsKept}
 use Rattle.bn_assembly.specs.declared.module.Module.{Module}
@@ -36,9 +35,9 @@ control_of : (v w : Controlled) → ◌≡◌ {A = Option Module} (Some (Control
 control_of v w same = cc
 
 module _ (m : Quadruples) (names : List ControlState) (quad : IsQuadMachine m) (v : Controlled) (is : IsControlOf m names v) where
-  first_within : (a : ℕ) (f : Option (ℕ × ℕ)) → controlled.IsFirstKept m names a f → IsFirstWithin (length names) (control_lines m) f
-  first_within a f (controlled.final_kept final) = tt
-  first_within a f (controlled.sent_kept apart k q entry named) = sent (entry-IsCommandMove m a k apart entry).tape refl
+  first_within : (a : ℕ) (f : Option (ℕ × ℕ)) → IsFirstKept m names a f → IsFirstWithin (length names) (control_lines m) f
+  first_within a f (final_kept final) = tt
+  first_within a f (sent_kept apart k q entry named) = sent (entry-IsCommandMove m a k apart entry).tape refl
     where
       sent : (t : ℕ) → (entry-IsCommandMove m a k apart entry).tape ≡ t → IsFirstWithin (length names) (control_lines m) (Some (q, out_number m k.1))
       sent zero at = let h = (entry-IsCommandMove m a k apart entry).is_tape.low in absurd (omega arith)
@@ -55,11 +54,6 @@ module _ (m : Quadruples) (names : List ControlState) (quad : IsQuadMachine m) (
           (slice_get_within names q k.0 named, omega (arith, low.0), omega (arith, low.1))
 
 module _ (m : Quadruples) (names : List ControlState) (v : Controlled) (is : IsControlOf m names v) where
-  -- the same first commands, in the layout's words
-  as_first : (a : ℕ) (f : Option (ℕ × ℕ)) → controlled.IsFirstKept m names a f → IsFirstKept m names a f
-  as_first a f (controlled.final_kept final) = final_kept final
-  as_first a f (controlled.sent_kept apart k q entry named) = sent_kept apart k q entry named
-
   states_are : v.machine.states ≡ length names
   states_are = is.table.states
 
@@ -70,12 +64,12 @@ module _ (m : Quadruples) (names : List ControlState) (v : Controlled) (is : IsC
     symbols = is.symbols;
     states = states_are;
     counted = is.counted;
-    firsts = λ a f at. as_first a f (is.firsts a f at);
+    firsts = is.firsts;
     awaited_counted = is.awaited_counted;
     awaiting = λ q a t. (λ at. forth q a t ((is.awaiting q a t).0 at), λ h. (is.awaiting q a t).1 (Reads a [], h.0, record { state = refl; entry = h.1 }));
   }
     where
-      forth : (q a t : ℕ) → (s : ControlState) × (slice_get names q ≡ Some s) × controlled.IsAwaiting m s a t → (slice_get names q ≡ Some (Reads a [])) ×
+      forth : (q a t : ℕ) → (s : ControlState) × (slice_get names q ≡ Some s) × IsAwaiting m s a t → (slice_get names q ≡ Some (Reads a [])) ×
           IsEntry m a (Reads a [], to_tape t Read)
       forth q a t h = (h.1 ∙ ap (λ s. Some s) h.2.state, h.2.entry)
 

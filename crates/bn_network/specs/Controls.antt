@@ -1,7 +1,7 @@
 -- The finite control of a uniform machine of quadruples (this project's own profile), by names, and its table: it sends
 -- the commands of a quadruple to the tapes one after another, and awaits the answer to each.
 use Rattle.std.specs.Prelude.{◌≡◌, ◌≢◌, ◌↔◌, ℕ, zero, suc, ◌+◌, ◌-◌, ◌<◌, List, [], ◌∷◌, ◌++◌, length, map, reverse}
-use Rattle.std.specs.Prelude.{Some, slice_get, slice_index}
+use Rattle.std.specs.Prelude.{Option, Some, None, slice_get, slice_index}
 use Rattle.std.specs.Ordering.{nat_cmp}
 use Rattle.std.specs.Cmp.Lexicographic.{slice_cmp}
 use Rattle.std.specs.declared.cmp.Ordering.TheVariants.{Less}
@@ -210,6 +210,13 @@ in_number m (Tape t l) = lines_before m.symbols (t - 1) + answer_offset (symbol_
 abbrev pub out_number : Quadruples → ControlLine → ℕ
 out_number m Outside = 0
 out_number m (Tape t l) = lines_before m.symbols (t - 1) + command_offset (symbol_count m t) l
+
+-- What is kept of the first command of a state of the machine: the state of the control that awaits its answer, and the
+-- output line by which it is given; nothing for the final state.
+pub data IsFirstKept (m : Quadruples) (names : List ControlState) (a : ℕ) : Option (ℕ × ℕ) → Type 0 where
+  final_kept : a ≡ final_state_of m.rules → IsFirstKept m names a None
+  sent_kept : a ≢ final_state_of m.rules → (k : ControlMove) (q : ℕ) → IsEntry m a k → slice_get names q ≡ Some k.0
+      → IsFirstKept m names a (Some (q, out_number m k.1))
 
 -- a move in numbers
 pub record NumberedGoes (m : Quadruples) (names : List ControlState) (n j r o : ℕ) : Type 0 where
