@@ -1,8 +1,10 @@
 # shellcheck shell=bash disable=SC2154,SC2034
-# What ./workbench, ./try and tools/program share: where the proved program stands, whether it is as new as what it is
-# built from, and when something is said beside it. Sourced, with the top of the repository in `top` and the script's
-# name in `script`. What is said is in tools/front.sh, which a call that is simply answered doesn't read.
+# What ./workbench, ./try, tools/program and the installed command share: where the proved program stands, whether it is
+# as new as what it is built from, and when something is said beside it. Sourced, with the top of the repository in `top`
+# and the script's name in `script`. What is said is in tools/front.sh, or where `front` says, which a call that is simply
+# answered doesn't read.
 program=$top/crates/bn_main/out/bn_main
+front=${front-$top/tools/front.sh}
 last_look=$top/crates/bn_main/out/last-look
 
 # Whether the program is as new as all its sources. One look at the files holds for the second in which it is made and
@@ -30,7 +32,7 @@ asks_for_help() {
 
 # Answers words that ask for help: on standard output what the program says to them, and the forms beside it.
 show_help() {
-    . "$top/tools/front.sh"
+    . "$front"
     echo usage
     show_forms
 }
@@ -38,14 +40,14 @@ show_help() {
 # Says that a command waits for what is typed, where standard input is a terminal.
 tell_typing() {
     [ -t 0 ] || return 0
-    . "$top/tools/front.sh"
+    . "$front"
     reads_input "$@" && say "reading what is typed, up to Ctrl-D"
 }
 
 # Says what helps with this status of the program, where something does.
 tell_status() {
     case $1 in
-    [2-6]) . "$top/tools/front.sh" ;;
+    [2-6]) . "$front" ;;
     *) return 0 ;;
     esac
     if [ "$1" = 2 ]; then

@@ -1,6 +1,9 @@
 # shellcheck shell=bash disable=SC2154,SC2034
 # The forms of the words, and words that help: what ./workbench and ./try say on standard error beside the program.
-# Sourced where it is needed, behind tools/built.sh, with the top of the repository in `top`.
+# Sourced where it is needed, behind tools/built.sh, with the top of the repository in `top`; where it is installed,
+# `manual` and `help_page` name the two pages.
+manual=${manual-$top/docs/workbench.1}
+help_page=${help_page-$top/docs/HELP.md}
 
 # The forms of the words, and what each command does. check/forms compares them with the program's own table.
 forms=(
@@ -19,6 +22,8 @@ forms=(
     "session =W l1 r1 n r3|a script, behind the table and a line %, played on it"
     "plan|the wires of a circuit on as few tracks as can be"
     "migrate|a configuration text in version 2, in which a column is one entry"
+    "mirror|a circuit whose steps are the steps back of this one"
+    "farm|several circuits under a schedule, and the schedule that undoes it"
     "generate k|the run of a machine that adds one k times, k from 1 to 4"
     "erase|the machine of two tables that leaves only its output"
     "erase =W n|its run from the word W, of at most n steps"
@@ -50,7 +55,7 @@ reads_input() {
 
 show_forms() {
     local form
-    say "the words are one of these; \`man $top/docs/workbench.1\` has them all"
+    say "the words are one of these; \`man $manual\` has them all"
     for form in "${forms[@]}"; do
         printf '  %-29s %s\n' "${form%%|*}" "${form#*|}" >&2
     done
@@ -76,6 +81,8 @@ find_fault_of_command() {
     local word=$1 form
     if [[ -e $word ]]; then
         fault="$word is a file: name a command first, and give it the file by < $word"
+    elif [[ $word = sweep || $word = plot ]]; then
+        fault="$word is a word of the Python package, python3 -m hithwelor $word, and no command"
     elif is_command "${word,,}"; then
         fault="commands are written in small letters: ${word,,}"
     else
@@ -180,5 +187,5 @@ tell_refusal() {
     6) what="the input, the word or what would be made of them is larger than there is room for" where="\`word:\` and \`size:\`" ;;
     *) return 0 ;;
     esac
-    say "refused$refusal, status $status: $what. See $where in $top/docs/HELP.md"
+    say "refused$refusal, status $status: $what. See $where in $help_page"
 }

@@ -1,6 +1,9 @@
 """The picture of a circuit of rotary elements as SVG, at one frame of a run."""
+from dataclasses import dataclass
+
 from page import escaped
 from wiring import BOX, IN, OUT, STEP
+from workbench_text import Frame
 
 STYLE = """
   .circuit text { font: 12px sans-serif; fill: #222; }
@@ -97,6 +100,12 @@ def wire_of(configuration, frame):
     return None
 
 
+def drawn_wire(configuration, frame):
+    """The output line of wire_of where a wire or the end is drawn behind it; else None."""
+    out = wire_of(configuration, frame)
+    return out if out is not None and (configuration.target(out) is not None or out == configuration.end) else None
+
+
 def wire_id(out):
     return f"wire-{out.element}{out.side}"
 
@@ -124,19 +133,20 @@ def stub(plan, line, way, name):
             f'text-anchor="{anchor}">{name}</text>')
 
 
-def element_group(number, middle, bar, is_turned, is_bottom):
+def element_group(number, middle, bar, is_turned, is_bottom, ids=""):
     """A numbered box with its bar."""
     x, y = middle
     half, reach = BOX // 2, BOX // 2 - 9
     turned = " turned" if is_turned else ""
     small = ' style="font-size:10px"' if number > 99 else ""
     upright, lying = f"translate({x} {y}) rotate(90)", f"translate({x} {y})"
-    return (f'<g><title>element {number}</title><rect id="box-{number}" class="box{turned}" x="{x - half}" y="{y - half}" '
-            f'width="{BOX}" height="{BOX}" rx="{12 if is_bottom else 5}"/>'
-            f'<line id="bar-{number}" class="bar" x1="{-reach}" y1="0" x2="{reach}" y2="0" '
+    return (f'<g><title>element {number}</title><rect id="{ids}box-{number}" class="box{turned}" '
+            f'x="{x - half}" y="{y - half}" width="{BOX}" height="{BOX}" rx="{12 if is_bottom else 5}"/>'
+            f'<line id="{ids}bar-{number}" class="bar" x1="{-reach}" y1="0" x2="{reach}" y2="0" '
             f'data-upright="{upright}" data-lying="{lying}" transform="{lying if bar == "H" else upright}"/>'
             f'<text x="{x - half + 3}" y="{y - half + 12}"{small}>{number}</text>'
-            f'<text id="turn-{number}" class="turn{turned}" x="{x + half - 15}" y="{y + half - 4}">&#8635;</text></g>\n')
+            f'<text id="{ids}turn-{number}" class="turn{turned}" x="{x + half - 15}" y="{y + half - 4}">'
+            f'&#8635;</text></g>\n')
 
 
 def spans_group(plan, banks, bars):
@@ -151,19 +161,20 @@ def spans_group(plan, banks, bars):
     return body
 
 
-def wires_group(configuration, plan, kinds):
+def wires_group(configuration, plan, kinds, ids=""):
     """All wires with a start and an end; those of the path come last, so that they lie above."""
     def rank(route):
         return ["", "past", "now"].index(kinds.get(route.out, ""))
     body = ""
     for route in sorted(plan.routes, key=rank):
         path = rounded(route.points)
-        body += (f'<g id="{wire_id(route.out)}" class="{kinds.get(route.out, "")}"><title>{route.out} leads to {route.into}'
-                 f'</title><path class="halo" d="{path}"/><path class="wire" d="{path}"/>'
+        body += (f'<g id="{ids}{wire_id(route.out)}" class="{kinds.get(route.out, "")}">'
+                 f'<title>{route.out} leads to {route.into}</title>'
+                 f'<path class="halo" d="{path}"/><path class="wire" d="{path}"/>'
                  f'<path class="tip" d="{tip(route.points[-1], route.into.side)}"/></g>\n')
     body += f"<g>{stub(plan, configuration.start, IN, 'start')}</g>\n"
-    kind = kinds.get(configuration.end, "")
-    return body + f'<g id="{wire_id(configuration.end)}" class="{kind}">{stub(plan, configuration.end, OUT, "end")}</g>\n'
+    end = configuration.end
+    return body + f'<g id="{ids}{wire_id(end)}" class="{kinds.get(end, "")}">{stub(plan, end, OUT, "end")}</g>\n'
 
 
 def path_kinds(configuration, frames, number):
@@ -185,22 +196,41 @@ def bars_at(configuration, frames, number):
     return bars
 
 
-def circuit_svg(configuration, plan, banks, frames, number, made, caption="", zoom=1):
-    """The picture of a frame, with how it was made as its description.
+@dataclass
+class Moment:
+    """What a picture shows of a run: a frame, all bars, the elements that have just turned, the kinds of wires."""
 
-    The ids of its parts name elements and lines; the page's script finds the parts by them.
-    """
-    bars = bars_at(configuration, frames, number)
+    frame: Frame
+    bars: list
+    turned: set
+    kinds: dict
+
+
+def moment_of(configuration, frames, number):
+    """The moment of a frame behind those before it."""
     turned = {element for element, _ in frames[number].changed} if number else set()
-    kinds = path_kinds(configuration, frames, number)
+    bars, kinds = bars_at(configuration, frames, number), path_kinds(configuration, frames, number)
+    return Moment(frames[number], bars, turned, kinds)
+
+
+def circuit_group(configuration, plan, banks, moment, ids=""):
+    """A circuit at a moment.
+
+    The ids of its parts name elements and lines, with `ids` before them; a page's script finds the parts by them.
+    """
     bottoms = {column.bottom for bank in banks for column in bank.columns}
-    x, y = signal_at(plan, frames[number])
-    left, top, bottom = 46, 30, 30 + (18 if caption else 0)
-    body = spans_group(plan, banks, bars) + f"<g>\n{wires_group(configuration, plan, kinds)}</g>\n"
+    x, y = signal_at(plan, moment.frame)
+    body = spans_group(plan, banks, moment.bars) + f"<g>\n{wires_group(configuration, plan, moment.kinds, ids)}</g>\n"
     for element, middle in enumerate(plan.middles):
-        body += element_group(element, middle, bars[element], element in turned, element in bottoms)
-    body += (f'<g id="signal" transform="translate({x} {y})"><circle class="ring" r="9"/>'
-             f'<circle class="signal" r="5.5"/></g>\n')
+        body += element_group(element, middle, moment.bars[element], element in moment.turned, element in bottoms, ids)
+    return body + (f'<g id="{ids}signal" transform="translate({x} {y})"><circle class="ring" r="9"/>'
+                   f'<circle class="signal" r="5.5"/></g>\n')
+
+
+def circuit_svg(configuration, plan, banks, frames, number, made, caption="", zoom=1):
+    """The picture of a frame, with how it was made as its description."""
+    left, top, bottom = 46, 30, 30 + (18 if caption else 0)
+    body = circuit_group(configuration, plan, banks, moment_of(configuration, frames, number))
     if caption:
         body += f'<text x="{-left + 8}" y="{plan.height + bottom - 8}">{caption}</text>\n'
     width, height = max(plan.width + 2 * left, 8 * len(caption)), plan.height + top + bottom
@@ -213,9 +243,8 @@ def frame_data(configuration, plan, frames):
     """The frames as the page's script wants them."""
     data = []
     for number, frame in enumerate(frames):
-        out = wire_of(configuration, frame) if number else None
+        out = drawn_wire(configuration, frame) if number else None
         x, y = signal_at(plan, frame)
-        known = out is not None and (configuration.target(out) is not None or out == configuration.end)
         data.append({"place": f"steps {frame.steps} {frame.place_text}", "changed": frame.changed if number else [],
-                     "wire": wire_id(out) if known else "", "at": f"{x} {y}"})
+                     "wire": wire_id(out) if out else "", "at": f"{x} {y}"})
     return data

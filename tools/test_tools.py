@@ -261,13 +261,13 @@ class Plot(Tools):
 
 class Words(Tools):
     def test_each_tool_has_help(self):
-        for tool in ("draw", "tapes", "layers", "import", "plot", "gallery", "try_pages"):
+        for tool in ("draw", "tapes", "layers", "farm", "import", "plot", "gallery", "try_pages"):
             self.assertTrue(self.call(tool, ["--help"]).startswith("usage: "))
 
     def test_faults_of_the_words_are_told_in_one_line(self):
         for tool, words in (("draw", ["--frames", "5001"]), ("draw", ["--svg", "--dot"]), ("tapes", ["="]),
                             ("tapes", ["1011", "0", "5", "11", "5"]), ("tapes", ["=", "auto", "5"]),
-                            ("layers", ["=", "0", "2", "02", "1", "5"]), ("layers", ["=", "auto"]),
+                            ("layers", ["=", "0", "2", "02", "1", "5"]), ("layers", ["=", "auto"]), ("farm", ["--frames", "x"]),
                             ("import", ["--from", "xml"]), ("plot", ["--x"]), ("gallery", ["x"])):
             status, out, said = called(tool, words)
             self.assertEqual((status, out, said.count("\n")), (2, "", 1), f"{tool} {words}: {said}")

@@ -4,5 +4,4 @@ pub mod StandardOrNot
 pub mod TableLemmas
 pub mod SettledLemmas
 pub mod ReplyLemmas
-pub mod CutLemmas
-pub mod CutOrNot
+pub mod StreamLemmas

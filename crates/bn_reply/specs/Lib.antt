@@ -2,10 +2,10 @@ pub mod Codes
 pub mod Ends
 pub mod Answering
 pub mod Replying
+pub mod Outside
+pub mod Streams
 pub mod Lines
 pub mod Words
 pub mod TableReply
 pub mod Letters
 pub mod Opened
-pub mod Cuts
-pub mod CutLaws

@@ -1,9 +1,6 @@
-//! What the replies of all commands share: the status, the reply, its end, and the opening of a table, of a word
-//! and of an input of two parts.
+//! What the replies of all commands share: the status, the reply, its end, and the opening of a table and of a word.
 #![tactic(auto)]
 
-mod cut;
-mod laws;
 mod letters;
 mod limits;
 mod lines;
@@ -13,12 +10,10 @@ mod status;
 mod writing;
 
 pub use bn_lists::NoMemory;
-pub use cut::cut_input;
-pub use laws::inputs_are_cut_once;
 pub use letters::push_letters;
 pub use limits::{MOST_INPUT_BYTES, most_input_bytes_are_stated};
 pub use lines::{empty_text, field_text, record_text, why_text};
 pub use opening::{Judged, OpenedTable, OpenedWord, judge_table, open_table, open_word};
 pub use reply::Reply;
 pub use status::Status;
-pub use writing::finish;
+pub use writing::{finish, give_reply, tell_long_input, tell_read_fault};

@@ -1,12 +1,10 @@
 -- The answers of `generate` by those of `run`.
-use Rattle.std.specs.Prelude.{◌≡◌, ◌≢◌, ℕ, ◌≤◌, ◌<◌, List, [], ◌∷◌, ◌++◌, Some, None, Option, Err, length, All, Contains, slice_index, refl}
+use Rattle.std.specs.Prelude.{◌≡◌, ℕ, List, [], ◌++◌, Some, None, Option, Err, length, All, refl}
 use Rattle.std.proofs.Common.{sym, subst, ◌∙◌, ap, arith, zero, suc}
 use Rattle.bn_circuits.specs.declared.place.Place.{Place}
-use Rattle.bn_net.specs.Watching.{Hears}
 use Rattle.bn_machine.specs.Outcome.{Limits, Outcome}
 use Rattle.bn_table.specs.Rows.{Named}
-use Rattle.bn_board.specs.Flats.{Flat}
-use Rattle.bn_gen.specs.Increments.{IsRoundCount, incrementer}
+use Rattle.bn_gen.specs.Increments.{IsRoundCount}
 use Rattle.bn_gen.specs.Text.{increments_table, increments_text}
 use Rattle.bn_gen.proofs.MachineLemmas.{standard}
 use Rattle.bn_gen.proofs.TableLemmas.{text_reads}
@@ -17,7 +15,7 @@ use Rattle.bn_lists.specs.declared.memory.NoMemory.{NoMemory}
 use Rattle.bn_reply.specs.declared.reply.Reply.{Reply}
 use Rattle.bn_reply.specs.declared.status.Status.{Status}
 use Rattle.bn_reply_boards_laws.specs.RunReply.{RunReplies}
-use Rattle.bn_reply_boards_laws.specs.Windows.{AreSmall, ComesTo}
+use Rattle.bn_reply_boards_laws.specs.Windows.{AreSmall}
 use Rattle.bn_reply_boards_laws.specs.Headline.{ComesOutOn, IsGiven, TellsOutcome, TookOutcome}
 use Rattle.bn_reply_boards_laws.specs.Laws.{RepliesTellOutcomes}
 use Rattle.bn_reply_boards_laws.proofs.ClosedLemmas.{run_settled}

@@ -33,6 +33,8 @@ use Rattle.bn_reply_boards_laws.specs.Laws.{BoardsAreSpelled}
 use Rattle.bn_reply_boards_laws.specs.CompileReply.{IsFlatSpelling, TellsStart}
 use Rattle.bn_reply_boards_laws.proofs.SpelledLemmas.{target_of, entered_once, left_once}
 use Rattle.bn_reply_boards.specs.Opened.{IsMade, IsTooLarge, long, large, spelling_of_board}
+use Rattle.bn_reply_circuits.specs.Unwritten.{WillReply}
+use Rattle.bn_reply_circuits.specs.declared.unwritten.Unwritten.TheVariants.{Config}
 use Rattle.bn_reply_boards.proofs.OpeningLemmas.{elements_are}
 
 -- a word of a table's letters, and limits that may be asked for, may be compiled where they come to a board
@@ -131,3 +133,16 @@ module _ (t : Named) (l : Limits) (symbols : List ℕ) (m : Translation) (b : Fl
   pub compiled : BoardsAreSpelled → (kept : IsBoardKept b) → (text : List ℕ) → IsTextOf Two (spelling_of_board b) text
       → BoardReplies TellsStart t.machine l symbols statuses.Done text []
   compiled spelled kept text is = board opened.0 opened.1.comes (made-told t.machine l symbols opened.0 m b opened.1 kept accepts spelled text is)
+
+  -- as a configuration
+  pub will_compile : BoardsAreSpelled → IsBoardKept b → (c : NetConfig) → c.version ≡ Two → spelling_of c ≡ spelling_of_board b →
+      WillReply (BoardReplies TellsStart t.machine l symbols) (Config c)
+  will_compile spelled kept c two is =
+      let here = subst (Admits Two) (sym is) (admitted spelled kept) in
+      record {
+        writable = subst (λ v. Admits v (spelling_of c)) (sym two) here;
+        right = λ s text written.
+            let told : IsTextOf Two (spelling_of c) text = subst (λ v. IsTextOf v (spelling_of c) text) two written.1 in
+            let answer = compiled spelled kept text (subst (λ z. IsTextOf Two z text) is told) in
+            subst (λ st. BoardReplies TellsStart t.machine l symbols st text []) (sym written.0) answer;
+      }

@@ -1,8 +1,10 @@
 //! The command `compile`.
 
-ghost use Rattle.std.specs.Prelude.{◌≡◌, [], All, IfOk};
+ghost use Rattle.std.specs.Prelude.{◌≡◌, ◌≤◌, List, [], All, IfOk, Option};
+ghost use Rattle.bn_circuits.specs.declared.place.Place.{Place};
 ghost use Rattle.bn_assembly.specs.Assembled.{AreSmall, limits_of};
-ghost use Rattle.bn_netlist_laws.specs.Spelling.{Admits, IsTextOf};
+ghost use Rattle.bn_netlist_lines.specs.NetText.{spelling_of};
+ghost use Rattle.bn_reply.specs.Streams.{AnswerEnds};
 ghost use Rattle.bn_reply.specs.Words.{IsLetterSymbol};
 ghost use Rattle.bn_standard.specs.Standard.{IsStandard};
 ghost use Rattle.bn_reply.specs.TableReply.{JudgedReplies, WordReplies};
@@ -10,14 +12,17 @@ ghost use Rattle.bn_reply_boards_laws.specs.Windows.{BoardReplies};
 ghost use Rattle.bn_reply_boards_laws.specs.CompileReply.{CompileReplies, TellsStart};
 ghost use Rattle.bn_flat.specs.Flattened.{IsBoardKept};
 ghost use Rattle.bn_reply_boards.specs.Opened.{spelling_of_board};
+ghost use Rattle.bn_reply_circuits.specs.Unwritten.{WillReply};
 
 use crate::opening::{OpenedBoard, open_board};
 use bn_assembly::Windows;
 use bn_flat::Board;
-use bn_netlist::{NetConfig, Version, write_config};
+use bn_io::Sink;
+use bn_netlist::{NetConfig, Version};
 use bn_reply::{
     Judged, NoMemory, OpenedTable, OpenedWord, Reply, Status, judge_table, open_table, open_word,
 };
+use bn_reply_circuits::Unwritten;
 use bn_standard::Standard;
 use bn_table::Table;
 use std::alloc::Global;
@@ -34,8 +39,42 @@ pub fn reply_compile(
     requires { AreSmall (limits_of windows.now) }
     ensures { IfOk result (λ r. CompileReplies word.now (limits_of windows.now) bytes.now r.status r.text.items []) }
 {
+    let answer = start_of(alloc, word, windows, bytes)?;
+    answer.into_reply(alloc)
+}
+
+/// Gives a sink what `compile` answers, as `reply_compile` has it: the text of a board in pieces.
+pub fn give_compile<K: Sink>(
+    alloc: Global,
+    word: &[u8],
+    windows: &Windows,
+    bytes: &[u8],
+    sink: &mut K,
+) -> Status
+    requires { AreSmall (limits_of windows.now) }
+    ensures ends { (told : Option (List Place)) →
+        AnswerEnds (CompileReplies word.now (limits_of windows.now) bytes.now) result
+        (K.taken sink.old) (K.taken sink.new) (K.faults sink.old) (K.faults sink.new) told told }
+    ensures later { K.faults sink.old ≤ K.faults sink.new }
+{
+    match start_of(alloc, word, windows, bytes) {
+        Ok(answer) => answer.give(alloc, sink),
+        Err(NoMemory) => Status::NoMemory,
+    }
+}
+
+// What `compile` answers, before it is written.
+fn start_of(
+    alloc: Global,
+    word: &[u8],
+    windows: &Windows,
+    bytes: &[u8],
+) -> Result<Unwritten, NoMemory>
+    requires { AreSmall (limits_of windows.now) }
+    ensures { IfOk result (WillReply (CompileReplies word.now (limits_of windows.now) bytes.now)) }
+{
     match open_table(alloc, bytes)? {
-        OpenedTable::Refused(reply) => Ok(reply),
+        OpenedTable::Refused(reply) => Ok(Unwritten::Line(reply)),
         OpenedTable::Read(table) => compile_table(alloc, &table, word, windows),
     }
 }
@@ -46,14 +85,14 @@ fn compile_table(
     table: &Table,
     word: &[u8],
     windows: &Windows,
-) -> Result<Reply, NoMemory>
+) -> Result<Unwritten, NoMemory>
     requires { AreSmall (limits_of windows.now) }
-    ensures { IfOk result (λ r. JudgedReplies
+    ensures { IfOk result (WillReply (JudgedReplies
         (WordReplies (BoardReplies TellsStart table.now.machine (limits_of windows.now)) table.now word.now)
-        table.now r.status r.text.items []) }
+        table.now)) }
 {
     match judge_table(alloc, table)? {
-        Judged::Refused(reply) => Ok(reply),
+        Judged::Refused(reply) => Ok(Unwritten::Line(reply)),
         Judged::Standard(standard) => compile_word(alloc, table, &standard, word, windows),
     }
 }
@@ -65,16 +104,15 @@ fn compile_word(
     standard: &Standard<'_>,
     word: &[u8],
     windows: &Windows,
-) -> Result<Reply, NoMemory>
+) -> Result<Unwritten, NoMemory>
     requires standard { standard.now ≡ table.now.machine }
     requires fit { IsStandard table.now.machine.quints }
     requires windows { AreSmall (limits_of windows.now) }
-    ensures { IfOk result (λ r. WordReplies
-        (BoardReplies TellsStart table.now.machine
-        (limits_of windows.now)) table.now word.now r.status r.text.items []) }
+    ensures { IfOk result (WillReply (WordReplies
+        (BoardReplies TellsStart table.now.machine (limits_of windows.now)) table.now word.now)) }
 {
     match open_word(alloc, table, word)? {
-        OpenedWord::Refused(reply) => Ok(reply),
+        OpenedWord::Refused(reply) => Ok(Unwritten::Line(reply)),
         OpenedWord::Symbols(symbols) => {
             compile_symbols(alloc, table, standard, symbols.as_slice(), windows)
         }
@@ -88,37 +126,37 @@ fn compile_symbols(
     standard: &Standard<'_>,
     symbols: &[u32],
     windows: &Windows,
-) -> Result<Reply, NoMemory>
+) -> Result<Unwritten, NoMemory>
     requires standard { standard.now ≡ table.now.machine }
     requires fit { IsStandard table.now.machine.quints }
     requires windows { AreSmall (limits_of windows.now) }
     requires symbols { All (IsLetterSymbol table.now) symbols.now }
-    ensures { IfOk result (λ r. BoardReplies TellsStart table.now.machine (limits_of windows.now) symbols.now
-        r.status r.text.items []) }
+    ensures { IfOk result (WillReply
+        (BoardReplies TellsStart table.now.machine (limits_of windows.now) symbols.now)) }
 {
     // The table's own facts.
     let _machine = table.machine();
     match open_board(alloc, table, standard, symbols, windows)? {
-        OpenedBoard::Refused(reply) => Ok(reply),
-        OpenedBoard::Made(_, board) => Ok(Reply {
-            text: board_text(alloc, &board)?,
-            status: Status::Done,
-        }),
+        OpenedBoard::Refused(reply) => Ok(Unwritten::Line(reply)),
+        OpenedBoard::Made(_, board) => {
+            let config = board_config(alloc, &board)?;
+            Ok(Unwritten::Config(config))
+        }
     }
 }
 
-// The configuration text of a board, in version 2.
-fn board_text(alloc: Global, board: &Board) -> Result<Vec<u8>, NoMemory>
-    requires { IsBoardKept board.now → Admits Version.Two (spelling_of_board board.now) }
-    ensures { IfOk result (λ text. IsTextOf Version.Two (spelling_of_board board.now) text.items) }
+// A board as a configuration whose text is of version 2.
+fn board_config(alloc: Global, board: &Board) -> Result<NetConfig, NoMemory>
+    ensures version { IfOk result (λ c. c.version ≡ Version.Two) }
+    ensures spelling { IfOk result (λ c. spelling_of c ≡ spelling_of_board board.now) }
+    ensures kept { IsBoardKept board.now }
 {
     let parts = board.net_config(alloc)?;
-    let config = NetConfig {
+    Ok(NetConfig {
         version: Version::Two,
         net: parts.net,
         config: parts.config,
         start: parts.start,
         end: parts.end,
-    };
-    write_config(alloc, &config)
+    })
 }

@@ -11,7 +11,7 @@ mod run;
 mod run_text;
 mod tape_text;
 
-pub use compile::reply_compile;
+pub use compile::{give_compile, reply_compile};
 pub use generate::reply_generate;
 pub use generate_laws::{
     generate_has_one_reply, generated_runs_tell_outcomes, generated_tables_are_given,

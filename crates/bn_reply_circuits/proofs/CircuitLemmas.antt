@@ -9,7 +9,7 @@ use Rattle.bn_lists.specs.declared.memory.NoMemory.{NoMemory as WantOfMemory}
 use Rattle.bn_net.proofs.WalkLemmas.{hears-nothing}
 use Rattle.bn_net.specs.Watching.{Hears}
 use Rattle.bn_netlist_lines.proofs.NetLemmas.{circuits-agree}
-use Rattle.bn_netlist_laws.specs.Spelling.{circuit_of, moved_to}
+use Rattle.bn_netlist_laws.specs.Spelling.{moved_to}
 use Rattle.bn_packed.specs.PackedNets.{PackedNet}
 use Rattle.bn_reply.specs.Replying.{IsReplied, IsUnfinished, told_some}
 use Rattle.bn_reply.specs.declared.reply.Reply.{Reply}

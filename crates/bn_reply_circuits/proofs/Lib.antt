@@ -3,3 +3,5 @@ pub mod BankLemmas
 pub mod RealiseLemmas
 pub mod PlanTextLemmas
 pub mod PlanReplyLemmas
+pub mod StreamLemmas
+pub mod UnwrittenLemmas

@@ -4,7 +4,7 @@ use Rattle.std.proofs.Common.{zero, suc, arith, sym, ap, subst, ◌∙◌, inl, 
 use Rattle.std.proofs.lemmas.Bool.{cases_lt}
 use Rattle.bn_circuits.specs.Circuits.{target}
 use Rattle.bn_circuits.specs.declared.line.Line.{Line}
-use Rattle.bn_netlist_laws.specs.Spelling.{Spelling, Spelled}
+use Rattle.bn_netlist_laws.specs.Spelling.{Admits, IsTextOf, Spelling, Spelled}
 use Rattle.bn_netlist_laws.specs.declared.version.Version.TheVariants.{Two}
 use Rattle.bn_net.specs.declared.net.TheConstants.{MOST_ELEMENTS}
 use Rattle.bn_csv.specs.Entries.{entries_of}
@@ -26,7 +26,6 @@ use Rattle.bn_reply_circuits.specs.RealiseReply.{clashing, reading, RealiseIsSet
 use Rattle.bn_reply_circuits.specs.Refused.{IsRsmRefused}
 use Rattle.bn_reply.specs.Answering.{HasAnswer, IsOneAnswer}
 use Rattle.bn_reply.specs.Codes.{IsReplyStatus}
-use Rattle.bn_reply.specs.declared.reply.Reply.{Reply}
 use Rattle.bn_lists.specs.declared.memory.NoMemory.{NoMemory as WantOfMemory}
 use Rattle.bn_circuits.specs.declared.place.Place.{Place}
 use Rattle.bn_reply.proofs.SettledLemmas.{agree}
@@ -34,7 +33,13 @@ use Rattle.bn_reply.proofs.TableLemmas.{first_once}
 use Rattle.bn_reply.specs.declared.status.Status.{Status}
 use Rattle.bn_reply.specs.declared.status.Status.TheVariants as statuses
 use Rattle.bn_netlist_laws.proofs.VersionLemmas.{same_text}
+use Rattle.bn_netlist_lines.specs.NetText.{spelling_of}
+use Rattle.bn_netlist_lines.specs.declared.net_config.NetConfig.{NetConfig}
+use Rattle.bn_reply_circuits.specs.Unwritten.{IsBankConfig, WillReply}
+use Rattle.bn_reply_circuits.specs.declared.unwritten.Unwritten.{Unwritten}
+use Rattle.bn_reply_circuits.specs.declared.unwritten.Unwritten.TheVariants.{Config}
 use Rattle.bn_reply_circuits.proofs.BankLemmas.{bank_spelled}
+use Rattle.bn_reply_circuits.proofs.UnwrittenLemmas.{will_as}
 
 -- ---- of a machine
 
@@ -229,8 +234,27 @@ refused_replies q i bytes e s text is told = by_refusal e is told
     by_refusal (faults.SameRange a b) is h = clashing_text (clash.SameRange a b) (λ e. cc) is h
     by_refusal faults.NoMemory is h = absurd h
 
--- the reply of a machine that is read
-pub machine_replies : (q i : ℕ) (bytes : List ℕ) (m : Machine) (result : Result Reply WantOfMemory) → ReadsMoves bytes m →
-    IfOk result (λ r. BankReplies m q i r.status r.text.items []) → IfOk result (λ r. RealiseReplies q i bytes r.status r.text.items [])
-machine_replies q i bytes m (Ok r) reads h = reading m reads h
-machine_replies q i bytes m (Err e) reads h = tt
+-- what is answered of a machine that is read
+pub machine_will : (q i : ℕ) (bytes : List ℕ) (m : Machine) (result : Result Unwritten WantOfMemory) → ReadsMoves bytes m →
+    IfOk result (WillReply (BankReplies m q i)) → IfOk result (WillReply (RealiseReplies q i bytes))
+machine_will q i bytes m (Ok a) reads h = will_as (BankReplies m q i) (RealiseReplies q i bytes) (λ s t right. reading m reads right) a h
+machine_will q i bytes m (Err e) reads h = tt
+
+-- the configuration of its bank
+pub bank_will : (m : Machine) (q i state row : ℕ) (c : NetConfig) → IsPlaceOf m q i state row → IsBankConfig m state row c →
+    WillReply (BankReplies m q i) (Config c)
+bank_will m q i state row c place is =
+    let admitted = subst (λ v. Admits v (spelling_of c)) (sym is.version) is.admitted in
+    record {
+      writable = admitted;
+      right = λ s text written.
+          let told : IsTextOf Two (spelling_of c) text = subst (λ v. IsTextOf v (spelling_of c) text) is.version written.1 in
+          bank (record {
+            state = state;
+            row = row;
+            place = place;
+            spelling = spelling_of c;
+            bank = is.bank;
+            spelled = record { admitted = is.admitted; is_text = told };
+          }) written.0 refl;
+    }

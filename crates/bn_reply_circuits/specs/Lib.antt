@@ -1,3 +1,4 @@
 pub mod RealiseReply
 pub mod Refused
 pub mod PlanReply
+pub mod Unwritten

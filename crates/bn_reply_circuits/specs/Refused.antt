@@ -1,5 +1,8 @@
 -- What is answered to the refusals of the readers, in the code's own words.
-use Rattle.std.specs.Prelude.{◌≡◌, ℕ, List, [], ◌∷◌, ◌++◌, decimal, codes}
+use Rattle.std.specs.Prelude.{◌≡◌, ℕ, List, [], ◌∷◌, ◌++◌, Option, Result, decimal, codes, IfOk}
+use Rattle.bn_lists.specs.declared.memory.NoMemory.{NoMemory as WantOfMemory}
+use Rattle.bn_netlist.specs.declared.refusal.FromRefusal.{FromRefusal}
+use Rattle.bn_netlist.specs.declared.refusal.FromRefusal.TheVariants as reading
 use Rattle.bn_netlist_laws.specs.Faults.{malformed, too_many, no_element, out_of_order, end_wired, left_wired, start_fed}
 use Rattle.bn_netlist_laws.specs.Faults.{second_source, spelled_out}
 use Rattle.bn_netlist_lines.specs.declared.refusal.NetlistRefusal.{NetlistRefusal}
@@ -10,6 +13,9 @@ use Rattle.bn_rsmtable.specs.declared.refusal.RsmTableRefusal.{RsmTableRefusal}
 use Rattle.bn_rsmtable.specs.declared.refusal.RsmTableRefusal.TheVariants as faults
 use Rattle.bn_reply_circuits_laws.specs.CircuitReply.{fault_text}
 use Rattle.bn_reply_circuits.specs.RealiseReply.{clash_line, rsm_fault_line}
+use Rattle.bn_reply.specs.Ends.{Finishes, FinishesReply}
+use Rattle.bn_reply.specs.Streams.{read_fault_text, size_text}
+use Rattle.bn_reply.specs.declared.reply.Reply.{Reply}
 use Rattle.bn_reply.specs.declared.status.Status.{Status}
 use Rattle.bn_reply.specs.declared.status.Status.TheVariants as statuses
 
@@ -42,3 +48,17 @@ IsRsmRefused (faults.FieldCount i) status text = (status ≡ statuses.Text)
 IsRsmRefused (faults.Number i j) status text = (status ≡ statuses.Text) × (text ≡ rsm_fault_line (faults.Number i j))
 IsRsmRefused (faults.TooMany i) status text = (status ≡ statuses.Text) × (text ≡ rsm_fault_line (faults.TooMany i))
 IsRsmRefused faults.Empty status text = (status ≡ statuses.Text) × (text ≡ rsm_fault_line faults.Empty)
+
+-- how telling that a text is none ends: its line is the reply that is given, unless memory is wanting
+abbrev pub RefusalEnds : NetlistRefusal → Status → Option (List ℕ) → Option (List ℕ) → ℕ → ℕ → Type 0
+RefusalEnds refusal result taken took before now =
+    (reply : Result Reply WantOfMemory) × IfOk reply (λ r. IsRefused refusal r.status r.text.items)
+    × FinishesReply reply result taken took before now
+
+-- how telling that nothing was read ends
+abbrev pub UnreadEnds : FromRefusal → Status → Option (List ℕ) → Option (List ℕ) → ℕ → ℕ → Type 0
+UnreadEnds reading.ReadFault result taken took before now =
+    Finishes statuses.ReadFault result taken took before now read_fault_text
+UnreadEnds reading.TooLong result taken took before now = Finishes statuses.Size result taken took before now size_text
+UnreadEnds (reading.Text refusal) result taken took before now = RefusalEnds refusal result taken took before now
+UnreadEnds reading.NoMemory result taken took before now = (result ≡ statuses.NoMemory) × (took ≡ taken)

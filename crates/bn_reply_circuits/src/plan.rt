@@ -24,7 +24,7 @@ pub fn reply_plan(alloc: Global, bytes: &[u8]) -> Result<Reply, NoMemory>
 }
 
 // What is answered of a net that was read.
-fn plan_net(alloc: Global, net: &Net<Rotary>) -> Result<Reply, NoMemory>
+pub(crate) fn plan_net(alloc: Global, net: &Net<Rotary>) -> Result<Reply, NoMemory>
     requires { length net.now.elements ≤ MOST_ELEMENTS }
     ensures status { IfOk result (λ r. r.status ≡ Status.Done) }
     ensures text { IfOk result (λ r. TellsPlan net.now.wires (length net.now.elements) r.text.items) }

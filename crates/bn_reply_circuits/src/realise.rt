@@ -1,16 +1,20 @@
 //! The command `realise`.
 
-ghost use Rattle.std.specs.Prelude.{◌≡◌, ◌≤◌, ◌<◌, [], IfOk};
-ghost use Rattle.bn_netlist_laws.specs.Spelling.{Spelling, Spelled};
+ghost use Rattle.std.specs.Prelude.{◌≡◌, ◌≤◌, ◌<◌, List, [], IfOk, Option};
+ghost use Rattle.bn_circuits.specs.declared.place.Place.{Place};
+ghost use Rattle.bn_reply.specs.Streams.{AnswerEnds};
 ghost use Rattle.bn_rsm.specs.Machines.{machine_table};
 ghost use Rattle.bn_realise.specs.Banks.{exit_after};
 ghost use Rattle.bn_realise.specs.BankNets.{IsBankOf, bank_elements};
 ghost use Rattle.bn_reply_circuits.specs.Refused.{IsRsmRefused};
-ghost use Rattle.bn_reply_circuits.specs.RealiseReply.{BankReplies, IsBankSpelling, RealiseIsSettled, RealiseReplies};
+ghost use Rattle.bn_reply_circuits.specs.RealiseReply.{BankReplies, RealiseIsSettled, RealiseReplies};
+ghost use Rattle.bn_reply_circuits.specs.Unwritten.{IsBankConfig, WillReply};
 
+use crate::unwritten::Unwritten;
 use bn_element::{EAST, Element, WEST};
+use bn_io::Sink;
 use bn_net::{Line, MOST_ELEMENTS};
-use bn_netlist::{NetConfig, Version, write_config};
+use bn_netlist::{NetConfig, Version};
 use bn_realise::{Bank, BankRefusal, bank};
 use bn_reply::{NoMemory, Reply, Status, empty_text, field_text, record_text};
 use bn_rsm::Rsm;
@@ -24,9 +28,42 @@ pub fn reply_realise(alloc: Global, state: u32, line: u32, bytes: &[u8]) -> Resu
     requires line { 1 ≤ line }
     ensures { IfOk result (λ r. RealiseReplies state line bytes.now r.status r.text.items []) }
 {
+    let answer = bank_of(alloc, state, line, bytes)?;
+    answer.into_reply(alloc)
+}
+
+/// Gives a sink what `realise` answers, as `reply_realise` has it: the text of a bank in pieces.
+pub fn give_realise<K: Sink>(
+    alloc: Global,
+    state: u32,
+    line: u32,
+    bytes: &[u8],
+    sink: &mut K,
+) -> Status
+    requires state { 1 ≤ state }
+    requires line { 1 ≤ line }
+    ensures ends { (told : Option (List Place)) → AnswerEnds (RealiseReplies state line bytes.now) result
+        (K.taken sink.old) (K.taken sink.new) (K.faults sink.old) (K.faults sink.new) told told }
+    ensures later { K.faults sink.old ≤ K.faults sink.new }
+{
+    match bank_of(alloc, state, line, bytes) {
+        Ok(answer) => answer.give(alloc, sink),
+        Err(NoMemory) => Status::NoMemory,
+    }
+}
+
+// What `realise` answers, before it is written.
+fn bank_of(alloc: Global, state: u32, line: u32, bytes: &[u8]) -> Result<Unwritten, NoMemory>
+    requires state { 1 ≤ state }
+    requires line { 1 ≤ line }
+    ensures { IfOk result (WillReply (RealiseReplies state line bytes.now)) }
+{
     match read_rsm(alloc, bytes) {
-        Ok(rsm) => reply_bank(alloc, &rsm, state, line),
-        Err(refusal) => refuse(alloc, refusal),
+        Ok(rsm) => bank_in(alloc, &rsm, state, line),
+        Err(refusal) => {
+            let reply = refuse(alloc, refusal)?;
+            Ok(Unwritten::Line(reply))
+        }
     }
 }
 
@@ -63,51 +100,51 @@ fn faulty(text: Vec<u8>) -> Result<Reply, NoMemory>
     })
 }
 
-// What is answered of a machine.
-fn reply_bank(alloc: Global, rsm: &Rsm, state: u32, line: u32) -> Result<Reply, NoMemory>
+// What is answered of a machine, before it is written.
+fn bank_in(alloc: Global, rsm: &Rsm, state: u32, line: u32) -> Result<Unwritten, NoMemory>
     requires state { 1 ≤ state }
     requires line { 1 ≤ line }
-    ensures { IfOk result (λ r. BankReplies rsm.now state line r.status r.text.items []) }
+    ensures { IfOk result (WillReply (BankReplies rsm.now state line)) }
 {
     if state > rsm.states() {
-        return Ok(Reply {
+        return Ok(Unwritten::Line(Reply {
             text: Vec::from_slice(alloc, b"word: state\n")?,
             status: Status::Word,
-        });
+        }));
     }
     if line > rsm.lines_in() {
-        return Ok(Reply {
+        return Ok(Unwritten::Line(Reply {
             text: Vec::from_slice(alloc, b"word: line\n")?,
             status: Status::Word,
-        });
+        }));
     }
     match bank(alloc, rsm) {
-        Ok(bank) => Ok(Reply {
-            text: bank_text(alloc, rsm, bank, state - 1, line - 1)?,
-            status: Status::Done,
-        }),
-        Err(BankRefusal::Elements { count }) => Ok(Reply {
+        Ok(bank) => {
+            let config = bank_config(alloc, rsm, bank, state - 1, line - 1)?;
+            Ok(Unwritten::Config(config))
+        }
+        Err(BankRefusal::Elements { count }) => Ok(Unwritten::Line(Reply {
             text: format!(in alloc; "size: elements {count}\n")?.into_bytes(),
             status: Status::Size,
-        }),
+        })),
         Err(BankRefusal::NoMemory) => Err(NoMemory),
     }
 }
 
-// The text of the machine's bank in a state, with the signal at an input line, both counted from 0.
-fn bank_text(
+// The machine's bank in a state, with the signal at an input line, both counted from 0, as a configuration
+// whose text is of version 2.
+fn bank_config(
     alloc: Global,
     rsm: &Rsm,
     bank: Bank,
     state: u32,
     line: u32,
-) -> Result<Vec<u8>, NoMemory>
+) -> Result<NetConfig, NoMemory>
     requires is { IsBankOf bank (machine_table rsm.now) }
     requires few { bank_elements rsm.now ≤ MOST_ELEMENTS }
     requires state { state < rsm.now.states }
     requires line { line < rsm.now.lines }
-    ensures { IfOk result (λ text. (s : Spelling) × IsBankSpelling rsm.now state line s
-        × Spelled Version.Two s text.items) }
+    ensures { IfOk result (IsBankConfig rsm.now state line) }
 {
     // The net's own fact: it is a circuit.
     let _count = bank.net().len();
@@ -115,7 +152,7 @@ fn bank_text(
     let Ok(config) = bank.start(alloc, state, line) else {
         return Err(NoMemory);
     };
-    let spelled = NetConfig {
+    Ok(NetConfig {
         version: Version::Two,
         net: bank.into_net(),
         config,
@@ -124,11 +161,7 @@ fn bank_text(
             line: WEST,
         },
         end,
-    };
-    match write_config(alloc, &spelled) {
-        Ok(text) => Ok(text),
-        Err(_) => Err(NoMemory),
-    }
+    })
 }
 
 // The line by which the signal comes out of the bank: the output line of the move, or the loose line

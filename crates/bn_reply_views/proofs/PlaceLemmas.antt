@@ -47,9 +47,9 @@ use Rattle.bn_quad.specs.Names.{AreApart}
 use Rattle.bn_table.proofs.MachineLemmas.{tables_machines}
 use Rattle.bn_bennett_laws.proofs.Counts.{list_has_length, list_has_names, list_is_in_range}
 use Rattle.bn_bennett.proofs.Tables.{is_table}
-use Rattle.bn_reply.specs.Cuts.{IsCut}
+use Rattle.bn_cut.specs.Cuts.{IsCut}
 use Rattle.bn_reply.specs.TableReply.{ReadsStandard}
-use Rattle.bn_reply.proofs.CutLemmas.{cuts-one}
+use Rattle.bn_cut.proofs.CutLemmas.{cuts-one}
 use Rattle.bn_board.specs.Flats.{flat_start}
 use Rattle.bn_board.specs.Layouts.{moment_at}
 use Rattle.bn_reply_boards_laws.specs.Windows.{AreSmall, ComesTo, WindowReplies}

@@ -12,7 +12,7 @@ use Rattle.bn_reply.specs.declared.reply.Reply.{Reply}
 use Rattle.bn_lists.specs.declared.memory.NoMemory.{NoMemory as WantOfMemory}
 use Rattle.bn_reply.specs.declared.status.Status.TheVariants as statuses
 use Rattle.bn_reply_boards_laws.specs.Windows.{BoardReplies, ComesTo, WindowReplies, board}
-use Rattle.bn_reply.specs.Cuts.{IsCut}
+use Rattle.bn_cut.specs.Cuts.{IsCut}
 use Rattle.bn_session.specs.Scripts.{ScriptFault, IsFirstScriptFault, IsRefusalOf, IsScript, malformed, no_break, no_state, same_break}
 use Rattle.bn_session.specs.declared.command.Command.{Command}
 use Rattle.bn_session.specs.declared.refusal.ScriptRefusal.{ScriptRefusal}

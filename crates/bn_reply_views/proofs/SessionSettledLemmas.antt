@@ -47,13 +47,13 @@ use Rattle.bn_session.specs.Laws.{IsOnRun}
 use Rattle.bn_session.specs.Plays.{Plays, Session, session}
 use Rattle.bn_session.specs.Scripts.{ScriptFault, IsFirstScriptFault, IsScript}
 use Rattle.bn_session.specs.declared.command.Command.{Command}
-use Rattle.bn_reply.proofs.CutLemmas.{cuts-never_both, cuts-one}
+use Rattle.bn_cut.proofs.CutLemmas.{cuts-never_both, cuts-one}
 use Rattle.bn_session.proofs.OneReading.{faults-one, faulty-none, scripts-one}
 use Rattle.bn_session.proofs.PlayedLemmas.{follow-all, on-by, one-all, there-all}
 use Rattle.bn_session.proofs.SomeReading.{read_or_fault}
 use Rattle.bn_reply_views.specs.SessionReply.{SessionIsSettled, SessionReplies, TellsSession, cut, script_fault_line, faulty, played, state_names_of, uncut, uncut_line}
 use Rattle.bn_reply_views.proofs.AlikeLemmas.{plays_alike}
-use Rattle.bn_reply.proofs.CutOrNot.{cut_or_not}
+use Rattle.bn_cut.proofs.CutOrNot.{cut_or_not}
 
 -- the printed names of a translation's states are apart
 states_apart : TablesAreMachines → (bytes word : List ℕ) (l : Limits) (t : Named) (symbols : List ℕ) (f : Flat) → IsGiven bytes word l t symbols →

@@ -15,10 +15,10 @@ ghost use Rattle.bn_reply_views.specs.Viewing.{IsAnswerTo, IsScriptRefused, MayS
 use crate::viewer::Viewer;
 use bn_assembly::Windows;
 use bn_bennett::{Translated, names};
+use bn_cut::cut_input;
 use bn_flat::Board;
 use bn_reply::{
-    Judged, NoMemory, OpenedTable, OpenedWord, Reply, Status, cut_input, judge_table, open_table,
-    open_word,
+    Judged, NoMemory, OpenedTable, OpenedWord, Reply, Status, judge_table, open_table, open_word,
 };
 use bn_reply_boards::{OpenedBoard, open_board};
 use bn_session::{Script, ScriptRefusal, play, read_script};

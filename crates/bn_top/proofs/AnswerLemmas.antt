@@ -8,7 +8,8 @@ use Rattle.bn_words.proofs.FormLemmas.{one_form}
 use Rattle.bn_reply.specs.Answering.{HasAnswer}
 use Rattle.bn_reply.specs.declared.status.Status.TheVariants.{Usage, Size}
 use Rattle.bn_reply.proofs.SettledLemmas.{agree}
-use Rattle.bn_top.specs.Answers.{Answers, no_form, unread, too_long, replied, Replies, size_text}
+use Rattle.bn_top.specs.Answers.{Answers, no_form, unread, too_long, replied, Replies}
+use Rattle.bn_reply.specs.Streams.{size_text}
 use Rattle.bn_reply.specs.declared.limits.TheConstants.{MOST_INPUT_BYTES}
 use Rattle.bn_top.specs.Laws.{AnswersAreOne, RequestsAreAnswered}
 use Rattle.bn_top.proofs.Commands.{settled}

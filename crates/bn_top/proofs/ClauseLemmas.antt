@@ -1,5 +1,5 @@
 -- How a call ends, over the outside as one thing, and clause by clause.
-use Rattle.std.specs.Prelude.{◌≡◌, ℕ, Bool, true, List, [], ◌∷◌, ◌++◌, IfSome, ◌⊎◌, refl}
+use Rattle.std.specs.Prelude.{◌≡◌, ℕ, List, [], ◌∷◌, ◌++◌, IfSome, ◌⊎◌, refl}
 use Rattle.std.proofs.Common.{inl, inr, sym, subst}
 use Rattle.bn_circuits.specs.declared.place.Place.{Place}
 use Rattle.bn_io.specs.Faults.{Rose}
@@ -16,7 +16,9 @@ use Rattle.bn_top.specs.Laws.{RequestsAreAnswered}
 use Rattle.bn_top.specs.Told as old
 use Rattle.bn_top.specs.Told.{EndsWithoutInput, NeedsNoInput, UsageEnds}
 use Rattle.bn_top.proofs.EndLemmas.{by_told}
-use Rattle.bn_top.specs.Outside.{Outside, Ends, EndsOn, FailsReading, IsAnswered, IsBegun, NeedNoInput, ToldReadFault}
+use Rattle.bn_reply.specs.Outside.{Outside}
+use Rattle.bn_reply.specs.Streams.{unbegun, begun}
+use Rattle.bn_top.specs.Outside.{Ends, EndsOn, FailsReading, IsAnswered, IsBegun, NeedNoInput, ToldReadFault}
 use Rattle.bn_top.specs.Clauses.{CallEnds, ClausesApart}
 
 module _ (words : List (List ℕ)) (b a : Outside) where
@@ -36,7 +38,7 @@ module _ (words : List (List ℕ)) (b a : Outside) where
     status = h.status;
     text = h.text ++ h.rest;
     places = h.places ++ h.more;
-    answers = h.answers;
+    right = h.answers;
     grows = (h.text, h.rest, refl, h.gave.grows);
     front = h.places;
     rest = h.more;
@@ -52,7 +54,7 @@ module _ (words : List (List ℕ)) (b a : Outside) where
     places = h.front;
     more = h.rest;
     answers = subst (λ x. Answers words bytes h.status x (h.front ++ h.rest)) h.grows.2
-        (subst (λ x. Answers words bytes h.status h.text x) h.split h.answers);
+        (subst (λ x. Answers words bytes h.status h.text x) h.split h.right);
     gave = record { grows = h.grows.3; hears = h.hears };
   }
 
@@ -142,7 +144,7 @@ module _ (words : List (List ℕ)) (b a : Outside) where
   as_no_memory (inl h) = absurd h.told
   as_no_memory (inr h) =
       by_told b.left (λ bytes. IsBegun words bytes b a) (λ bytes. old.IsBroken words bytes b.taken a.taken b.told a.told)
-      (λ bytes g. old.begun (old_begun bytes g)) h
+      (λ bytes g. begun (old_begun bytes g)) h
 
   as_inputless : (status : Status) → EndsOn only words status b a → EndsWithoutInput words status b.taken a.taken b.told a.told
   as_inputless status h = record {
@@ -156,7 +158,7 @@ module _ (words : List (List ℕ)) (b a : Outside) where
       by_cut is g = old_begun [] g.1
 
       by_broken : status ≡ NoMemory → EndsOn only words NoMemory b a → old.IsBroken words [] b.taken a.taken b.told a.told
-      by_broken is g = old.begun (old_begun [] g)
+      by_broken is g = begun (old_begun [] g)
 
   pub ends-give_clauses : (status : Status) → CallEnds words status b a → ClausesApart words status b a
   ends-give_clauses status h = record {
@@ -189,8 +191,8 @@ module _ (words : List (List ℕ)) (b a : Outside) where
         by (inr none) = (Usage, usage_text, [], no_form none refl refl refl)
 
     broken_begun : (bytes : List ℕ) → old.IsBroken words bytes b.taken a.taken b.told a.told → IsBegun words bytes b a
-    broken_begun bytes (old.begun h) = new_begun bytes h
-    broken_begun bytes (old.unbegun grows hears) =
+    broken_begun bytes (begun h) = new_begun bytes h
+    broken_begun bytes (unbegun grows hears) =
         let answer = some_answer bytes in
         record {
           status = answer.0;

@@ -8,7 +8,7 @@ use Rattle.bn_base.specs.declared.limits.TheConstants.{MOST_COUNT}
 use Rattle.bn_words.specs.Requests.{AreWithin, HasForm, Request, letters_at, number_at}
 use Rattle.bn_words.specs.declared.form.Form.{Form}
 use Rattle.bn_words.specs.declared.form.Form.TheVariants.{Step, Back, Check, Machine, Reversible, Bennett, Realise, Standard}
-use Rattle.bn_words.specs.declared.form.Form.TheVariants.{Compile, Run, RunWithin, RunAuto, View, Session, Plan, Migrate, Generate, Erase, EraseRun}
+use Rattle.bn_words.specs.declared.form.Form.TheVariants.{Compile, Run, RunWithin, RunAuto, View, Session, Plan, Migrate, Mirror, Farm, Generate, Erase, EraseRun}
 use Rattle.bn_words.specs.declared.kind.Kind.{Kind}
 use Rattle.bn_words.specs.declared.kind.Kind.TheVariants.{Count, Ordinal}
 use Rattle.bn_words.proofs.ArgumentLemmas.{count_most, form-AreWithin, ordinal_least, ordinal_most}
@@ -29,6 +29,10 @@ use Rattle.bn_reply_circuits_laws.specs.CircuitReply.{BackReplies, StepReplies}
 use Rattle.bn_reply_circuits.specs.RealiseReply.{RealiseReplies}
 use Rattle.bn_reply_circuits_laws.specs.MigrateReply.{MigrateReplies}
 use Rattle.bn_reply_circuits_laws.proofs.SettledLemmas.{back_settled, migrate_settled, step_settled}
+use Rattle.bn_reply_mirror.specs.MirrorReply.{MirrorReplies}
+use Rattle.bn_reply_mirror.proofs.ReplyLemmas.{mirror_settled}
+use Rattle.bn_reply_farm.specs.FarmReply.{FarmReplies}
+use Rattle.bn_reply_farm.proofs.FarmReplyLemmas.{farm-settled}
 use Rattle.bn_reply_circuits.proofs.RealiseLemmas.{realise_settled}
 use Rattle.bn_reply_tables.specs.StandardReply.{StandardTableReplies}
 use Rattle.bn_reply_tables.proofs.StandardLemmas.{standard_settled}
@@ -101,6 +105,8 @@ settled_by Session request within = λ bytes.
     session_settled (letters_at request 0) (limits_at request) bytes (small_limits (row_of Session).kinds request within refl refl refl refl)
 settled_by Plan request within = plan_settled
 settled_by Migrate request within = migrate_settled
+settled_by Mirror request within = mirror_settled
+settled_by Farm request within = farm-settled
 settled_by Generate request within = λ bytes. generate_settled (number_at request 0) (round_count request within)
 settled_by Erase request within = erase_settled
 settled_by EraseRun request within = erase_run_settled (letters_at request 0) (number_at request 1)
@@ -189,6 +195,12 @@ module _ (request : Request) (form : Form) (of : form ≡ request.form) (bytes :
 
     pub migrate_reply : form ≡ Migrate → Silent result (MigrateReplies bytes) → Replied result told told (Replies request bytes)
     migrate_reply is h = silent_by Migrate is h
+
+    pub mirror_reply : form ≡ Mirror → Silent result (MirrorReplies bytes) → Replied result told told (Replies request bytes)
+    mirror_reply is h = silent_by Mirror is h
+
+    pub farm_reply : form ≡ Farm → Silent result (FarmReplies bytes) → Replied result told told (Replies request bytes)
+    farm_reply is h = silent_by Farm is h
 
   module _ (told heard : Option (List Place)) (word : List ℕ) (l : Limits) where
     -- a claim of the answers to the words that ask for a run
@@ -286,6 +298,8 @@ pub ruleset replies = (
   session_reply,
   plan_reply,
   migrate_reply,
+  mirror_reply,
+  farm_reply,
   generate_reply,
   generate_part,
 )

@@ -1,6 +1,6 @@
 -- How the top call ends.
-use Rattle.std.specs.Prelude.{◌≡◌, true, false, ℕ, ◌<◌, ◌≤◌, List, [], length, Option, Some, None, IfSome, refl, ◌⊎◌}
-use Rattle.std.proofs.Common.{ap, Bool, inl, inr, sym, subst, ◌∙◌, append-nil}
+use Rattle.std.specs.Prelude.{◌≡◌, true, false, ℕ, List, [], Option, Some, None, IfSome, refl, ◌⊎◌}
+use Rattle.std.proofs.Common.{ap, Bool, inl, inr, sym, subst, ◌∙◌}
 use Rattle.bn_circuits.specs.declared.place.Place.{Place}
 use Rattle.bn_io.specs.Faults.{Rose}
 use Rattle.bn_io.specs.Told.{Grows, GrowsByFront}
@@ -9,15 +9,14 @@ use Rattle.bn_words.specs.Requests.{Request, HasForm, HasNoForm}
 use Rattle.bn_words.specs.declared.form.Form.{Form}
 use Rattle.bn_reply.specs.Codes.{IsAnswer, IsReplyStatus}
 use Rattle.bn_reply.specs.Ends.{Finishes, whole, cut}
-use Rattle.bn_reply.specs.Replying as ends_of
-use Rattle.bn_reply.specs.Replying.{AnswerEnds, IsUnfinished, untold, told_some}
+use Rattle.bn_reply.specs.Streams as ends_of
+use Rattle.bn_reply.specs.Streams.{AnswerEnds}
+use Rattle.bn_reply.proofs.ReplyLemmas.{begun_as, broken_as}
 use Rattle.bn_reply.specs.declared.status.Status.{Status}
-use Rattle.bn_reply.specs.declared.status.Status.TheVariants.{Usage, Size, ReadFault, WriteFault, NoMemory}
-use Rattle.bn_reply.proofs.ReplyLemmas.{grows_nothing}
+use Rattle.bn_reply.specs.declared.status.Status.TheVariants.{Usage, ReadFault, WriteFault, NoMemory}
 use Rattle.bn_net.proofs.WalkLemmas.{hears-nothing}
-use Rattle.bn_top.specs.Answers.{Answers, no_form, unread, too_long, replied, Replies, usage_text, size_text}
-use Rattle.bn_reply.specs.declared.limits.TheConstants.{MOST_INPUT_BYTES}
-use Rattle.bn_top.specs.Told.{EndsWithoutInput, IsAnswered, IsBegun, IsBroken, NeedsNoInput, unbegun, begun}
+use Rattle.bn_top.specs.Answers.{Answers, no_form, unread, too_long, replied, Replies, usage_text}
+use Rattle.bn_top.specs.Told.{EndsWithoutInput, IsAnswered, IsBegun, IsBroken, NeedsNoInput}
 use Rattle.bn_top.proofs.AnswerLemmas.{not_both}
 use Rattle.bn_top.proofs.Commands.{settled}
 
@@ -30,12 +29,6 @@ by_told (Some xs) P Q f h = f xs h
 pub for_any : (o : Option (List ℕ)) (P : List ℕ → Type 0) → ((xs : List ℕ) → P xs) → IfSome o P
 for_any None P all = tt
 for_any (Some xs) P all = all xs
-
--- the bytes that were read are those that the source tells
-pub read_as : (left after : Option (List ℕ)) (items bytes : List ℕ) → bytes ≡ items → IfSome left (λ xs. (items ≡ xs) × (after ≡ Some [])) →
-    IfSome left (λ xs. (bytes ≡ xs) × (after ≡ Some []))
-read_as left after items bytes same read =
-    by_told left (λ xs. (items ≡ xs) × (after ≡ Some [])) (λ xs. (bytes ≡ xs) × (after ≡ Some [])) (λ xs r. (same ∙ r.0, r.1)) read
 
 -- the status of a reply is that of an answer
 pub reply_answers : (status : Status) → IsReplyStatus status → IsAnswer status
@@ -59,7 +52,7 @@ module _ (words : List (List ℕ)) (result meant : Status) (taken took : Option 
     status = meant;
     text = said;
     places = [];
-    answers = answers meant refl;
+    right = answers meant refl;
     grows = subst (GrowsByFront taken took) is grows;
     front = [];
     rest = [];
@@ -90,24 +83,24 @@ module _ (words : List (List ℕ)) (request : Request) (form : HasForm words req
 
   pub never_usage : AnswerEnds (Replies request bytes) result taken took before now told heard → result ≡ Usage → ⊥
   never_usage (ends_of.whole text places right grows hears) is = subst IsReplyStatus is (replies result text places right)
-  never_usage (ends_of.cut failed rose status text places right grows hears) is = cc
-  never_usage (ends_of.wanting none same unfinished) is = cc
+  never_usage (ends_of.cut failed rose b) is = cc
+  never_usage (ends_of.wanting none broken) is = cc
 
   pub never_read_fault : AnswerEnds (Replies request bytes) result taken took before now told heard → result ≡ ReadFault → ⊥
   never_read_fault (ends_of.whole text places right grows hears) is = subst IsReplyStatus is (replies result text places right)
-  never_read_fault (ends_of.cut failed rose status text places right grows hears) is = cc
-  never_read_fault (ends_of.wanting none same unfinished) is = cc
+  never_read_fault (ends_of.cut failed rose b) is = cc
+  never_read_fault (ends_of.wanting none broken) is = cc
 
   pub cut_cause : AnswerEnds (Replies request bytes) result taken took before now told heard → result ≡ WriteFault → Rose before now
   cut_cause (ends_of.whole text places right grows hears) is = absurd (subst IsReplyStatus is (replies result text places right))
-  cut_cause (ends_of.cut failed rose status text places right grows hears) is = rose
-  cut_cause (ends_of.wanting none same unfinished) is = absurd (cc)
+  cut_cause (ends_of.cut failed rose b) is = rose
+  cut_cause (ends_of.wanting none broken) is = absurd (cc)
 
   pub is_complete : AnswerEnds (Replies request bytes) result taken took before now told heard →
       (Rose before now → ⊥) → IsAnswer result ⊎ (result ≡ NoMemory)
   is_complete (ends_of.whole text places right grows hears) sound = inl (reply_answers result (replies result text places right))
-  is_complete (ends_of.cut failed rose status text places right grows hears) sound = absurd (sound rose)
-  is_complete (ends_of.wanting none same unfinished) sound = inr none
+  is_complete (ends_of.cut failed rose b) sound = absurd (sound rose)
+  is_complete (ends_of.wanting none broken) sound = inr none
 
 -- whether what is asked for reads an input, by the test on its form
 pub reads_as : (f g : Form) (tested is : Bool) → f ≡ g → tested ≡ reads_input f → tested ≡ is → reads_input g ≡ is
@@ -128,44 +121,20 @@ module _ (words : List (List ℕ)) (request : Request) (form : HasForm words req
       IsAnswered words bytes result taken took told heard
   whole_end (ends_of.whole text places right grows hears) answer =
       record { text = text; places = places; answers = answers result text places right; grows = grows; hears = hears }
-  whole_end (ends_of.cut failed rose status text places right grows hears) answer = absurd (subst IsAnswer failed answer)
-  whole_end (ends_of.wanting none same unfinished) answer = absurd (subst IsAnswer none answer)
+  whole_end (ends_of.cut failed rose b) answer = absurd (subst IsAnswer failed answer)
+  whole_end (ends_of.wanting none broken) answer = absurd (subst IsAnswer none answer)
 
   cut_end : AnswerEnds (Replies request bytes) result taken took before now told heard → result ≡ WriteFault →
       IsBegun words bytes taken took told heard
   cut_end (ends_of.whole text places right grows hears) failed = absurd ((no_fault result text places right).0 failed)
-  cut_end (ends_of.cut _ rose status text places right grows hears) failed = record {
-    status = status;
-    text = text;
-    places = places;
-    answers = answers status text places right;
-    grows = grows;
-    front = places;
-    rest = [];
-    split = sym (append-nil places);
-    hears = hears;
-  }
-  cut_end (ends_of.wanting none same unfinished) failed = absurd (cc)
-
-  by_unfinished : took ≡ taken → IsUnfinished (Replies request bytes) told heard → IsBroken words bytes taken took told heard
-  by_unfinished same (untold hears) = unbegun (grows_nothing taken took same) hears
-  by_unfinished same (told_some status text places front rest right split hears) = begun (record {
-    status = status;
-    text = text;
-    places = places;
-    answers = answers status text places right;
-    grows = ([], text, refl, grows_nothing taken took same);
-    front = front;
-    rest = rest;
-    split = split;
-    hears = hears;
-  })
+  cut_end (ends_of.cut _ rose b) failed = begun_as (Replies request bytes) (Answers words bytes) answers taken took told heard b
+  cut_end (ends_of.wanting none broken) failed = absurd (cc)
 
   wanting_end : AnswerEnds (Replies request bytes) result taken took before now told heard → result ≡ NoMemory →
       IsBroken words bytes taken took told heard
   wanting_end (ends_of.whole text places right grows hears) none = absurd ((no_fault result text places right).1 none)
-  wanting_end (ends_of.cut failed rose status text places right grows hears) none = absurd (cc)
-  wanting_end (ends_of.wanting _ same unfinished) none = by_unfinished same unfinished
+  wanting_end (ends_of.cut failed rose b) none = absurd (cc)
+  wanting_end (ends_of.wanting _ broken) none = broken_as (Replies request bytes) (Answers words bytes) answers taken took told heard broken
 
 -- the words don't ask for what needs no input
 pub needs_input : (words : List (List ℕ)) (request : Request) → HasForm words request → reads_input request.form ≡ true → NeedsNoInput words → ⊥
@@ -193,23 +162,6 @@ module _ (words : List (List ℕ)) (request : Request) (form : HasForm words req
   other_answers bytes status text places (too_long r is reads long s t p) = absurd (not_both words r request is form reads nothing)
   other_answers bytes status text places (replied r is reads low h) = absurd (not_both words r request is form reads nothing)
 
-  begun_with : (bytes : List ℕ) → IsBegun words [] taken took told heard → IsBegun words bytes taken took told heard
-  begun_with bytes h = record {
-    status = h.status;
-    text = h.text;
-    places = h.places;
-    answers = other_answers bytes h.status h.text h.places h.answers;
-    grows = h.grows;
-    front = h.front;
-    rest = h.rest;
-    split = h.split;
-    hears = h.hears;
-  }
-
-  broken_with : (bytes : List ℕ) → IsBroken words [] taken took told heard → IsBroken words bytes taken took told heard
-  broken_with bytes (unbegun grows hears) = unbegun grows hears
-  broken_with bytes (begun h) = begun (begun_with bytes h)
-
   answered_with : (bytes : List ℕ) → IsAnswered words [] result taken took told heard → IsAnswered words bytes result taken took told heard
   answered_with bytes h =
       record { text = h.text; places = h.places; answers = other_answers bytes result h.text h.places h.answers; grows = h.grows; hears = h.hears }
@@ -219,50 +171,7 @@ module _ (words : List (List ℕ)) (request : Request) (form : HasForm words req
       for_any left (λ bytes. IsAnswered words bytes result taken took told heard) (λ bytes. answered_with bytes (inputless.answered answer))
 
   pub inputless_cut : (left : Option (List ℕ)) → result ≡ WriteFault → IfSome left (λ bytes. IsBegun words bytes taken took told heard)
-  inputless_cut left failed = for_any left (λ bytes. IsBegun words bytes taken took told heard) (λ bytes. begun_with bytes (inputless.cut failed))
+  inputless_cut left failed = for_any left (λ bytes. IsBegun words bytes taken took told heard) (λ bytes. begun_as (Answers words []) (Answers words bytes) (other_answers bytes) taken took told heard (inputless.cut failed))
 
   pub inputless_broken : (left : Option (List ℕ)) → result ≡ NoMemory → IfSome left (λ bytes. IsBroken words bytes taken took told heard)
-  inputless_broken left none = for_any left (λ bytes. IsBroken words bytes taken took told heard) (λ bytes. broken_with bytes (inputless.broken none))
-
-module _ (words : List (List ℕ)) (request : Request) (form : HasForm words request) (reads : reads_input request.form ≡ true) (result : Status)
-    (taken took : Option (List ℕ)) where
-  -- an input that is too long
-  module _ (told : Option (List Place)) (before now : ℕ) (text : List ℕ) (is : text ≡ size_text)
-      (ends : Finishes Size result taken took before now text) where
-    pub size_answered : (left : Option (List ℕ)) → IfSome left (λ bytes. MOST_INPUT_BYTES < length bytes) → IsAnswer result →
-        IfSome left (λ bytes. IsAnswered words bytes result taken took told told)
-    size_answered left long answer =
-        by_told left (λ bytes. MOST_INPUT_BYTES < length bytes) (λ bytes. IsAnswered words bytes result taken took told told) (λ bytes over.
-        given words result Size taken took told before now bytes size_text text
-        (λ s e. too_long request form reads over e refl refl) is answer ends) long
-
-    pub size_cut : (left : Option (List ℕ)) → IfSome left (λ bytes. MOST_INPUT_BYTES < length bytes) → result ≡ WriteFault →
-        IfSome left (λ bytes. IsBegun words bytes taken took told told)
-    size_cut left long failed =
-        by_told left (λ bytes. MOST_INPUT_BYTES < length bytes) (λ bytes. IsBegun words bytes taken took told told) (λ bytes over.
-        cut_short words result Size taken took told before now bytes size_text text
-        (λ s e. too_long request form reads over e refl refl) is tt failed ends) long
-
-  -- an input that is read
-  module _ (told heard : Option (List Place)) (bytes : List ℕ) (within : length bytes ≤ MOST_INPUT_BYTES) (before now : ℕ)
-      (left after : Option (List ℕ)) (read : IfSome left (λ xs. (bytes ≡ xs) × (after ≡ Some []))) where
-    answers : (status : Status) (text : List ℕ) (places : List Place) → Replies request bytes status text places → Answers words bytes status text places
-    answers status text places right = replied request form reads within right
-
-    for_told : (P : List ℕ → Type 0) → P bytes → IfSome left P
-    for_told P h = by_told left (λ xs. (bytes ≡ xs) × (after ≡ Some [])) P (λ xs r. subst P r.0 h) read
-
-    pub reply_answered : AnswerEnds (Replies request bytes) result taken took before now told heard →
-        IsAnswer result → IfSome left (λ xs. IsAnswered words xs result taken took told heard)
-    reply_answered ends answer = for_told (λ xs. IsAnswered words xs result taken took told heard)
-        (whole_end words request form bytes result taken took told heard before now answers ends answer)
-
-    pub reply_cut : AnswerEnds (Replies request bytes) result taken took before now told heard →
-        result ≡ WriteFault → IfSome left (λ xs. IsBegun words xs taken took told heard)
-    reply_cut ends failed = for_told (λ xs. IsBegun words xs taken took told heard)
-        (cut_end words request form bytes result taken took told heard before now answers ends failed)
-
-    pub reply_wanting : AnswerEnds (Replies request bytes) result taken took before now told heard →
-        result ≡ NoMemory → IfSome left (λ xs. IsBroken words xs taken took told heard)
-    reply_wanting ends none = for_told (λ xs. IsBroken words xs taken took told heard)
-        (wanting_end words request form bytes result taken took told heard before now answers ends none)
+  inputless_broken left none = for_any left (λ bytes. IsBroken words bytes taken took told heard) (λ bytes. broken_as (Answers words []) (Answers words bytes) (other_answers bytes) taken took told heard (inputless.broken none))

@@ -1,12 +1,11 @@
 -- The headline for a window that is found, from the whole answer.
-use Rattle.std.specs.Prelude.{◌≡◌, true, ℕ, ◌≤◌, List, [], ◌∷◌, length, codes, Option, refl, IfSome}
+use Rattle.std.specs.Prelude.{◌≡◌, ℕ, ◌≤◌, List, [], ◌∷◌, length, codes, Option, refl}
 use Rattle.std.proofs.Common.{arith, subst}
 use Rattle.bn_circuits.specs.declared.place.Place.{Place}
 use Rattle.bn_words.specs.Arguments.{Fixed, Word}
 use Rattle.bn_words.specs.Requests.{Request, HasForm}
 use Rattle.bn_words.specs.declared.form.Form.TheVariants.{RunAuto}
 use Rattle.bn_words.proofs.FormLemmas.{one_form}
-use Rattle.bn_reply.specs.Codes.{IsAnswer}
 use Rattle.bn_reply.specs.declared.limits.TheConstants.{MOST_INPUT_BYTES}
 use Rattle.bn_reply.specs.declared.status.Status.{Status}
 use Rattle.bn_windows_laws.specs.AutoLaws.{AnswersTellFoundWindow, TookAuto}

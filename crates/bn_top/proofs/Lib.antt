@@ -1,6 +1,7 @@
 pub mod Commands
 pub mod AnswerLemmas
 pub mod EndLemmas
+pub mod StreamLemmas
 pub mod HeadlineLemmas
 pub mod WindowLemmas
 pub mod ClauseLemmas
@@ -8,3 +9,4 @@ pub mod MachineHeadlineLemmas
 pub mod ClosedLemmas
 pub mod FoundLemmas
 pub mod MemoryLemmas
+pub mod GivenLemmas

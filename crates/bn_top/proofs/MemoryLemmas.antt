@@ -14,7 +14,8 @@ use Rattle.bn_reply_boards.proofs.ClosedLemmas.{tells}
 use Rattle.bn_headline_laws.proofs.ClosedLemmas.{circuit_told}
 use Rattle.bn_words.specs.Forms.{reads_input}
 use Rattle.bn_words.specs.Requests.{Request, HasForm, HasNoForm}
-use Rattle.bn_top.specs.Answers.{Answers, no_form, unread, too_long, replied, Replies, usage_text, size_text}
+use Rattle.bn_top.specs.Answers.{Answers, no_form, unread, too_long, replied, Replies, usage_text}
+use Rattle.bn_reply.specs.Streams.{size_text}
 use Rattle.bn_top.specs.Headlines.{IsReplyTo}
 use Rattle.bn_top.specs.Told.{IsAnswered, TellsGenerate}
 use Rattle.bn_top.proofs.Commands.{settled}

@@ -1,11 +1,11 @@
 -- What the kinds of the forms with a window say of its limits.
-use Rattle.std.specs.Prelude.{◌≡◌, ℕ, ◌<◌, ◌≤◌, Some, slice_get, refl}
+use Rattle.std.specs.Prelude.{◌≡◌, ℕ, ◌≤◌, Some, slice_get, refl}
 use Rattle.std.proofs.Common.{arith, sym, subst}
 use Rattle.bn_words.specs.Forms.{row_of}
 use Rattle.bn_base.specs.declared.limits.TheConstants.{MOST_COUNT}
 use Rattle.bn_words.specs.Requests.{IsNumeric, IsRequest, Request, number_at}
 use Rattle.bn_words.specs.declared.form.Form.{Form}
-use Rattle.bn_words.specs.declared.form.Form.TheVariants.{Step, Back, Check, Machine, Reversible, Bennett, Realise, Compile, Run, RunWithin, View, Session}
+use Rattle.bn_words.specs.declared.form.Form.TheVariants.{Compile, Run, RunWithin, View, Session}
 use Rattle.bn_words.specs.declared.kind.Kind.TheVariants.{Count}
 use Rattle.bn_words.proofs.ArgumentLemmas.{count_most}
 use Rattle.bn_top.specs.Answers.{HasWindow}

@@ -9,7 +9,7 @@ use Rattle.bn_words.specs.declared.form.Form.{Form}
 use Rattle.bn_words.specs.declared.form.Form.TheVariants.{Step, Back, Check, Machine, Reversible, Bennett, Realise}
 use Rattle.bn_words.specs.declared.form.Form.TheVariants.{Standard}
 use Rattle.bn_words.specs.declared.form.Form.TheVariants.{Compile, Run, RunWithin, View, Session, Plan, Generate, Erase}
-use Rattle.bn_words.specs.declared.form.Form.TheVariants.{EraseRun, Migrate, RunAuto}
+use Rattle.bn_words.specs.declared.form.Form.TheVariants.{EraseRun, Migrate, Mirror, Farm, RunAuto}
 use Rattle.bn_reply_boards_laws.specs.CompileReply.{CompileReplies}
 use Rattle.bn_reply.specs.declared.limits.TheConstants.{MOST_INPUT_BYTES}
 use Rattle.bn_reply_boards_laws.specs.RunReply.{RunReplies}
@@ -20,6 +20,8 @@ use Rattle.bn_reply_circuits_laws.specs.CircuitReply.{BackReplies, StepReplies}
 use Rattle.bn_reply_circuits.specs.RealiseReply.{RealiseReplies}
 use Rattle.bn_reply_circuits.specs.PlanReply.{PlanReplies}
 use Rattle.bn_reply_circuits_laws.specs.MigrateReply.{MigrateReplies}
+use Rattle.bn_reply_mirror.specs.MirrorReply.{MirrorReplies}
+use Rattle.bn_reply_farm.specs.FarmReply.{FarmReplies}
 use Rattle.bn_reply_tables.specs.StandardReply.{StandardTableReplies}
 use Rattle.bn_reply_tables.specs.BennettReply.{BennettReplies}
 use Rattle.bn_reply_tables.specs.CheckReply.{CheckReplies}
@@ -27,18 +29,13 @@ use Rattle.bn_reply_tables.specs.MachineReply.{MachineReplies}
 use Rattle.bn_reply_tables.specs.ReversibleReply.{ReversibleReplies}
 use Rattle.bn_reply_views.specs.SessionReply.{SessionReplies}
 use Rattle.bn_reply_views.specs.ViewReply.{ViewReplies}
+use Rattle.bn_reply.specs.Streams.{size_text}
 use Rattle.bn_reply.specs.declared.status.Status.{Status}
 use Rattle.bn_reply.specs.declared.status.Status.TheVariants.{Usage, Size}
 
--- the lines that need no reading
+-- the line of words that have no form
 abbrev pub usage_text : List ℕ
 usage_text = codes "usage" ++ 10 ∷ []
-
-abbrev pub size_text : List ℕ
-size_text = codes "size: input" ++ 10 ∷ []
-
-abbrev pub read_fault_text : List ℕ
-read_fault_text = codes "read fault" ++ 10 ∷ []
 
 -- the limits of a window behind the name and the word
 abbrev pub limits_at : Request → Limits
@@ -77,6 +74,8 @@ RepliesBy View request = ViewReplies (number_at request 5) (letters_at request 0
 RepliesBy Session request = SessionReplies (letters_at request 0) (limits_at request)
 RepliesBy Plan request = PlanReplies
 RepliesBy Migrate request = MigrateReplies
+RepliesBy Mirror request = MirrorReplies
+RepliesBy Farm request = FarmReplies
 RepliesBy Generate request = λ bytes. GenerateReplies (number_at request 0)
 RepliesBy Erase request = EraseReplies
 RepliesBy EraseRun request = EraseRunReplies (letters_at request 0) (number_at request 1)

@@ -1,5 +1,5 @@
 -- How a call of the workbench ends, over the outside as one thing; and the same clause by clause.
-use Rattle.std.specs.Prelude.{◌≡◌, ◌≢◌, ℕ, ◌≤◌, ◌<◌, List, [], length, Some, IfSome, Bool, true, ◌⊎◌}
+use Rattle.std.specs.Prelude.{◌≡◌, ◌≢◌, ℕ, ◌≤◌, ◌<◌, List, [], length, Some, IfSome, ◌⊎◌}
 use Rattle.bn_io.specs.Faults.{Rose}
 use Rattle.bn_io.specs.Told.{Grows}
 use Rattle.bn_net.specs.Watching.{Hears}
@@ -8,10 +8,11 @@ use Rattle.bn_reply.specs.Codes.{IsAnswer}
 use Rattle.bn_reply.specs.declared.limits.TheConstants.{MOST_INPUT_BYTES}
 use Rattle.bn_reply.specs.declared.status.Status.{Status}
 use Rattle.bn_reply.specs.declared.status.Status.TheVariants.{Usage, Size, ReadFault, WriteFault, NoMemory}
-use Rattle.bn_top.specs.Answers.{read_fault_text}
+use Rattle.bn_reply.specs.Outside.{Outside, GaveMore, IsLater}
+use Rattle.bn_reply.specs.Streams.{read_fault_text}
 use Rattle.bn_top.specs.Told as told
-use Rattle.bn_top.specs.Told.{EndsWithoutInput, GaveMore, NeedsNoInput, UsageEnds}
-use Rattle.bn_top.specs.Outside.{Outside, Ends, EndsOn, IsLater, IsWithoutFault, NeedNoInput, ReadsAll}
+use Rattle.bn_top.specs.Told.{EndsWithoutInput, NeedsNoInput, UsageEnds}
+use Rattle.bn_top.specs.Outside.{Ends, EndsOn, IsWithoutFault, NeedNoInput, ReadsAll}
 
 -- The clauses apart, by their names.
 pub record ClausesApart (words : List (List ℕ)) (status : Status) (b a : Outside) : Type 0 where

@@ -1,40 +1,16 @@
--- The outside of the workbench as one thing: what a source, a sink and a watch tell at a moment.
-use Rattle.std.specs.Prelude.{◌≡◌, ◌≢◌, ℕ, ◌≤◌, ◌<◌, List, [], ◌++◌, length, Option, Some, IfSome, ◌⊎◌}
+-- How a call of the workbench ends, over the outside as one thing.
+use Rattle.std.specs.Prelude.{◌≡◌, ◌≢◌, ℕ, ◌≤◌, ◌<◌, List, [], ◌++◌, length, Some, IfSome, ◌⊎◌}
 use Rattle.bn_circuits.specs.declared.place.Place.{Place}
 use Rattle.bn_io.specs.Faults.{Rose}
-use Rattle.bn_io.specs.Told.{Grows}
-use Rattle.bn_net.specs.Watching.{Hears}
 use Rattle.bn_words.specs.Requests.{HasNoForm}
 use Rattle.bn_reply.specs.declared.limits.TheConstants.{MOST_INPUT_BYTES}
 use Rattle.bn_reply.specs.declared.status.Status.{Status}
 use Rattle.bn_reply.specs.declared.status.Status.TheVariants.{Usage, Size, ReadFault, WriteFault, NoMemory}
 use Rattle.bn_reply.specs.Codes.{IsAnswer}
-use Rattle.bn_top.specs.Answers.{Answers, read_fault_text}
-use Rattle.bn_top.specs.Told.{GaveMore, NeedsNoInput}
-
--- What the source has left and the sink has taken, where they tell it; the places that the watch tells; and how often
--- reading and writing failed so far.
-pub record Outside : Type 0 where
-  pub left : Option (List ℕ)
-  pub taken : Option (List ℕ)
-  pub told : Option (List Place)
-  pub read_faults : ℕ
-  pub write_faults : ℕ
-
--- these five, in this order
-abbrev pub outside : Option (List ℕ) → Option (List ℕ) → Option (List Place) → ℕ → ℕ → Outside
-outside left taken told read_faults write_faults = record {
-  left = left;
-  taken = taken;
-  told = told;
-  read_faults = read_faults;
-  write_faults = write_faults;
-}
-
--- In between, the sink took this text, and the watch heard these places.
-pub record Gave (before after : Outside) (text : List ℕ) (places : List Place) : Type 0 where
-  pub grows : Grows before.taken after.taken text
-  pub hears : Hears before.told places after.told
+use Rattle.bn_reply.specs.Outside.{Outside, GaveMore, Gave}
+use Rattle.bn_reply.specs.Streams.{read_fault_text}
+use Rattle.bn_top.specs.Answers.{Answers}
+use Rattle.bn_top.specs.Told.{NeedsNoInput}
 
 -- The answer to these words and bytes was given whole.
 pub record IsAnswered (words : List (List ℕ)) (bytes : List ℕ) (status : Status) (before after : Outside) : Type 0 where
@@ -90,11 +66,6 @@ pub record ReadsAll (status : Status) (before after : Outside) : Type 0 where
       → IfSome before.left (λ bytes. length bytes ≤ MOST_INPUT_BYTES → after.left ≡ Some [])
   pub beyond : IfSome before.left (λ bytes. status ≡ Size → MOST_INPUT_BYTES < length bytes
       → GaveMore before.left after.left MOST_INPUT_BYTES)
-
--- No count of faults falls.
-pub record IsLater (before after : Outside) : Type 0 where
-  pub read : before.read_faults ≤ after.read_faults
-  pub write : before.write_faults ≤ after.write_faults
 
 -- No count of faults rose, or stands at its last value.
 pub record IsWithoutFault (before after : Outside) : Type 0 where

@@ -1,15 +1,17 @@
 -- What a sink has taken and a watch has heard when the workbench ends.
-use Rattle.std.specs.Prelude.{◌≡◌, ◌≢◌, ℕ, ◌<◌, List, [], ◌∷◌, ◌++◌, false, length, Option, codes, decimal}
+use Rattle.std.specs.Prelude.{◌≡◌, ◌≢◌, ℕ, List, [], ◌∷◌, false, Option, codes, decimal}
 use Rattle.bn_circuits.specs.declared.place.Place.{Place}
 use Rattle.bn_io.specs.Faults.{Rose}
-use Rattle.bn_io.specs.Told.{Loses, Grows, GrowsByFront}
+use Rattle.bn_io.specs.Told.{Grows, GrowsByFront}
 use Rattle.bn_net.specs.Watching.{Hears}
 use Rattle.bn_words.specs.Forms.{reads_input}
 use Rattle.bn_words.specs.Requests.{HasForm, Request}
 use Rattle.bn_gen.specs.Increments.{IsRoundCount}
 use Rattle.bn_reply_boards.specs.GenerateLaws.{TellsGenerated}
 use Rattle.bn_reply.specs.Codes.{IsAnswer}
-use Rattle.bn_top.specs.Answers.{Answers, usage_text, read_fault_text}
+use Rattle.bn_reply.specs.Streams as streams
+use Rattle.bn_reply.specs.Streams.{read_fault_text}
+use Rattle.bn_top.specs.Answers.{Answers, usage_text}
 use Rattle.bn_reply.specs.declared.status.Status.{Status}
 use Rattle.bn_reply.specs.declared.status.Status.TheVariants.{Usage, ReadFault, WriteFault, NoMemory}
 
@@ -22,24 +24,15 @@ pub record IsAnswered (words : List (List ℕ)) (bytes : List ℕ) (status : Sta
   pub grows : Grows taken took text
   pub hears : Hears told places heard
 
--- The answer was begun: the sink took a front of its text, and the watch heard a front of its places.
-pub record IsBegun (words : List (List ℕ)) (bytes : List ℕ) (taken took : Option (List ℕ))
-    (told heard : Option (List Place)) : Type 0 where
-  pub status : Status
-  pub text : List ℕ
-  pub places : List Place
-  pub answers : Answers words bytes status text places
-  pub grows : GrowsByFront taken took text
-  pub front : List Place
-  pub rest : List Place
-  pub split : places ≡ front ++ rest
-  pub hears : Hears told front heard
+-- the answer was begun
+abbrev pub IsBegun : List (List ℕ) → List ℕ → Option (List ℕ) → Option (List ℕ) → Option (List Place)
+    → Option (List Place) → Type 0
+IsBegun words bytes taken took told heard = streams.IsBegun (Answers words bytes) taken took told heard
 
--- Nothing was given yet, or the answer was begun.
-pub data IsBroken (words : List (List ℕ)) (bytes : List ℕ) (taken took : Option (List ℕ))
-    (told heard : Option (List Place)) : Type 0 where
-  unbegun : Grows taken took [] → Hears told [] heard → IsBroken words bytes taken took told heard
-  begun : IsBegun words bytes taken took told heard → IsBroken words bytes taken took told heard
+-- nothing was given yet, or the answer was begun
+abbrev pub IsBroken : List (List ℕ) → List ℕ → Option (List ℕ) → Option (List ℕ) → Option (List Place)
+    → Option (List Place) → Type 0
+IsBroken words bytes taken took told heard = streams.IsBroken (Answers words bytes) taken took told heard
 
 -- Where the words form no command the sink takes the line that says so, or a front of it where it fails.
 abbrev pub UsageEnds : Status → Option (List ℕ) → Option (List ℕ) → Type 0
@@ -53,10 +46,6 @@ pub record IsReadFaultCut (before now : ℕ) (taken took : Option (List ℕ))
   pub source : Rose before now
   pub grows : GrowsByFront taken took read_fault_text
   pub hears : Hears told [] heard
-
--- the source gave more bytes than the limit
-abbrev pub GaveMore : Option (List ℕ) → Option (List ℕ) → ℕ → Type 0
-GaveMore old new limit = (piece : List ℕ) × Loses old new piece × (limit < length piece)
 
 -- the words ask for what needs no input
 pub record NeedsNoInput (words : List (List ℕ)) : Type 0 where

@@ -7,7 +7,8 @@ ghost use Rattle.bn_headline_laws.specs.MachineHeadline.{MachineHeadline, Machin
 ghost use Rattle.bn_headline_laws.specs.CircuitHeadline.{CircuitHeadline};
 ghost use Rattle.bn_headline_laws.specs.Generated.{GeneratedHeadline};
 ghost use Rattle.bn_windows_laws.specs.FoundHeadline.{TellsFoundWindow};
-ghost use Rattle.bn_top.specs.Outside.{NeedNoInput, outside};
+ghost use Rattle.bn_reply.specs.Outside.{outside};
+ghost use Rattle.bn_top.specs.Outside.{NeedNoInput};
 ghost use Rattle.bn_top.specs.Clauses.{CallEnds};
 
 use crate::top::answer_words;

@@ -1,8 +1,9 @@
 //! From a request to the command that answers it.
 
-ghost use Rattle.std.specs.Prelude.{◌≡◌, IfOk, OnErr};
+ghost use Rattle.std.specs.Prelude.{◌≡◌, ◌≤◌, length, IfOk, OnErr};
 ghost use Rattle.bn_assembly.specs.Assembled.{AreSmall, limits_of};
 ghost use Rattle.bn_reply.specs.Replying.{IsReplied, IsUnfinished};
+ghost use Rattle.bn_reply.specs.declared.limits.TheConstants.{MOST_INPUT_BYTES};
 ghost use Rattle.bn_top.specs.Answers.{HasWindow, Replies, limits_at};
 
 use bn_assembly::Windows;
@@ -11,6 +12,8 @@ use bn_reply::{NoMemory, Reply};
 use bn_reply_boards::{reply_compile, reply_generate, reply_run};
 use bn_reply_circuits::{reply_back, reply_migrate, reply_plan, reply_realise, reply_step};
 use bn_reply_erase::{reply_erase, reply_erase_run};
+use bn_reply_farm::reply_farm;
+use bn_reply_mirror::reply_mirror;
 use bn_reply_tables::{
     reply_bennett, reply_check, reply_machine, reply_reversible, reply_standard,
 };
@@ -27,6 +30,7 @@ pub(crate) fn reply_to<W: Watch>(
     bytes: &[u8],
     watch: &mut W,
 ) -> Result<Reply, NoMemory>
+    requires { length bytes.now ≤ MOST_INPUT_BYTES }
     ensures replied { IfOk result (λ r. IsReplied (Replies request.now bytes.now) r (W.told watch.old)
         (W.told watch.new)) }
     ensures interrupted { OnErr result (IsUnfinished (Replies request.now bytes.now) (W.told watch.old)
@@ -74,6 +78,8 @@ pub(crate) fn reply_to<W: Watch>(
         Form::Session => reply_session(alloc, request.letters(0), &windows_of(request), bytes),
         Form::Plan => reply_plan(alloc, bytes),
         Form::Migrate => reply_migrate(alloc, bytes),
+        Form::Mirror => reply_mirror(alloc, bytes),
+        Form::Farm => reply_farm(alloc, bytes),
         Form::Generate => reply_generate(alloc, request.number(0) as u32, watch),
         Form::Erase => reply_erase(alloc, bytes),
         Form::EraseRun => {
@@ -83,7 +89,7 @@ pub(crate) fn reply_to<W: Watch>(
 }
 
 // The window of a request for a board: the four limits behind the word.
-fn windows_of(request: &Request<'_>) -> Windows
+pub(crate) fn windows_of(request: &Request<'_>) -> Windows
     requires { HasWindow request.now.form }
     ensures limits { limits_of result ≡ limits_at request.now }
     ensures small { AreSmall (limits_of result) }

@@ -1,6 +1,7 @@
 //! The workbench as one call: words and bytes in, bytes and a status out.
 #![tactic(auto)]
 
+mod answering;
 mod call;
 mod dispatch;
 mod laws;

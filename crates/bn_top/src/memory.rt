@@ -4,7 +4,8 @@ ghost use Rattle.std.specs.Prelude.{◌≡◌, [], map, if◌then◌else◌, IfO
 ghost use Rattle.std.specs.String.{string_bytes};
 ghost use Rattle.bn_reply.specs.Replying.{IsUnfinished};
 ghost use Rattle.bn_words.specs.Forms.{reads_input};
-ghost use Rattle.bn_top.specs.Answers.{Answers, size_text, usage_text};
+ghost use Rattle.bn_reply.specs.Streams.{size_text};
+ghost use Rattle.bn_top.specs.Answers.{Answers, usage_text};
 ghost use Rattle.bn_top.specs.Headlines.{IsReplyTo};
 
 use crate::dispatch::reply_to;

@@ -8,16 +8,16 @@ ghost use Rattle.bn_net.specs.Watching.{Hears};
 ghost use Rattle.bn_reply.specs.Codes.{IsAnswer};
 ghost use Rattle.bn_words.specs.Requests.{HasNoForm};
 ghost use Rattle.bn_reply_boards_laws.specs.Headline.{TellsHeadline};
-ghost use Rattle.bn_top.specs.Answers.{Replies, read_fault_text};
-ghost use Rattle.bn_reply.specs.Replying.{AnswerEnds};
+ghost use Rattle.bn_reply.specs.Outside.{GaveMore};
+ghost use Rattle.bn_reply.specs.Streams.{read_fault_text};
 ghost use Rattle.bn_top.specs.Told.{EndsWithoutInput, IsAnswered, IsBegun, IsBroken, NeedsNoInput};
-ghost use Rattle.bn_top.specs.Told.{UsageEnds, IsReadFaultCut, GaveMore, TellsGenerate};
+ghost use Rattle.bn_top.specs.Told.{UsageEnds, IsReadFaultCut, TellsGenerate};
 
-use crate::dispatch::reply_to;
-use bn_io::{ReadRefusal, Sink, Source, read_all};
+use crate::answering::{answer, answer_input};
+use bn_io::{Sink, Source};
 use bn_net::Watch;
 use bn_reply::{MOST_INPUT_BYTES, Status, finish};
-use bn_words::{Request, read_words};
+use bn_words::read_words;
 use std::alloc::Global;
 
 /// Answers the words of a command line: reads the input from the source where the words have a
@@ -91,28 +91,5 @@ pub(crate) fn answer_words<S: Source, K: Sink, W: Watch>(
     if !request.form().reads_input() {
         return answer(alloc, &request, b"", sink, watch);
     }
-    match read_all(alloc, source, MOST_INPUT_BYTES) {
-        Ok(bytes) => answer(alloc, &request, bytes.as_slice(), sink, watch),
-        Err(ReadRefusal::ReadFault) => finish(sink, b"read fault\n", Status::ReadFault),
-        Err(ReadRefusal::TooLong) => finish(sink, b"size: input\n", Status::Size),
-        Err(ReadRefusal::NoMemory) => Status::NoMemory,
-    }
-}
-
-// Answers a request on an input within the limit.
-fn answer<K: Sink, W: Watch>(
-    alloc: Global,
-    request: &Request<'_>,
-    bytes: &[u8],
-    sink: &mut K,
-    watch: &mut W,
-) -> Status
-    ensures ends { AnswerEnds (Replies request.now bytes.now) result (K.taken sink.old) (K.taken sink.new)
-        (K.faults sink.old) (K.faults sink.new) (W.told watch.old) (W.told watch.new) }
-    ensures later { K.faults sink.old ≤ K.faults sink.new }
-{
-    match reply_to(alloc, request, bytes, watch) {
-        Ok(reply) => finish(sink, reply.text.as_slice(), reply.status),
-        Err(_) => Status::NoMemory,
-    }
+    answer_input(alloc, &request, source, sink, watch)
 }

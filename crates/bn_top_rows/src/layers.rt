@@ -72,3 +72,31 @@ fn refuses_as_a_run_does(rt: HostRuntime) -> Result<(), Fail> {
     }
     Ok(())
 }
+
+#[test]
+fn names_each_line_by_which_a_module_is_entered(rt: HostRuntime) -> Result<(), Fail> {
+    let rows: [(&str, &str); 15] = [
+        ("0", "module control line Start"),
+        ("1564", "module tape 1 cell 0 line Rd"),
+        ("1610", "module control line A 0 1"),
+        ("2734", "module tape 2 cell 0 line SR"),
+        ("2922", "module tape 2 cell 1 line TakeR"),
+        ("2970", "module tape 2 cell 0 line DoneR"),
+        ("3042", "module control line DoneR 2"),
+        ("3558", "module tape 3 cell 0 line W 0"),
+        ("3602", "module control line DoneW 3"),
+        ("6876", "module tape 2 cell 0 line A 0"),
+        ("9240", "module tape 2 cell 0 line DoneW"),
+        ("37840", "module tape 1 cell 0 line SL"),
+        ("37964", "module tape 1 cell 1 line TakeL"),
+        ("37988", "module tape 1 cell 0 line DoneL"),
+        ("38018", "module control line DoneL 1"),
+    ];
+    for (steps, module) in rows {
+        let list = ["view", "=", "0", "2", "2", "1", steps];
+        let answer = answer(rt.alloc(), &list, LEAST.as_bytes())?;
+        let mut lines = answer.text.as_slice().split(|byte| *byte == b'\n').skip(1);
+        assert!(rt; lines.next() == Some(module.as_bytes()), "{steps}");
+    }
+    Ok(())
+}

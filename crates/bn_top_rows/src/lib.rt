@@ -15,6 +15,8 @@ mod desk;
 #[cfg(test)]
 mod erased;
 #[cfg(test)]
+mod farms;
+#[cfg(test)]
 mod faults;
 #[cfg(test)]
 mod generated;
@@ -22,6 +24,8 @@ mod generated;
 mod layers;
 #[cfg(test)]
 mod machines;
+#[cfg(test)]
+mod mirrors;
 #[cfg(test)]
 mod plans;
 #[cfg(test)]

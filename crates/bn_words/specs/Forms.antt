@@ -7,7 +7,7 @@ use Rattle.bn_words.specs.declared.form.Form.{Form}
 use Rattle.bn_words.specs.declared.form.Form.TheVariants.{Step, Back, Check, Machine, Reversible, Bennett, Realise}
 use Rattle.bn_words.specs.declared.form.Form.TheVariants.{Standard}
 use Rattle.bn_words.specs.declared.form.Form.TheVariants.{Compile, Run, RunWithin, View, Session, Plan, Generate, Erase}
-use Rattle.bn_words.specs.declared.form.Form.TheVariants.{EraseRun, Migrate, RunAuto}
+use Rattle.bn_words.specs.declared.form.Form.TheVariants.{EraseRun, Migrate, Mirror, Farm, RunAuto}
 use Rattle.bn_base.specs.declared.limits.TheConstants.{MOST_COUNT}
 
 -- a row: the command's name, and the kinds of the words behind it
@@ -43,6 +43,8 @@ row_of View = row (codes "view") (window_kinds (Count greatest ∷ []))
 row_of Session = row (codes "session") (window_kinds [])
 row_of Plan = row (codes "plan") []
 row_of Migrate = row (codes "migrate") []
+row_of Mirror = row (codes "mirror") []
+row_of Farm = row (codes "farm") []
 row_of Generate = row (codes "generate") (Ordinal most_increments ∷ [])
 row_of Erase = row (codes "erase") []
 row_of EraseRun = row (codes "erase") (Letters ∷ Count MOST_COUNT ∷ [])

@@ -65,6 +65,10 @@ pub enum Form {
     Plan,
     /// `migrate`: a configuration text in version 2.
     Migrate,
+    /// `mirror`: a circuit whose steps are the steps back of the first.
+    Mirror,
+    /// `farm`: several circuits under a schedule, and the schedule that undoes it.
+    Farm,
     /// `generate k`: the run of the machine of k increments. It reads no input.
     Generate,
     /// `erase`: the machine of two tables that leaves only its output.
@@ -82,7 +86,7 @@ pub(crate) struct Row {
 
 impl Form {
     /// All forms.
-    pub const ALL: [Form; 19] = [
+    pub const ALL: [Form; 21] = [
         Form::Step,
         Form::Back,
         Form::Check,
@@ -99,6 +103,8 @@ impl Form {
         Form::Session,
         Form::Plan,
         Form::Migrate,
+        Form::Mirror,
+        Form::Farm,
         Form::Generate,
         Form::Erase,
         Form::EraseRun,
@@ -133,6 +139,8 @@ impl Form {
             Form::Session => Row::new("session", &WINDOW),
             Form::Plan => Row::new("plan", &[]),
             Form::Migrate => Row::new("migrate", &[]),
+            Form::Mirror => Row::new("mirror", &[]),
+            Form::Farm => Row::new("farm", &[]),
             Form::Generate => Row::new("generate", &[Ordinal(MOST_INCREMENTS)]),
             Form::Erase => Row::new("erase", &[]),
             Form::EraseRun => Row::new("erase", &[Letters, Count(MOST_COUNT)]),

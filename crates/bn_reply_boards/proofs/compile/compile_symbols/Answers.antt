@@ -1,28 +1,25 @@
 use Rattle.std.proofs.Common.{subst}
 use Rattle.bn_assembly.specs.Assembled.{limits_of}
+use Rattle.bn_reply_boards_laws.specs.Windows.{BoardReplies}
 use Rattle.bn_reply_boards_laws.specs.CompileReply.{TellsStart}
 use Rattle.bn_flat.specs.Flattened.{IsBoardKept}
 use Rattle.bn_reply_boards.specs.Opened.{IsOpenedBoard}
-use Rattle.bn_reply_boards.proofs.MadeLemmas.{refused_board, admitted, compiled}
+use Rattle.bn_reply_boards.proofs.MadeLemmas.{refused_board, will_compile}
 use Rattle.bn_board_laws.proofs.ClosedLemmas.{read_off}
 use Rattle.bn_reply_boards_laws.proofs.SpelledLemmas.{boards-spelled}
+use Rattle.bn_reply_circuits.proofs.UnwrittenLemmas.{line_will}
 use Rattle.bn_table.proofs.MachineLemmas.{tables_machines}
 use Rattle.bn_reply_boards.proofs.compile.compile_symbols.Goals as goal
 
 pub returns-in-Refused : goal.returns-in-Refused
 returns-in-Refused c =
     let refused = subst (IsOpenedBoard c.args.table.now.machine (limits_of c.args.windows.now) c.args.symbols.now) c.in-Refused.is c.in_ok-reply.ensures in
-    refused_board TellsStart c.args.table.now.machine (limits_of c.args.windows.now) c.args.symbols.now c.in-Refused.reply refused
-
-pub board_text-requires : goal.board_text-requires
-board_text-requires c =
-    let opened = subst (IsOpenedBoard c.args.table.now.machine (limits_of c.args.windows.now) c.args.symbols.now) c.in-Made.is c.in_ok-reply.ensures in
-    admitted c.args.table.now (limits_of c.args.windows.now) c.args.symbols.now c.in-Made.field-0 c.in-Made.board tables_machines c.machine-machine.ensures.valid c.requires.fit
-    c.requires.windows c.requires.symbols opened (boards-spelled read_off)
+    line_will ((BoardReplies TellsStart c.args.table.now.machine (limits_of c.args.windows.now)) c.args.symbols.now) c.in-Refused.reply
+    (refused_board TellsStart c.args.table.now.machine (limits_of c.args.windows.now) c.args.symbols.now c.in-Refused.reply refused)
 
 pub returns : goal.returns
 returns c =
     let opened = subst (IsOpenedBoard c.args.table.now.machine (limits_of c.args.windows.now) c.args.symbols.now) c.in-Made.is c.in_ok-reply.ensures in
-    compiled c.args.table.now (limits_of c.args.windows.now) c.args.symbols.now c.in-Made.field-0 c.in-Made.board tables_machines c.machine-machine.ensures.valid c.requires.fit
-    c.requires.windows c.requires.symbols opened (boards-spelled read_off) (subst IsBoardKept c.board.view_is c.board.invariant) c.in_ok-board_text-in-Made.field-0.items
-    c.in_ok-board_text-in-Made.ensures
+    will_compile c.args.table.now (limits_of c.args.windows.now) c.args.symbols.now c.in-Made.field-0 c.in-Made.board tables_machines c.machine-machine.ensures.valid c.requires.fit
+    c.requires.windows c.requires.symbols opened (boards-spelled read_off) (subst IsBoardKept c.board.view_is c.board.invariant) c.in_ok-config-in-Made.config
+    c.in_ok-config-in-Made.ensures.version c.in_ok-config-in-Made.ensures.spelling

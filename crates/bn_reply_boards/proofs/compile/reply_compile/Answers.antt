@@ -1,14 +1,10 @@
-use Rattle.std.proofs.Common.{subst}
 use Rattle.bn_assembly.specs.Assembled.{limits_of}
-use Rattle.bn_reply_boards_laws.specs.Windows.{BoardReplies}
-use Rattle.bn_reply_boards_laws.specs.CompileReply.{TellsStart}
-use Rattle.bn_reply.specs.Opened.{IsOpenedTable}
-use Rattle.bn_reply.specs.TableReply.{JudgedReplies, WordReplies}
-use Rattle.bn_reply.proofs.ReplyLemmas.{read_replies}
+use Rattle.bn_reply_boards_laws.specs.CompileReply.{CompileReplies}
+use Rattle.bn_reply_circuits.proofs.UnwrittenLemmas.{will_reply}
 use Rattle.bn_reply_boards.proofs.compile.reply_compile.Goals as goal
 
-pub returns-in-Read : goal.returns-in-Read
-returns-in-Read c =
-    let reads = subst (IsOpenedTable c.args.bytes.now) c.in-Read.is c.in_ok-reply.ensures in
-    read_replies (λ t. JudgedReplies (WordReplies (BoardReplies TellsStart t.machine (limits_of c.args.windows.now)) t c.args.word.now) t) c.args.bytes.now c.in-Read.table c.compile_table.result reads
-    c.compile_table.ensures
+pub into_reply-requires : goal.into_reply-requires
+into_reply-requires c = c.in_ok-answer.ensures.writable
+
+pub returns : goal.returns
+returns c = will_reply (CompileReplies c.args.word.now (limits_of c.args.windows.now) c.args.bytes.now) c.in_ok-answer.answer c.into_reply.result c.in_ok-answer.ensures c.into_reply.ensures

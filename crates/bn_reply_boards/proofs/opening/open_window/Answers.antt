@@ -1,5 +1,4 @@
-use Rattle.std.proofs.Common.{rules, ◌≤◌, sym, subst, length}
-use Rattle.bn_bennett.specs.Translation.{IsTranslation}
+use Rattle.std.proofs.Common.{subst}
 use Rattle.bn_assembly.specs.Assembled.{CountsElements, IsAssembled, IsRefusal, limits_of}
 use Rattle.bn_assembly.specs.declared.refusal.AssembleRefusal.TheVariants.{Elements}
 use Rattle.bn_reply_boards.proofs.OpeningLemmas.{counted, as_flat, is_made}

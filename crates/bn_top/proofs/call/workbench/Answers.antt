@@ -3,7 +3,7 @@ use Rattle.std.specs.String.{string_bytes}
 use Rattle.bn_reply_boards_laws.specs.Headline.{TellsHeadline}
 use Rattle.bn_top.proofs.EndLemmas.{by_told}
 use Rattle.bn_headline_laws.specs.CircuitHeadline.{CircuitHeadline}
-use Rattle.bn_top.specs.Outside.{outside}
+use Rattle.bn_reply.specs.Outside.{outside}
 use Rattle.bn_headline_laws.proofs.ClosedLemmas.{circuit_told}
 use Rattle.bn_top.proofs.ClosedLemmas.{ends_given, generated_told, machine_told, window_told}
 use Rattle.bn_top.proofs.call.workbench.Goals as goal

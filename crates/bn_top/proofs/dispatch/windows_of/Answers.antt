@@ -1,4 +1,4 @@
-use Rattle.std.proofs.Common.{rules, arith, ◌≡◌, ◌≤◌, sym, subst}
+use Rattle.std.proofs.Common.{arith, ◌≤◌}
 use Rattle.bn_base.specs.declared.limits.TheConstants.{MOST_COUNT}
 use Rattle.bn_top.proofs.WindowLemmas.{limits, numeric, within_limit}
 use Rattle.bn_top.proofs.dispatch.windows_of.Goals as goal

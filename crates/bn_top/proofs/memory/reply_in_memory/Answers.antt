@@ -3,7 +3,8 @@ use Rattle.std.specs.String.{string_bytes}
 use Rattle.bn_reply.specs.Replying.{IsReplied, IsUnfinished}
 use Rattle.bn_reply.specs.declared.limits.TheConstants.{MOST_INPUT_BYTES}
 use Rattle.bn_reply.specs.declared.status.Status.TheVariants.{Usage, Size}
-use Rattle.bn_top.specs.Answers.{Answers, Replies, size_text, usage_text}
+use Rattle.bn_reply.specs.Streams.{size_text}
+use Rattle.bn_top.specs.Answers.{Answers, Replies, usage_text}
 use Rattle.bn_top.specs.Headlines.{IsReplyTo}
 use Rattle.bn_top.proofs.MemoryLemmas.{command_reply, command_unfinished, for_both, for_none, for_reply, in_any_case, long_reply, unfinished_line, usage_reply}
 use Rattle.bn_top.proofs.memory.reply_in_memory.Goals as goal

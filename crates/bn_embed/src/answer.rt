@@ -1,0 +1,56 @@
+//! The call.
+
+ghost use Rattle.std.specs.Prelude.{◌≡◌, ◌++◌, ◌≤◌, ◌↔◌, None, IfOk, IsTrue, length, take, drop};
+ghost use Rattle.bn_top.specs.Headlines.{IsReplyTo};
+ghost use Rattle.bn_embed.specs.Call.{Ends};
+ghost use Rattle.bn_embed.specs.Words.{words_of};
+
+use crate::split::split_words;
+use bn_net::Quiet;
+use bn_top::{NoMemory, Reply, Status, reply_in_memory};
+use std::alloc::Global;
+
+/// Answers words, between which stands a byte 0, on an input: writes the answer's text to the front of `output`, and
+/// gives the code of its status. `taken` tells how many bytes the whole text has. Where `output` has room for fewer, it
+/// is filled with the text's front, and the code is 8; a call with so much room gives the answer. Where memory is
+/// wanting the code is 9, `taken` tells 0, and `output` is as it was. Words that aren't UTF-8 are answered as no words.
+#[unsafe(no_mangle)]
+pub extern "C" fn hithwelor_answer(
+    alloc: Global,
+    words: &[u8],
+    input: &[u8],
+    output: &mut [u8],
+    taken: &mut u64,
+) -> u32
+    ensures { Ends (words_of words.now) input.now output.old output.new result taken.new }
+{
+    let Ok(reply) = reply_to(alloc, words, input) else {
+        *taken = 0;
+        return u32::from(Status::NoMemory.code());
+    };
+    let text = reply.text.as_slice();
+    *taken = text.len() as u64;
+    if lay(text, output) {
+        u32::from(reply.status.code())
+    } else {
+        u32::from(Status::WriteFault.code())
+    }
+}
+
+// The reply to the words of a run of bytes, on an input.
+fn reply_to(alloc: Global, words: &[u8], input: &[u8]) -> Result<Reply, NoMemory>
+    ensures { IfOk result (λ r. IsReplyTo (words_of words.now) input.now r None None) }
+{
+    let words = split_words(alloc, words)?;
+    reply_in_memory(alloc, words.as_slice(), input, &mut Quiet)
+}
+
+// Copies as much of a text to the front of an output as there is room for, and answers whether that is all of it.
+fn lay(text: &[u8], output: &mut [u8]) -> bool
+    ensures laid { output.new ≡ take (length output.old) text.now ++ drop (length text.now) output.old }
+    ensures whole { IsTrue result ↔ (length text.now ≤ length output.old) }
+{
+    let count = text.len().min(output.len());
+    output[..count].copy_from_slice(&text[..count]);
+    count == text.len()
+}

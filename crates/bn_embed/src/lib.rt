@@ -1,0 +1,5 @@
+//! The workbench as one call of C: words and an input in, a text and a status out, all in the caller's memory.
+#![tactic(auto)]
+
+mod answer;
+mod split;

@@ -1,0 +1,12 @@
+pub mod BoardLemmas
+pub mod FarmLemmas
+pub mod UndoLemmas
+pub mod LawfulLemmas
+pub mod OrderLemmas
+pub mod ScheduleLemmas
+pub mod PartLemmas
+pub mod SameLemmas
+pub mod PlayLemmas
+pub mod WriteLemmas
+pub mod FarmReadLemmas
+pub mod TextLawLemmas

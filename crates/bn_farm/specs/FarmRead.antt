@@ -1,0 +1,103 @@
+-- What is read of the bytes of a farm with a schedule, and what a refusal says of them.
+use Rattle.std.specs.Prelude.{◌≡◌, ◌≢◌, ℕ, ◌+◌, ◌<◌, ◌≤◌, List, [], ◌∷◌, ◌++◌, length}
+use Rattle.bn_lists.specs.Lists.{IsFirstWith}
+use Rattle.bn_net.specs.declared.net.TheConstants.{MOST_ELEMENTS}
+use Rattle.bn_netlist_lines.specs.NetText.{IsTextRefusal}
+use Rattle.bn_farm.specs.Farms.{FarmBoard, IsSpelled, board_of, elements_of}
+use Rattle.bn_netlist_lines.specs.declared.net_config.NetConfig.{NetConfig}
+use Rattle.bn_netlist_lines.specs.declared.refusal.NetlistRefusal.{NetlistRefusal}
+use Rattle.bn_netlist_lines.specs.declared.refusal.NetlistRefusal.TheVariants as netlist
+use Rattle.bn_cut.specs.Cuts.{IsUncut}
+use Rattle.bn_farm.specs.declared.event.Event.{Event}
+use Rattle.bn_farm.specs.declared.farm_refusal.FarmRefusal.{FarmRefusal}
+use Rattle.bn_farm.specs.declared.farm_refusal.FarmRefusal.TheVariants.{NoSchedule, Board, Form, NoBoard, Elements}
+use Rattle.bn_farm.specs.declared.farm_refusal.FarmRefusal.TheVariants.{NoMemory}
+use Rattle.bn_farm.specs.FarmTexts.{AreParts, FailsAfter, IsSchedule, SpellBoards, malformed, no_board}
+
+-- the part spells no board
+abbrev pub IsUnspelled : List ℕ → Type 0
+IsUnspelled part = (b : FarmBoard) → IsSpelled b part → ⊥
+
+-- ---- behind the boards
+
+-- what is left is the schedule of these boards, which haven't too many elements together
+pub record IsRestRead (boards : List FarmBoard) (left : List ℕ) (bs : List FarmBoard) (es : List Event) : Type 0 where
+  pub same : bs ≡ boards
+  pub schedule : IsSchedule (length boards) left es
+  pub few : elements_of boards ≤ MOST_ELEMENTS
+
+-- what is left is a schedule, and the boards have so many elements together, which are too many
+pub record AreTooMany (boards : List FarmBoard) (left : List ℕ) (count : ℕ) : Type 0 where
+  pub schedule : List Event
+  pub is_schedule : IsSchedule (length boards) left schedule
+  pub is : count ≡ elements_of boards
+  pub great : MOST_ELEMENTS < count
+
+-- what is left is no schedule of these boards, or they have too many elements together; want of memory says nothing
+abbrev pub IsRestRefusal : List FarmBoard → List ℕ → FarmRefusal → Type 0
+IsRestRefusal boards left NoSchedule = ⊥
+IsRestRefusal boards left (Board board fault) = ⊥
+IsRestRefusal boards left (Form line) = (n : ℕ) × (line ≡ n + 1) × FailsAfter (length boards) n left malformed
+IsRestRefusal boards left (NoBoard line) = (n : ℕ) × (line ≡ n + 1) × FailsAfter (length boards) n left no_board
+IsRestRefusal boards left (Elements count) = AreTooMany boards left count
+IsRestRefusal boards left NoMemory = Unit {0}
+
+-- ---- boards
+
+-- one board more was read, from this part
+pub record HasPushed (boards : List NetConfig) (part : List ℕ) (now : List NetConfig) : Type 0 where
+  pub board : NetConfig
+  pub spelled : IsSpelled (board_of board) part
+  pub pushed : now ≡ boards ++ board ∷ []
+
+-- the part is misspelled; want of memory says nothing
+abbrev pub IsPartRefusal : List ℕ → ℕ → FarmRefusal → Type 0
+IsPartRefusal part number (Board board fault) =
+    (board ≡ number) × (fault ≢ netlist.NoMemory) × IsTextRefusal part fault × IsUnspelled part
+IsPartRefusal part number NoSchedule = ⊥
+IsPartRefusal part number (Form line) = ⊥
+IsPartRefusal part number (NoBoard line) = ⊥
+IsPartRefusal part number (Elements count) = ⊥
+IsPartRefusal part number NoMemory = Unit {0}
+
+-- ---- all bytes
+
+-- the bytes are the texts of these boards, each with a line `%` behind it, and then this schedule of them
+pub record IsFarmRead (bytes : List ℕ) (bs : List FarmBoard) (es : List Event) : Type 0 where
+  pub parts : List (List ℕ)
+  pub last : List ℕ
+  pub some : parts ≢ []
+  pub are : AreParts bytes parts last
+  pub spell : SpellBoards parts bs
+  pub schedule : IsSchedule (length bs) last es
+  pub few : elements_of bs ≤ MOST_ELEMENTS
+
+-- this board, counted from 1, is the first that is misspelled, and this is its first fault, which isn't want of memory
+pub record IsFirstMisspelled (bytes : List ℕ) (board : ℕ) (fault : NetlistRefusal) : Type 0 where
+  pub parts : List (List ℕ)
+  pub last : List ℕ
+  pub are : AreParts bytes parts last
+  pub part : List ℕ
+  pub first : IsFirstWith IsUnspelled parts board part
+  pub faulty : IsTextRefusal part fault
+  pub said : fault ≢ netlist.NoMemory
+
+-- the parts spell boards, and the refusal is of what stands behind them
+pub record IsRefusedBehind (bytes : List ℕ) (refusal : FarmRefusal) : Type 0 where
+  pub parts : List (List ℕ)
+  pub last : List ℕ
+  pub boards : List FarmBoard
+  pub some : parts ≢ []
+  pub are : AreParts bytes parts last
+  pub spell : SpellBoards parts boards
+  pub refused : IsRestRefusal boards last refusal
+
+-- What a refusal says of the bytes: no line is `%`; the first board that is misspelled; what is wrong behind the
+-- boards, all of which are spelled. Want of memory says nothing.
+abbrev pub IsFarmRefusal : List ℕ → FarmRefusal → Type 0
+IsFarmRefusal bytes NoSchedule = IsUncut bytes
+IsFarmRefusal bytes (Board board fault) = IsFirstMisspelled bytes board fault
+IsFarmRefusal bytes (Form line) = IsRefusedBehind bytes (Form line)
+IsFarmRefusal bytes (NoBoard line) = IsRefusedBehind bytes (NoBoard line)
+IsFarmRefusal bytes (Elements count) = IsRefusedBehind bytes (Elements count)
+IsFarmRefusal bytes NoMemory = Unit {0}

@@ -1,0 +1,101 @@
+-- The text of a farm and a schedule: the text of each board with a line `%` behind it, and the schedule's lines (this
+-- project's own profile).
+use Rattle.std.specs.Prelude.{◌≡◌, ◌≢◌, ℕ, zero, suc, ◌+◌, ◌<◌, ◌≤◌, Bool, true, false, List, [], ◌∷◌, ◌++◌}
+use Rattle.std.specs.Prelude.{codes, decimal, ◌⊎◌}
+use Rattle.bn_base.specs.Number.{greatest}
+use Rattle.bn_farm.specs.Farms.{FarmBoard, IsSpelled}
+use Rattle.bn_cut.specs.Cuts.{IsCut, IsUncut}
+use Rattle.bn_farm.specs.declared.event.Event.{Event}
+use Rattle.bn_farm.specs.declared.order.Order.{Order}
+
+-- ---- schedules
+
+abbrev pub sign_text : Bool → List ℕ
+sign_text true = codes "+ "
+sign_text false = codes "- "
+
+-- the line that says it, without its byte 10
+abbrev pub order_text : Order → List ℕ
+order_text o = sign_text o.forward ++ (decimal o.number ++ (codes " " ++ decimal o.count))
+
+-- its numbers are read, and there is a step at least
+pub record IsSayable (o : Order) : Type 0 where
+  pub number : o.number ≤ greatest
+  pub some : 1 ≤ o.count
+  pub few : o.count ≤ greatest
+
+-- what an event's line says
+abbrev pub order_of : Event → Order
+order_of e = record { forward = e.forward; number = e.board + 1; count = e.count }
+
+abbrev pub schedule_text : List Event → List ℕ
+schedule_text [] = []
+schedule_text (e ∷ es) = order_text (order_of e) ++ 10 ∷ schedule_text es
+
+-- the event's line can be written, and a farm of so many boards has its board
+pub record IsEventOf (boards : ℕ) (e : Event) : Type 0 where
+  pub sayable : IsSayable (order_of e)
+  pub has_board : e.board < boards
+
+abbrev pub AreEventsOf : ℕ → List Event → Type 0
+AreEventsOf boards [] = Unit {0}
+AreEventsOf boards (e ∷ es) = IsEventOf boards e × AreEventsOf boards es
+
+-- the bytes are the schedule of these events of a farm of so many boards
+pub record IsSchedule (boards : ℕ) (bytes : List ℕ) (es : List Event) : Type 0 where
+  pub spelled : bytes ≡ schedule_text es
+  pub lawful : AreEventsOf boards es
+
+-- The faults of a line: it has no form; the farm has no board of this number.
+pub data ScheduleFault : Type 0 where
+  malformed : ScheduleFault
+  no_board : ScheduleFault
+
+-- something is left, and it doesn't begin with a whole line that has a form
+pub record IsMalformed (left : List ℕ) : Type 0 where
+  pub some : left ≢ []
+  pub unsaid : (o : Order) (behind : List ℕ) → IsSayable o → left ≢ order_text o ++ 10 ∷ behind
+
+-- what is left begins with a whole line that has a form, and its number is 0 or above that of the boards
+pub record LacksBoard (boards : ℕ) (left : List ℕ) : Type 0 where
+  pub says : Order
+  pub behind : List ℕ
+  pub begins : left ≡ order_text says ++ 10 ∷ behind
+  pub sayable : IsSayable says
+  pub lacking : (says.number ≡ 0) ⊎ (boards < says.number)
+
+abbrev pub BeginsWithFault : ℕ → List ℕ → ScheduleFault → Type 0
+BeginsWithFault boards left malformed = IsMalformed left
+BeginsWithFault boards left no_board = LacksBoard boards left
+
+-- behind the lines of so many events, the next line is the first with a fault
+abbrev pub FailsAfter : ℕ → ℕ → List ℕ → ScheduleFault → Type 0
+FailsAfter boards zero bytes fault = BeginsWithFault boards bytes fault
+FailsAfter boards (suc n) bytes fault =
+    (e : Event) × (behind : List ℕ) × IsEventOf boards e × (bytes ≡ order_text (order_of e) ++ 10 ∷ behind)
+    × FailsAfter boards n behind fault
+
+-- ---- farms
+
+-- these texts, each with a line `%` behind it
+abbrev pub joined : List (List ℕ) → List ℕ
+joined [] = []
+joined (part ∷ parts) = part ++ 37 ∷ 10 ∷ joined parts
+
+-- the parts spell these boards
+abbrev pub SpellBoards : List (List ℕ) → List FarmBoard → Type 0
+SpellBoards [] [] = Unit {0}
+SpellBoards [] (b ∷ bs) = ⊥
+SpellBoards (part ∷ parts) [] = ⊥
+SpellBoards (part ∷ parts) (b ∷ bs) = IsSpelled b part × SpellBoards parts bs
+
+-- the text of these boards and this schedule
+pub record IsFarmText (bs : List FarmBoard) (es : List Event) (text : List ℕ) : Type 0 where
+  pub parts : List (List ℕ)
+  pub spell : SpellBoards parts bs
+  pub written : text ≡ joined parts ++ schedule_text es
+
+-- the parts of an input before each of its lines `%`, and what stands behind the last
+abbrev pub AreParts : List ℕ → List (List ℕ) → List ℕ → Type 0
+AreParts bytes [] last = IsUncut bytes × (bytes ≡ last)
+AreParts bytes (part ∷ parts) last = (rest : List ℕ) × IsCut bytes part rest × AreParts rest parts last

@@ -1,0 +1,65 @@
+-- What the laws of this crate say, each the contract of a function with an empty body.
+use Rattle.std.specs.Prelude.{◌≡◌, ℕ, List, length, Some, slice_get, option_map, true, false}
+use Rattle.bn_lists.specs.Runs.{Reaches}
+use Rattle.bn_circuits.specs.Circuits.{Goes}
+use Rattle.bn_circuits.specs.Stepping.{run, back}
+use Rattle.bn_farm.specs.declared.event.Event.{Event}
+use Rattle.bn_farm.specs.Farms.{FarmBoard, IsAdmitted, IsFarm, Tick, after, alone, at_board, circuit_in, farm_after, moved}
+use Rattle.bn_farm.specs.Farms.{own, play, ticks, ticks_of}
+use Rattle.bn_farm.specs.Undo.{AllLawful, counted, moving, undoing}
+
+-- a line of n ticks leaves its board where a run of n steps does, forward or back, and all others as they were
+abbrev pub LinesAreRuns : Type 0
+LinesAreRuns =
+    (farm : List FarmBoard) (e : Event) → play farm (ticks_of e) ≡ at_board (after e.forward e.count) e.board farm
+
+-- each board ends where its own ticks alone leave it, whatever ticks of other boards come between
+abbrev pub BoardsAreApart : Type 0
+BoardsAreApart =
+    (farm : List FarmBoard) (es : List Tick) (i : ℕ)
+    → slice_get (play farm es) i ≡ option_map (λ b. alone b (own i es)) (slice_get farm i)
+
+-- two schedules with the same ticks for each board end in the same farm
+abbrev pub OrderIsFree : Type 0
+OrderIsFree =
+    (farm : List FarmBoard) (first second : List Event)
+    → ((i : ℕ) (b : FarmBoard) → slice_get farm i ≡ Some b → own i (ticks first) ≡ own i (ticks second))
+    → farm_after farm first ≡ farm_after farm second
+
+-- boards keep being boards
+abbrev pub FarmsStay : Type 0
+FarmsStay = (farm : List FarmBoard) (es : List Tick) → IsFarm farm → IsFarm (play farm es)
+
+-- the number that is counted is the number of steps made, forward, and back
+abbrev pub CountsAreSteps : Type 0
+CountsAreSteps =
+    ((b : FarmBoard) (n : ℕ) → IsAdmitted b
+    → Reaches (Goes (circuit_in b)) (counted true b.spelling.config (run (circuit_in b) b.spelling.config n))
+    b.spelling.config (run (circuit_in b) b.spelling.config n))
+    × ((b : FarmBoard) (n : ℕ) → IsAdmitted b
+    → Reaches (Goes (circuit_in b)) (counted false b.spelling.config (back (circuit_in b) b.spelling.config n))
+    (back (circuit_in b) b.spelling.config n) b.spelling.config)
+
+-- playing the undoing schedule restores every board
+abbrev pub UndoingRestores : Type 0
+UndoingRestores =
+    (farm : List FarmBoard) (schedule : List Event) → IsFarm farm
+    → farm_after (farm_after farm schedule) (undoing farm schedule) ≡ farm
+
+-- the undoing schedule's own undoing schedule is the list of the lines that made steps, each with the number made
+abbrev pub UndoingTwice : Type 0
+UndoingTwice =
+    (farm : List FarmBoard) (schedule : List Event) → IsFarm farm
+    → undoing (farm_after farm schedule) (undoing farm schedule) ≡ moving farm schedule
+
+-- the undoing schedule is a schedule of the same farm, whatever the first schedule's boards are
+abbrev pub UndoingIsLawful : Type 0
+UndoingIsLawful =
+    (farm : List FarmBoard) (schedule : List Event) → IsFarm farm → AllLawful (length farm) (undoing farm schedule)
+
+-- a farm keeps its boards: as many, and each with its circuit
+abbrev pub BoardsKeepCircuits : Type 0
+BoardsKeepCircuits =
+    ((farm : List FarmBoard) (es : List Tick) → length (play farm es) ≡ length farm)
+    × ((farm : List FarmBoard) (es : List Tick) (i : ℕ) (b : FarmBoard) → slice_get farm i ≡ Some b
+    → (d : FarmBoard) × (slice_get (play farm es) i ≡ Some d) × (d ≡ moved b d.spelling.config))

@@ -1,0 +1,10 @@
+pub mod Farms
+pub mod Undo
+pub mod Playing
+pub mod Laws
+pub mod FarmTexts
+pub mod Reading
+pub mod Refused
+pub mod TextLaws
+pub mod FarmRead
+pub mod Writing

@@ -1,0 +1,43 @@
+//! Reading a schedule.
+
+ghost use Rattle.std.specs.Prelude.{◌≡◌, ◌+◌, IfOk, IfErr};
+ghost use Rattle.bn_farm.specs.FarmTexts.{IsSchedule};
+ghost use Rattle.bn_farm.specs.Refused.{IsScheduleRefusal};
+
+use crate::cursor::Cursor;
+use crate::event::Event;
+use crate::refusal::ScheduleRefusal;
+use crate::schedule::Schedule;
+use std::alloc::Global;
+
+/// Reads the schedule of a farm of so many boards. A refusal names the first line with a fault, counted from 1, and its
+/// first fault. (This project's own profile.)
+pub(crate) fn read_schedule(
+    alloc: Global,
+    bytes: &[u8],
+    boards: u32,
+) -> Result<Schedule, ScheduleRefusal>
+    ensures read { IfOk result (λ s. IsSchedule boards bytes.now s) }
+    ensures refused { IfErr result (IsScheduleRefusal boards bytes.now) }
+{
+    let mut cursor = Cursor::new(bytes);
+    let mut events = Vec::new(alloc);
+    while !cursor.is_at_end() {
+        let line = events.len() as u64 + 1;
+        let Some(order) = cursor.order() else {
+            return Err(ScheduleRefusal::Form { line });
+        };
+        if order.number == 0 || order.number > u64::from(boards) {
+            return Err(ScheduleRefusal::NoBoard { line });
+        }
+        let event = Event {
+            forward: order.forward,
+            board: (order.number - 1) as u32,
+            count: order.count,
+        };
+        let Ok(()) = events.push(event) else {
+            return Err(ScheduleRefusal::NoMemory);
+        };
+    }
+    Ok(Schedule::new(events))
+}

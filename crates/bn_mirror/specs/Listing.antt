@@ -1,0 +1,25 @@
+-- The wires of a mirror, as they are listed output by output.
+use Rattle.std.specs.Prelude.{◌≡◌, ℕ, ◌+◌, ◌*◌, ◌<◌, ◌≤◌, List, length, Some}
+use Rattle.bn_circuits.specs.Circuits.{target}
+use Rattle.bn_circuits.specs.declared.line.Line.{Line}
+use Rattle.bn_circuits.specs.declared.line.Wire.{Wire}
+use Rattle.bn_net.specs.Wirings.{AreWiresOf}
+use Rattle.bn_mirror.specs.Mirror.{mirrored_line}
+
+-- a line of a rotary element, by its number among all
+abbrev pub number_of : Line → ℕ
+number_of l = 4 * l.element + l.line
+
+-- a wire of the mirror: these wires have it turned round
+abbrev pub IsMirroredWire : List Wire → Line → Line → Type 0
+IsMirroredWire ws from to = target ws (mirrored_line to) ≡ Some (mirrored_line from)
+
+-- the same, where the wire that is turned round leaves one of the first k output lines
+pub record IsMirroredBelow (ws : List Wire) (k : ℕ) (from to : Line) : Type 0 where
+  pub wire : IsMirroredWire ws from to
+  pub below : number_of (mirrored_line to) < k
+
+-- the wires of the mirror for the first k output lines
+pub record IsListing (ws : List Wire) (k : ℕ) (listed : List Wire) : Type 0 where
+  pub wires : AreWiresOf (IsMirroredBelow ws k) listed
+  pub few : length listed ≤ k

@@ -1,0 +1,43 @@
+-- The outside of a command as one thing: what a source, a sink and a watch tell at a moment.
+use Rattle.std.specs.Prelude.{◌≡◌, ℕ, ◌≤◌, ◌<◌, List, [], length, Option, Some, IfSome}
+use Rattle.bn_circuits.specs.declared.place.Place.{Place}
+use Rattle.bn_io.specs.Told.{Loses, Grows}
+use Rattle.bn_net.specs.Watching.{Hears}
+
+-- What the source has left and the sink has taken, where they tell it; the places that the watch tells; and how often
+-- reading and writing failed so far.
+pub record Outside : Type 0 where
+  pub left : Option (List ℕ)
+  pub taken : Option (List ℕ)
+  pub told : Option (List Place)
+  pub read_faults : ℕ
+  pub write_faults : ℕ
+
+-- these five, in this order
+abbrev pub outside : Option (List ℕ) → Option (List ℕ) → Option (List Place) → ℕ → ℕ → Outside
+outside left taken told read_faults write_faults = record {
+  left = left;
+  taken = taken;
+  told = told;
+  read_faults = read_faults;
+  write_faults = write_faults;
+}
+
+-- In between, the sink took this text, and the watch heard these places.
+pub record Gave (before after : Outside) (text : List ℕ) (places : List Place) : Type 0 where
+  pub grows : Grows before.taken after.taken text
+  pub hears : Hears before.told places after.told
+
+-- No count of faults falls.
+pub record IsLater (before after : Outside) : Type 0 where
+  pub read : before.read_faults ≤ after.read_faults
+  pub write : before.write_faults ≤ after.write_faults
+
+-- the source gave these bytes, and they are all that it had left
+pub record GaveAll (old new : Option (List ℕ)) (bytes : List ℕ) : Type 0 where
+  pub lost : Loses old new bytes
+  pub ended : IfSome old (λ xs. new ≡ Some [])
+
+-- the source gave more bytes than the limit
+abbrev pub GaveMore : Option (List ℕ) → Option (List ℕ) → ℕ → Type 0
+GaveMore old new limit = (piece : List ℕ) × Loses old new piece × (limit < length piece)

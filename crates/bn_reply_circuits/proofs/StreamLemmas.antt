@@ -1,0 +1,137 @@
+-- How the commands on configuration texts end over a source and a sink.
+use Rattle.std.specs.Prelude.{ℕ, ◌≤◌, List, [], Option, Result, Ok, Err, IfOk, IsErrOf, refl}
+use Rattle.std.proofs.Common.{arith, sym, subst}
+use Rattle.bn_circuits.specs.Circuits.{Circuit}
+use Rattle.bn_circuits.specs.declared.place.Place.{Place}
+use Rattle.bn_circuits.specs.declared.config.Config.{Config}
+use Rattle.bn_io.specs.Faults.{Rose}
+use Rattle.bn_io.specs.Told.{ReadsWithin}
+use Rattle.bn_lists.specs.declared.memory.NoMemory.{NoMemory as WantOfMemory}
+use Rattle.bn_net.proofs.WalkLemmas.{hears-nothing}
+use Rattle.bn_net.specs.RotaryNets.{rotary_circuit}
+use Rattle.bn_netlist.specs.FromText.{IsFromRefusal, HasWhole, Ends}
+use Rattle.bn_netlist.specs.declared.refusal.FromRefusal.{FromRefusal}
+use Rattle.bn_netlist.specs.declared.refusal.FromRefusal.TheVariants as reading
+use Rattle.bn_netlist_laws.specs.Spelling.{IsTextOf, Spelled, moved_to}
+use Rattle.bn_netlist_laws.specs.declared.version.Version.TheVariants.{Two}
+use Rattle.bn_netlist_laws.proofs.EntryLemmas.{has-text}
+use Rattle.bn_netlist_laws.proofs.VersionLemmas.{admission-rises}
+use Rattle.bn_netlist_lines.specs.NetText.{spelling_of, IsTextRefusal}
+use Rattle.bn_netlist_lines.specs.declared.net_config.NetConfig.{NetConfig}
+use Rattle.bn_netlist_lines.specs.declared.refusal.NetlistRefusal.{NetlistRefusal}
+use Rattle.bn_reply.specs.Ends.{TextEnds}
+use Rattle.bn_reply.specs.Outside.{outside}
+use Rattle.bn_reply.specs.Streams.{AnswerEnds, StreamEnds, Whole, TooLong, Failed, Unread}
+use Rattle.bn_reply.specs.declared.limits.TheConstants.{MOST_INPUT_BYTES}
+use Rattle.bn_reply.specs.declared.reply.Reply.{Reply}
+use Rattle.bn_reply.specs.declared.status.Status.{Status}
+use Rattle.bn_reply.specs.declared.status.Status.TheVariants as statuses
+use Rattle.bn_reply.proofs.ReplyLemmas.{grows_nothing, silent_ends, text_ends}
+use Rattle.bn_reply.proofs.StreamLemmas.{gave_more, gave_within}
+use Rattle.bn_reply_circuits.specs.PlanReply.{PlanReplies}
+use Rattle.bn_reply_circuits.specs.PlanReply as plans
+use Rattle.bn_reply_circuits.specs.Refused.{IsRefused, UnreadEnds}
+use Rattle.bn_reply_circuits_laws.specs.CircuitReply.{Misspelled, CircuitReplies, misspelled, walked}
+use Rattle.bn_reply_circuits_laws.specs.MigrateReply.{MigrateReplies, faulty}
+use Rattle.bn_reply_circuits.proofs.CircuitLemmas.{HasGone, gone_walk, migrate_read, wrong}
+
+text_not_too_long : (r : NetlistRefusal) → IsErrOf {T = NetConfig} {E = FromRefusal} (Err (reading.Text r)) reading.TooLong → ⊥
+text_not_too_long r e = cc
+
+-- how a command ends that is refused or reads a text, where the source, the sink and the watch are at these before and
+-- after
+module _ (replies : List ℕ → Status → List ℕ → List Place → Type 0) (bytes : List ℕ) (result : Status) (left after : Option (List ℕ)) (failed fails : ℕ)
+    (taken took : Option (List ℕ)) (before now : ℕ) (told heard : Option (List Place)) where
+  abbrev EndsSo : Type 0
+  EndsSo = StreamEnds replies result (outside left taken told failed before) (outside after took heard fails now)
+
+  -- a text that is read to its end
+  pub stream_read : (longer : Type 0) → ReadsWithin left after MOST_INPUT_BYTES longer bytes → (longer → ⊥) → Ends left after →
+      AnswerEnds (replies bytes) result taken took before now told heard → failed ≤ fails → before ≤ now → EndsSo
+  stream_read longer reads none all ends later_source later_sink = record {
+    input = Whole bytes;
+    gives = (record { lost = reads.lost; ended = all }, gave_within left after MOST_INPUT_BYTES longer bytes reads none);
+    ends = ends;
+    later = record { read = later_source; write = later_sink };
+  }
+
+-- nothing was read
+module _ (replies : List ℕ → Status → List ℕ → List Place → Type 0) (refuses : (bytes text : List ℕ) → Misspelled bytes text → replies bytes statuses.Text text [])
+    (bytes : List ℕ) (result : Status) (left after : Option (List ℕ)) (failed fails : ℕ) (taken took : Option (List ℕ)) (before now : ℕ)
+    (told : Option (List Place)) where
+  refused_reply : (refusal : NetlistRefusal) (reply : Result Reply WantOfMemory) → IsTextRefusal bytes refusal →
+      IfOk reply (λ r. IsRefused refusal r.status r.text.items) → IfOk reply (λ r. replies bytes r.status r.text.items [])
+  refused_reply refusal (Ok r) first is =
+      let both = wrong bytes refusal r.status r.text.items first is in
+      subst (λ st. replies bytes st r.text.items []) (sym both.0) (refuses bytes r.text.items both.1)
+  refused_reply refusal (Err e) first is = tt
+
+  pub stream_unread : (refusal : FromRefusal) → ReadsWithin left after MOST_INPUT_BYTES (IsErrOf {T = NetConfig} (Err refusal) reading.TooLong) bytes →
+      IsFromRefusal bytes refusal → (HasWhole refusal → Ends left after) → (IsErrOf {T = NetConfig} (Err refusal) reading.ReadFault → Rose failed fails) →
+      UnreadEnds refusal result taken took before now → failed ≤ fails → before ≤ now →
+      StreamEnds replies result (outside left taken told failed before) (outside after took told fails now)
+  stream_unread reading.ReadFault reads first all cause ends later_source later_sink = record {
+    input = Failed;
+    gives = cause refl;
+    ends = (ends, hears-nothing told);
+    later = record { read = later_source; write = later_sink };
+  }
+  stream_unread reading.TooLong reads first all cause ends later_source later_sink = record {
+    input = TooLong;
+    gives = gave_more left after MOST_INPUT_BYTES (IsErrOf {T = NetConfig} (Err reading.TooLong) reading.TooLong) bytes reads refl;
+    ends = (ends, hears-nothing told);
+    later = record { read = later_source; write = later_sink };
+  }
+  stream_unread (reading.Text r) reads first all cause ends later_source later_sink =
+      stream_read replies bytes result left after failed fails taken took before now told told (IsErrOf {T = NetConfig} (Err (reading.Text r)) reading.TooLong) reads
+      (text_not_too_long r) (all tt)
+      (silent_ends (replies bytes) ends.0 result taken took before now told (refused_reply r ends.0 first.0 ends.1) ends.2) later_source later_sink
+  stream_unread reading.NoMemory reads first all cause ends later_source later_sink = record {
+    input = Unread;
+    gives = tt;
+    ends = (ends.0, grows_nothing taken took ends.1, hears-nothing told);
+    later = record { read = later_source; write = later_sink };
+  }
+
+-- memory is wanting for what was read
+pub stream_wanting : (replies : List ℕ → Status → List ℕ → List Place → Type 0) (left after : Option (List ℕ)) (failed fails : ℕ) (taken : Option (List ℕ)) (before : ℕ)
+    (told : Option (List Place)) → failed ≤ fails →
+    StreamEnds replies statuses.NoMemory (outside left taken told failed before) (outside after taken told fails before)
+stream_wanting replies left after failed fails taken before told later_source = record {
+  input = Unread;
+  gives = tt;
+  ends = (refl, grows_nothing taken taken refl, hears-nothing told);
+  later = record { read = later_source; write = omega arith };
+}
+
+pub walk_refuses : (goes : Circuit → Config → Config) (tells : Circuit → Config → List Place) (bytes text : List ℕ) → Misspelled bytes text →
+    CircuitReplies goes tells bytes statuses.Text text []
+walk_refuses goes tells bytes text is = misspelled is refl refl
+
+pub migrate_refuses : (bytes text : List ℕ) → Misspelled bytes text → MigrateReplies bytes statuses.Text text []
+migrate_refuses bytes text is = faulty is refl refl
+
+pub plan_refuses : (bytes text : List ℕ) → Misspelled bytes text → PlanReplies bytes statuses.Text text []
+plan_refuses bytes text is = plans.misspelled is refl refl
+
+pub not_too_long : (c : NetConfig) → IsErrOf {T = NetConfig} {E = FromRefusal} (Ok c) reading.TooLong → ⊥
+not_too_long c e = cc
+
+-- how the answer of `step` and `back` to a text that was read ends
+pub walk_ends : (goes : Circuit → Config → Config) (tells : Circuit → Config → List Place) (c : NetConfig) (bytes : List ℕ) (d : Config) (result : Status)
+    (taken took : Option (List ℕ)) (before now : ℕ) (told heard : Option (List Place)) → HasGone goes tells c bytes d told heard →
+    TextEnds (IsTextOf c.version (moved_to (spelling_of c) d)) result taken took before now →
+    AnswerEnds (CircuitReplies goes tells bytes) result taken took before now told heard
+walk_ends goes tells c bytes d result taken took before now told heard gone ends =
+    let text = has-text c.version (moved_to (spelling_of c) d) gone.admitted in
+    text_ends (CircuitReplies goes tells bytes) (IsTextOf c.version (moved_to (spelling_of c) d)) text.0 (tells (rotary_circuit c.net) c.config) result taken took
+    before now told heard text.1.is_text (walked (gone_walk goes tells c bytes d told heard text.0 gone text.1.is_text) refl) gone.hears ends
+
+-- how that of `migrate` does
+pub migrate_ends : (c : NetConfig) (bytes : List ℕ) (result : Status) (taken took : Option (List ℕ)) (before now : ℕ) (told : Option (List Place)) →
+    Spelled c.version (spelling_of c) bytes → TextEnds (IsTextOf Two (spelling_of c)) result taken took before now →
+    AnswerEnds (MigrateReplies bytes) result taken took before now told told
+migrate_ends c bytes result taken took before now told spelled ends =
+    let text = has-text Two (spelling_of c) (admission-rises c.version (spelling_of c) spelled.admitted) in
+    text_ends (MigrateReplies bytes) (IsTextOf Two (spelling_of c)) text.0 [] result taken took before now told told text.1.is_text
+    (migrate_read c bytes text.0 spelled text.1.is_text) (hears-nothing told) ends

@@ -1,0 +1,3 @@
+pub mod FarmReplyLemmas
+pub mod ComeBackLemmas
+pub mod FarmAnswerLemmas

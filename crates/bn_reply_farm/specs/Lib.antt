@@ -1,0 +1,2 @@
+pub mod FarmReply
+pub mod FarmRefused

@@ -1,0 +1,2 @@
+pub mod MirrorReply
+pub mod Laws

@@ -1,0 +1,43 @@
+// The page: what was typed becomes a machine, that a run, and the run is shown at one step of one time.
+import {answer, log} from "./answer.js";
+import {chips} from "./breaks.js";
+import {editorText} from "./editor.js";
+import {EXAMPLES} from "./examples.js";
+import {PICTURES, takeHands, TEXTS} from "./hands.js";
+import {readLink} from "./links.js";
+import {rebuild, takeMachine} from "./machine.js";
+import {composed} from "./picture.js";
+import {frames, goTo, pause, play, showButtons, step, timings} from "./play.js";
+import {byId, current, escaped, state} from "./state.js";
+import {placeName} from "./texts.js";
+import {render} from "./view.js";
+import {lineOf} from "./words.js";
+
+export function start() {
+  document.body.classList.add("empty");
+  const options = EXAMPLES.map(it => `<option value="${it.key}">${escaped(it.title)}</option>`);
+  byId("examples").innerHTML = options.join("") + '<option value="" hidden>Your own</option>';
+  takeHands();
+  addEventListener("hashchange", begin);
+  begin();
+}
+
+// Begins with what the link asks for, or with the first example.
+function begin() {
+  const link = readLink(location.hash);
+  chips();
+  showButtons();
+  if (!link) {
+    takeMachine(EXAMPLES[0]);
+    return;
+  }
+  Object.assign(state, link);
+  byId("examples").value = link.example;
+  byId("about").textContent = EXAMPLES.find(it => it.key === link.example)?.about ?? "A machine from a link.";
+  byId("word").value = state.word;
+  editorText();
+  rebuild(link.e).catch(console.error);
+}
+
+// For the checks, and for the curious.
+window.bench = {answer, composed, current, frames, goTo, lineOf, log, pause, PICTURES, placeName, play, render, state, step, TEXTS, timings};

@@ -1,0 +1,114 @@
+// The circuit's panel: the map of all modules, and the module in which the signal is as a bank of elements.
+import {bankPicture, overviewPicture, TOP, WIDE} from "./bank_picture.js";
+import {mapPicture} from "./map_picture.js";
+import {forgetSizes, heightOf, put, widthOf} from "./sizes.js";
+import {byId, current, escaped, nameOf, state} from "./state.js";
+import {render} from "./view.js";
+import {bankName, exitWords, lineOf, number} from "./words.js";
+
+const NAMES_WIDTH = 58, LEAST_PITCH = 14.5, MOST_TRAIL = 600, MAP_HEIGHT = 118;
+// The part of the bank that is seen: its first column and row, and how many.
+export const seen = {view: null};
+
+export function renderBank(f) {
+  const {run} = current, hasLeft = Boolean(f.at?.hasLeft);
+  put("map", mapPicture(run, {bank: f.bank, row: f.row, moment: f.moment, hasLeft, width: widthOf("map"), height: MAP_HEIGHT}));
+  if (!f.bank) {
+    byId("what").textContent = "fetching the way of the signal …";
+    return;
+  }
+  const {bank} = f, bars = run.bankBars(bank, f.e);
+  const size = `${bank.columns} columns of ${bank.rows} rows, ${number(bank.count)} elements`;
+  put("where", escaped(bankName(bank)[0].toUpperCase() + bankName(bank).slice(1))
+    + ` <span class="quiet state" title="${size}">${escaped(bankState(bank, bars))}</span>`);
+  put("what", moveWords(f, hasLeft));
+  const trail = f.move.from !== null ? run.trail(f.e, f.move.from, MOST_TRAIL) : [f.at.place];
+  const view = viewOf(f), width = widthOf("bankbox"), place = f.at.place;
+  if (view.needsMap) {
+    const height = Math.min(58, Math.max(34, bank.rows * 1.6));
+    put("overview", overviewPicture(run, {bank, bars, place, hasLeft, trail, width, height, seen: view}));
+  }
+  const {pitch, wide, x, y} = view, height = heightOf("bankbox");
+  put("bank", bankPicture(run, {bank, bars, place, hasLeft, trail, width, height, pitch, wide, x, y, left: NAMES_WIDTH}));
+}
+
+// The line by which the signal came in, in words, and how far its move is.
+function moveWords(f, hasLeft) {
+  const {run} = current;
+  if (hasLeft) return escaped(exitWords(run.outcome.exit, nameOf));
+  const entry = f.move.from !== null ? run.placeAt(f.move.from)?.place : f.row >= 0 ? f.at.place : null;
+  if (entry === null || entry === undefined || run.entryOf(entry) < 0) return "on its way";
+  const line = `<b>${escaped(lineOf(run, f.bank, run.entryOf(entry)).words)}</b>`;
+  if (f.row >= 0) return line + " · about to come in";
+  if (f.move.from === null || f.move.to === null) return line;
+  return line + ` · step ${number(f.e - f.move.from)} of ${number(f.move.to - f.move.from)}`;
+}
+
+// The state of a module: its marked column.
+function bankState(bank, bars) {
+  if (!bars) return "";
+  for (let c = 0; c < bank.columns; c++) {
+    if (bars[c * (bank.rows + 1) + bank.rows] !== 1) continue;
+    if (bank.kind === "control") return `state ${c + 1} of ${bank.columns}`;
+    const z = current.run.symbols[bank.tape - 1], symbol = current.run.symbolOf(bank.tape, c % z);
+    return `holds ${symbol === "_" ? "a blank" : symbol}${c >= z ? " and the head" : ""}`;
+  }
+  return "no mark: on its way";
+}
+
+// Which part of the bank is seen, how large; and whether the whole in little is wanted beside it.
+function viewOf({bank, at}) {
+  const width = widthOf("bankbox"), whole = (width - NAMES_WIDTH - 10) / (bank.columns * WIDE);
+  const fitting = height => Math.min(whole, (height - TOP - 6) / (bank.rows + 1));
+  const needsMap = Boolean(state.zoom) || fitting(heightOf("bankbox") + (byId("overview").hidden ? 0 : 50)) < LEAST_PITCH;
+  if (byId("overview").hidden === needsMap) {
+    byId("overview").hidden = !needsMap;
+    forgetSizes("bankbox");
+  }
+  const height = heightOf("bankbox"), fit = fitting(height);
+  const pitch = state.zoom?.pitch ?? (fit >= LEAST_PITCH ? Math.min(fit, 40) : Math.max(25, Math.min(34, height / 16)));
+  const stretched = Math.max(WIDE, Math.min(2.7, (width - NAMES_WIDTH - 10) / (bank.columns * pitch)));
+  const wide = state.zoom || fit < LEAST_PITCH ? WIDE : stretched;
+  const columns = (width - NAMES_WIDTH) / (pitch * wide), rows = (height - TOP - 8) / pitch;
+  let {x, y} = state.zoom && !state.zoom.follows && state.zoom.bank === bank.number ? state.zoom
+    : followed(bank, at.place, pitch, columns, rows);
+  x = Math.max(0, Math.min(bank.columns - columns, x));
+  y = Math.max(0, Math.min(bank.rows + 1 - rows, y));
+  seen.view = {bank: bank.number, pitch, wide, x, y, columns, rows, needsMap};
+  if (state.zoom) Object.assign(state.zoom, {x, y, bank: bank.number});
+  return seen.view;
+}
+// The window moves only where the signal would leave its inner part, so that the picture stays calm.
+function followed(bank, place, pitch, columns, rows) {
+  const element = (place >> 2) - bank.base, c = Math.floor(element / (bank.rows + 1)), r = element % (bank.rows + 1);
+  const isSame = seen.view?.bank === bank.number && seen.view.pitch === pitch;
+  const kept = isSame ? seen.view : {x: c - columns / 2, y: r - rows / 2};
+  const edge = Math.min(2.2, columns / 4);
+  let {x, y} = kept;
+  if (c - x < edge) x = c - Math.min(columns * .6, columns - edge);
+  else if (c - x > columns - edge - 1) x = c - Math.max(columns * .4 - 1, edge);
+  if (r - y < Math.min(1.5, rows / 4)) y = r - rows * .55;
+  else if (r - y > rows - 2.5) y = r - rows * .4;
+  return {x, y};
+}
+
+// ---- larger, smaller, another part
+
+export function zoomBy(factor) {
+  if (!seen.view) return;
+  const {pitch, bank, x, y, columns, rows} = seen.view, made = Math.max(4, Math.min(64, pitch * factor)), share = 1 - pitch / made;
+  state.zoom = {pitch: made, bank, follows: state.zoom?.follows ?? true, x: x + columns / 2 * share, y: y + rows / 2 * share};
+  render(false);
+}
+// The bank is dragged from where it was seen by so many pixels.
+export function dragBy(view, dx, dy) {
+  state.zoom = {pitch: view.pitch, bank: view.bank, follows: false, x: view.x - dx / (view.pitch * view.wide), y: view.y - dy / view.pitch};
+  render(false);
+}
+// The part of the bank around a place of the whole in little, which is a share of its width and height.
+export function lookAt(bank, across, down) {
+  if (!seen.view) return;
+  const {pitch, columns, rows} = seen.view;
+  state.zoom = {pitch, bank: bank.number, follows: false, x: across * bank.columns - columns / 2, y: down * (bank.rows + 1) - rows / 2};
+  render(false);
+}

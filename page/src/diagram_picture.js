@@ -1,0 +1,132 @@
+// The state diagram: at most fourteen states, those around the one that is at work where there are more.
+import {escaped} from "./state.js";
+import {n1, svg} from "./svg.js";
+
+const MOST_STATES = 14, IN_TWO_ROWS = 8, IN_ROWS = 12, SMALL_WIDTH = 480, MOST_NAME = 9, LINE = 11.5, MOST_LABELS = 3;
+const MOVES = {"+": "R", "-": "L", "0": "N"};
+
+// How the diagram is laid out: which states, how large, where each stands.
+class Layout {
+  constructor(rules, {width, height, now, name}) {
+    const states = [...new Set(rules.flatMap(it => [it.state, it.next]))];
+    Object.assign(this, {rules, width, height, name, shown: states.length > MOST_STATES ? near(rules, states, now) : states, places: new Map()});
+    this.isSmall = this.shown.length > IN_TWO_ROWS && width < SMALL_WIDTH;
+    this.R = this.isSmall ? 14 : 19;
+    this.isDense = this.isSmall || height < 130;
+    this.loops = new Set(rules.filter(it => it.state === it.next).map(it => it.state));
+    this.top = this.R * .72 + (this.shown.some(it => this.loops.has(it)) ? (this.isDense ? 16 : 31) : 14);
+    this.shown.forEach((it, k) => this.places.set(it, this.shown.length <= IN_ROWS ? this.inRows(k) : this.onEllipse(k)));
+  }
+  // Half the width of a state's box.
+  half(state) {
+    return Math.max(this.R, Math.min(MOST_NAME, this.name(state).length) * (this.isSmall ? 3.1 : 3.6) + 7);
+  }
+  // Up to eight states stand in two rows, there and back; up to twelve in three. The last number is the side of a loop.
+  inRows(k) {
+    const count = this.shown.length, rows = count <= 2 ? 1 : count <= IN_TWO_ROWS ? 2 : 3, across = Math.ceil(count / rows);
+    const row = Math.floor(k / across), inRow = Math.min(across, count - row * across), inset = this.isDense ? 32 : 40;
+    const number = row % 2 ? inRow - 1 - (k - row * across) : k - row * across, room = this.width - 2 * inset;
+    const x = inRow === 1 ? this.width / 2 : inset + room * (inRow < across ? (number + .5) / inRow : number / (inRow - 1));
+    const y = rows === 1 ? this.height / 2 : this.top + (this.height - 2 * this.top) * row / (rows - 1);
+    return [x, y, row === 0 ? -Math.PI / 2 : row === rows - 1 ? Math.PI / 2 : -Math.PI / 2];
+  }
+  onEllipse(k) {
+    const angle = Math.PI * (1 + 2 * k / this.shown.length), {width, height, R} = this;
+    return [width / 2 + (width / 2 - R - 28) * Math.cos(angle), height / 2 + Math.max(30, height / 2 - this.top) * Math.sin(angle), angle];
+  }
+  // The edges with their labels; rules between the same two states are one edge.
+  edges() {
+    const found = new Map();
+    this.rules.forEach((it, k) => {
+      if (!this.places.has(it.state) || !this.places.has(it.next)) return;
+      const key = it.state + "\n" + it.next, written = it.read === it.write ? "" : "→" + it.write;
+      if (!found.has(key)) found.set(key, {from: it.state, to: it.next, labels: []});
+      found.get(key).labels.push({text: `${it.read}${written} ${MOVES[it.shift]}`, rule: k + 1});
+    });
+    return found;
+  }
+}
+function near(rules, states, now) {
+  const found = new Set([now ?? states[0]]);
+  for (const it of rules) {
+    if (it.state === now) found.add(it.next);
+    if (it.next === now) found.add(it.state);
+  }
+  return states.filter(it => found.has(it)).slice(0, MOST_STATES);
+}
+
+export function diagramPicture(rules, how) {
+  const layout = new Layout(rules, how), edges = layout.edges(), isNow = edge => edge.labels.some(it => it.rule === how.rule);
+  let lines = "", labels = "";
+  for (const edge of [...edges.values()].sort((a, b) => isNow(a) - isNow(b))) {
+    const drawn = edge.from === edge.to ? loopOf(layout, edge, isNow(edge)) : arcOf(layout, edge, isNow(edge), edges.has(edge.to + "\n" + edge.from));
+    lines += drawn.line;
+    labels += labelsOf(layout, edge, drawn, how.rule, isNow(edge));
+  }
+  const nodes = layout.shown.map(it => nodeOf(layout, it, how)).join("");
+  return svg(how.width, how.height, `<g class="${how.stage}">${lines}${startOf(layout)}${labels}${nodes}</g>`, "diagram",
+             'role="img" aria-label="the state diagram"');
+}
+
+function edgeTip(x, y, angle, kind) {
+  const side = turn => `${n1(x - 9 * Math.cos(angle + turn))},${n1(y - 9 * Math.sin(angle + turn))}`;
+  return `<path class="edgetip ${kind}" d="M${n1(x)},${n1(y)} L${side(-.4)} L${side(.4)}z"/>`;
+}
+function startOf(layout) {
+  if (!layout.shown.length) return "";
+  const [x, y] = layout.places.get(layout.shown[0]), half = layout.half(layout.shown[0]);
+  return `<path class="edge" d="M${n1(x - half - 15)},${n1(y)}H${n1(x - half - 2)}"/>` + edgeTip(x - half - 1, y, 0, "");
+}
+
+// A loop, and where its one label stands.
+function loopOf(layout, edge, isNow) {
+  const {R, width} = layout, [x, y, angle] = layout.places.get(edge.from), kind = isNow ? "now" : "";
+  const dx = Math.cos(angle), up = Math.sin(angle) > .3 ? 1 : -1, middle = Math.atan2(up, 0);
+  const near = [-.55, .55].map(turn => [x + R * .8 * Math.cos(middle + turn), y + R * .8 * Math.sin(middle + turn)]);
+  const reach = (R * .72 + 17) * 1.15, far = [-.67, .67].map(turn => [x + reach * Math.cos(middle + turn), y + reach * Math.sin(middle + turn)]);
+  const point = it => it.map(n1).join();
+  const line = `<path class="edge ${kind}" d="M${point(near[0])} C${point(far[0])} ${point(far[1])} ${point(near[1])}"/>`
+    + edgeTip(...near[1], middle + .55 + Math.PI + .22 * up, kind);
+  const aside = Math.abs(dx) > .3 ? Math.sign(dx) * -6 : 0;
+  return {line, x: Math.max(34, Math.min(width - 34, x + aside)), y: y + up * (R * .72 + 20) - 1, anchor: "middle", isOne: true};
+}
+
+// An edge from one state to another, and where its labels stand.
+function arcOf(layout, edge, isNow, hasBack) {
+  const {R, width} = layout, [x, y] = layout.places.get(edge.from), [p, q] = layout.places.get(edge.to), kind = isNow ? "now" : "";
+  const dx = p - x, dy = q - y, length = Math.hypot(dx, dy), bow = hasBack ? 18 : length > 150 ? 14 : 8;
+  const isSteep = Math.abs(dy) > .45 * Math.abs(dx), turn = isSteep && !hasBack && ((x + p) / 2 - width / 2) * -dy < 0 ? -1 : 1;
+  const mx = (x + p) / 2 - turn * dy / length * bow, my = (y + q) / 2 + turn * dx / length * bow;
+  const out = Math.atan2(my - y, mx - x), into = Math.atan2(q - my, p - mx);
+  // Where a line leaves or comes to a state's rounded box.
+  const rim = (state, angle, more) => Math.min((R * .72 + more) / Math.max(.01, Math.abs(Math.sin(angle))),
+                                               (layout.half(state) + more) / Math.max(.01, Math.abs(Math.cos(angle))));
+  const away = rim(edge.from, out, 0), reach = rim(edge.to, into, 1.5), ex = p - reach * Math.cos(into), ey = q - reach * Math.sin(into);
+  const line = `<path class="edge ${kind}" d="M${n1(x + away * Math.cos(out))},${n1(y + away * Math.sin(out))} Q${n1(mx)},${n1(my)} ${n1(ex)},${n1(ey)}"/>`
+    + edgeTip(ex, ey, into, kind);
+  // Not in the middle, so that the labels of two rows, there and back, don't meet.
+  const t = isSteep ? .5 : .4, on = (a, b, c) => (1 - t) * (1 - t) * a + 2 * t * (1 - t) * b + t * t * c;
+  const lx = on(x, mx, p), ly = on(y, my, q);
+  if (!isSteep) return {line, x: lx, y: ly + (my > (y + q) / 2 ? 8 : -11), anchor: "middle", isOne: false};
+  const side = mx > (x + p) / 2 ? 1 : -1, room = side > 0 ? width - lx : lx, isStart = (room > 48 ? side : -side) > 0;
+  return {line, x: lx + (isStart ? 7 : -7), y: ly, anchor: isStart ? "start" : "end", isOne: false};
+}
+
+function labelsOf(layout, edge, {x, y, anchor, isOne}, rule, isNowEdge) {
+  const shown = edge.labels.slice(0, MOST_LABELS);
+  const rows = isOne ? [{text: shown.map(it => it.text).join("  "), isNow: isNowEdge}] : shown.map(it => ({text: it.text, isNow: it.rule === rule}));
+  return rows.map(({text, isNow}, k) => {
+    if (layout.isDense && !isNow) return "";
+    const more = k === rows.length - 1 && edge.labels.length > MOST_LABELS ? " …" : "", at = y + 4 + (k - (rows.length - 1) / 2) * LINE;
+    return `<text class="label${isNow ? " now" : ""}" style="text-anchor:${anchor}" x="${n1(x)}" y="${n1(at)}">${escaped(text)}${more}</text>`;
+  }).join("");
+}
+function nodeOf(layout, state, {now, stops}) {
+  const {R, name, isDense} = layout, [x, y] = layout.places.get(state), half = layout.half(state), text = name(state), isNow = state === now;
+  const isFinal = !layout.rules.some(it => it.state === state), short = text.length > MOST_NAME ? text.slice(0, MOST_NAME - 1) + "…" : text;
+  const box = (inset, more) => `x="${n1(x - half + inset)}" y="${n1(y - R * .72 + inset)}" width="${n1(2 * (half - inset))}" height="${n1(R * 1.44 - 2 * inset)}" rx="${n1(R * .72 - inset)}"${more}`;
+  return `<g data-state="${escaped(state)}"><title>${escaped(text)}${isFinal ? ", where it halts" : ""}: click for a breakpoint</title>`
+    + `<rect class="state${isNow ? " now" : ""}${stops.has(state) ? " stop" : ""}" ${box(0, "")}/>`
+    + (isFinal ? `<rect class="state" ${box(3, ' style="fill:none"')}/>` : "")
+    + `<text text-anchor="middle" ${isDense ? 'style="font-size:10.5px"' : ""} x="${n1(x)}" y="${n1(y + 4)}" ${isNow ? 'font-weight="700"' : ""}>${escaped(short)}</text></g>`;
+}

@@ -1,0 +1,153 @@
+// Time: to a step, a step on or back on a layer, and playing both ways. What a frame wants of the program is fetched, and
+// then it is drawn again; nothing is computed as a step.
+import {hit, stopBetween} from "./breaks.js";
+import {byId, current, state} from "./state.js";
+import {frame, render} from "./view.js";
+import {number} from "./words.js";
+
+// Steps a second on each layer, the least and the most.
+const RANGES = {machine: [.4, 25], quadruple: [.5, 60], module: [.7, 120], element: [1, 6000]};
+const MOST_PIECES = 24, MOST_FRAMES = 4000, MOST_GAP = 100, SLOW = 6;
+const PLAY = '<svg viewBox="0 0 16 16"><path d="M4 2.500 12.500 8 4 13.500z"/></svg>';
+const PLAY_BACK = '<svg viewBox="0 0 16 16"><path d="M12 2.500 3.500 8l8.500 5.500z"/></svg>';
+const PAUSE = '<svg viewBox="0 0 16 16"><path d="M5 3v10M11 3v10" stroke-width="3"/></svg>';
+
+// How long each step and each frame took, for the checks.
+export const timings = [];
+export const frames = [];
+
+function speed() {
+  const [least, most] = RANGES[state.layer];
+  return least * (most / least) ** (state.speed / 100);
+}
+export function speedWords() {
+  const it = speed();
+  return `${number(it < 10 ? Math.round(it * 10) / 10 : Math.round(it))} a second`;
+}
+
+let wanted = null, isLoading = false;
+// Fetches what a frame wants, one at a time; then it is drawn again.
+export function fetchFrame(direction = 0) {
+  if (!current.run) return;
+  wanted = {e: state.e, direction, run: current.run};
+  if (!isLoading) fetchAll().catch(console.error).finally(() => { isLoading = false; });
+}
+async function fetchAll() {
+  isLoading = true;
+  while (wanted) {
+    const it = wanted;
+    wanted = null;
+    await it.run.ready(it.e, it.direction);
+    if (it.run === current.run && !state.playing) await fetchQuadruple(it.run);
+    render(false);
+  }
+}
+// The pieces of the quadruple that is shown, so that its moves can be listed.
+async function fetchQuadruple(run) {
+  const {q} = frame(), from = run.starts[q], to = run.starts[q + 1] ?? run.end, first = run.chunkNumber(from);
+  const last = Math.min(run.chunkNumber(Math.max(0, to - 1)), first + MOST_PIECES);
+  for (let c = first; c <= last && !wanted; c++) await run.chunk(c);
+}
+
+export function goTo(e, {direction = 0, isLive = true} = {}) {
+  if (!current.run) return;
+  state.e = Math.max(0, Math.min(current.run.end, e));
+  render(isLive && !state.playing);
+  fetchFrame(direction);
+}
+export async function step(direction) {
+  if (!current.run) return;
+  pause();
+  const began = performance.now(), e = await current.run.nextStop(state.layer, state.e, direction);
+  goTo(e, {direction});
+  timings.push({layer: state.layer, ms: performance.now() - began});
+}
+export const lastStep = run => run.isCut ? run.starts.at(-1) : run.end;
+export function chooseLayer(layer) {
+  state.layer = layer;
+  pace.owed = 0;
+  render(false);
+  fetchFrame();
+}
+
+// ---- playing
+
+// When the last frame was, and what share of a step is owed since.
+const pace = {then: 0, owed: 0};
+
+export function play(direction) {
+  const {run} = current;
+  if (!run) return;
+  if (direction > 0 && state.e >= lastStep(run)) state.e = 0;
+  if (direction < 0 && state.e <= 0) state.e = run.end;
+  state.playing = direction;
+  Object.assign(pace, {then: performance.now(), owed: 0});
+  showButtons();
+  requestAnimationFrame(tick);
+}
+export function pause() {
+  if (!state.playing) return;
+  state.playing = 0;
+  showButtons();
+  if (!current.run) return;
+  render();
+  fetchFrame();
+}
+export function showButtons() {
+  byId("play").innerHTML = state.playing > 0 ? PAUSE : PLAY;
+  byId("play").setAttribute("aria-label", state.playing > 0 ? "pause" : "play");
+  byId("playback").innerHTML = state.playing < 0 ? PAUSE : PLAY_BACK;
+}
+
+function tick(now) {
+  const {run} = current, direction = state.playing;
+  if (!direction || !run) return;
+  const spent = Math.min(MOST_GAP, now - pace.then), rate = speed(), began = performance.now();
+  pace.then = now;
+  pace.owed += spent / 1000 * rate;
+  let {e, isWaiting} = state.layer === "element" ? elementsOn(run, direction) : stopsOn(run, direction);
+  const stop = stopBetween(state.e, e);
+  if (stop) {
+    e = stop.step;
+    hit(stop.it);
+  }
+  const isMoved = e !== state.e;
+  state.e = e;
+  if (isMoved) render(false);
+  frames.push({ms: performance.now() - began, gap: spent, isWaiting});
+  if (frames.length > MOST_FRAMES) frames.shift();
+  const isSlow = state.layer === "element" || state.layer === "module" || rate <= SLOW;
+  if (isSlow && (isMoved || isWaiting)) fetchFrame(direction);
+  if (stop || (direction > 0 ? e >= lastStep(run) : e <= 0)) pause();
+  else requestAnimationFrame(tick);
+}
+// Where the play comes to on the layer of elements; it waits where a piece isn't there yet.
+function elementsOn(run, direction) {
+  const many = Math.floor(pace.owed), e = Math.max(0, Math.min(run.end, state.e + direction * many)), c = run.chunkNumber(e);
+  pace.owed -= many;
+  return run.loaded(c) && run.barsAt.has(c) ? {e, isWaiting: false} : {e: state.e, isWaiting: true};
+}
+// The same on the others, from stop to stop, up to a breakpoint.
+function stopsOn(run, direction) {
+  let e = state.e;
+  while (pace.owed >= 1) {
+    const next = stopBehind(run, e, direction);
+    if (next === null) {
+      pace.owed = Math.min(pace.owed, 1);
+      return {e, isWaiting: true};
+    }
+    pace.owed -= 1;
+    if (next === e) break;
+    e = next;
+    if (state.breaks.length && stopBetween(state.e, e)) break;
+  }
+  return {e, isWaiting: false};
+}
+function stopBehind(run, e, direction) {
+  if (state.layer === "module") {
+    const move = run.moveAt(direction > 0 ? e : e - 1);
+    return direction > 0 ? move.to : e === 0 ? 0 : move.from;
+  }
+  const stops = run.stops[state.layer];
+  return (direction > 0 ? stops.find(it => it > e) : stops.findLast(it => it < e)) ?? e;
+}

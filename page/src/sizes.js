@@ -1,0 +1,32 @@
+// Boxes of the page: what stands in them, changed only where it changes, and how large they are.
+import {byId, current, state} from "./state.js";
+import {render} from "./view.js";
+
+export function put(id, html) {
+  const it = byId(id);
+  if (it.kept === html) return;
+  it.kept = html;
+  it.innerHTML = html;
+}
+
+export const isPhone = () => innerWidth <= 760;
+// Sizes are measured once and kept until one changes: to measure in the middle of drawing costs a layout each time.
+const sizes = new Map();
+const watch = new ResizeObserver(entries => {
+  for (const it of entries) sizes.delete(it.target.id);
+  if (current.run && !state.playing) requestAnimationFrame(() => render(false));
+});
+function sizeOf(id) {
+  if (!sizes.has(id)) {
+    const it = byId(id);
+    sizes.set(id, [it.clientWidth, it.clientHeight]);
+    watch.observe(it);
+  }
+  return sizes.get(id);
+}
+export const widthOf = id => Math.max(120, Math.floor(sizeOf(id)[0]));
+export const heightOf = id => Math.max(60, Math.floor(sizeOf(id)[1]));
+export function forgetSizes(...ids) {
+  if (ids.length) ids.forEach(id => sizes.delete(id));
+  else sizes.clear();
+}

@@ -1,0 +1,50 @@
+// What is typed and chosen (`state`), the machine and the run that are shown (`current`), and small helpers of the page.
+export const LAYERS = ["machine", "quadruple", "module", "element"];
+export const state = {
+  text: "", names: {}, asStandard: false, blank: null, word: "", window: null, example: null,
+  e: 0, layer: "quadruple", playing: 0, speed: 40, breaks: [], cell: null, zoom: null, editions: 0,
+};
+// `run` has the answers of one run; `found` what the machine does by itself, and the window; `machine` the table that runs.
+export const current = {run: null, found: null, machine: null};
+
+export const byId = id => document.getElementById(id);
+export const escaped = it => String(it).replace(/[&<>"]/g, c => ({"&": "&amp;", "<": "&lt;", ">": "&gt;", '"': "&quot;"})[c]);
+export const minus = it => String(it).replace("-", "−");
+
+let stopSoon = null;
+// Says what is waited for; where that takes long, a button offers to stop it.
+export function busy(words) {
+  byId("busy").textContent = words;
+  clearTimeout(stopSoon);
+  byId("stop").hidden = true;
+  if (words.endsWith("…")) stopSoon = setTimeout(() => { byId("stop").hidden = false; }, 1200);
+}
+export function toast(words) {
+  byId("toast")?.remove();
+  const it = Object.assign(document.createElement("div"), {id: "toast", textContent: words});
+  document.body.append(it);
+  setTimeout(() => it.remove(), 2600);
+}
+export function dialog(html) {
+  byId("dialogbody").innerHTML = html;
+  byId("dialog").showModal();
+}
+
+// The names that are shown: those that were typed, through what was turned and through `standard`.
+export function nameOf(name) {
+  const {machine} = current;
+  let it = name;
+  if (machine?.isStandard) {
+    if (it === "I") return machine.userStates.includes("start") ? "I" : "start";
+    if (it === "O") return machine.userStates.includes("end") ? "O" : "end";
+    it = machine.userStates[Number(it.slice(1)) - 1] ?? it;
+  }
+  return state.names[it] ?? it;
+}
+// The line in the editor of a rule of the machine that runs, or null where `standard` added the rule.
+export function editorLine(rule) {
+  const {machine} = current;
+  if (!machine || !rule) return null;
+  if (!machine.isStandard) return machine.rules[rule - 1]?.line ?? null;
+  return machine.userRules[rule - 2]?.line ?? null;
+}

@@ -1,0 +1,138 @@
+// The table that was typed: its lines, what can be turned into the program's own form, names that are kept, and faults in words.
+
+const nonblank = text => text.split(/\r\n|\r|\n/).map((line, number) => ({line, number: number + 1})).filter(it => it.line.trim() !== "");
+
+// The records of a table that the program has read, with the text line of each.
+export function rulesOf(text) {
+  return nonblank(text).map(({line, number}) => {
+    const [state, read, write, shift, next] = line.split(",").map(it => it.replace(/^"(.*)"$/, "$1"));
+    return {state, read, write, shift, next, line: number};
+  });
+}
+// The states by first appearance.
+export function statesOf(rules) {
+  const found = new Map();
+  for (const rule of rules) for (const name of [rule.state, rule.next]) if (!found.has(name)) found.set(name, found.size + 1);
+  return [...found.keys()];
+}
+export function lettersOf(rules) {
+  const found = new Set(["_"]);
+  for (const rule of rules) { found.add(rule.read); found.add(rule.write); }
+  return [...found];
+}
+
+const SHIFTS = {R: "+", r: "+", ">": "+", "→": "+", right: "+", L: "-", l: "-", "<": "-", "←": "-", left: "-", N: "0", n: "0", S: "0", s: "0",
+                "↓": "0", "=": "0", stay: "0", none: "0", "−": "-", "–": "-", "+1": "+", "-1": "-"};
+const BLANKS = ["B", "b", "□", "␣", "#", "▢", "Δ", "ε", " "];
+const isName = name => /^[A-Za-z0-9'.-]{1,32}$/.test(name);
+
+// What would be turned so that the program can read the table: the new text and what was done, in words.
+// `blank` is a letter that is to be read as the blank, or null to guess.
+export function turned(text, blank = null) {
+  const said = [], names = {};
+  let rows = nonblank(text).map(({line}) => line);
+  const commented = rows.filter(line => /^\s*(#|\/\/|%|;)/.test(line) && line.split(/[,;\t]/).length < 5);
+  if (commented.length) { rows = rows.filter(line => !commented.includes(line)); said.push(`${commented.length === 1 ? "a comment line" : `${commented.length} comment lines`} dropped`); }
+  if (!rows.length) return {text, said: [], names};
+  // Brackets around a whole rule, or the function's name before it: (q0,1,0,R,q1), d(q0,1) = (q1,0,R).
+  const bare = rows.map(line => line.replace(/^\s*(?:δ|delta|d)?\s*[({]/, "").replace(/[)}]\s*[,;.]?\s*$/, ""));
+  if (bare.every((line, k) => line !== rows[k])) { rows = bare; said.push("brackets taken away"); }
+  const rate = pattern => rows.filter(line => line.split(pattern).filter(it => it !== "").length >= 5).length;
+  let split = /,/, how = null;
+  if (rate(/,/) < rows.length) for (const [pattern, words] of [[/;/, "semicolons"], [/\t+/, "tabs"], [/\|/, "bars"], [/\s*(?:->|→|⇒|=>|:|=)\s*|[\s,;()]+/, "arrows and spaces"], [/\s+/, "spaces"]])
+    if (rate(pattern) > rate(split)) { split = pattern; how = words; }
+  if (how) said.push(`${how} to commas`);
+  let fields = rows.map(line => {
+    const parts = line.split(split);
+    const whole = how === "arrows and spaces" || how === "bars" ? parts.filter(it => it.trim() !== "") : parts;
+    return whole.map(it => it.trim() === "" && it !== "" ? " " : it.trim());
+  });
+  if (!how && rows.some((line, k) => line.split(",").some((it, j) => it !== fields[k][j]))) said.push("spaces taken away");
+  const isShift = it => it in SHIFTS || ["+", "-", "0"].includes(it);
+  if (fields.length > 1 && fields[0].length === 5 && !isShift(fields[0][3]) && !isShift(fields[0][4]) && (fields[0][1] ?? "").length > 1) {
+    said.push("the header line dropped");
+    fields.shift();
+  }
+  // state, read, next, write, shift, or state, read, write, next, shift
+  const letterShift = it => it in SHIFTS;
+  if (fields.length && fields.every(it => it.length === 5 && isShift(it[4])) && !fields.every(it => isShift(it[3])) && fields.some(it => letterShift(it[4]))) {
+    const first = new Set(fields.map(it => it[0]));
+    const score = place => fields.filter(it => first.has(it[place]) || it[place].length > 1).length;
+    const next = score(2) >= score(3) ? 2 : 3, write = 5 - next;
+    fields = fields.map(it => [it[0], it[1], it[write], it[4], it[next]]);
+    said.push("columns put in order: state, read, write, move, next");
+  }
+  let shifts = 0;
+  for (const row of fields) if (row.length === 5 && row[3] in SHIFTS) { row[3] = SHIFTS[row[3]]; shifts++; }
+  if (shifts) said.push(`R, L, N to +, −, 0 (${shifts} ${shifts === 1 ? "line" : "lines"})`);
+  const letters = new Set(fields.flatMap(row => row.length === 5 ? [row[1], row[2]] : []));
+  const guessed = blank ?? (letters.has("_") ? null : letters.has("") ? "" : BLANKS.find(it => letters.has(it)) ?? null);
+  if (guessed !== null && letters.has(guessed) && guessed !== "_") {
+    for (const row of fields) for (const place of [1, 2]) if (row[place] === guessed) row[place] = "_";
+    said.push(`${guessed.trim() === "" ? "an empty symbol" : guessed} to _, the blank`);
+  }
+  const taken = new Set(fields.flatMap(row => row.length === 5 ? [row[0], row[4]] : []));
+  let renamed = 0;
+  const legal = name => {
+    if (isName(name) || name === "") return name;
+    const old = Object.keys(names).find(key => names[key] === name);
+    if (old) return old;
+    let made = name.normalize("NFKD").replace(/[_\s]+/g, "-").replace(/[^A-Za-z0-9'.-]/g, "").slice(0, 28) || "q";
+    for (let k = 1; taken.has(made) || made in names; k++) made = made.replace(/-\d+$/, "") + `-${k}`;
+    names[made] = name;
+    renamed++;
+    return made;
+  };
+  for (const row of fields) if (row.length === 5) { row[0] = legal(row[0]); row[4] = legal(row[4]); }
+  if (renamed) said.push(`${renamed} ${renamed === 1 ? "name" : "names"} spelled as the program wants, and shown as you wrote them`);
+  return {text: fields.map(row => row.join(",") + "\n").join(""), said, names};
+}
+
+// Candidates for a blank: the letters of a table without `_`.
+export function blankCandidates(text) {
+  const rules = rulesOf(text).filter(it => it.next !== undefined);
+  const letters = new Set(rules.flatMap(it => [it.read, it.write]));
+  return letters.has("_") ? [] : [...letters].filter(it => it.length <= 1);
+}
+
+const quoted = it => `“${it}”`;
+// A refusal of a table, in words, with the text lines that it is about.
+export function faultOf(answer, text) {
+  const rows = nonblank(text), line = record => rows[record - 1]?.number ?? null;
+  const fields = record => (rows[record - 1]?.line ?? "").split(",");
+  let found = /^text: record (\d+) (fields|too many|field (\d) (\S+))/.exec(answer);
+  if (found) {
+    const record = Number(found[1]), at = line(record), place = Number(found[3] ?? 0), given = fields(record)[place - 1] ?? "";
+    const words = {
+      fields: `five fields are wanted (state, read, write, move, next); this line has ${fields(record).length}.`,
+      name: `${quoted(given)} can't name a state. A name has letters, digits, ', . or -, 32 at most.`,
+      symbol: given.length > 1 ? `${quoted(given)} is no symbol: one character is wanted. Is this a header?` : `${quoted(given)} can't be a symbol.`,
+      shift: `${quoted(given)} is no move: + is right, - is left, 0 is stay.`,
+    }[found[4] ?? found[2]] ?? "the table is too long: 4,000 rules at most.";
+    return {lines: [at], text: `Line ${at}: ${words}`};
+  }
+  if (/^text: empty/.test(answer)) return {lines: [], text: "The table is empty. Type a rule a line: state, read, write, move, next."};
+  found = /^machine: S1 (\d+) (\d+)/.exec(answer);
+  if (found) {
+    const [a, b] = [line(Number(found[1])), line(Number(found[2]))], [state, read] = fields(Number(found[1]));
+    return {lines: [a, b], text: `Lines ${a} and ${b} both say what to do in ${state} on ${read}. Only one may.`};
+  }
+  if (/^machine: S2/.test(answer)) return {lines: [line(1)], standard: true, text: `Line ${line(1)}: standard form begins on the blank before the word: read _, write _, go right.`};
+  found = /^machine: S3 (\d+)/.exec(answer);
+  if (found) return {lines: [line(Number(found[1]))], standard: true, text: `Line ${line(Number(found[1]))}: the start state ${fields(1)[0]} comes back here. In standard form it stands in the first rule alone.`};
+  if (/^machine: S4/.test(answer)) return {lines: [line(rows.length)], standard: true, text: `Line ${line(rows.length)}: standard form ends on the blank before the output: read _, write _, stay.`};
+  found = /^machine: S5 (\d+)/.exec(answer);
+  if (found) return {lines: [line(Number(found[1]))], standard: true, text: `Line ${line(Number(found[1]))}: the final state ${fields(rows.length)[4]} occurs here too. In standard form it stands in the last rule alone.`};
+  found = /^machine: halting (\d+)/.exec(answer);
+  if (found) {
+    const at = line(Number(found[1])), final = fields(rows.length)[4];
+    return {lines: [at], text: `Line ${at} leaves ${final}, where the last line halts. Put the line that halts last.`};
+  }
+  found = /^size: quintuples (\d+)/.exec(answer);
+  if (found) return {lines: [], text: `In standard form it would have ${found[1]} rules, more than 4,000.`};
+  return {lines: [], text: `The program says: ${answer.trim()}`};
+}
+
+export const SHIFT_WORDS = {"+": "go right", "-": "go left", "0": "stay"};
+export const SHIFT_BACK = {"+": "go left", "-": "go right", "0": "stay"};
+export const symbolWord = it => it === "_" ? "blank" : it;

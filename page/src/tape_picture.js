@@ -1,0 +1,46 @@
+// A tape: its cells, the head, what was just written, and the cells that are picked.
+import {escaped, minus} from "./state.js";
+import {n1, svg} from "./svg.js";
+import {TAPES} from "./words.js";
+
+const TAPE_LEFT = 12, TAPE_TOP = 12;
+
+// The part of a tape that has room: all of it, or that around its head.
+export function shownPart(tape, most) {
+  const count = tape.symbols.length;
+  if (count <= most) return {from: 0, to: count};
+  const at = Math.max(0, (tape.head ?? tape.first) - tape.first), from = Math.max(0, Math.min(at - Math.floor(most / 2), count - most));
+  return {from, to: from + most};
+}
+
+// `before` is the same tape one moment before, so that what was just written is tinted.
+export function tapePicture(tape, {width, size = 34, before = null, picked = [], isNumbered = true}) {
+  const longest = Math.max(...tape.symbols.map(it => it.length)), wide = Math.max(size, 9 * longest + 10);
+  const part = shownPart(tape, Math.max(3, Math.floor((width - 2 * TAPE_LEFT) / wide))), isShown = k => k >= part.from && k < part.to;
+  const x = k => TAPE_LEFT + (k - part.from) * wide, base = TAPE_TOP + size * .66;
+  let body = "";
+  for (let k = part.from; k < part.to; k++) {
+    const symbol = tape.symbols[k], isNew = before && before.symbols[k] !== symbol;
+    body += cellPicture({tape: tape.tape, cell: tape.first + k, symbol, isNew, x: x(k), wide, size, isNumbered});
+  }
+  for (const cell of picked) {
+    const at = cell - tape.first;
+    if (isShown(at)) body += `<rect class="picked" x="${x(at) + 3}" y="${TAPE_TOP + 3}" width="${wide - 6}" height="${size - 6}" rx="2"/>`;
+  }
+  const head = tape.head === null ? -1 : tape.head - tape.first;
+  if (isShown(head)) {
+    body += `<rect class="headbox" x="${x(head)}" y="${TAPE_TOP}" width="${wide}" height="${size}" rx="2"/>`
+      + `<path class="headtip" d="M${x(head) + wide / 2},${TAPE_TOP - 1} l-6,-9 h12 z"/>`;
+  }
+  if (part.from > 0) body += `<text class="quiet" x="0" y="${base}">…</text>`;
+  if (part.to < tape.symbols.length) body += `<text class="quiet" x="${x(part.to) + 2}" y="${base}">…</text>`;
+  const label = `role="img" aria-label="${escaped(TAPES[tape.tape] ?? "")} tape"`;
+  return svg(width, TAPE_TOP + size + (isNumbered ? 16 : 3), body, `t${tape.tape}`, label);
+}
+function cellPicture({tape, cell, symbol, isNew, x, wide, size, isNumbered}) {
+  const isBlank = symbol === "_", kind = isNew ? "new" : isBlank ? "" : "full";
+  const below = `<text class="quiet small" text-anchor="middle" x="${x + wide / 2}" y="${TAPE_TOP + size + 12}">${minus(cell)}</text>`;
+  return `<g data-tape="${tape}" data-cell="${cell}"><rect class="cell ${kind}" x="${x}" y="${TAPE_TOP}" width="${wide}" height="${size}"/>`
+    + `<text class="symbol ${isBlank ? "blank" : ""}" style="font-size:${n1(size * .47)}px" x="${x + wide / 2}" y="${TAPE_TOP + size * .66}">`
+    + `${isBlank ? "·" : escaped(symbol)}</text>${isNumbered ? below : ""}</g>`;
+}

@@ -1,0 +1,85 @@
+// What is seen at one step: the stage and the rule in words, three tapes, the machine by itself, and the circuit.
+import {renderBank} from "./bank.js";
+import {renderCell} from "./cell.js";
+import {markLine} from "./editor.js";
+import {renderTime} from "./film.js";
+import {renderMoves} from "./moves.js";
+import {diagramPicture} from "./diagram_picture.js";
+import {heightOf, isPhone, put, widthOf} from "./sizes.js";
+import {byId, current, editorLine, escaped, nameOf, state} from "./state.js";
+import {tapePicture} from "./tape_picture.js";
+import {bankName, ruleAt, spoken, TAPES} from "./words.js";
+
+const TAPE_NOTES = ["its own tape", "the rules used", "the copy"];
+const LEAST_DIAGRAM = 104;
+const REST = 350;
+
+// What the answers say of the step that is shown.
+export function frame() {
+  const {run} = current, e = state.e, q = run.momentIndex(e), at = run.placeAt(e);
+  const bank = at ? run.bankOf(at.place >> 2) : null, row = at && !at.hasLeft ? run.entryOf(at.place) : -1;
+  return {e, q, moment: run.moments[q], at, bank, row, move: run.moveAt(e)};
+}
+
+export function render(isLive = !state.playing) {
+  if (!current.run) return;
+  const f = frame(), rule = ruleAt(current.run, f.q, nameOf), {stage} = f.moment;
+  byId("machine").className = "panel " + stage;
+  for (const it of byId("stages").children) it.classList.toggle("now", it.dataset.stage === stage);
+  const tag = rule.rule ? `<span class="tagno">rule ${rule.rule}${rule.isBack ? ", undone" : ""}</span>` : "";
+  put("rule", `<p class="head">${tag}${escaped(rule.head)}</p><p class="more">${escaped(rule.more)}</p>`);
+  renderTapes(f);
+  renderCell();
+  markLine(editorLine(rule.rule));
+  renderItself(f, rule);
+  renderBank(f);
+  renderMoves(f);
+  renderTime(f);
+  if (isLive) say(f);
+}
+
+// As large as the height allows, and small enough that the longest tape is seen whole, where that can be.
+function cellSize(room, longest) {
+  const fits = Math.floor((room - (isPhone() ? 26 : 110)) / longest);
+  const most = isPhone() ? 30 : Math.min(44, Math.floor((heightOf("tapes") - 430) / 3));
+  return fits >= 28 ? Math.max(28, Math.min(most, fits)) : Math.max(30, Math.min(most, 32));
+}
+function renderTapes({q, moment}) {
+  const room = widthOf("three"), width = isPhone() ? room : room - 84, before = q > 0 ? current.run.moments[q - 1] : null;
+  const size = cellSize(room, Math.max(...moment.tapes.map(it => it.symbols.length)));
+  put("three", moment.tapes.map((tape, k) => {
+    const title = TAPES[k + 1][0].toUpperCase() + TAPES[k + 1].slice(1);
+    const picked = state.breaks.filter(it => it.kind === "cell" && it.tape === k + 1).map(it => it.cell);
+    if (state.cell?.tape === k + 1) picked.push(state.cell.cell);
+    return `<div class="tape"><div><b>${title}</b><span>${TAPE_NOTES[k]}</span></div>`
+      + tapePicture(tape, {width, size, before: before?.tapes[k], picked}) + "</div>";
+  }).join(""));
+}
+
+// The machine by itself: its tape and its state, which stay once it has halted; and its diagram.
+function renderItself({moment}, rule) {
+  const {run} = current, isOver = moment.stage !== "compute";
+  const copying = run.moments.find(it => it.stage === "copy"), last = run.moments.findLast(it => it.stage === "compute");
+  const stateAt = it => it.state ?? run.rules[it.rule - 1].state;
+  const ownState = isOver ? copying?.state ?? last.state : stateAt(moment), shown = isOver ? copying ?? last : moment;
+  const words = isOver ? "<b>By itself</b> it has halted; it can't go back."
+    : `<b>By itself</b>, step ${moment.step}: in <b>${escaped(nameOf(ownState))}</b>`;
+  const tape = tapePicture({...shown.tapes[0], tape: 1}, {width: widthOf("own"), size: 24, isNumbered: false});
+  put("own", `<p>${words}</p><div style="opacity:${isOver ? .55 : 1}">${tape}</div>`);
+  const high = heightOf("diagram"), stops = new Set(state.breaks.filter(it => it.kind === "state").map(it => it.state));
+  byId("diagrambox").classList.toggle("low", high < LEAST_DIAGRAM);
+  put("diagram", high < LEAST_DIAGRAM ? "" : diagramPicture(run.rules, {
+    width: widthOf("diagram"), height: Math.min(280, high - 2), now: moment.stage === "retrace" ? stateAt(moment) : ownState,
+    rule: rule.rule, stage: moment.stage, stops, name: nameOf,
+  }));
+}
+
+let saying = null;
+// Speaks what is shown, once it has come to rest.
+function say(f) {
+  clearTimeout(saying);
+  saying = setTimeout(() => {
+    const where = f.bank ? ` The signal is in ${bankName(f.bank)}.` : "";
+    byId("live").textContent = spoken(current.run, f.e, f.q, nameOf) + where;
+  }, REST);
+}

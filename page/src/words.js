@@ -1,0 +1,107 @@
+// What stands there, in words. Everything is looked up in the program's answers and in the table.
+import {minus} from "./state.js";
+import {SHIFT_BACK, SHIFT_WORDS, symbolWord} from "./table.js";
+
+export const TAPES = ["", "work", "history", "output"];
+export const STAGES = {compute: "compute, and keep a history", copy: "copy the output", retrace: "retrace, and take the history back"};
+const numbers = new Intl.NumberFormat("en");
+export const number = it => numbers.format(it);
+
+// The line by which the signal comes into a bank: its short name and what it means.
+export function lineOf(run, bank, row) {
+  if (bank.kind === "cell") {
+    const z = run.symbols[bank.tape - 1], symbol = c => symbolWord(run.symbolOf(bank.tape, c));
+    if (row === 0) return {name: "Rd", words: "read"};
+    if (row <= z) return {name: `W ${row - 1}`, words: `write ${symbol(row - 1)}`};
+    if (row === z + 1) return {name: "SR", words: "hand the head to the right"};
+    if (row === z + 2) return {name: "SL", words: "hand the head to the left"};
+    if (row === z + 3) return {name: "TakeR", words: "take the head from the left"};
+    if (row < 2 * z + 4) return {name: `A ${row - z - 4}`, words: `the answer “${symbol(row - z - 4)}” on its way back`, isBack: true};
+    if (row === 2 * z + 4) return {name: "DoneW", words: "“written” on its way back", isBack: true};
+    if (row === 2 * z + 5) return {name: "DoneR", words: "“moved right” on its way back", isBack: true};
+    if (row === 2 * z + 6) return {name: "DoneL", words: "“moved left” on its way back", isBack: true};
+    return {name: "TakeL", words: "take the head from the right", isBack: true};
+  }
+  if (row === 0) return {name: "Start", words: "begin"};
+  let rest = row - 1;
+  for (let tape = 1; tape <= 3; tape++) {
+    const z = run.symbols[tape - 1];
+    if (rest < z + 3) {
+      const what = rest < z ? `answers “${symbolWord(run.symbolOf(tape, rest))}”` : `has ${["written", "moved right", "moved left"][rest - z]}`;
+      const name = rest < z ? `A ${rest}` : ["DoneW", "DoneR", "DoneL"][rest - z];
+      return {name: `${name} ${tape}`, words: `the ${TAPES[tape]} tape ${what}`, isBack: true, tape};
+    }
+    rest -= z + 3;
+  }
+  return {name: "?", words: ""};
+}
+export const bankName = bank => bank.kind === "control" ? "control" : `${TAPES[bank.tape]} tape, cell ${minus(bank.cell)}`;
+export const shortBank = bank => bank.kind === "control" ? "control" : `${TAPES[bank.tape]} ${minus(bank.cell)}`;
+
+export const exitWords = (exit, name) => {
+  if (exit === "end") return "The machine has halted, and the signal has left by the end.";
+  const stuck = /^stuck (\S+) (\S+)$/.exec(exit);
+  if (stuck) return `Stuck: no rule for ${name(stuck[1])} on ${symbolWord(stuck[2])}.`;
+  const window = /^window ([123]) (left|right)$/.exec(exit);
+  return window ? `The head of the ${TAPES[window[1]]} tape would leave its window to the ${window[2]}.` : exit;
+};
+
+// The rule that is at work at a moment: its number in the table, and sentences about what comes next.
+export function ruleAt(run, q, name) {
+  const it = run.moments[q];
+  if (it.hasLeft && run.outcome.exit === "end") {
+    const output = run.outcome.output ? `“${run.outcome.output}”` : "(no letter)";
+    return {rule: null, head: "Done.", more: `The word stands again on the work tape, the history is blank, and only the output ${output} is new.`};
+  }
+  return {compute: computing, copy: copying, retrace: retracing}[it.stage](run, it, name);
+}
+const scannedOn = tape => tape.symbols[(tape.head ?? 0) - tape.first];
+const isKept = rule => rule.write === rule.read;
+function ruleWords(rule, name) {
+  const write = isKept(rule) ? "" : `write ${symbolWord(rule.write)}, `, then = rule.next === rule.state ? "" : `, then ${name(rule.next)}`;
+  return `In ${name(rule.state)}, on ${symbolWord(rule.read)}: ${write}${SHIFT_WORDS[rule.shift]}${then}.`;
+}
+function computing(run, it, name) {
+  const scanned = scannedOn(it.tapes[0]);
+  if (it.rule !== null) {
+    const rule = run.rules[it.rule - 1];
+    return {rule: it.rule, head: ruleWords(rule, name), more: `Now: note ${it.rule} in the history, ${SHIFT_WORDS[rule.shift]}.`};
+  }
+  const number = run.rules.findIndex(rule => rule.state === it.state && rule.read === scanned) + 1, rule = run.rules[number - 1];
+  if (rule) {
+    const does = isKept(rule) ? `leave the ${symbolWord(rule.read)}` : `write ${symbolWord(rule.write)}`;
+    return {rule: number, head: ruleWords(rule, name), more: `Now: ${does}, move on in the history.`};
+  }
+  if (it.state === run.rules.at(-1).next) {
+    return {rule: null, head: `${name(it.state)}: the machine halts.`, more: "Its output is copied next, then everything is undone."};
+  }
+  return {rule: null, head: `Stuck: no rule for ${name(it.state)} on ${symbolWord(scanned)}.`, more: ""};
+}
+function copying(run, it) {
+  const scanned = scannedOn(it.tapes[0]), isEnd = scanned === "_";
+  const [head, more] = {
+    "B1'": ["Copy the output: on to the next letter.", "Both heads go right."],
+    B1: isEnd ? ["The end of the output.", "The copy is done; the heads go back."]
+      : [`Copy the letter ${scanned}.`, "It is written on the blank output tape: nothing is forgotten."],
+    "B2'": ["Back to the start of the output.", "Both heads go left."],
+    B2: isEnd ? ["The copy is done.", "Next the history is taken back."]
+      : ["Back over the output.", "Work and output hold the same letter here."],
+  }[it.name] ?? ["Copy the output.", ""];
+  return {rule: null, head, more};
+}
+function retracing(run, it, name) {
+  if (it.rule !== null) {
+    const rule = run.rules[it.rule - 1], was = rule.read === "_" ? "a blank" : rule.read;
+    const more = isKept(rule) ? `Now: the ${symbolWord(rule.read)} stays as it was.` : `Now: where it wrote ${symbolWord(rule.write)} there was ${was}.`;
+    return {rule: it.rule, isBack: true, head: `Undo rule ${it.rule}: back to ${name(rule.state)}.`, more};
+  }
+  const last = Number(scannedOn(it.tapes[1]));
+  if (!last) return {rule: null, head: "Back at the start.", more: "The history is blank again."};
+  const more = `Now: take the ${last} out of the history, ${SHIFT_BACK[run.rules[last - 1].shift]}.`;
+  return {rule: last, isBack: true, head: "Undo the last rule in the history.", more};
+}
+export const spoken = (run, e, q, name) => {
+  const it = run.moments[q], words = ruleAt(run, q, name);
+  return `${it.stage}, quadruple ${q} of ${run.moments.length - 1}, element step ${number(e)}. ${words.head} ${words.more} ` +
+    it.tapes.map((tape, k) => `${TAPES[k + 1]}: ${tape.symbols.map(symbolWord).join(" ")}, head at ${tape.head ?? "no cell"}`).join(". ");
+};

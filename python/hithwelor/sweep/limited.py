@@ -1,0 +1,143 @@
+"""Answers with a limit of time. A call of the library can't be stopped, so each is made in a process of its own that is
+kept for the next ones and killed where a case takes too long."""
+import contextlib
+import os
+import select
+import signal
+import struct
+import subprocess
+import sys
+import threading
+import time
+
+from .. import answers
+
+LOOK = 0.3
+PACKAGES = os.path.dirname(answers.HERE)
+
+
+class TimeUp(Exception):
+    """A case took longer than it may."""
+
+
+class Ended(Exception):
+    """The process that answered a case has ended, as where the system kills it for want of memory."""
+
+
+class Direct:
+    """Answers without a limit, in this process."""
+
+    def __init__(self):
+        self.ask = answers.way().answer
+
+    def begin(self):
+        """A new case begins."""
+
+
+class Limited:
+    """Answers with a limit of seconds a case."""
+
+    keeper = threading.local()
+
+    def __init__(self):
+        self.child, self.seconds, self.until = None, 0.0, 0.0
+
+    @classmethod
+    def kept(cls, seconds):
+        """The one of this thread, with this limit."""
+        if not hasattr(cls.keeper, "it"):
+            cls.keeper.it = cls()
+        cls.keeper.it.seconds = seconds
+        return cls.keeper.it
+
+    def begin(self):
+        """A new case begins; where there is no process yet, it is started before its time counts."""
+        if self.child is None or self.child.poll() is not None:
+            path = os.pathsep.join([PACKAGES, *filter(None, [os.environ.get("PYTHONPATH")])])
+            self.child = subprocess.Popen([sys.executable, "-m", __name__, str(os.getpid())], bufsize=0, start_new_session=True,
+                                          stdin=subprocess.PIPE, stdout=subprocess.PIPE, env={**os.environ, "PYTHONPATH": path})
+            self.until = time.monotonic() + 60
+            self.read(1)
+        self.until = time.monotonic() + self.seconds
+
+    def ask(self, words, data):
+        """The answer, in the time that is left of this case."""
+        try:
+            self.write(struct.pack("<II", len(words), len(data)) + words + data)
+            code, length = struct.unpack("<II", self.read(8))
+            return code, self.read(length)
+        except (OSError, EOFError) as fault:
+            self.stop()
+            raise Ended from fault
+
+    def write(self, data):
+        sent = memoryview(data)
+        while sent:
+            sent = sent[self.child.stdin.write(sent):]
+
+    def read(self, count):
+        """So many bytes from the process, or TimeUp, where it is killed."""
+        parts, pipe = [], self.child.stdout
+        while count:
+            ready, _, _ = select.select([pipe], [], [], max(0.0, self.until - time.monotonic()))
+            if not ready:
+                self.stop()
+                raise TimeUp
+            part = pipe.read(min(count, 1 << 20))
+            if not part:
+                raise EOFError
+            parts.append(part)
+            count -= len(part)
+        return b"".join(parts)
+
+    def stop(self):
+        """Kills the process, with what it started."""
+        kill_group(self.child.pid)
+        self.child.wait()
+        self.child.stdin.close()
+        self.child.stdout.close()
+        self.child = None
+
+
+def kill_group(leader):
+    """Kills a process that leads a group, with its group: where node answers, it is in the group."""
+    with contextlib.suppress(ProcessLookupError):
+        os.killpg(leader, signal.SIGKILL)
+
+
+def end_with(parent):
+    """Lets this process lead a group, which Ctrl-C doesn't reach, and end with it where its parent has ended. The parent is
+    told by its number: it may have ended before this process came to ask."""
+    if os.getpgrp() != os.getpid():
+        os.setsid()
+
+    def watch():
+        while os.getppid() == parent:
+            time.sleep(LOOK)
+        kill_group(os.getpid())
+    threading.Thread(target=watch, daemon=True).start()
+
+
+def exactly(pipe, count):
+    """So many bytes, or the end of the process where there are no more."""
+    data = pipe.read(count)
+    if len(data) < count:
+        sys.exit(0)
+    return data
+
+
+def serve(parent):
+    """Answers one call after another, framed as python/hithwelor/serve.cjs has them; a first byte says that it is ready."""
+    end_with(parent)
+    source, sink, way = sys.stdin.buffer, sys.stdout.buffer, answers.way()
+    sink.write(b".")
+    sink.flush()
+    while True:
+        words, data = struct.unpack("<II", exactly(source, 8))
+        code, text = way.answer(exactly(source, words), exactly(source, data))
+        sink.write(struct.pack("<II", code, len(text)) + text)
+        sink.flush()
+
+
+if __name__ == "__main__":
+    serve(int(sys.argv[1]))

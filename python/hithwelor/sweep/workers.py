@@ -1,0 +1,146 @@
+"""Who answers the batches of a sweep: processes of this machine, or the workers of a Dask scheduler.
+
+A pool has `room`, how many batches may be under way; `submit`, which gives a future; `mended`, which says whether the pool
+works again after a future's exception; and `end`, which leaves no process behind. `answers_in_order` hands out batches that
+take about its `target` of seconds, so that handing them out is little beside their work, and gives the answers in order.
+"""
+import logging
+import math
+import multiprocessing
+import os
+import time
+from collections import deque
+from concurrent.futures import ProcessPoolExecutor
+from concurrent.futures.process import BrokenProcessPool
+
+from ..answers import Unavailable
+from ..faults import Fault
+from .limited import end_with, kill_group
+from .rows import work
+
+AHEAD = 4
+GROWTH = 8
+MOST_GROUPS = 50_000
+MOST_BREAKS = 3
+PATIENCE, EVERY = 20, 2
+
+
+class Local:
+    """Processes of this machine."""
+
+    target = 0.25
+
+    def __init__(self, jobs):
+        self.jobs = jobs
+        self.start()
+
+    def start(self):
+        context = multiprocessing.get_context("spawn")
+        self.pool = ProcessPoolExecutor(self.jobs, mp_context=context, initializer=end_with,
+                                        initargs=(os.getpid(),))
+
+    def room(self):
+        return self.jobs * AHEAD
+
+    def submit(self, batch):
+        try:
+            return self.pool.submit(work, batch)
+        except BrokenProcessPool:
+            self.start()
+            return self.pool.submit(work, batch)
+
+    def mended(self, error):
+        """A process that died leaves a pool that answers nothing more: a new one takes its place."""
+        if not isinstance(error, BrokenProcessPool):
+            return False
+        self.pool.shutdown(wait=False, cancel_futures=True)
+        self.start()
+        return True
+
+    def end(self):
+        """Ends all processes, whatever they do."""
+        self.pool.shutdown(wait=False, cancel_futures=True)
+        for process in multiprocessing.active_children():
+            kill_group(process.pid)
+            process.kill()
+
+
+class Cluster:
+    """The workers of a Dask scheduler. One that dies has its batches made by the others: the scheduler sees to that."""
+
+    target = 0.5
+
+    def __init__(self, address):
+        try:
+            import distributed
+        except ImportError:
+            raise Fault("--scheduler needs Dask's package distributed: install it by pip, or as python3-distributed") from None
+        logging.disable(logging.CRITICAL)
+        self.threads, self.asked = 1, -math.inf
+        self.address, self.lost = address, (distributed.client.CancelledError, OSError)
+        try:
+            self.client = distributed.Client(address, timeout=PATIENCE / 4)
+        except (OSError, ValueError) as error:
+            why = str(error).split("\n", 1)[0] or type(error).__name__
+            raise Fault(f"no scheduler answers at {address} ({why}): start one by `dask scheduler`, or leave --scheduler out") from None
+        try:
+            self.client.wait_for_workers(1, timeout=PATIENCE)
+        except (distributed.TimeoutError, TimeoutError):
+            self.end()
+            raise Fault(f"the scheduler at {address} has no worker: start one by `dask worker {address}`") from None
+
+    def room(self):
+        """So many batches for each thread of a worker; the scheduler is asked for them now and then."""
+        if time.monotonic() - self.asked > EVERY:
+            workers = self.client.scheduler_info()["workers"].values()
+            self.threads, self.asked = max(1, sum(worker["nthreads"] for worker in workers)), time.monotonic()
+        return self.threads * AHEAD
+
+    def submit(self, batch):
+        return self.client.submit(work, batch, pure=False)
+
+    def mended(self, error):
+        if isinstance(error, ModuleNotFoundError):
+            raise Fault(f"a worker of {self.address} hasn't the package hithwelor: put its folder on PYTHONPATH there") from None
+        if isinstance(error, self.lost):
+            raise Fault(f"the scheduler at {self.address} has gone; the same words with --resume go on") from None
+        return False
+
+    def end(self):
+        self.client.close(timeout=2)
+
+
+def grown(size, answer, target):
+    """The size of the next batches, from what one took."""
+    wanted = int(answer.groups * target / max(answer.seconds, 1e-6))
+    return max(1, min(wanted, size * GROWTH, MOST_GROUPS))
+
+
+def result_of(pool, waiting):
+    """The answer to the first of the batches under way. Where a worker died with it, all of them are handed out again."""
+    for _ in range(MOST_BREAKS):
+        try:
+            return waiting[0][1].result()
+        except Unavailable as error:
+            raise Fault(f"a worker: {error}") from None
+        except Exception as error:
+            if not pool.mended(error):
+                raise Fault(f"the workers don't answer ({type(error).__name__}: {str(error)[:200]})") from error
+            for it in waiting:
+                it[1] = pool.submit(it[0])
+    raise Fault("a worker's process died three times, perhaps for want of memory: take fewer --jobs, or --seconds, which tells the case")
+
+
+def answers_in_order(pool, plan, first, last):
+    """The answers to the groups from one number up to another, batch by batch in their order."""
+    waiting, start, size = deque(), first, 1
+    while waiting or start < last:
+        while start < last and len(waiting) < pool.room():
+            end = min(last, start + size)
+            batch = plan.batch(start, end)
+            waiting.append([batch, pool.submit(batch)])
+            start = end
+        answer = result_of(pool, waiting)
+        waiting.popleft()
+        size = grown(size, answer, pool.target)
+        yield answer

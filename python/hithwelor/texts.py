@@ -1,0 +1,211 @@
+"""What the program prints, read: outcomes, runs, views, sessions, tapes. Nothing here is computed; names are given to parts.
+
+Each class keeps the program's own text as `text`; `_repr_html_` shows it in a notebook.
+"""
+import html
+import re
+from dataclasses import dataclass, field
+
+STATUSES = {2: "usage", 3: "text", 4: "machine", 5: "word", 6: "size", 7: "read fault", 8: "write fault", 9: "no memory"}
+
+
+class Refused(ValueError):
+    """The program refused the words or the input: `status` is its exit code, `text` the line that it printed."""
+
+    def __init__(self, status, text):
+        self.status, self.text = status, text
+        super().__init__(f"{text.strip()} (status {status}, {STATUSES.get(status, 'unknown')})")
+
+
+def checked(status, text, *statuses):
+    """The text of an answer with one of these statuses, as a str; else Refused."""
+    text = text.decode(errors="replace")
+    if status not in statuses:
+        raise Refused(status, text)
+    return text
+
+
+@dataclass(frozen=True)
+class Tape:
+    """A tape: its number (1 is the work tape, 2 the history, 3 the output), the position of its first cell, that of the head
+    or None, and the symbols of its cells. A blank is `_`."""
+
+    number: int
+    first: int
+    head: object
+    symbols: tuple
+
+    LINE = re.compile(r"tape ([123]) from (-?\d+) head (-?\d+|\?):((?: \S+)*)")
+    NAMES = {1: "work", 2: "history", 3: "output"}
+
+    @classmethod
+    def read(cls, line):
+        found = cls.LINE.fullmatch(line)
+        if not found:
+            raise ValueError(f"{line!r} isn't the line of a tape")
+        head = None if found[3] == "?" else int(found[3])
+        return cls(int(found[1]), int(found[2]), head, tuple(found[4].split()))
+
+    @property
+    def word(self):
+        """The symbols without the blanks at both ends."""
+        return "".join(self.symbols).strip("_") if all(len(it) == 1 for it in self.symbols) else " ".join(self.symbols).strip("_ ")
+
+    def __getitem__(self, position):
+        """The symbol at a position; beyond the cells that are shown that is an IndexError."""
+        if not self.first <= position < self.first + len(self.symbols):
+            raise IndexError(f"tape {self.number} is shown from {self.first} to {self.first + len(self.symbols) - 1}")
+        return self.symbols[position - self.first]
+
+    def _row(self):
+        cells = []
+        for place, symbol in enumerate(self.symbols, self.first):
+            style = "border:1px solid #999;padding:2px 7px;text-align:center;font-family:monospace"
+            if place == self.head:
+                style += ";border:3px solid #c33"
+            cells.append(f'<td style="{style}" title="cell {place}">{"&middot;" if symbol == "_" else html.escape(symbol)}</td>')
+        return f'<tr><th style="text-align:left;padding-right:8px">{self.NAMES[self.number]}</th>{"".join(cells)}</tr>'
+
+    def _repr_html_(self):
+        return f'<table style="border-collapse:collapse">{self._row()}</table>'
+
+
+def tapes_html(tapes):
+    return "".join(f'<div style="margin:2px 0">{tape._repr_html_()}</div>' for tape in tapes)
+
+
+@dataclass(frozen=True)
+class Outcome:
+    """How a machine runs by itself: `kind` is `halted`, `stuck` or `running`, after `steps` steps. A halted one has an
+    `output`; a stuck one its `state` and the `letter` that it scans."""
+
+    kind: str
+    steps: int
+    output: object = None
+    state: object = None
+    letter: object = None
+    text: str = field(default="", repr=False)
+
+    @classmethod
+    def read(cls, text):
+        words = text.split("\n")[0].split(" ")
+        if words[0] == "stuck":
+            return cls("stuck", int(words[3]), state=words[1], letter=words[2], text=text)
+        output = text.split("\n")[1].removeprefix("output =") if words[0] == "halted" else None
+        return cls(words[0], int(words[1]), output=output, text=text)
+
+
+@dataclass(frozen=True)
+class Exit:
+    """By which exit the signal left: `kind` is `end`, `stuck` (with `state` and `letter`), `window` (with the number of the
+    `tape` and the `side`), or `inside`, where it hadn't left yet."""
+
+    kind: str
+    state: object = None
+    letter: object = None
+    tape: object = None
+    side: object = None
+
+    @classmethod
+    def read(cls, words):
+        kind, *rest = words.split(" ")
+        if kind == "stuck":
+            return cls(kind, state=rest[0], letter=rest[1])
+        if kind == "window":
+            return cls(kind, tape=int(rest[0]), side=rest[1])
+        return cls(kind)
+
+
+@dataclass(frozen=True)
+class Run:
+    """A run of a machine's circuit: its `window` (l1, r1, n, r3), the number of `elements`, the `exit`, the element `steps`,
+    the `quadruple_steps` of Bennett's machine where they are told, the `tapes` and, at the end, the `output`."""
+
+    window: tuple
+    elements: int
+    exit: Exit
+    steps: int
+    quadruple_steps: object
+    tapes: tuple
+    output: object
+    text: str = field(default="", repr=False)
+
+    @classmethod
+    def read(cls, text, window=None):
+        told = {}
+        tapes = []
+        for line in text.splitlines():
+            if line.startswith("tape "):
+                tapes.append(Tape.read(line))
+            else:
+                name, _, rest = line.partition(" ")
+                told["output" if name == "output" else name] = rest
+        if "window" in told:
+            window = tuple(map(int, told["window"].split(" ")))
+        quadruples = told.get("quadruple")
+        output = told.get("output")
+        return cls(tuple(window), int(told["elements"]), Exit.read(told.get("exit", "inside")), int(told["steps"]),
+                   int(quadruples.removeprefix("steps ")) if quadruples else None, tuple(tapes),
+                   None if output is None else output.removeprefix("="), text)
+
+    def _repr_html_(self):
+        told = self.text.split("\ntape ")[0].splitlines()
+        output = "" if self.output is None else f"<p>output <b>{html.escape(self.output) or '(no letter)'}</b></p>"
+        return f"<p>{' &middot; '.join(map(html.escape, told))}</p>{tapes_html(self.tapes)}{output}"
+
+
+@dataclass(frozen=True)
+class View:
+    """Every layer at one step: `place` is the line of the element (as `12.w`), and `has_left` says whether the signal has
+    left by it; then the `module`, the state of Bennett's machine, the `tapes`, the `stage` and what the machine itself does."""
+
+    place: str
+    has_left: bool
+    steps: int
+    module: str
+    quadruple: str
+    tapes: tuple
+    stage: str
+    machine: str
+    text: str = field(default="", repr=False)
+
+    @classmethod
+    def read(cls, lines):
+        element = re.fullmatch(r"element (at|left) (\S+) steps (\d+)", lines[0])
+        stage, _, machine = lines[6].removeprefix("machine ").partition(" ")
+        return cls(element[2], element[1] == "left", int(element[3]), lines[1], lines[2].removeprefix("quadruple "),
+                   tuple(map(Tape.read, lines[3:6])), stage, machine, "".join(f"{line}\n" for line in lines[:7]))
+
+    def _repr_html_(self):
+        told = [self.stage, f"{self.machine}", f"quadruple {self.quadruple}", f"{self.module}", f"element step {self.steps}"]
+        return f"<p>{' &middot; '.join(map(html.escape, told))}</p>{tapes_html(self.tapes)}"
+
+
+@dataclass(frozen=True)
+class Session:
+    """The answers to a script, one an entry: a View for `view`, else the line that was answered."""
+
+    answers: tuple
+    text: str = field(default="", repr=False)
+
+    @classmethod
+    def read(cls, text):
+        lines, answers = text.splitlines(), []
+        at = 0
+        while at < len(lines):
+            if lines[at].startswith("element "):
+                answers.append(View.read(lines[at:at + 7]))
+                at += 7
+            else:
+                answers.append(lines[at])
+                at += 1
+        return cls(tuple(answers), text)
+
+    def __len__(self):
+        return len(self.answers)
+
+    def __getitem__(self, place):
+        return self.answers[place]
+
+    def _repr_html_(self):
+        return "".join(it._repr_html_() if isinstance(it, View) else f"<pre>{html.escape(it)}</pre>" for it in self.answers)

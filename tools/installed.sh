@@ -1,0 +1,43 @@
+#!/usr/bin/env bash
+# The installed command `hithwelor`: the proved program, or the same code as a module of node, with the words that
+# ./workbench says beside it. Standard output and the exit status are the program's own, but for --help and --version.
+set -u
+top=$(readlink -f "${BASH_SOURCE[0]}")
+top=${top%/bin/*}
+library=$top/lib/hithwelor
+script=hithwelor
+front=$library/front.sh
+manual=hithwelor
+help_page=$top/share/doc/hithwelor/docs/HELP.md
+. "$library/built.sh"
+
+# Runs the program, or the module, with the words given.
+run() {
+    if [ -x "$library/hithwelor" ]; then
+        "$library/hithwelor" "$@"
+    else
+        node "$library/hithwelor.js" "$@"
+    fi
+}
+
+if [[ $# = 1 && $1 = --version ]]; then
+    printf 'hithwelor %s\n' "$(<"$library/version")"
+    exit 0
+fi
+# Two words are the Python package's own; the program has no command of these names.
+if [[ ${1-} = sweep || ${1-} = plot ]]; then
+    if [ ! -d "$library/python/hithwelor" ]; then
+        say "$1 is a word of the Python package, which isn't installed here: tools/install --python installs it too"
+        exit 2
+    fi
+    PYTHONPATH=$library/python${PYTHONPATH:+:$PYTHONPATH} exec python3 -m hithwelor "$@"
+fi
+if asks_for_help "$@"; then
+    show_help
+    exit 0
+fi
+tell_typing "$@"
+run "$@"
+status=$?
+tell_status "$status" "$@"
+exit "$status"
