@@ -7,11 +7,11 @@ use Rattle.std.specs.List.{list_all}
 abbrev pub is_name_byte : ℕ → Bool
 is_name_byte b = is_ascii_alphanumeric b || (b == 39) || (b == 46) || (b == 45)
 
--- a state's name: 1 to 32 such bytes
+-- a state's name: 1 to 32 of the bytes that a name may have
 abbrev pub is_state_name : List ℕ → Bool
 is_state_name name = nat_le 1 (length name) && nat_le (length name) 32 && list_all is_name_byte name
 
--- a byte of a symbol: printable ASCII but for the blank, the slash, the comma and the double quote
+-- a byte of a symbol: printable ASCII but for the space, the slash, the comma and the double quote
 abbrev pub is_symbol_byte : ℕ → Bool
 is_symbol_byte b = nat_le 33 b && nat_le b 126 && not (b == 47) && not (b == 44) && not (b == 34)
 

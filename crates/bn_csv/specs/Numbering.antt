@@ -9,7 +9,7 @@ unfoldable pub firsts_by : {X : Type 0} → (X → X → Bool) → List X → Li
 firsts_by same [] = []
 firsts_by same (x ∷ xs) = x ∷ filter (λ y. not (same x y)) (firsts_by same xs)
 
--- the distinct names of a list of names
+-- the distinct names of a list of names, in the order of their first appearance
 abbrev pub firsts : List (List ℕ) → List (List ℕ)
 firsts names = firsts_by bytes_eq names
 

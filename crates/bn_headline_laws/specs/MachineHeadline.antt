@@ -23,8 +23,8 @@ use Rattle.bn_headline_laws.specs.Elements.{elements, most_steps}
 
 -- ---- what the machine does
 
--- The bytes read as a table whose machine is in standard form, the word is one of its letters and fits the window, and
--- after i steps the machine's own run in that window comes out so.
+-- The bytes read as a table whose machine is in standard form, the word is made of its letters and fits the window, and
+-- after i steps the machine's own run from the word in that window comes out so.
 pub record IsOwnRun (bytes word : List ℕ) (l : Limits) (t : Named) (symbols : List ℕ) (i : ℕ) (o : Outcome) :
     Type 0 where
   pub given : IsGiven bytes word l t symbols
@@ -71,7 +71,7 @@ AreLastLines t l symbols i (Halted y) text =
 AreLastLines t l symbols i _ text = AreTapes t l text
 
 -- The signal makes at least so many element steps: where the machine halts, one for each step of the reversible
--- machine.
+-- machine; elsewhere at least 0, which says nothing.
 abbrev pub least_steps : ℕ → Outcome → ℕ
 least_steps i (Halted y) = 4 * i + 4 * length y + 5
 least_steps i _ = 0
@@ -85,8 +85,7 @@ pub record TellsExit (t : Named) (l : Limits) (symbols : List ℕ) (i : ℕ) (o 
   pub status_is : status ≡ outcome_status o
 
 -- The text and the status of a signal that is still inside after e steps: about to enter one of the four lines of one
--- of
--- the elements.
+-- of the elements. Which one it is, is open here, and so is what the three tapes show.
 pub record TellsInside (t : Named) (l : Limits) (e : ℕ) (status : Status) (text : List ℕ) : Type 0 where
   pub place : Line
   pub element : place.element < elements t.machine l
@@ -105,9 +104,8 @@ pub record TellsWithin (e : ℕ) (t : Named) (l : Limits) (symbols : List ℕ) (
 
 -- ---- what the sink took
 
--- The sink took a text, and it and the status tell the run of a signal that makes so many element steps to its exit,
--- from
--- `fewest` to `most`.
+-- The sink took a text, and it and the status tell the run of a signal that makes `cost` element steps to its exit,
+-- which are from `fewest` to `most`.
 pub record TookRun (tells : ℕ → Status → List ℕ → Type 0) (fewest most : ℕ) (status : Status)
     (taken took : Option (List ℕ)) : Type 0 where
   pub cost : ℕ
@@ -117,7 +115,7 @@ pub record TookRun (tells : ℕ → Status → List ℕ → Type 0) (fewest most
   pub told : tells cost status text
   pub grows : Grows taken took text
 
--- A circuit with too many elements is refused with their number, and any other is run.
+-- A circuit with too many elements is refused with their number, and any other is run, which is told as `tells` says.
 pub record TookAnswer (tells : ℕ → Status → List ℕ → Type 0) (p : Program) (l : Limits) (i : ℕ) (o : Outcome)
     (status : Status) (taken took : Option (List ℕ)) : Type 0 where
   pub large : MOST_ELEMENTS < elements p l → (status ≡ Size) × Grows taken took (large_line (elements p l))
@@ -125,14 +123,17 @@ pub record TookAnswer (tells : ℕ → Status → List ℕ → Type 0) (p : Prog
 
 -- ---- the headline
 
--- Where the words are `run`, a word and four limits, the answer tells how the machine's own bounded run comes out.
+-- Where the words are `run`, a word and four limits, and the bytes are within the limit of an input: however the
+-- machine's own bounded run comes out, the answer tells it.
 unfoldable pub MachineHeadline : List (List ℕ) → List ℕ → Status → Option (List ℕ) → Option (List ℕ) → Type 0
 MachineHeadline words bytes status taken took =
     (word : List ℕ) (l : Limits) → words ≡ run_words word l [] → length bytes ≤ MOST_INPUT_BYTES
     → (t : Named) (symbols : List ℕ) (i : ℕ) (o : Outcome) → IsOwnRun bytes word l t symbols i o
     → TookAnswer (TellsExit t l symbols i o) t.machine l i o status taken took
 
--- Where a greatest number of steps stands behind them, the answer tells it if that number is reached.
+-- Where the words are `run`, a word, four limits and a greatest number of element steps, e: the answer tells how the
+-- machine's own bounded run comes out, where the signal comes to its exit in e steps or fewer, and else where it is
+-- after e steps.
 unfoldable pub MachineHeadlineWithin : List (List ℕ) → List ℕ → Status → Option (List ℕ) → Option (List ℕ) → Type 0
 MachineHeadlineWithin words bytes status taken took =
     (word : List ℕ) (l : Limits) (e : ℕ) → words ≡ run_words word l (decimal e ∷ []) → e ≤ greatest

@@ -8,7 +8,8 @@ Loses None new piece = ⊤
 Loses (Some xs) None piece = ⊥
 Loses (Some xs) (Some ys) piece = xs ≡ piece ++ ys
 
--- the sink took `text` behind all that it had taken, and still tells what it has
+-- the sink took `text` behind all that it had taken, and still tells what it has; where it told nothing before,
+-- nothing is said
 abbrev pub Grows : Option (List ℕ) → Option (List ℕ) → List ℕ → Type 0
 Grows None new text = ⊤
 Grows (Some xs) new text = new ≡ Some (xs ++ text)

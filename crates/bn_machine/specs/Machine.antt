@@ -16,7 +16,7 @@ pub record Program : Type 0 where
 abbrev pub program_of : List Quint → ℕ → ℕ → Program
 program_of qs f z = record { quints = qs; states = f; symbols = z }
 
--- the start state is that of the first quintuple, the final state is the last one's next
+-- the start state: the first quintuple's state
 abbrev pub start_of : List Quint → ℕ
 start_of [] = 0
 start_of (q ∷ qs) = q.state

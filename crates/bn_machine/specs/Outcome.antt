@@ -16,8 +16,8 @@ pub record Limits : Type 0 where
   pub steps : ℕ
   pub output : ℕ
 
--- How a bounded run comes out: halted with an output, stuck in a state at a symbol, or at this end of tape 1, the work
--- tape, tape 2, the history, or tape 3, the output.
+-- How a bounded run comes out: halted with an output; stuck in a state at a symbol; or without room at this end of the
+-- tape with this number, where 1 is the work tape, 2 the history and 3 the output.
 pub data Outcome : Type 0 where
   Halted : List ℕ → Outcome
   Stuck : ℕ → ℕ → Outcome
@@ -28,8 +28,8 @@ pub record HasRoom (l : Limits) (head : ℤ) (j : ℕ) : Type 0 where
   pub work : (head +ℤ pos j) ≤ℤ pos l.right
   pub output : j ≤ l.output
 
--- Going right from the halted head over an output of this length to the blank behind it, j is the first cell without
--- room.
+-- Going right from the halted head over an output of this length to the blank behind it, j is a cell on the way, and
+-- each one before it has room. That j itself has none is said where this is used.
 pub record IsFirstShort (l : Limits) (head : ℤ) (length_of_output j : ℕ) : Type 0 where
   pub starts : 0 < j
   pub reached : j ≤ length_of_output + 1
@@ -54,7 +54,8 @@ pub data ComesOut (p : Program) (l : Limits) (i : ℕ) (c : Moment) (o : Outcome
       → IsBeyond l.left l.right side d.tape.head
       → o ≡ Outside 1 side → ComesOut p l i c o
 
--- The bounded run from the word makes i steps, all inside the work tape, and then comes out so.
+-- The bounded run from the word makes i steps, all inside the work tape and no more than the history holds, and then
+-- comes out so.
 pub record HasOutcome (p : Program) (word : List ℕ) (l : Limits) (i : ℕ) (o : Outcome) : Type 0 where
   pub moment : Moment
   pub run : AfterWithin (within l.left l.right) p word i moment

@@ -9,7 +9,8 @@ use Rattle.bn_machine.specs.Machine.{Program, Moment, MachineRunsTo, GoesBy, IsF
 abbrev pub After : Program → List ℕ → ℕ → Moment → Type 0
 After p word i c = Reaches (MachineRunsTo anywhere p) i (start p word) c
 
--- the same, where the head stays in the room
+-- the machine is at c after exactly i steps from the word, in each of which the head comes to a position that the room
+-- allows
 abbrev pub AfterWithin : Room → Program → List ℕ → ℕ → Moment → Type 0
 AfterWithin room p word i c = Reaches (MachineRunsTo room p) i (start p word) c
 
@@ -18,7 +19,7 @@ abbrev pub Follows : Room → Program → List ℕ → Moment → Moment → Typ
 Follows room p [] c d = c ≡ d
 Follows room p (n ∷ ns) c d = (m : Moment) × Follows room p ns c m × GoesBy room p n m d
 
--- y is the longest word without blanks just right of the head
+-- the word y is the longest one without blanks just right of the head
 pub record IsOutput (t : Tape) (y : List ℕ) : Type 0 where
   pub letters : (k : ℕ) → k < length y → slice_index y k ≢ 0
   pub spelled : (k : ℕ) → k < length y → cell t (t.head +ℤ pos (suc k)) ≡ slice_index y k

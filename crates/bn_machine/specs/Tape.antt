@@ -67,10 +67,11 @@ unfoldable pub cells_from : ℤ → List ℕ → Cells
 cells_from p [] = empty
 cells_from p (s ∷ ss) = set_cell (cells_from (p +ℤ pos 1) ss) p s
 
--- a word at the positions 1 and on with the head at 0; and the tape without any letter
+-- a word at the positions 1 and on, blanks elsewhere, and the head at 0
 abbrev pub word_tape : List ℕ → Tape
 word_tape xs = record { cells = cells_from (pos 1) xs; head = pos 0 }
 
+-- the tape without any letter
 abbrev pub blank_tape : Tape
 blank_tape = word_tape []
 

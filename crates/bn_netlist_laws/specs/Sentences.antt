@@ -26,10 +26,11 @@ pub data Sentence : Type 0 where
   Column : ℕ → ℕ → ℕ → Sentence
   Row : Option Line → Option Line → Sentence
 
--- the letters of the four lines of an element, in the order of their numbers, and those of the two states
+-- the letters of the four lines of an element, in the order of their numbers
 abbrev pub side_letters : List ℕ
 side_letters = codes "nesw"
 
+-- the letters of the two states of a bar, in the order of their numbers
 abbrev pub bar_letters : List ℕ
 bar_letters = codes "HV"
 

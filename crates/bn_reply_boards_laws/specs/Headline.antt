@@ -28,7 +28,7 @@ use Rattle.bn_reply.specs.declared.limits.TheConstants.{MOST_INPUT_BYTES}
 
 -- ---- what an outcome names
 
--- the exit line, and the status
+-- the exit line of an outcome
 abbrev pub outcome_line : Named → Outcome → List ℕ
 outcome_line t (outcome.Halted y) = line (codes "exit end" ∷ [])
 outcome_line t (outcome.Stuck j c) = stuck_line t (slice_index_or t.names j []) c
@@ -76,12 +76,12 @@ Tells (Some e) = TellsWithin e
 
 -- ---- what is asked
 
--- the words are `run`, a word behind the byte `=`, four limits, and perhaps a greatest number of steps, which is at
--- most 2^62
+-- the words `run`, a word behind the byte `=`, four limits in decimal digits, and whatever words stand behind them
 abbrev pub run_words : List ℕ → Limits → List (List ℕ) → List (List ℕ)
 run_words letters l rest =
     codes "run" ∷ (61 ∷ letters) ∷ decimal l.left ∷ decimal l.right ∷ decimal l.steps ∷ decimal l.output ∷ rest
 
+-- the words ask for a run: behind the limits stands nothing, or a greatest number of steps, which is at most 2^62
 abbrev pub AsksRun : List (List ℕ) → List ℕ → Limits → Option ℕ → Type 0
 AsksRun words letters l None = words ≡ run_words letters l []
 AsksRun words letters l (Some e) = (words ≡ run_words letters l (decimal e ∷ [])) × (e ≤ greatest)

@@ -26,7 +26,7 @@ pub record IsBeginning (q : Quint) : Type 0 where
   pub writes : q.write ≡ 0
   pub shifts : q.shift ≡ Right
 
--- the first quintuple is such a one
+-- the first quintuple reads a blank, writes a blank and shifts right
 pub record BeginsWell (qs : List Quint) : Type 0 where
   pub quint : Quint
   pub stands : nth qs 1 ≡ Some quint
@@ -49,7 +49,7 @@ pub record IsEnding (start : ℕ) (q : Quint) : Type 0 where
   pub shifts : q.shift ≡ Stay
   pub apart : q.state ≢ start
 
--- the last quintuple is such a one
+-- the last quintuple reads a blank, writes a blank, doesn't shift, and isn't one of the start state
 pub record EndsWell (qs : List Quint) : Type 0 where
   pub quint : Quint
   pub stands : nth qs (length qs) ≡ Some quint

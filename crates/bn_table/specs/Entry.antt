@@ -15,7 +15,7 @@ pub record Said : Type 0 where
 abbrev pub said : List ℕ → ℕ → ℕ → Shift → List ℕ → Said
 said state read write shift next = record { state = state; read = read; write = write; shift = shift; next = next }
 
--- the entry that says so
+-- the entry that says this, in five fields
 abbrev pub entry_of : Said → List (List ℕ)
 entry_of s = s.state ∷ (s.read ∷ []) ∷ (s.write ∷ []) ∷ shift_text s.shift ∷ s.next ∷ []
 

@@ -29,7 +29,7 @@ said_of names letters q = record {
   next = slice_index_or names q.next [];
 }
 
--- the entries of quintuples
+-- the entries of quintuples, one for each, in their order
 abbrev pub rows_by : List (List ℕ) → List ℕ → List Quint → List (List (List ℕ))
 rows_by names letters quints = map (λ q. entry_of (said_of names letters q)) quints
 
@@ -50,7 +50,8 @@ abbrev pub blank : ℕ
 blank = 95
 
 -- these quintuples have these entries, where the states' names and the letters are numbered by their first
--- appearance in the entries, the blank's letter before all others
+-- appearance in the entries, the blank's letter before all others; each number in a quintuple is one of these, and
+-- names and letters have their forms
 pub record SpellsQuintuples
     (names : List (List ℕ)) (letters : List ℕ) (quints : List Quint) (entries : List (List (List ℕ))) : Type 0 where
   pub rows : rows_by names letters quints ≡ entries
@@ -60,7 +61,8 @@ pub record SpellsQuintuples
   pub names_form : list_all is_state_name names ≡ true
   pub letters_form : list_all is_symbol_byte letters ≡ true
 
--- a table has these entries, of which there is one at least, and as many at most as a table may have
+-- a table has these entries, of which there is one at least, and as many at most as a table may have; its machine
+-- has as many states as there are names, and as many symbols as there are letters
 pub record IsTableOf (entries : List (List (List ℕ))) (t : Named) : Type 0 where
   pub spelled : SpellsQuintuples t.names t.letters t.machine.quints entries
   pub some : 0 < length entries

@@ -67,7 +67,7 @@ pub record ReadsAll (status : Status) (before after : Outside) : Type 0 where
   pub beyond : IfSome before.left (λ bytes. status ≡ Size → MOST_INPUT_BYTES < length bytes
       → GaveMore before.left after.left MOST_INPUT_BYTES)
 
--- No count of faults rose, or stands at its last value.
+-- No count of faults rose, and none stands at its last value.
 pub record IsWithoutFault (before after : Outside) : Type 0 where
   pub read : Rose before.read_faults after.read_faults → ⊥
   pub write : Rose before.write_faults after.write_faults → ⊥
