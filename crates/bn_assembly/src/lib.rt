@@ -17,6 +17,3 @@ pub use module::Module;
 pub use refusal::AssembleRefusal;
 pub use widening::{first_windows, widen};
 pub use windows::Windows;
-
-#[cfg(test)]
-mod tests;

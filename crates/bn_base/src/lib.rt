@@ -9,6 +9,3 @@ pub use bn_lists::NoMemory;
 pub use limits::{MOST_COUNT, most_count_is_stated};
 pub use lines::{Lines, NextLine, one_cut};
 pub use numbers::{Digits, GREATEST, one_spelling, push_u64, read_u64};
-
-#[cfg(test)]
-mod tests;

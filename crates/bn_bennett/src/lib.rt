@@ -16,6 +16,3 @@ pub use laws::{
 };
 pub use naming::{add_history_symbols, name_text, names};
 pub use translated::{MachineState, Stage, Translated, translate};
-
-#[cfg(test)]
-mod tests;

@@ -22,14 +22,10 @@ use Rattle.bn_network.specs.Networks.{IsNetwork, module_tables, network_start}
 use Rattle.bn_board.specs.Boards.{IsBoard, IsBoardWire, own, between, size, base, board_start}
 use Rattle.bn_board.specs.Layouts.{Layout, IsLayout}
 use Rattle.bn_circuits.specs.Alike.{AreAlike}
+use Rattle.bn_circuits.proofs.AlikeLemmas.{options_one, sources_one}
 use Rattle.bn_board.specs.LayoutLaws.{FlatsAreOne}
 
--- ---- options and lists
-
-options_one : {X : Type 0} (o p : Option X) → ((x : X) → o ≡ Some x → p ≡ Some x) → ((x : X) → p ≡ Some x → o ≡ Some x) → o ≡ p
-options_one None None h k = refl
-options_one None (Some y) h k = k y refl
-options_one (Some x) p h k = sym (h x refl)
+-- ---- lists
 
 lists_one : {X : Type 0} (xs ys : List X) → length xs ≡ length ys → ((i : ℕ) (x y : X) → slice_get xs i ≡ Some x → slice_get ys i ≡ Some y → x ≡ y) → xs ≡ ys
 lists_one [] [] n h = refl
@@ -41,11 +37,6 @@ lists_one (x ∷ xs) (y ∷ ys) n h =
     λ i. first i ∷ rest i
 
 -- ---- circuits
-
-sources_one : (xs ys : List Wire) → IsOneToOne xs → IsOneToOne ys → ((from : Line) → target xs from ≡ target ys from) → (to : Line)
-    → source xs to ≡ source ys to
-sources_one xs ys a b same to =
-    options_one (source xs to) (source ys to) (λ from h. (b from to).0 (sym (same from) ∙ (a from to).1 h)) (λ from h. (a from to).0 (same from ∙ (b from to).1 h))
 
 pub networks_one : (m : Quadruples) (l : Limits) (names : List ControlState) (k n : Circuit)
     → ((t u : Table) → IsControlTable m names t → IsControlTable m names u → t ≡ u) → IsNetwork m l names k → IsNetwork m l names n → AreAlike k n

@@ -12,6 +12,3 @@ pub use laws::{cell_lines_are_numbered, cell_states_are_numbered, cells_are_reve
 pub use make::cell;
 pub use numbers::{line_number, line_of, state_number};
 pub use table::CellTable;
-
-#[cfg(test)]
-mod tests;

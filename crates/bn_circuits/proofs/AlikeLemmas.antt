@@ -1,14 +1,26 @@
 -- Circuits with the same tables and the same wires, listed in whatever order, run alike.
 use Rattle.std.specs.Prelude.{◌≡◌, ℕ, ◌+◌, nat_le, List, ◌∷◌, Option, Some, None, slice_get, unwrap_or, option_and_then, if◌then◌else◌, refl}
-use Rattle.std.proofs.Common.{zero, suc, ap, ◌∙◌}
+use Rattle.std.proofs.Common.{zero, suc, sym, ap, ◌∙◌}
 use Rattle.bn_element.specs.Tables.{Table}
-use Rattle.bn_circuits.specs.Circuits.{Circuit, clock, go_of, back_of, place_at}
+use Rattle.bn_circuits.specs.Circuits.{Circuit, IsOneToOne, target, source, clock, go_of, back_of, place_at}
 use Rattle.bn_circuits.specs.Stepping.{next, next_from, moved_on, moved_back, previous, previous_by, line_before, run, back, placed, places, places_back}
 use Rattle.bn_circuits.specs.declared.line.Line.{Line}
+use Rattle.bn_circuits.specs.declared.line.Wire.{Wire}
 use Rattle.bn_circuits.specs.declared.place.Place.{Place}
 use Rattle.bn_circuits.specs.declared.place.Place.TheVariants.{Enter, Left}
 use Rattle.bn_circuits.specs.declared.config.Config.{Config}
 use Rattle.bn_circuits.specs.Alike.{AreAlike, AlikeRunAlike}
+
+-- options with the same entry are one
+pub options_one : {X : Type 0} (o x : Option X) → ((y : X) → o ≡ Some y → x ≡ Some y) → ((y : X) → x ≡ Some y → o ≡ Some y) → o ≡ x
+options_one None None h k = refl
+options_one None (Some y) h k = k y refl
+options_one (Some y) x h k = sym (h y refl)
+
+-- wires that are one to one and have the same targets have the same sources
+pub sources_one : (ws vs : List Wire) → IsOneToOne ws → IsOneToOne vs → ((from : Line) → target ws from ≡ target vs from) → (to : Line) → source ws to ≡ source vs to
+sources_one ws vs one also same to = options_one (source ws to) (source vs to)
+    (λ y h. (also y to).0 (sym (same y) ∙ (one y to).1 h)) (λ y h. (one y to).0 (same y ∙ (also y to).1 h))
 
 module _ (k m : Circuit) (alike : AreAlike k m) where
   moved-alike : (c : Config) (e : ℕ) (r : ℕ × ℕ) → moved_on k c e r ≡ moved_on m c e r

@@ -6,7 +6,7 @@ use Rattle.bn_lists.specs.Runs.{Reaches}
 use Rattle.bn_lists.proofs.RunsLemmas.{runs_more}
 use Rattle.bn_circuits.specs.Circuits.{Circuit, IsCircuit, IsConfig, Goes, IsStuck, IsFirst}
 use Rattle.bn_circuits.specs.Stepping.{next, previous, advance, retreat, run, back, places, places_back}
-use Rattle.bn_circuits.proofs.StepLemmas.{next-Goes, Goes-next, previous-Goes, Goes-previous, next-IsConfig}
+use Rattle.bn_circuits.proofs.StepLemmas.{next-Goes, Goes-next, previous-Goes, Goes-previous, next-IsConfig, previous-IsConfig}
 use Rattle.bn_circuits.specs.declared.config.Config.{Config}
 use Rattle.bn_circuits.specs.RunLaws.{Makes}
 
@@ -175,3 +175,21 @@ module _ (k : Circuit) where
   unfolding places_back
   places_back-first circuit c zero config first = refl
   places_back-first circuit c (suc t) config first = rw (previous-first circuit c config first) refl
+
+-- a run ends in a configuration of the circuit
+pub run-IsConfig : (k : Circuit) → IsCircuit k → (c : Config) → IsConfig k c → (t : ℕ) → IsConfig k (run k c t)
+run-IsConfig k circuit c config t =
+    let m = run_makes k c t in
+    Reaches-IsConfig k circuit m.made c (run k c t) config m.reaches
+
+retreat-IsConfig : (k : Circuit) → IsCircuit k → (c : Config) → IsConfig k c → IsConfig k (retreat k c)
+retreat-IsConfig k circuit c config = by_previous (previous k c) refl
+  where
+    by_previous : (o : Option Config) → previous k c ≡ o → IsConfig k (retreat k c)
+    by_previous None is = rw is config
+    by_previous (Some b) is = rw is (previous-IsConfig k circuit b c config (previous-Goes k circuit b c config is))
+
+-- a run back ends in a configuration of the circuit
+pub back-IsConfig : (k : Circuit) → IsCircuit k → (c : Config) → IsConfig k c → (t : ℕ) → IsConfig k (back k c t)
+back-IsConfig k circuit c config zero = subst (IsConfig k) (sym (back-zero k c)) config
+back-IsConfig k circuit c config (suc t) = subst (IsConfig k) (sym (back-suc k c t)) (retreat-IsConfig k circuit (back k c t) (back-IsConfig k circuit c config t))

@@ -16,6 +16,3 @@ pub use make::column;
 pub use refusal::ColumnRefusal;
 pub use standing::Column;
 pub use wires::{column_wires, wire};
-
-#[cfg(test)]
-mod tests;

@@ -17,6 +17,3 @@ pub use bn_network::MOST_SYMBOLS;
 pub use bn_rsm::NoMemory;
 pub use finite::Control;
 pub use make::{MOST_QUADRUPLES, MOST_STATES, control, most_quadruples_are_stated};
-
-#[cfg(test)]
-mod tests;

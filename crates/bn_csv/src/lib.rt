@@ -14,6 +14,3 @@ pub use forms::{is_letter, is_state_name, is_symbol};
 pub use laws::{first_appearances_number_names, written_entries_are_read_back};
 pub use names::Names;
 pub use writer::EntryWriter;
-
-#[cfg(test)]
-mod tests;

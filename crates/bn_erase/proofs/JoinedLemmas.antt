@@ -17,7 +17,7 @@ use Rattle.bn_table.proofs.MachineLemmas.{table_machine}
 use Rattle.bn_table.proofs.RowsLemmas.{blank_first, one_symbol}
 use Rattle.bn_erase.specs.Joint.{IsAlphabet, IsCode, IsJoint, joined, joint_letters, joint_of, number_in}
 use Rattle.bn_erase.specs.Laws.{JoinedAreJudgedAlike}
-use Rattle.bn_erase.specs.Recoded.{KeepsSymbols, recoded, recoded_quint, widened}
+use Rattle.bn_erase.specs.Recoded.{KeepsSymbols, recoded, recoded_quint, with_symbols}
 use Rattle.bn_erase.proofs.VerdictLemmas.{alike_refused, alike_standard}
 use Rattle.bn_erase.proofs.JointLemmas.{codes_keep_symbols, joint_alphabet, letters_apart, second_in}
 use Rattle.bn_erase.proofs.LetterLemmas.{all_joined, few_letters, number_stands}
@@ -44,7 +44,7 @@ code_within letters own known s low =
     slice_get_within letters (code_among letters own s) (get_or own s 0) ((is_code letters own known).each s (get_or own s 0) (slice_get-get_or own s 0 low))
 
 -- a machine with more symbols is one
-widened_machine : (n : ℕ) (p : Program) → IsMachine p → p.symbols ≤ n → IsMachine (widened n p)
+widened_machine : (n : ℕ) (p : Program) → IsMachine p → p.symbols ≤ n → IsMachine (with_symbols n p)
 widened_machine n p m low = record {
   some = m.some;
   few = m.few;
@@ -118,9 +118,9 @@ recoded_not_refused t letters quints states why h known quints_are states_are re
     no_refusal (program_of quints states (length letters)) why (subst IsMachine (sym (λ i. program_of (quints_are i) (states_are i) (length letters))) machine) refused
 
 -- the parts that are the joined machines' are the joined machines
-pub joined_is : (t u : Named) (first second : Program) (letters : List ℕ) (n : ℕ) → letters ≡ joint_letters t.letters u.letters → n ≡ length letters → first ≡ widened n t.machine →
+pub joined_is : (t u : Named) (first second : Program) (letters : List ℕ) (n : ℕ) → letters ≡ joint_letters t.letters u.letters → n ≡ length letters → first ≡ with_symbols n t.machine →
     second ≡ recoded (code_among letters u.letters) (length letters) u.machine → joint_of first second letters ≡ joined t u
 joined_is t u first second letters n letters_are counted first_is second_is =
-    let one : first ≡ (joined t u).first = first_is ∙ ap (λ m. widened m t.machine) (counted ∙ ap length letters_are) in
+    let one : first ≡ (joined t u).first = first_is ∙ ap (λ m. with_symbols m t.machine) (counted ∙ ap length letters_are) in
     let two : second ≡ (joined t u).second = second_is ∙ ap (λ ls. recoded (code_among ls u.letters) (length ls) u.machine) letters_are in
     λ i. joint_of (one i) (two i) (letters_are i)

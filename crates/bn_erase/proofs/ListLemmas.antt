@@ -11,7 +11,7 @@ use Rattle.bn_quad.specs.declared.quad.Quad.{Quad}
 use Rattle.bn_bennett.specs.Draft.{IsBelow}
 use Rattle.bn_bennett_laws.proofs.MembershipLemmas.{in_head, in_tail, from_map}
 use Rattle.bn_bennett_laws.specs.Renamed.{renamed, rename}
-use Rattle.bn_erase_laws.specs.Lists.{exchanged, exchanged_list}
+use Rattle.bn_erase_laws.specs.Lists.{exchanged_rule, exchanged_list}
 use Rattle.bn_erase_laws.proofs.TurnedLemmas.{from_turned}
 use Rattle.bn_erase.specs.Numbered.{backward_quad, joint_quads, new_state}
 use Rattle.bn_erase.specs.declared.erasing.Meeting.{Meeting}
@@ -55,9 +55,9 @@ module _ {P Q : Type 0} (f : P → Q) where
   rename_turned [] = refl
   rename_turned (r ∷ rs) = ap (λ ss. renamed f (turned r) ∷ ss) (rename_turned rs)
 
-  rename_exchanged : (rs : List (Rule P)) → rename f (map exchanged rs) ≡ map exchanged (rename f rs)
+  rename_exchanged : (rs : List (Rule P)) → rename f (map exchanged_rule rs) ≡ map exchanged_rule (rename f rs)
   rename_exchanged [] = refl
-  rename_exchanged (r ∷ rs) = ap (λ ss. renamed f (exchanged r) ∷ ss) (rename_exchanged rs)
+  rename_exchanged (r ∷ rs) = ap (λ ss. renamed f (exchanged_rule r) ∷ ss) (rename_exchanged rs)
 
   rename_reverse : (rs : List (Rule P)) → rename f (reverse rs) ≡ reverse (rename f rs)
   rename_reverse [] = refl
@@ -72,11 +72,11 @@ module _ {P Q : Type 0} (f : P → Q) where
       rename_exchanged (turned_list rs) ∙ ap exchanged_list (rename_turned (reverse rs) ∙ ap (map turned) (rename_reverse rs))
 
 -- what stands backward in the list is one of its quadruples, turned round and with tapes exchanged
-pub from_backward : {Q : Type 0} (rs : List (Rule Q)) (r : Rule Q) → IsIn (exchanged_list (turned_list rs)) r → (s : Rule Q) × IsIn rs s × (exchanged (turned s) ≡ r)
+pub from_backward : {Q : Type 0} (rs : List (Rule Q)) (r : Rule Q) → IsIn (exchanged_list (turned_list rs)) r → (s : Rule Q) × IsIn rs s × (exchanged_rule (turned s) ≡ r)
 from_backward rs r h =
-    let one = from_map exchanged (turned_list rs) r h in
+    let one = from_map exchanged_rule (turned_list rs) r h in
     let two = from_turned rs one.0 one.1 in
-    (two.0, two.1, ap exchanged two.2 ∙ one.2)
+    (two.0, two.1, ap exchanged_rule two.2 ∙ one.2)
 
 -- ---- as they are kept
 
@@ -86,7 +86,7 @@ joint_rules m first second = first ++ rename (new_state m) (exchanged_list (turn
 
 backward_kept : (m : Meeting) (rs : List (Rule ℕ)) → map (backward_quad m) (map quad_of rs) ≡ map quad_of (rename (new_state m) (exchanged_list rs))
 backward_kept m [] = refl
-backward_kept m (r ∷ rs) = ap (λ (qs : List Quad). quad_of (renamed (new_state m) (exchanged r)) ∷ qs) (backward_kept m rs)
+backward_kept m (r ∷ rs) = ap (λ (qs : List Quad). quad_of (renamed (new_state m) (exchanged_rule r)) ∷ qs) (backward_kept m rs)
 
 pub joint_kept : (m : Meeting) (rs ss : List (Rule ℕ)) → joint_quads m rs ss ≡ map quad_of (joint_rules m rs ss)
 joint_kept m rs ss =

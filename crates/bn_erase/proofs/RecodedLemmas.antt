@@ -12,7 +12,7 @@ use Rattle.bn_erase_laws.proofs.MappedLemmas.{mapped_before, nth_mapped}
 use Rattle.bn_bennett_laws.proofs.Halted.{quint_in_range, some_symbol}
 use Rattle.bn_standard.specs.Standard.{Repeats, BeginsWell, UsesStart, EndsWell, UsesFinal, NamesStart, NamesFinal}
 use Rattle.bn_table.specs.Rows.{FitsTable, states_in}
-use Rattle.bn_erase.specs.Recoded.{recoded_quint, recoded, widened, KeepsSymbols}
+use Rattle.bn_erase.specs.Recoded.{recoded_quint, recoded, with_symbols, KeepsSymbols}
 use Rattle.bn_erase.specs.Laws.{RecodedIsStandard}
 use Rattle.bn_erase.proofs.VerdictLemmas.{AreAlike, alike_standard}
 
@@ -184,7 +184,7 @@ recoded_fits code symbols p f few = record {
   symbols = few;
 }
 
-pub widened_fits : (symbols : ℕ) (p : Program) → FitsTable p → symbols ≤ 91 → FitsTable (widened symbols p)
+pub widened_fits : (symbols : ℕ) (p : Program) → FitsTable p → symbols ≤ 91 → FitsTable (with_symbols symbols p)
 widened_fits symbols p f few = record { numbered = f.numbered; quints = f.quints; states = f.states; symbols = few }
 
 -- ---- the law

@@ -6,7 +6,7 @@ use Rattle.std.specs.List.{list_all, list_any}
 use Rattle.bn_csv.specs.Forms.{is_symbol_byte}
 use Rattle.bn_machine.specs.Machine.{IsMachine, Program}
 use Rattle.bn_table.specs.Rows.{FitsTable, Named, blank}
-use Rattle.bn_erase.specs.Recoded.{recoded, widened}
+use Rattle.bn_erase.specs.Recoded.{recoded, with_symbols}
 
 -- the letters of both
 abbrev pub joint_letters : List ℕ → List ℕ → List ℕ
@@ -30,7 +30,7 @@ joint_of first second letters = record { first = first; second = second; letters
 -- second gets that of its letter
 abbrev pub joined : Named → Named → Joint
 joined t u = record {
-  first = widened (length (joint_letters t.letters u.letters)) t.machine;
+  first = with_symbols (length (joint_letters t.letters u.letters)) t.machine;
   second = recoded (λ symbol. number_in (joint_letters t.letters u.letters) (slice_index u.letters symbol))
       (length (joint_letters t.letters u.letters)) u.machine;
   letters = joint_letters t.letters u.letters;

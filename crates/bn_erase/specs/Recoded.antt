@@ -18,8 +18,8 @@ abbrev pub recoded : (ℕ → ℕ) → ℕ → Program → Program
 recoded code symbols p = record { quints = map (recoded_quint code) p.quints; states = p.states; symbols = symbols }
 
 -- the machine with so many symbols in all, its own keeping their numbers
-abbrev pub widened : ℕ → Program → Program
-widened symbols p = record { quints = p.quints; states = p.states; symbols = symbols }
+abbrev pub with_symbols : ℕ → Program → Program
+with_symbols symbols p = record { quints = p.quints; states = p.states; symbols = symbols }
 
 -- the numbers keep the machine's symbols apart and the blank the blank, and they are among so many
 pub record KeepsSymbols (code : ℕ → ℕ) (before after : ℕ) : Type 0 where

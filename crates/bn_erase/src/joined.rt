@@ -6,7 +6,7 @@ ghost use Rattle.bn_machine.specs.Machine.{IsInRange};
 ghost use Rattle.bn_lists.specs.Lists.{IsIn};
 ghost use Rattle.bn_table.specs.Rows.{IsTable};
 ghost use Rattle.bn_erase.specs.Joint.{joined, joint_letters, number_in};
-ghost use Rattle.bn_erase.specs.Recoded.{recoded, recoded_quint, widened};
+ghost use Rattle.bn_erase.specs.Recoded.{recoded, recoded_quint, with_symbols};
 
 use bn_machine::{Machine, Quint};
 use bn_quad::NoMemory;
@@ -78,7 +78,7 @@ pub fn join_letters(alloc: Global, first: &Table, second: &Table) -> Result<Join
     ensures { IfOk result (λ j. j ≡ joined first.now second.now) }
 {
     let letters = joint_letters(alloc, first, second)?;
-    let first = widened(alloc, first.machine(), letters.len() as u32)?;
+    let first = with_symbols(alloc, first.machine(), letters.len() as u32)?;
     let second = recoded(alloc, second, letters.as_slice())?;
     Ok(Joined {
         first,
@@ -128,9 +128,9 @@ fn add_further_letters(letters: &mut Vec<u8>, first: &Table, second: &Table) -> 
 }
 
 // The machine with so many symbols in all.
-fn widened(alloc: Global, machine: &Machine, symbols: u32) -> Result<Machine, NoMemory>
+fn with_symbols(alloc: Global, machine: &Machine, symbols: u32) -> Result<Machine, NoMemory>
     requires { machine.now.symbols ≤ symbols }
-    ensures { IfOk result (λ m. m ≡ widened symbols machine.now) }
+    ensures { IfOk result (λ m. m ≡ with_symbols symbols machine.now) }
 {
     let quints = Vec::from_slice(alloc, machine.quints())?;
     match Machine::try_new(quints, machine.states(), symbols) {

@@ -22,7 +22,7 @@ use Rattle.bn_bennett_laws.specs.declared.name.Name.{Name}
 use Rattle.bn_bennett_laws.specs.declared.name.Name.TheVariants.{Compute, ComputeWithin, GoRight, CopyLetter, GoLeft, PassLetter, Retrace, RetraceWithin}
 use Rattle.bn_erase_laws.specs.declared.name.ErasingName.{ErasingName}
 use Rattle.bn_erase_laws.specs.declared.name.ErasingName.TheVariants.{First, Second}
-use Rattle.bn_erase_laws.specs.Lists.{exchanged, JoinsAt}
+use Rattle.bn_erase_laws.specs.Lists.{exchanged_rule, JoinsAt}
 use Rattle.bn_erase_laws.specs.Erasing.{second_name, first_half, backward, second_half, erasing_initial, erasing_middle, erasing_final, erasing_symbols}
 use Rattle.bn_erase_laws.proofs.TurnedLemmas.{from_turned, in_turned, turned_deterministic, turned_reversible, turned_uniform}
 use Rattle.bn_erase_laws.proofs.ExchangedLemmas.{exchanged_free, exchanged_uniform}
@@ -104,13 +104,13 @@ unfolding first_half
 from_first p r h = from_map (renamed First) (bennett p) r h
 
 -- a quadruple of the second half is one of the second machine's, turned round, its tapes exchanged and its states named anew
-pub from_second : (p q : Program) (s : Rule ErasingName) → IsIn (second_half p q) s → (b : Rule Name) × IsIn (bennett q) b × (renamed (second_name p q) (exchanged (turned b)) ≡ s)
+pub from_second : (p q : Program) (s : Rule ErasingName) → IsIn (second_half p q) s → (b : Rule Name) × IsIn (bennett q) b × (renamed (second_name p q) (exchanged_rule (turned b)) ≡ s)
 unfolding second_half
 from_second p q s h =
     let one = from_map (renamed (second_name p q)) (backward q) s h in
-    let two = from_map exchanged (turned_list (bennett q)) one.0 one.1 in
+    let two = from_map exchanged_rule (turned_list (bennett q)) one.0 one.1 in
     let three = from_turned (bennett q) two.0 two.1 in
-    (three.0, three.1, ap (λ t. renamed (second_name p q) (exchanged t)) three.2 ∙ ap (renamed (second_name p q)) two.2 ∙ one.2)
+    (three.0, three.1, ap (λ t. renamed (second_name p q) (exchanged_rule t)) three.2 ∙ ap (renamed (second_name p q)) two.2 ∙ one.2)
 
 module _ (p q : Program) (left : IsStandard p.quints) (right : IsStandard q.quints) where
   pub first_from : (r : Rule ErasingName) → IsIn (first_half p) r → (x : Name) × (r.from ≡ First x) × (x ≢ final_name p)
@@ -153,14 +153,14 @@ pub final_in : (p : Program) → 0 < length p.quints → IsIn (states_in (bennet
 final_in p some = let last = (list_has_ends p some).1 in subst (IsIn (states_in (bennett p))) last.2 (to_in (bennett p) last.0 (record { place = length (bennett p); stands = last.1 }))
 
 -- and of the list backward
-pub in_backward : (q : Program) (r : Rule Name) → IsIn (bennett q) r → IsIn (backward q) (exchanged (turned r))
-in_backward q r h = in_map exchanged (turned_list (bennett q)) (turned r) (in_turned (bennett q) r h)
+pub in_backward : (q : Program) (r : Rule Name) → IsIn (bennett q) r → IsIn (backward q) (exchanged_rule (turned r))
+in_backward q r h = in_map exchanged_rule (turned_list (bennett q)) (turned r) (in_turned (bennett q) r h)
 
 pub back_initial_in : (q : Program) → 0 < length q.quints → IsIn (states_in (backward q)) (final_name q)
-back_initial_in q some = let last = (list_has_ends q some).1 in subst (IsIn (states_in (backward q))) last.2 (from_in (backward q) (exchanged (turned last.0)) (in_backward q last.0 (record { place = length (bennett q); stands = last.1 })))
+back_initial_in q some = let last = (list_has_ends q some).1 in subst (IsIn (states_in (backward q))) last.2 (from_in (backward q) (exchanged_rule (turned last.0)) (in_backward q last.0 (record { place = length (bennett q); stands = last.1 })))
 
 pub back_final_in : (q : Program) → 0 < length q.quints → IsIn (states_in (backward q)) (initial_name q)
-back_final_in q some = let first = (list_has_ends q some).0 in subst (IsIn (states_in (backward q))) first.2 (to_in (backward q) (exchanged (turned first.0)) (in_backward q first.0 (record { place = 1; stands = first.1 })))
+back_final_in q some = let first = (list_has_ends q some).0 in subst (IsIn (states_in (backward q))) first.2 (to_in (backward q) (exchanged_rule (turned first.0)) (in_backward q first.0 (record { place = 1; stands = first.1 })))
 
 pub backward_deterministic : (q : Program) → IsStandard q.quints → HasNoClash Domain (turned_list (bennett q))
 backward_deterministic q s = turned_deterministic (bennett q) (list_reversible q s)
@@ -209,7 +209,7 @@ length-first p = length-map (bennett p) (renamed First)
 
 pub length-second : (p q : Program) → length (second_half p q) ≡ length (bennett q)
 unfolding second_half
-length-second p q = length-map (backward q) (renamed (second_name p q)) ∙ length-map (turned_list (bennett q)) exchanged ∙ length-map (reverse (bennett q)) turned ∙ length-reverse (bennett q)
+length-second p q = length-map (backward q) (renamed (second_name p q)) ∙ length-map (turned_list (bennett q)) exchanged_rule ∙ length-map (reverse (bennett q)) turned ∙ length-reverse (bennett q)
 
 pub erasing_has_length : ErasingHasLength
 erasing_has_length p q some other =

@@ -9,7 +9,7 @@ use Rattle.bn_quad.specs.declared.clash.Clash.TheVariants.{Domain, Range, Reads,
 use Rattle.bn_bennett_laws.proofs.MembershipLemmas.{from_map}
 use Rattle.bn_bennett_laws.specs.Names.{IsUniformFrom}
 use Rattle.bn_bennett_laws.specs.Steps.{Steps}
-use Rattle.bn_erase_laws.specs.Lists.{exchanged, exchanged_list, exchanged_tapes, exchanged_rooms}
+use Rattle.bn_erase_laws.specs.Lists.{exchanged_rule, exchanged_list, exchanged_tapes, exchanged_rooms}
 use Rattle.bn_erase_laws.proofs.MappedLemmas.{nth_mapped, free_of, no_clash_of, free_mapped}
 use Rattle.bn_erase_laws.specs.ListLaws.{ExchangedListsPassTests, ExchangedListsRun}
 
@@ -21,14 +21,14 @@ module _ {Q : Type 0} where
 
   -- ---- tests
 
-  clash_before : (clash : Clash) (r s : Rule Q) → QuadruplesClash clash (exchanged r) (exchanged s) → QuadruplesClash clash r s
+  clash_before : (clash : Clash) (r s : Rule Q) → QuadruplesClash clash (exchanged_rule r) (exchanged_rule s) → QuadruplesClash clash r s
   clash_before Domain r s h = record { from = h.from; tapes = (h.tapes.1.1.0, (h.tapes.1.0, (h.tapes.0, tt))) }
   clash_before Range r s h = record { to = h.to; tapes = (h.tapes.1.1.0, (h.tapes.1.0, (h.tapes.0, tt))) }
   clash_before Reads r s h = record { from = h.from; apart = λ k. h.apart (k.1.1.0, (k.1.0, (k.0, tt))) }
   clash_before Writes r s h = record { to = h.to; apart = λ k. h.apart (k.1.1.0, (k.1.0, (k.0, tt))) }
 
   pub exchanged_free : (clash : Clash) (rs : List (Rule Q)) → HasNoClash clash rs → HasNoClash clash (exchanged_list rs)
-  exchanged_free clash rs h = no_clash_of clash (exchanged_list rs) (free_mapped exchanged clash clash rs (clash_before clash) (free_of clash rs h))
+  exchanged_free clash rs h = no_clash_of clash (exchanged_list rs) (free_mapped exchanged_rule clash clash rs (clash_before clash) (free_of clash rs h))
 
   exchanged_free_back : (clash : Clash) (rs : List (Rule Q)) → HasNoClash clash (exchanged_list rs) → HasNoClash clash rs
   exchanged_free_back clash rs h = subst (HasNoClash clash) (exchanged_list-exchanged_list rs) (exchanged_free clash (exchanged_list rs) h)
@@ -38,11 +38,11 @@ module _ {Q : Type 0} where
     reads = exchanged_free Reads rs h.reads;
     writes = exchanged_free Writes rs h.writes;
     active = λ s k silent.
-        let found = from_map exchanged rs s k in
-        let same : IsSilent (exchanged found.0) = subst (λ t. IsSilent t) (sym found.2) silent in
+        let found = from_map exchanged_rule rs s k in
+        let same : IsSilent (exchanged_rule found.0) = subst (λ t. IsSilent t) (sym found.2) silent in
         h.active found.0 found.1 (record { one = same.three; two = same.two; three = same.one });
-    not_entered = λ s k is. let found = from_map exchanged rs s k in h.not_entered found.0 found.1 (ap (λ (t : Rule Q). t.to) found.2 ∙ is);
-    not_left = λ s k is. let found = from_map exchanged rs s k in h.not_left found.0 found.1 (ap (λ (t : Rule Q). t.from) found.2 ∙ is);
+    not_entered = λ s k is. let found = from_map exchanged_rule rs s k in h.not_entered found.0 found.1 (ap (λ (t : Rule Q). t.to) found.2 ∙ is);
+    not_left = λ s k is. let found = from_map exchanged_rule rs s k in h.not_left found.0 found.1 (ap (λ (t : Rule Q). t.from) found.2 ∙ is);
   }
 
   exchanged_uniform_back : (rs : List (Rule Q)) (initial final : Q) → IsUniformFrom initial final (exchanged_list rs) → IsUniformFrom initial final rs
@@ -57,8 +57,8 @@ module _ {Q : Type 0} where
       record {
         number = h.number;
         leads = record {
-          rule = exchanged l.rule;
-          stands = nth_mapped exchanged rs h.number l.rule l.stands;
+          rule = exchanged_rule l.rule;
+          stands = nth_mapped exchanged_rule rs h.number l.rule l.stands;
           leads = record { applies = record { from = a.from; one = a.three; two = a.two; three = a.one }; gives = ap exchanged_tapes l.leads.gives };
         };
       }

@@ -15,7 +15,7 @@ use Rattle.bn_bennett_laws.proofs.Counts.{list_has_names, list_counts_names}
 use Rattle.bn_bennett_laws.specs.declared.name.Name.{Name}
 use Rattle.bn_erase_laws.specs.declared.name.ErasingName.{ErasingName}
 use Rattle.bn_erase_laws.specs.declared.name.ErasingName.TheVariants.{First, Second}
-use Rattle.bn_erase_laws.specs.Lists.{exchanged}
+use Rattle.bn_erase_laws.specs.Lists.{exchanged_rule}
 use Rattle.bn_erase_laws.specs.Erasing.{second_name, first_half, backward, second_half, erasing, IsErasingName}
 use Rattle.bn_erase_laws.specs.ErasingLaws.{ErasingHasNames, ErasingCountsNames}
 use Rattle.bn_erase_laws.proofs.ErasingLemmas.{from_first, from_second, second_final, second_own, final_in, in_backward}
@@ -71,17 +71,17 @@ module _ (p q : Program) (left : IsMachine p) (right : IsMachine q) where
   unfolding first_half
   first_stands a h = in_left (first_half p) (second_half p q) (renamed First a) (in_map (renamed First) (bennett p) a h)
 
-  second_stands : (b : Rule Name) → IsIn (bennett q) b → IsIn (erasing p q) (renamed (second_name p q) (exchanged (turned b)))
+  second_stands : (b : Rule Name) → IsIn (bennett q) b → IsIn (erasing p q) (renamed (second_name p q) (exchanged_rule (turned b)))
   unfolding second_half
-  second_stands b h = in_right (first_half p) (second_half p q) _ (in_map (renamed (second_name p q)) (backward q) (exchanged (turned b)) (in_backward q b h))
+  second_stands b h = in_right (first_half p) (second_half p q) _ (in_map (renamed (second_name p q)) (backward q) (exchanged_rule (turned b)) (in_backward q b h))
 
   first_state : (name : Name) → IsStateOf (bennett p) name → IsIn (states_in (erasing p q)) (First name)
   first_state name (before a h is) = subst (λ n. IsIn (states_in (erasing p q)) (First n)) is (from_in (erasing p q) (renamed First a) (first_stands a h))
   first_state name (after a h is) = subst (λ n. IsIn (states_in (erasing p q)) (First n)) is (to_in (erasing p q) (renamed First a) (first_stands a h))
 
   second_state : (name : Name) → IsStateOf (bennett q) name → IsIn (states_in (erasing p q)) (second_name p q name)
-  second_state name (before b h is) = subst (λ n. IsIn (states_in (erasing p q)) (second_name p q n)) is (to_in (erasing p q) (renamed (second_name p q) (exchanged (turned b))) (second_stands b h))
-  second_state name (after b h is) = subst (λ n. IsIn (states_in (erasing p q)) (second_name p q n)) is (from_in (erasing p q) (renamed (second_name p q) (exchanged (turned b))) (second_stands b h))
+  second_state name (before b h is) = subst (λ n. IsIn (states_in (erasing p q)) (second_name p q n)) is (to_in (erasing p q) (renamed (second_name p q) (exchanged_rule (turned b))) (second_stands b h))
+  second_state name (after b h is) = subst (λ n. IsIn (states_in (erasing p q)) (second_name p q n)) is (from_in (erasing p q) (renamed (second_name p q) (exchanged_rule (turned b))) (second_stands b h))
 
   names_back : (name : ErasingName) → IsErasingName p q name → IsIn (states_in (erasing p q)) name
   names_back (First name) h = first_state name (state_of (bennett p) name ((list_has_names p left.some name).1 h))

@@ -20,7 +20,7 @@ use Rattle.bn_bennett_laws.proofs.Numbering.{first_state, last_state}
 use Rattle.bn_bennett_laws.proofs.Counts.{list_has_ends}
 use Rattle.bn_erase_laws.specs.declared.name.ErasingName.{ErasingName}
 use Rattle.bn_erase_laws.specs.declared.name.ErasingName.TheVariants.{First}
-use Rattle.bn_erase_laws.specs.Lists.{exchanged}
+use Rattle.bn_erase_laws.specs.Lists.{exchanged_rule}
 use Rattle.bn_erase_laws.specs.Erasing.{second_name, first_half, backward, second_half, erasing, erasing_initial, erasing_final}
 use Rattle.bn_erase_laws.specs.ErasingLaws.{ErasingNumbersPassTests, ErasingNumbersRunAlike}
 use Rattle.bn_erase_laws.proofs.MappedLemmas.{nth_mapped}
@@ -59,8 +59,8 @@ module _ (p q : Program) (left : IsStandardMachine p) (right : IsStandardMachine
       let first = (list_has_ends q right.machine.some).0 in
       let l : ℕ = length (bennett q) in
       let one : nth (turned_list (bennett q)) l ≡ Some (turned first.0) = nth-turned_list (bennett q) 1 l first.0 (omega arith) first.1 in
-      let two : nth (backward q) l ≡ Some (exchanged (turned first.0)) = nth_mapped exchanged (turned_list (bennett q)) l (turned first.0) one in
-      (renamed (second_name p q) (exchanged (turned first.0)), nth_mapped (renamed (second_name p q)) (backward q) l (exchanged (turned first.0)) two, ap (second_name p q) first.2)
+      let two : nth (backward q) l ≡ Some (exchanged_rule (turned first.0)) = nth_mapped exchanged_rule (turned_list (bennett q)) l (turned first.0) one in
+      (renamed (second_name p q) (exchanged_rule (turned first.0)), nth_mapped (renamed (second_name p q)) (backward q) l (exchanged_rule (turned first.0)) two, ap (second_name p q) first.2)
 
   some_quadruple : 0 < length (bennett q)
   some_quadruple = by_place (bennett q) (list_has_ends q right.machine.some).0.0 (list_has_ends q right.machine.some).0.1

@@ -22,7 +22,7 @@ use Rattle.bn_bennett_laws.specs.declared.name.Name.{Name}
 use Rattle.bn_bennett_laws.specs.declared.name.Name.TheVariants.{Compute, Retrace}
 use Rattle.bn_erase_laws.specs.declared.name.ErasingName.{ErasingName}
 use Rattle.bn_erase_laws.specs.declared.name.ErasingName.TheVariants.{First}
-use Rattle.bn_erase_laws.specs.Lists.{exchanged, exchanged_tapes}
+use Rattle.bn_erase_laws.specs.Lists.{exchanged_rule, exchanged_tapes}
 use Rattle.bn_erase_laws.specs.Erasing.{second_name, first_half, second_half, erasing, erasing_initial, erasing_middle, erasing_final, erasing_start, ErasingSteps}
 use Rattle.bn_erase_laws.specs.Outcome.{Stuck, sticks, HasErasingOutcome}
 use Rattle.bn_erase_laws.specs.ErasingLaws.{FirstSticks, SecondSticks}
@@ -59,7 +59,7 @@ module _ (p q : Program) (left : IsStandardMachine p) (right : IsStandardMachine
               a.2 (second_as_first p q a.0 c.state (sym a.1 ∙ sym applies.from)).0
           | inr second ↦
               let b = from_second p q r second in
-              let same : AppliesTo (renamed (second_name p q) (exchanged (turned b.0))) (in_state (second_name p q) (exchanged_tapes c)) = subst (λ t. AppliesTo t (in_state (second_name p q) (exchanged_tapes c))) (sym b.2) applies in
+              let same : AppliesTo (renamed (second_name p q) (exchanged_rule (turned b.0))) (in_state (second_name p q) (exchanged_tapes c)) = subst (λ t. AppliesTo t (in_state (second_name p q) (exchanged_tapes c))) (sym b.2) applies in
               let there = in_turned (bennett q) b.0 b.1 in
               none.none there.place (turned b.0) there.stands (record { from = second_once p q c.state b.0.to same.from; one = same.three; two = same.two; three = same.one })
         ];

@@ -7,11 +7,11 @@ use Rattle.bn_lists.specs.Lists.{IsIn}
 -- ---- tapes 1 and 3 exchanged
 
 -- a quadruple that does on tape 3 what the other does on tape 1, and on tape 1 what it does on tape 3
-abbrev pub exchanged : {Q : Type 0} → Rule Q → Rule Q
-exchanged r = record { from = r.from; one = r.three; two = r.two; three = r.one; to = r.to }
+abbrev pub exchanged_rule : {Q : Type 0} → Rule Q → Rule Q
+exchanged_rule r = record { from = r.from; one = r.three; two = r.two; three = r.one; to = r.to }
 
 abbrev pub exchanged_list : {Q : Type 0} → List (Rule Q) → List (Rule Q)
-exchanged_list rs = map exchanged rs
+exchanged_list rs = map exchanged_rule rs
 
 -- a configuration with the two tapes exchanged
 abbrev pub exchanged_tapes : {Q : Type 0} → Configuration Q → Configuration Q

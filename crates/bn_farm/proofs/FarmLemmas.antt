@@ -2,7 +2,7 @@
 use Rattle.std.specs.Prelude.{◌≡◌, ◌≢◌, ℕ, Bool, List, [], ◌∷◌, Option, Some, None, replicate, slice_get, option_map, refl}
 use Rattle.std.proofs.Common.{zero, suc, sym, ap, subst, ◌∙◌, inl, inr}
 use Rattle.std.proofs.lemmas.Bool.Decides.{eqb_tells}
-use Rattle.bn_farm.specs.Farms.{Tick, tick, after, at_board, ticked, play, ticks_of, ticks, own, alone, IsFarm, farm_after}
+use Rattle.bn_farm.specs.Farms.{Tick, tick, after_steps, at_board, ticked, play, ticks_of, ticks, own, alone, IsFarm, farm_after}
 use Rattle.bn_farm.specs.Farms.{FarmBoard, IsAdmitted}
 use Rattle.bn_farm.specs.declared.event.Event.{Event}
 use Rattle.bn_farm.proofs.BoardLemmas.{after_zero, after_more, after_good}
@@ -38,12 +38,12 @@ on_kept f (suc i) (b ∷ bs) e = ap (λ xs. b ∷ xs) (on_kept f i bs e)
 
 -- ---- lines
 
-pub line_run : (f : Bool) (i n : ℕ) (farm : List FarmBoard) → play farm (replicate n (tick f i)) ≡ at_board (after f n) i farm
-line_run f i zero farm = sym (on_kept (after f 0) i farm (λ b _. after_zero f b))
+pub line_run : (f : Bool) (i n : ℕ) (farm : List FarmBoard) → play farm (replicate n (tick f i)) ≡ at_board (after_steps f n) i farm
+line_run f i zero farm = sym (on_kept (after_steps f 0) i farm (λ b _. after_zero f b))
 line_run f i (suc n) farm =
-    line_run f i n (at_board (after f 1) i farm) ∙ on_twice (after f 1) (after f n) i farm ∙ on_same (λ b. after f n (after f 1 b)) (after f (suc n)) i farm (λ b. sym (after_more f n b))
+    line_run f i n (at_board (after_steps f 1) i farm) ∙ on_twice (after_steps f 1) (after_steps f n) i farm ∙ on_same (λ b. after_steps f n (after_steps f 1 b)) (after_steps f (suc n)) i farm (λ b. sym (after_more f n b))
 
-pub lines_are_runs : (farm : List FarmBoard) (e : Event) → play farm (ticks_of e) ≡ at_board (after e.forward e.count) e.board farm
+pub lines_are_runs : (farm : List FarmBoard) (e : Event) → play farm (ticks_of e) ≡ at_board (after_steps e.forward e.count) e.board farm
 lines_are_runs farm e = line_run e.forward e.board e.count farm
 
 -- ---- boards are apart
@@ -60,11 +60,11 @@ pub boards_are_apart : (farm : List FarmBoard) (es : List Tick) (i : ℕ) → sl
 boards_are_apart farm [] i = map_same (slice_get farm i)
 boards_are_apart farm (e ∷ es) i = boards_are_apart (ticked e farm) es i ∙ elim (eqb_tells e.board i) [
   | inl same ↦
-      (let seen : slice_get (ticked e farm) i ≡ option_map (after e.forward 1) (slice_get farm i) = subst (λ j. slice_get (at_board (after e.forward 1) j farm) i ≡ option_map (after e.forward 1) (slice_get farm i)) (sym same.1) (get_here (after e.forward 1) i farm) in
+      (let seen : slice_get (ticked e farm) i ≡ option_map (after_steps e.forward 1) (slice_get farm i) = subst (λ j. slice_get (at_board (after_steps e.forward 1) j farm) i ≡ option_map (after_steps e.forward 1) (slice_get farm i)) (sym same.1) (get_here (after_steps e.forward 1) i farm) in
       let signs : own i (e ∷ es) ≡ e.forward ∷ own i es = rw same.0 refl in
-      ap (option_map (λ b. alone b (own i es))) seen ∙ map_twice (after e.forward 1) (λ b. alone b (own i es)) (slice_get farm i) ∙ ap (λ ss. option_map (λ b. alone b ss) (slice_get farm i)) (sym signs))
+      ap (option_map (λ b. alone b (own i es))) seen ∙ map_twice (after_steps e.forward 1) (λ b. alone b (own i es)) (slice_get farm i) ∙ ap (λ ss. option_map (λ b. alone b ss) (slice_get farm i)) (sym signs))
   | inr apart ↦
-      (let seen : slice_get (ticked e farm) i ≡ slice_get farm i = get_there (after e.forward 1) e.board i farm (λ x. apart.1 (sym x)) in
+      (let seen : slice_get (ticked e farm) i ≡ slice_get farm i = get_there (after_steps e.forward 1) e.board i farm (λ x. apart.1 (sym x)) in
       let signs : own i (e ∷ es) ≡ own i es = rw apart.0 refl in
       ap (option_map (λ b. alone b (own i es))) seen ∙ ap (λ ss. option_map (λ b. alone b ss) (slice_get farm i)) (sym signs))
 ]
@@ -106,4 +106,4 @@ on_good f i farm keeps good j b is = elim (eqb_tells j i) [
 
 pub farms_stay : (farm : List FarmBoard) (es : List Tick) → IsFarm farm → IsFarm (play farm es)
 farms_stay farm [] good = good
-farms_stay farm (e ∷ es) good = farms_stay (ticked e farm) es (on_good (after e.forward 1) e.board farm (after_good e.forward 1) good)
+farms_stay farm (e ∷ es) good = farms_stay (ticked e farm) es (on_good (after_steps e.forward 1) e.board farm (after_good e.forward 1) good)

@@ -5,7 +5,7 @@ use Rattle.std.proofs.lemmas.Bool.Decides.{nat_tests}
 use Rattle.std.proofs.lemmas.List.{length-map, map-append}
 use Rattle.bn_lists.specs.Lists.{IsFirstWith, nth}
 use Rattle.bn_net.specs.declared.net.TheConstants.{MOST_ELEMENTS}
-use Rattle.bn_farm.specs.Farms.{board_of, elements_of}
+use Rattle.bn_farm.specs.Farms.{board_of, elements_together}
 use Rattle.bn_farm.specs.Farms.{FarmBoard, IsSpelled}
 use Rattle.bn_netlist_lines.specs.declared.net_config.NetConfig.{NetConfig}
 use Rattle.bn_cut.specs.Cuts.{IsCut, IsUncut}
@@ -139,7 +139,7 @@ module _ (bytes : List ℕ) (boards : List NetConfig) (left : List ℕ) (h : Has
       are = all_parts;
       spell = subst (SpellBoards h.parts) (sym is.same) h.spell;
       schedule = subst (λ x. IsSchedule (length x) left es) (sym is.same) is.schedule;
-      few = subst (λ x. elements_of x ≤ MOST_ELEMENTS) (sym is.same) is.few;
+      few = subst (λ x. elements_together x ≤ MOST_ELEMENTS) (sym is.same) is.few;
     }
 
     refused_behind : (refusal : FarmRefusal) → IsRestRefusal (map board_of boards) left refusal → IsRefusedBehind bytes refusal
@@ -184,7 +184,7 @@ module _ (bytes : List ℕ) (boards : List NetConfig) (left : List ℕ) (h : Has
 
 -- ---- elements
 
-elements_next : (bs : List NetConfig) (i : ℕ) (d : NetConfig) → i < length bs → elements_of (map board_of (take (suc i) bs)) ≡ elements_of (map board_of (take i bs)) + (board_of (get_or bs i d)).spelling.elements
+elements_next : (bs : List NetConfig) (i : ℕ) (d : NetConfig) → i < length bs → elements_together (map board_of (take (suc i) bs)) ≡ elements_together (map board_of (take i bs)) + (board_of (get_or bs i d)).spelling.elements
 elements_next [] i d h = absurd (omega (arith, h))
 elements_next (b ∷ bs) zero d h = omega arith
 elements_next (b ∷ bs) (suc i) d h =
@@ -193,7 +193,7 @@ elements_next (b ∷ bs) (suc i) d h =
 
 -- the elements counted so far
 pub record HasCounted (bs : List NetConfig) (i count : ℕ) : Type 0 where
-  pub is : count ≡ elements_of (map board_of (take i bs))
+  pub is : count ≡ elements_together (map board_of (take i bs))
   pub few : count ≤ MOST_ELEMENTS * i
 
 pub one_counted : (bs : List NetConfig) (i count : ℕ) (d : NetConfig) → IsFarm (map board_of bs) → i < length bs → HasCounted bs i count
@@ -203,10 +203,10 @@ one_counted bs i count d good low h =
     let most = most_small (board_of (get_or bs i d)).version in
     let so_far = h.few in
     let next : suc i ≡ i + 1 = omega arith in
-    let more : count + (board_of (get_or bs i d)).spelling.elements ≡ elements_of (map board_of (take (suc i) bs)) =
+    let more : count + (board_of (get_or bs i d)).spelling.elements ≡ elements_together (map board_of (take (suc i) bs)) =
     ap (λ n. n + (board_of (get_or bs i d)).spelling.elements) h.is ∙ sym (elements_next bs i d low) in
     record {
-      is = more ∙ ap (λ n. elements_of (map board_of (take n bs))) next;
+      is = more ∙ ap (λ n. elements_together (map board_of (take n bs))) next;
       few = omega arith;
     }
 

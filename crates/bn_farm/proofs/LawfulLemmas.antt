@@ -5,10 +5,10 @@ use Rattle.std.proofs.Common.{zero, suc, arith, ap, subst, ◌∙◌}
 use Rattle.std.proofs.lemmas.Option.{slice_get_within}
 use Rattle.bn_circuits.specs.Circuits.{clock}
 use Rattle.bn_circuits.specs.declared.config.Config.{Config}
-use Rattle.bn_farm.specs.Farms.{Tick, stepped, after, at_board, ticked, play, ticks_of, own, alone, IsFarm}
-use Rattle.bn_farm.specs.Farms.{FarmBoard, IsAdmitted, circuit_in, moved}
+use Rattle.bn_farm.specs.Farms.{Tick, stepped, after_steps, at_board, ticked, play, ticks_of, own, alone, IsFarm}
+use Rattle.bn_farm.specs.Farms.{FarmBoard, IsAdmitted, circuit_in, in_config}
 use Rattle.bn_farm.specs.declared.event.Event.{Event}
-use Rattle.bn_farm.specs.Undo.{other, counted, made_on, made, event_of, undoing, AllLawful}
+use Rattle.bn_farm.specs.Undo.{other, steps_between, made_on, made, event_of, undoing, AllLawful}
 use Rattle.bn_farm.proofs.BoardLemmas.{after_good}
 use Rattle.bn_farm.proofs.FarmLemmas.{boards_are_apart, farms_stay}
 
@@ -19,13 +19,13 @@ length_on f (suc i) (b ∷ bs) = ap suc (length_on f i bs)
 
 pub length_play : (farm : List FarmBoard) (es : List Tick) → length (play farm es) ≡ length farm
 length_play farm [] = refl
-length_play farm (e ∷ es) = length_play (ticked e farm) es ∙ length_on (after e.forward 1) e.board farm
+length_play farm (e ∷ es) = length_play (ticked e farm) es ∙ length_on (after_steps e.forward 1) e.board farm
 
-alone_circuit : (b : FarmBoard) (ss : List Bool) → alone b ss ≡ moved b (alone b ss).spelling.config
+alone_circuit : (b : FarmBoard) (ss : List Bool) → alone b ss ≡ in_config b (alone b ss).spelling.config
 alone_circuit b [] = refl
-alone_circuit b (s ∷ ss) = alone_circuit (after s 1 b) ss
+alone_circuit b (s ∷ ss) = alone_circuit (after_steps s 1 b) ss
 
-pub keeps_circuit : (farm : List FarmBoard) (es : List Tick) (i : ℕ) (b : FarmBoard) → slice_get farm i ≡ Some b → (d : FarmBoard) × (slice_get (play farm es) i ≡ Some d) × (d ≡ moved b d.spelling.config)
+pub keeps_circuit : (farm : List FarmBoard) (es : List Tick) (i : ℕ) (b : FarmBoard) → slice_get farm i ≡ Some b → (d : FarmBoard) × (slice_get (play farm es) i ≡ Some d) × (d ≡ in_config b d.spelling.config)
 keeps_circuit farm es i b is =
     (alone b (own i es), boards_are_apart farm es i ∙ ap (option_map (λ x. alone x (own i es))) is, alone_circuit b (own i es))
 
@@ -33,7 +33,7 @@ all_append : (n : ℕ) (a b : List Event) → AllLawful n a → AllLawful n b �
 all_append n [] b x y = y
 all_append n (e ∷ a) b x y = (x.0, all_append n a b x.1 y)
 
-counted_bound : (f : Bool) (c d : Config) → c.steps ≤ clock → d.steps ≤ clock → counted f c d ≤ clock
+counted_bound : (f : Bool) (c d : Config) → c.steps ≤ clock → d.steps ≤ clock → steps_between f c d ≤ clock
 counted_bound true c d before later = omega arith
 counted_bound false c d before later = omega arith
 

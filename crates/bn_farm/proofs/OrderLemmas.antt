@@ -11,7 +11,7 @@ use Rattle.bn_base.specs.Line.{IsInLine}
 use Rattle.bn_base.specs.Number.{greatest, AreDigits}
 use Rattle.bn_netlist_laws.specs.Reading.{word_taken, number_taken}
 use Rattle.bn_netlist_laws.proofs.LineReadingLemmas.{word_taken-takes, word_taken-again, number_taken-takes, number_taken-again}
-use Rattle.bn_farm.specs.FarmTexts.{IsSayable, order_text, sign_text}
+use Rattle.bn_farm.specs.FarmTexts.{IsSayableOrder, order_text, sign_text}
 use Rattle.bn_farm.specs.declared.order.Order.{Order}
 use Rattle.bn_farm.specs.Reading.{order_taken, sign_by, sign_taken}
 
@@ -37,7 +37,7 @@ pieces o behind =
     ∙ ap (λ r. sign_text o.forward ++ r) (append_assoc (decimal o.number) (codes " " ++ decimal o.count) (10 ∷ behind) ∙ ap (λ r. decimal o.number ++ r) (append_assoc (codes " ") (decimal o.count) (10 ∷ behind)))
 
 pub record IsTaken (o : Order) (bytes behind : List ℕ) : Type 0 where
-  pub sayable : IsSayable o
+  pub sayable : IsSayableOrder o
   pub written : bytes ≡ order_text o ++ 10 ∷ behind
 
 pub order_taken-takes : (bytes behind : List ℕ) (o : Order) → order_taken bytes ≡ Some (o, behind) → IsTaken o bytes behind
@@ -69,7 +69,7 @@ unfolding sign_taken word_taken
 sign_taken-again true behind = refl
 sign_taken-again false behind = refl
 
-again : (o : Order) (behind : List ℕ) → IsSayable o → order_taken (sign_text o.forward ++ (decimal o.number ++ (codes " " ++ (decimal o.count ++ 10 ∷ behind)))) ≡ Some (o, behind)
+again : (o : Order) (behind : List ℕ) → IsSayableOrder o → order_taken (sign_text o.forward ++ (decimal o.number ++ (codes " " ++ (decimal o.count ++ 10 ∷ behind)))) ≡ Some (o, behind)
 unfolding order_taken
 again o behind h =
     let sign = sign_taken-again o.forward (decimal o.number ++ (codes " " ++ (decimal o.count ++ 10 ∷ behind))) in
@@ -81,14 +81,14 @@ again o behind h =
     let test : nat_le 1 o.count ≡ true = grind (arith, nat_tests) in
     rw (sign, number, space, count, last, test) refl
 
-pub order_taken-again : (o : Order) (behind : List ℕ) → IsSayable o → order_taken (order_text o ++ 10 ∷ behind) ≡ Some (o, behind)
+pub order_taken-again : (o : Order) (behind : List ℕ) → IsSayableOrder o → order_taken (order_text o ++ 10 ∷ behind) ≡ Some (o, behind)
 order_taken-again o behind h = ap order_taken (pieces o behind) ∙ again o behind h
 
 same_taken : (a b : Order) (x y : List ℕ) → ◌≡◌ {A = Option (Order × List ℕ)} (Some (a, x)) (Some (b, y)) → (a ≡ b) × (x ≡ y)
 same_taken a b x y e = some_pair_parts a b x y e
 
 -- two texts that begin with a line are one where they are equal
-pub lines-same : (a b : Order) (rest other : List ℕ) → IsSayable a → IsSayable b → order_text a ++ 10 ∷ rest ≡ order_text b ++ 10 ∷ other → (a ≡ b) × (rest ≡ other)
+pub lines-same : (a b : Order) (rest other : List ℕ) → IsSayableOrder a → IsSayableOrder b → order_text a ++ 10 ∷ rest ≡ order_text b ++ 10 ∷ other → (a ≡ b) × (rest ≡ other)
 lines-same a b rest other one also e = same_taken a b rest other (sym (order_taken-again a rest one) ∙ ap order_taken e ∙ order_taken-again b other also)
 
 -- ---- no line holds a byte 10, and none is the mark
@@ -111,7 +111,7 @@ sign_in_line : (forward : Bool) → IsInLine (sign_text forward)
 sign_in_line true = All-cons Ten 43 (32 ∷ []) (apart 43 refl) (All-cons Ten 32 [] (apart 32 refl) (All-nil Ten))
 sign_in_line false = All-cons Ten 45 (32 ∷ []) (apart 45 refl) (All-cons Ten 32 [] (apart 32 refl) (All-nil Ten))
 
-pub order_in_line : (o : Order) → IsSayable o → IsInLine (order_text o)
+pub order_in_line : (o : Order) → IsSayableOrder o → IsInLine (order_text o)
 order_in_line o h =
     All-append Ten (sign_text o.forward) (decimal o.number ++ (codes " " ++ decimal o.count)) (sign_in_line o.forward)
     (All-append Ten (decimal o.number) (codes " " ++ decimal o.count) (number_in_line o.number h.number)

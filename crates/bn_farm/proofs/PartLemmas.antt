@@ -18,7 +18,7 @@ use Rattle.bn_cut.proofs.CutLemmas.{IsLooked, IsNoMark, all_looked, cuts-never_b
 use Rattle.bn_cut.proofs.CutOrNot.{cut_or_not}
 use Rattle.bn_farm.specs.declared.event.Event.{Event}
 use Rattle.bn_farm.specs.Farms.{IsFarm}
-use Rattle.bn_farm.specs.FarmTexts.{AreEventsOf, AreParts, SpellBoards, joined, order_of, order_text, schedule_text}
+use Rattle.bn_farm.specs.FarmTexts.{AreEventsOf, AreParts, SpellBoards, parts_text, order_of, order_text, schedule_text}
 use Rattle.bn_farm.proofs.OrderLemmas.{front_is, order_in_line, order_no_mark}
 
 -- ---- configuration texts
@@ -97,13 +97,13 @@ farm_texts (b ∷ bs) good =
     (first.0 ∷ rest.0, (first.1, rest.1))
 
 pub parts_back : (boards : ℕ) (parts : List (List ℕ)) (bs : List FarmBoard) (es : List Event) → SpellBoards parts bs → AreEventsOf boards es
-    → AreParts (joined parts ++ schedule_text es) parts (schedule_text es)
+    → AreParts (parts_text parts ++ schedule_text es) parts (schedule_text es)
 parts_back boards [] [] es spell all = (schedule_uncut boards es all, refl)
 parts_back boards [] (b ∷ bs) es spell all = absurd spell
 parts_back boards (part ∷ parts) [] es spell all = absurd spell
 parts_back boards (part ∷ parts) (b ∷ bs) es spell all =
-    let rest = joined parts ++ schedule_text es in
-    let is : part ++ 37 ∷ 10 ∷ rest ≡ joined (part ∷ parts) ++ schedule_text es = sym (append_assoc part (37 ∷ 10 ∷ joined parts) (schedule_text es)) in
+    let rest = parts_text parts ++ schedule_text es in
+    let is : part ++ 37 ∷ 10 ∷ rest ≡ parts_text (part ∷ parts) ++ schedule_text es = sym (append_assoc part (37 ∷ 10 ∷ parts_text parts) (schedule_text es)) in
     (rest, subst (λ bytes. IsCut bytes part rest) is (text_cut b part rest spell.0), parts_back boards parts bs es spell.1 all)
 
 pub spelled_farm : (parts : List (List ℕ)) (bs : List FarmBoard) → SpellBoards parts bs → IsFarm bs
@@ -114,11 +114,11 @@ spelled_farm (part ∷ parts) (c ∷ bs) spell zero b is = let same : c ≡ b = 
 spelled_farm (part ∷ parts) (c ∷ bs) spell (suc i) b is = spelled_farm parts bs spell.1 i b is
 
 -- the bytes are the parts, each with the mark behind it, and what stands behind the last
-pub parts_text : (bytes : List ℕ) (parts : List (List ℕ)) (last : List ℕ) → AreParts bytes parts last → bytes ≡ joined parts ++ last
-parts_text bytes [] last are = are.1
-parts_text bytes (part ∷ parts) last are =
-    let rest = parts_text are.0 parts last are.2 in
-    are.1.cut ∙ ap (λ r. part ++ 37 ∷ 10 ∷ r) rest ∙ sym (append_assoc part (37 ∷ 10 ∷ joined parts) last)
+pub text_of_parts : (bytes : List ℕ) (parts : List (List ℕ)) (last : List ℕ) → AreParts bytes parts last → bytes ≡ parts_text parts ++ last
+text_of_parts bytes [] last are = are.1
+text_of_parts bytes (part ∷ parts) last are =
+    let rest = text_of_parts are.0 parts last are.2 in
+    are.1.cut ∙ ap (λ r. part ++ 37 ∷ 10 ∷ r) rest ∙ sym (append_assoc part (37 ∷ 10 ∷ parts_text parts) last)
 
 -- ---- one cut into parts
 

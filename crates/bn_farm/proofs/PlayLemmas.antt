@@ -10,13 +10,13 @@ use Rattle.bn_circuits.specs.Stepping.{back, run}
 use Rattle.bn_circuits.specs.declared.config.Config.{Config}
 use Rattle.bn_net.specs.RotaryNets.{rotary_circuit}
 use Rattle.bn_farm.specs.Farms.{board_of}
-use Rattle.bn_farm.specs.Farms.{IsAdmitted, FarmBoard, circuit_in, moved}
+use Rattle.bn_farm.specs.Farms.{IsAdmitted, FarmBoard, circuit_in, in_config}
 use Rattle.bn_netlist_lines.specs.declared.net_config.NetConfig.{NetConfig}
 use Rattle.bn_netlist_lines.proofs.NetLemmas.{circuits-agree}
 use Rattle.bn_farm.specs.declared.event.Event.{Event}
-use Rattle.bn_farm.specs.Farms.{IsFarm, after, at_board, farm_after, stepped, ticks}
+use Rattle.bn_farm.specs.Farms.{IsFarm, after_steps, at_board, farm_after, stepped, ticks}
 use Rattle.bn_farm.specs.Playing.{AreOnBoards}
-use Rattle.bn_farm.specs.Undo.{counted, event_of, made, made_on, other, undoing}
+use Rattle.bn_farm.specs.Undo.{steps_between, event_of, made, made_on, other, undoing}
 use Rattle.bn_farm.proofs.BoardLemmas.{after_good, way_back_counted, way_counted}
 use Rattle.bn_farm.proofs.FarmLemmas.{on_good}
 use Rattle.bn_farm.proofs.LawfulLemmas.{length_play}
@@ -30,19 +30,19 @@ board_config b admitted = subst (λ (k : Circuit). IsConfig k b.config) (sym (ci
 abbrev with_config : NetConfig → Config → NetConfig
 with_config b d = record { version = b.version; net = b.net; config = d; start = b.start; end = b.end }
 
-pub played_on : (b : NetConfig) (f : Bool) (n : ℕ) (d : Config) → f ≡ true → d ≡ run (rotary_circuit b.net) b.config n → board_of (with_config b d) ≡ after f n (board_of b)
+pub played_on : (b : NetConfig) (f : Bool) (n : ℕ) (d : Config) → f ≡ true → d ≡ run (rotary_circuit b.net) b.config n → board_of (with_config b d) ≡ after_steps f n (board_of b)
 played_on b f n d is ran =
-    ap (moved (board_of b)) (ran ∙ ap (λ (k : Circuit). run k b.config n) (circuits-agree b)) ∙ ap (λ g. after g n (board_of b)) (sym is)
+    ap (in_config (board_of b)) (ran ∙ ap (λ (k : Circuit). run k b.config n) (circuits-agree b)) ∙ ap (λ g. after_steps g n (board_of b)) (sym is)
 
-pub played_back : (b : NetConfig) (f : Bool) (n : ℕ) (d : Config) → f ≡ false → d ≡ back (rotary_circuit b.net) b.config n → board_of (with_config b d) ≡ after f n (board_of b)
+pub played_back : (b : NetConfig) (f : Bool) (n : ℕ) (d : Config) → f ≡ false → d ≡ back (rotary_circuit b.net) b.config n → board_of (with_config b d) ≡ after_steps f n (board_of b)
 played_back b f n d is ran =
-    ap (moved (board_of b)) (ran ∙ ap (λ (k : Circuit). back k b.config n) (circuits-agree b)) ∙ ap (λ g. after g n (board_of b)) (sym is)
+    ap (in_config (board_of b)) (ran ∙ ap (λ (k : Circuit). back k b.config n) (circuits-agree b)) ∙ ap (λ g. after_steps g n (board_of b)) (sym is)
 
-pub counted_on : (k : Circuit) (f : Bool) (n : ℕ) (c d : Config) → f ≡ true → Reaches (Goes k) n c d → n ≡ counted f c d
-counted_on k f n c d is way = sym (way_counted k n c d way) ∙ ap (λ g. counted g c d) (sym is)
+pub counted_on : (k : Circuit) (f : Bool) (n : ℕ) (c d : Config) → f ≡ true → Reaches (Goes k) n c d → n ≡ steps_between f c d
+counted_on k f n c d is way = sym (way_counted k n c d way) ∙ ap (λ g. steps_between g c d) (sym is)
 
-pub counted_back : (k : Circuit) (f : Bool) (n : ℕ) (c d : Config) → f ≡ false → Reaches (Goes k) n d c → n ≡ counted f c d
-counted_back k f n c d is way = sym (way_back_counted k n c d way) ∙ ap (λ g. counted g c d) (sym is)
+pub counted_back : (k : Circuit) (f : Bool) (n : ℕ) (c d : Config) → f ≡ false → Reaches (Goes k) n d c → n ≡ steps_between f c d
+counted_back k f n c d is way = sym (way_back_counted k n c d way) ∙ ap (λ g. steps_between g c d) (sym is)
 
 -- ---- lists
 
@@ -96,34 +96,34 @@ pub board_admitted : (start : List FarmBoard) (es : List Event) (n : ℕ) (board
 board_admitted start es n boards undo i b h is = h.farm i (board_of b) (slice_get-map board_of boards i ∙ ap (option_map board_of) is)
 
 module _ (start : List FarmBoard) (es : List Event) (n : ℕ) (boards : List NetConfig) (undo : List Event) (h : IsPlayed start es n boards undo) (e : Event) (is : slice_get es n ≡ Some e)
-    (old new : NetConfig) (at : slice_get boards e.board ≡ Some old) (ran : board_of new ≡ after e.forward e.count (board_of old)) where
+    (old new : NetConfig) (at : slice_get boards e.board ≡ Some old) (ran : board_of new ≡ after_steps e.forward e.count (board_of old)) where
   abbrev there : List NetConfig
   there = slice_set boards e.board new
 
-  changed : spelled there ≡ at_board (after e.forward e.count) e.board (spelled boards)
-  changed = set_at boards e.board old new (after e.forward e.count) at ran
+  changed : spelled there ≡ at_board (after_steps e.forward e.count) e.board (spelled boards)
+  changed = set_at boards e.board old new (after_steps e.forward e.count) at ran
 
   farm_next : spelled there ≡ farm_after start (take (n + 1) es)
   farm_next =
-      changed ∙ ap (at_board (after e.forward e.count) e.board) h.now ∙ sym (farm_more start (take n es) e) ∙ ap (farm_after start) (sym (take_more es n e is))
+      changed ∙ ap (at_board (after_steps e.forward e.count) e.board) h.now ∙ sym (farm_more start (take n es) e) ∙ ap (farm_after start) (sym (take_more es n e is))
 
   farm_good : IsFarm (spelled there)
-  farm_good = subst IsFarm (sym changed) (on_good (after e.forward e.count) e.board (spelled boards) (after_good e.forward e.count) h.farm)
+  farm_good = subst IsFarm (sym changed) (on_good (after_steps e.forward e.count) e.board (spelled boards) (after_good e.forward e.count) h.farm)
 
   -- how many steps were made
-  made_here : made (farm_after start (take n es)) e ≡ counted e.forward old.config new.config
+  made_here : made (farm_after start (take n es)) e ≡ steps_between e.forward old.config new.config
   made_here =
       let found : slice_get (spelled boards) e.board ≡ Some (board_of old) = slice_get-map board_of boards e.board ∙ ap (option_map board_of) at in
       let config : new.config ≡ stepped e.forward (circuit_in (board_of old)) old.config e.count = ap (λ (s : FarmBoard). s.spelling.config) ran in
-      ap (λ f. made f e) (sym h.now) ∙ ap (λ o. option_map_or (made_on e) o 0) found ∙ ap (counted e.forward old.config) (sym config)
+      ap (λ f. made f e) (sym h.now) ∙ ap (λ o. option_map_or (made_on e) o 0) found ∙ ap (steps_between e.forward old.config) (sym config)
 
-  undo_next : (k : ℕ) → k ≡ counted e.forward old.config new.config → undoing start (take (n + 1) es) ≡ event_of (other e.forward) e.board k ++ undoing start (take n es)
+  undo_next : (k : ℕ) → k ≡ steps_between e.forward old.config new.config → undoing start (take (n + 1) es) ≡ event_of (other e.forward) e.board k ++ undoing start (take n es)
   undo_next k count =
       ap (undoing start) (take_more es n e is) ∙ undoing_more start (take n es) e
       ∙ ap (λ m. event_of (other e.forward) e.board m ++ undoing start (take n es)) (made_here ∙ sym count)
 
   -- an event that made no step
-  pub none_made : (k : ℕ) → k ≡ counted e.forward old.config new.config → (0 < k → ⊥) → IsPlayed start es (n + 1) there undo
+  pub none_made : (k : ℕ) → k ≡ steps_between e.forward old.config new.config → (0 < k → ⊥) → IsPlayed start es (n + 1) there undo
   none_made k count none = record {
     farm = farm_good;
     now = farm_next;
@@ -139,7 +139,7 @@ module _ (start : List FarmBoard) (es : List Event) (n : ℕ) (boards : List Net
           by_number (suc m) none = absurd (none (omega arith))
 
   -- an event that made some steps
-  pub some_made : (k : ℕ) (x : Event) → k ≡ counted e.forward old.config new.config → 0 < k → x.forward ≡ other e.forward → x.board ≡ e.board → x.count ≡ k → IsPlayed start es (n + 1) there (undo ++ x ∷ [])
+  pub some_made : (k : ℕ) (x : Event) → k ≡ steps_between e.forward old.config new.config → 0 < k → x.forward ≡ other e.forward → x.board ≡ e.board → x.count ≡ k → IsPlayed start es (n + 1) there (undo ++ x ∷ [])
   some_made k x count some forward board number = record {
     farm = farm_good;
     now = farm_next;

@@ -10,9 +10,9 @@ use Rattle.bn_netlist_laws.specs.Spelling.{AreSame, Spelling, Spelled, circuit_o
 use Rattle.bn_netlist_laws.proofs.TextLemmas.{spellings-agree}
 use Rattle.bn_netlist_laws.proofs.EntryLemmas.{same-have-one-text}
 use Rattle.bn_farm.specs.declared.event.Event.{Event}
-use Rattle.bn_farm.specs.Farms.{FarmBoard, Tick, after, at_board, circuit_in, elements_of, farm_after, play, stepped, ticked, ticks, ticks_of}
-use Rattle.bn_farm.specs.Undo.{counted, event_of, made, made_on, other, undoing}
-use Rattle.bn_farm.specs.FarmTexts.{IsFarmText, SpellBoards, joined, schedule_text}
+use Rattle.bn_farm.specs.Farms.{FarmBoard, Tick, after_steps, at_board, circuit_in, elements_together, farm_after, play, stepped, ticked, ticks, ticks_of}
+use Rattle.bn_farm.specs.Undo.{steps_between, event_of, made, made_on, other, undoing}
+use Rattle.bn_farm.specs.FarmTexts.{IsFarmText, SpellBoards, parts_text, schedule_text}
 
 -- the boards are the same, and so are the versions of their texts
 pub record AreSameBoards (b c : FarmBoard) : Type 0 where
@@ -43,7 +43,7 @@ stepped_same : (f : Bool) (n : ℕ) (b c : FarmBoard) → AreSameBoards b c → 
 stepped_same true n b c is = run-alike (circuit_in b) (circuit_in c) (alike b c is) b.spelling.config n ∙ ap (λ x. run (circuit_in c) x n) is.same.config
 stepped_same false n b c is = back-alike (circuit_in b) (circuit_in c) (alike b c is) b.spelling.config n ∙ ap (λ x. back (circuit_in c) x n) is.same.config
 
-after_same : (f : Bool) (n : ℕ) (b c : FarmBoard) → AreSameBoards b c → AreSameBoards (after f n b) (after f n c)
+after_same : (f : Bool) (n : ℕ) (b c : FarmBoard) → AreSameBoards b c → AreSameBoards (after_steps f n b) (after_steps f n c)
 after_same f n b c is = record {
   version = is.version;
   same = record {
@@ -56,7 +56,7 @@ after_same f n b c is = record {
   };
 }
 
-at_same : (f : Bool) (n i : ℕ) (bs cs : List FarmBoard) → AreAllSame bs cs → AreAllSame (at_board (after f n) i bs) (at_board (after f n) i cs)
+at_same : (f : Bool) (n i : ℕ) (bs cs : List FarmBoard) → AreAllSame bs cs → AreAllSame (at_board (after_steps f n) i bs) (at_board (after_steps f n) i cs)
 at_same f n i [] [] same = tt
 at_same f n i [] (c ∷ cs) same = absurd same
 at_same f n i (b ∷ bs) [] same = absurd same
@@ -73,7 +73,7 @@ made_same e i [] (c ∷ cs) same = absurd same
 made_same e i (b ∷ bs) [] same = absurd same
 made_same e zero (b ∷ bs) (c ∷ cs) same =
     let there = stepped_same e.forward e.count b c same.0 in
-    (λ i. counted e.forward (same.0.same.config i) (there i))
+    (λ i. steps_between e.forward (same.0.same.config i) (there i))
 made_same e (suc i) (b ∷ bs) (c ∷ cs) same = made_same e i bs cs same.1
 
 pub undoing_same : (bs cs : List FarmBoard) (es : List Event) → AreAllSame bs cs → undoing bs es ≡ undoing cs es
@@ -106,7 +106,7 @@ length_same [] (c ∷ cs) same = absurd same
 length_same (b ∷ bs) [] same = absurd same
 length_same (b ∷ bs) (c ∷ cs) same = ap (λ n. suc n) (length_same bs cs same.1)
 
-pub elements_same : (bs cs : List FarmBoard) → AreAllSame bs cs → elements_of bs ≡ elements_of cs
+pub elements_same : (bs cs : List FarmBoard) → AreAllSame bs cs → elements_together bs ≡ elements_together cs
 elements_same [] [] same = refl
 elements_same [] (c ∷ cs) same = absurd same
 elements_same (b ∷ bs) [] same = absurd same
@@ -118,4 +118,4 @@ pub played_same : (bs cs : List FarmBoard) (es : List Event) (text other : List 
 played_same bs cs es text other same a b =
     let parts = texts_same a.parts b.parts (farm_after bs es) (farm_after cs es) (play_same bs cs (ticks es) same) a.spell b.spell in
     let back = undoing_same bs cs es same in
-    a.written ∙ (λ i. joined (parts i) ++ schedule_text (back i)) ∙ sym b.written
+    a.written ∙ (λ i. parts_text (parts i) ++ schedule_text (back i)) ∙ sym b.written

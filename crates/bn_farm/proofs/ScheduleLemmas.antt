@@ -4,7 +4,7 @@ use Rattle.std.proofs.Common.{zero, suc, arith, sym, ap, subst, ◌∙◌, inl, 
 use Rattle.std.proofs.lemmas.List.{append-nil}
 use Rattle.std.proofs.lemmas.Bool.{cases_lt, cases_eq}
 use Rattle.bn_farm.specs.declared.event.Event.{Event}
-use Rattle.bn_farm.specs.FarmTexts.{AreEventsOf, BeginsWithFault, FailsAfter, IsEventOf, IsSayable, IsSchedule, ScheduleFault, malformed, no_board, order_of, order_text, schedule_text}
+use Rattle.bn_farm.specs.FarmTexts.{AreEventsOf, HasScheduleFault, FailsAfter, IsEventOf, IsSayableOrder, IsSchedule, ScheduleFault, malformed, no_board, order_of, order_text, schedule_text}
 use Rattle.bn_farm.specs.declared.order.Order.{Order}
 use Rattle.bn_farm.specs.Reading.{order_taken}
 use Rattle.bn_farm.proofs.OrderLemmas.{lines-same, order_taken-again, order_taken-takes}
@@ -42,7 +42,7 @@ module _ (boards : ℕ) where
   -- ---- one fault
 
   -- a line with a fault asks for no event
-  fault_asks : (left behind : List ℕ) (fault : ScheduleFault) (e : Event) → BeginsWithFault boards left fault → IsEventOf boards e → left ≢ order_text (order_of e) ++ 10 ∷ behind
+  fault_asks : (left behind : List ℕ) (fault : ScheduleFault) (e : Event) → HasScheduleFault boards left fault → IsEventOf boards e → left ≢ order_text (order_of e) ++ 10 ∷ behind
   fault_asks left behind malformed e h asks is = h.unsaid (order_of e) behind asks.sayable is
   fault_asks left behind no_board e h asks is =
       let same = (lines-same h.says (order_of e) h.behind behind h.sayable asks.sayable (sym h.begins ∙ is)).0 in
@@ -54,11 +54,11 @@ module _ (boards : ℕ) where
       by_lack number low (inl none) = omega arith
       by_lack number low (inr great) = omega arith
 
-  fault_some : (left : List ℕ) (fault : ScheduleFault) → BeginsWithFault boards left fault → left ≢ []
+  fault_some : (left : List ℕ) (fault : ScheduleFault) → HasScheduleFault boards left fault → left ≢ []
   fault_some left malformed h is = h.some is
   fault_some left no_board h is = some_line (order_text h.says) h.behind (sym h.begins ∙ is)
 
-  one_fault : (left : List ℕ) (fault other : ScheduleFault) → BeginsWithFault boards left fault → BeginsWithFault boards left other → fault ≡ other
+  one_fault : (left : List ℕ) (fault other : ScheduleFault) → HasScheduleFault boards left fault → HasScheduleFault boards left other → fault ≡ other
   one_fault left malformed malformed h k = refl
   one_fault left malformed no_board h k = absurd (h.unsaid k.says k.behind k.sayable k.begins)
   one_fault left no_board malformed h k = absurd (k.unsaid h.says h.behind h.sayable h.begins)
@@ -92,29 +92,29 @@ module _ (boards : ℕ) where
       inl (e ∷ es, record { spelled = is ∙ ap (λ t. order_text (order_of e) ++ 10 ∷ t) rest.spelled; lawful = (asks, rest.lawful) })
   event_before e bytes behind asks is (inr (n, fault, rest)) = inr (suc n, fault, (e, behind, asks, is, rest))
 
-  lacks : (o : Order) (bytes behind : List ℕ) → IsSayable o → bytes ≡ order_text o ++ 10 ∷ behind → (o.number ≡ 0) ⊎ (boards < o.number) → Decided bytes
+  lacks : (o : Order) (bytes behind : List ℕ) → IsSayableOrder o → bytes ≡ order_text o ++ 10 ∷ behind → (o.number ≡ 0) ⊎ (boards < o.number) → Decided bytes
   lacks o bytes behind sayable is why = inr (0, no_board, record { says = o; behind = behind; begins = is; sayable = sayable; lacking = why })
 
   -- the event of an order whose board is there
-  ordered : (o : Order) → IsSayable o → o.number ≢ 0 → o.number ≤ boards → (e : Event) × IsEventOf boards e × (order_of e ≡ o)
+  ordered : (o : Order) → IsSayableOrder o → o.number ≢ 0 → o.number ≤ boards → (e : Event) × IsEventOf boards e × (order_of e ≡ o)
   ordered o sayable some few =
       let back : (o.number - 1) + 1 ≡ o.number = positive o.number some in
       let e : Event = record { forward = o.forward; board = o.number - 1; count = o.count } in
       let same : order_of e ≡ o = ap (λ n. let x : Order = record { forward = o.forward; number = n; count = o.count } in x) back in
-      (e, record { sayable = subst IsSayable (sym same) sayable; has_board = omega arith }, same)
+      (e, record { sayable = subst IsSayableOrder (sym same) sayable; has_board = omega arith }, same)
     where
       positive : (n : ℕ) → n ≢ 0 → (n - 1) + 1 ≡ n
       positive zero h = absurd (h refl)
       positive (suc n) h = omega arith
 
   -- no order's line begins bytes of which no line is taken
-  unread : (bytes : List ℕ) → order_taken bytes ≡ None → (o : Order) (behind : List ℕ) → IsSayable o → bytes ≢ order_text o ++ 10 ∷ behind
+  unread : (bytes : List ℕ) → order_taken bytes ≡ None → (o : Order) (behind : List ℕ) → IsSayableOrder o → bytes ≢ order_text o ++ 10 ∷ behind
   unread bytes none o behind sayable is = clash (o, behind) (sym none ∙ ap order_taken is ∙ order_taken-again o behind sayable)
     where
       clash : (x : Order × List ℕ) → ◌≡◌ {A = Option (Order × List ℕ)} None (Some x) → ⊥
       clash x e = cc
 
-  by_number : (bytes : List ℕ) → ((left : List ℕ) → length left < length bytes → Decided left) → (o : Order) (behind : List ℕ) → IsSayable o → bytes ≡ order_text o ++ 10 ∷ behind → (o.number ≡ 0) ⊎ (o.number ≢ 0) → (boards < o.number) ⊎ (o.number ≤ boards) → Decided bytes
+  by_number : (bytes : List ℕ) → ((left : List ℕ) → length left < length bytes → Decided left) → (o : Order) (behind : List ℕ) → IsSayableOrder o → bytes ≡ order_text o ++ 10 ∷ behind → (o.number ≡ 0) ⊎ (o.number ≢ 0) → (boards < o.number) ⊎ (o.number ≤ boards) → Decided bytes
   by_number bytes later o behind sayable is (inl none) _ = lacks o bytes behind sayable is (inl none)
   by_number bytes later o behind sayable is (inr some) (inl great) = lacks o bytes behind sayable is (inr great)
   by_number bytes later o behind sayable is (inr some) (inr few) =
@@ -165,7 +165,7 @@ one_read boards bytes left behind es e o h taken same low =
     record {
       begins = h.begins ∙ ap (λ l. schedule_text es ++ l) (line ∙ sym (append_assoc (order_text (order_of e)) (10 ∷ []) behind))
           ∙ sym (append_assoc (schedule_text es) (order_text (order_of e) ++ 10 ∷ []) behind) ∙ ap (λ t. t ++ behind) (sym (text_joined es e));
-      lawful = events_more boards es e h.lawful (record { sayable = subst IsSayable (sym same) is.sayable; has_board = low });
+      lawful = events_more boards es e h.lawful (record { sayable = subst IsSayableOrder (sym same) is.sayable; has_board = low });
     }
 
 pub read_shorter : (left behind : List ℕ) (o : Order) → order_taken left ≡ Some (o, behind) → length behind < length left
@@ -175,8 +175,8 @@ read_shorter left behind o taken =
     let sum = length-append (order_text o) (10 ∷ behind) in
     omega (arith, long, sum)
 
-fails_behind : (boards : ℕ) (es : List Event) (bytes left : List ℕ) (fault : ScheduleFault) → bytes ≡ schedule_text es ++ left → AreEventsOf boards es → BeginsWithFault boards left fault → FailsAfter boards (length es) bytes fault
-fails_behind boards [] bytes left fault is all h = subst (λ l. BeginsWithFault boards l fault) (sym is) h
+fails_behind : (boards : ℕ) (es : List Event) (bytes left : List ℕ) (fault : ScheduleFault) → bytes ≡ schedule_text es ++ left → AreEventsOf boards es → HasScheduleFault boards left fault → FailsAfter boards (length es) bytes fault
+fails_behind boards [] bytes left fault is all h = subst (λ l. HasScheduleFault boards l fault) (sym is) h
 fails_behind boards (e ∷ es) bytes left fault is all h =
     (e, schedule_text es ++ left, all.0, is ∙ append_assoc (order_text (order_of e)) (10 ∷ schedule_text es) left, fails_behind boards es (schedule_text es ++ left) left fault refl all.1 h)
 

@@ -4,9 +4,9 @@ use Rattle.std.proofs.Common.{zero, suc, arith, sym, ap, subst, ◌∙◌}
 use Rattle.bn_circuits.specs.Circuits.{clock}
 use Rattle.bn_netlist_laws.proofs.EntryLemmas.{same-have-one-text}
 use Rattle.bn_farm.specs.declared.event.Event.{Event}
-use Rattle.bn_farm.specs.Farms.{FarmBoard, IsFarm, Tick, after, at_board, elements_of, play, ticked, ticks, ticks_of}
+use Rattle.bn_farm.specs.Farms.{FarmBoard, IsFarm, Tick, after_steps, at_board, elements_together, play, ticked, ticks, ticks_of}
 use Rattle.bn_farm.specs.Undo.{event_of, made, other, undoing}
-use Rattle.bn_farm.specs.FarmTexts.{AreEventsOf, AreParts, IsEventOf, SpellBoards, joined, schedule_text}
+use Rattle.bn_farm.specs.FarmTexts.{AreEventsOf, AreParts, IsEventOf, SpellBoards, parts_text, schedule_text}
 use Rattle.bn_farm.specs.TextLaws.{FarmTextsAreOne, FarmsAreReadBack, FarmsHaveTexts, UndoingIsASchedule}
 use Rattle.bn_farm.proofs.FarmLemmas.{farms_stay}
 use Rattle.bn_farm.proofs.LawfulLemmas.{length_play, made_where}
@@ -37,12 +37,12 @@ undoing-schedule bs es good all = subst (λ n. AreEventsOf n (undoing bs es)) (s
 
 -- ---- elements
 
-elements_at : (f : Bool) (n i : ℕ) (bs : List FarmBoard) → elements_of (at_board (after f n) i bs) ≡ elements_of bs
+elements_at : (f : Bool) (n i : ℕ) (bs : List FarmBoard) → elements_together (at_board (after_steps f n) i bs) ≡ elements_together bs
 elements_at f n i [] = refl
 elements_at f n zero (b ∷ bs) = refl
 elements_at f n (suc i) (b ∷ bs) = ap (λ m. b.spelling.elements + m) (elements_at f n i bs)
 
-pub elements_play : (bs : List FarmBoard) (ts : List Tick) → elements_of (play bs ts) ≡ elements_of bs
+pub elements_play : (bs : List FarmBoard) (ts : List Tick) → elements_together (play bs ts) ≡ elements_together bs
 elements_play bs [] = refl
 elements_play bs (t ∷ ts) = elements_play (ticked t bs) ts ∙ elements_at t.forward 1 t.board bs
 
@@ -51,12 +51,12 @@ elements_play bs (t ∷ ts) = elements_play (ticked t bs) ts ∙ elements_at t.f
 pub farms-have_texts : FarmsHaveTexts
 farms-have_texts bs es good =
     let texts = farm_texts bs good in
-    (joined texts.0 ++ schedule_text es, record { parts = texts.0; spell = texts.1; written = refl })
+    (parts_text texts.0 ++ schedule_text es, record { parts = texts.0; spell = texts.1; written = refl })
 
 pub farm_texts-one : FarmTextsAreOne
 farm_texts-one bs es text other a b =
     let parts = texts_same a.parts b.parts bs bs (spelled_same a.parts bs bs a.spell a.spell) a.spell b.spell in
-    a.written ∙ ap (λ ps. joined ps ++ schedule_text es) parts ∙ sym b.written
+    a.written ∙ ap (λ ps. parts_text ps ++ schedule_text es) parts ∙ sym b.written
 
 pub farms-read_back : FarmsAreReadBack
 farms-read_back bs es text all is = record {

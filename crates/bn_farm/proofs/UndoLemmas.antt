@@ -2,10 +2,10 @@
 use Rattle.std.specs.Prelude.{◌≡◌, ℕ, Bool, List, [], ◌∷◌, ◌++◌, Option, Some, None, slice_get, option_map, refl}
 use Rattle.std.specs.Option.{option_map_or}
 use Rattle.std.proofs.Common.{zero, suc, sym, ap, subst, ◌∙◌, append_assoc}
-use Rattle.bn_farm.specs.Farms.{Tick, stepped, after, at_board, ticked, play, ticks_of, ticks, IsFarm, farm_after}
+use Rattle.bn_farm.specs.Farms.{Tick, stepped, after_steps, at_board, ticked, play, ticks_of, ticks, IsFarm, farm_after}
 use Rattle.bn_farm.specs.Farms.{FarmBoard, IsAdmitted, circuit_in}
 use Rattle.bn_farm.specs.declared.event.Event.{Event}
-use Rattle.bn_farm.specs.Undo.{other, counted, made_on, made, event_of, undoing, moving}
+use Rattle.bn_farm.specs.Undo.{other, steps_between, made_on, made, event_of, undoing, moving}
 use Rattle.bn_farm.proofs.BoardLemmas.{after_zero, after_back, counted_turned, other_twice}
 use Rattle.bn_farm.proofs.FarmLemmas.{get_here, on_twice, on_kept, line_run, lines_are_runs, farms_stay}
 
@@ -33,8 +33,8 @@ undoing_append farm (e ∷ a) b =
     ap (λ xs. xs ++ u) (undoing_append next a b) ∙ append_assoc (undoing (farm_after next a) b) (undoing next a) u ∙ ap (λ f. undoing f b ++ (undoing next a ++ u)) (sym (after_line farm e a))
 
 -- a line of n ticks, or none for none, is a run of n steps
-pub line_of_run : (f : Bool) (i n : ℕ) (farm : List FarmBoard) → farm_after farm (event_of f i n) ≡ at_board (after f n) i farm
-line_of_run f i zero farm = sym (on_kept (after f 0) i farm (λ b _. after_zero f b))
+pub line_of_run : (f : Bool) (i n : ℕ) (farm : List FarmBoard) → farm_after farm (event_of f i n) ≡ at_board (after_steps f n) i farm
+line_of_run f i zero farm = sym (on_kept (after_steps f 0) i farm (λ b _. after_zero f b))
 line_of_run f i (suc n) farm = after_line farm (record { forward = f; board = i; count = suc n }) [] ∙ line_run f i (suc n) farm
 
 made_at : (e : Event) (o : Option FarmBoard) (b : FarmBoard) → o ≡ Some b → option_map_or (made_on e) o 0 ≡ made_on e b
@@ -44,9 +44,9 @@ made_at e o b is = rw is refl
 pub line_undone : (farm : List FarmBoard) (e : Event) → IsFarm farm → farm_after (play farm (ticks_of e)) (event_of (other e.forward) e.board (made farm e)) ≡ farm
 line_undone farm e good =
     ap (λ f. farm_after f (event_of (other e.forward) e.board (made farm e))) (lines_are_runs farm e)
-    ∙ line_of_run (other e.forward) e.board (made farm e) (at_board (after e.forward e.count) e.board farm)
-    ∙ on_twice (after e.forward e.count) (after (other e.forward) (made farm e)) e.board farm
-    ∙ on_kept (λ b. after (other e.forward) (made farm e) (after e.forward e.count b)) e.board farm (λ b is. ap (λ n. after (other e.forward) n (after e.forward e.count b)) (made_at e (slice_get farm e.board) b is) ∙ after_back e.forward e.count b (good e.board b is))
+    ∙ line_of_run (other e.forward) e.board (made farm e) (at_board (after_steps e.forward e.count) e.board farm)
+    ∙ on_twice (after_steps e.forward e.count) (after_steps (other e.forward) (made farm e)) e.board farm
+    ∙ on_kept (λ b. after_steps (other e.forward) (made farm e) (after_steps e.forward e.count b)) e.board farm (λ b is. ap (λ n. after_steps (other e.forward) n (after_steps e.forward e.count b)) (made_at e (slice_get farm e.board) b is) ∙ after_back e.forward e.count b (good e.board b is))
 
 pub undoing_restores : (farm : List FarmBoard) (schedule : List Event) → IsFarm farm → farm_after (farm_after farm schedule) (undoing farm schedule) ≡ farm
 undoing_restores farm [] good = refl
@@ -59,7 +59,7 @@ undoing_restores farm (e ∷ es) good =
     ∙ line_undone farm e good
 
 -- the number of steps made the other way is the same
-turned_by : (f : Bool) (i n : ℕ) (farm : List FarmBoard) → ((b : FarmBoard) → slice_get farm i ≡ Some b → counted f b.spelling.config (stepped f (circuit_in b) b.spelling.config n) ≡ n) → (slice_get farm i ≡ None → n ≡ 0) → made farm (record { forward = f; board = i; count = n }) ≡ n
+turned_by : (f : Bool) (i n : ℕ) (farm : List FarmBoard) → ((b : FarmBoard) → slice_get farm i ≡ Some b → steps_between f b.spelling.config (stepped f (circuit_in b) b.spelling.config n) ≡ n) → (slice_get farm i ≡ None → n ≡ 0) → made farm (record { forward = f; board = i; count = n }) ≡ n
 turned_by f i n farm all none = by_board (slice_get farm i) refl
   where
     by_board : (o : Option FarmBoard) → slice_get farm i ≡ o → option_map_or (made_on (record { forward = f; board = i; count = n })) o 0 ≡ n
@@ -78,23 +78,23 @@ map_none : (f : FarmBoard → FarmBoard) (e : Event) (o : Option FarmBoard) → 
 map_none f e None is = refl
 map_none f e (Some a) is = absurd (cc)
 
-undone_count : (e : Event) (a : FarmBoard) → IsAdmitted a → counted (other e.forward) (after e.forward e.count a).spelling.config (stepped (other e.forward) (circuit_in a) (after e.forward e.count a).spelling.config (made_on e a)) ≡ made_on e a
+undone_count : (e : Event) (a : FarmBoard) → IsAdmitted a → steps_between (other e.forward) (after_steps e.forward e.count a).spelling.config (stepped (other e.forward) (circuit_in a) (after_steps e.forward e.count a).spelling.config (made_on e a)) ≡ made_on e a
 undone_count e a good =
-    let d = (after e.forward e.count a).spelling.config in
+    let d = (after_steps e.forward e.count a).spelling.config in
     let there = ap (λ (x : FarmBoard). x.spelling.config) (after_back e.forward e.count a good) in
-    ap (counted (other e.forward) d) there ∙ counted_turned e.forward d a.spelling.config
+    ap (steps_between (other e.forward) d) there ∙ counted_turned e.forward d a.spelling.config
 
-line_made : (farm : List FarmBoard) (e : Event) → IsFarm farm → (b : FarmBoard) → slice_get (at_board (after e.forward e.count) e.board farm) e.board ≡ Some b → counted (other e.forward) b.spelling.config (stepped (other e.forward) (circuit_in b) b.spelling.config (made farm e)) ≡ made farm e
+line_made : (farm : List FarmBoard) (e : Event) → IsFarm farm → (b : FarmBoard) → slice_get (at_board (after_steps e.forward e.count) e.board farm) e.board ≡ Some b → steps_between (other e.forward) b.spelling.config (stepped (other e.forward) (circuit_in b) b.spelling.config (made farm e)) ≡ made farm e
 line_made farm e good b is =
-    let was = map_some (after e.forward e.count) (slice_get farm e.board) b (sym (get_here (after e.forward e.count) e.board farm) ∙ is) in
+    let was = map_some (after_steps e.forward e.count) (slice_get farm e.board) b (sym (get_here (after_steps e.forward e.count) e.board farm) ∙ is) in
     let number : made farm e ≡ made_on e was.0 = made_at e (slice_get farm e.board) was.0 was.1 in
-    subst (λ (x : FarmBoard). counted (other e.forward) x.spelling.config (stepped (other e.forward) (circuit_in x) x.spelling.config (made farm e)) ≡ made farm e) was.2
-    (subst (λ n. counted (other e.forward) (after e.forward e.count was.0).spelling.config (stepped (other e.forward) (circuit_in was.0) (after e.forward e.count was.0).spelling.config n) ≡ n) (sym number) (undone_count e was.0 (good e.board was.0 was.1)))
+    subst (λ (x : FarmBoard). steps_between (other e.forward) x.spelling.config (stepped (other e.forward) (circuit_in x) x.spelling.config (made farm e)) ≡ made farm e) was.2
+    (subst (λ n. steps_between (other e.forward) (after_steps e.forward e.count was.0).spelling.config (stepped (other e.forward) (circuit_in was.0) (after_steps e.forward e.count was.0).spelling.config n) ≡ n) (sym number) (undone_count e was.0 (good e.board was.0 was.1)))
 
 line_twice : (farm : List FarmBoard) (e : Event) → IsFarm farm → undoing (play farm (ticks_of e)) (event_of (other e.forward) e.board (made farm e)) ≡ event_of e.forward e.board (made farm e)
 line_twice farm e good =
-    let there = at_board (after e.forward e.count) e.board farm in
-    let all = turned_by (other e.forward) e.board (made farm e) there (line_made farm e good) (λ none. map_none (after e.forward e.count) e (slice_get farm e.board) (sym (get_here (after e.forward e.count) e.board farm) ∙ none)) in
+    let there = at_board (after_steps e.forward e.count) e.board farm in
+    let all = turned_by (other e.forward) e.board (made farm e) there (line_made farm e good) (λ none. map_none (after_steps e.forward e.count) e (slice_get farm e.board) (sym (get_here (after_steps e.forward e.count) e.board farm) ∙ none)) in
     ap (λ f. undoing f (event_of (other e.forward) e.board (made farm e))) (lines_are_runs farm e)
     ∙ undoing_line (other e.forward) e.board (made farm e) there all
     ∙ ap (λ s. event_of s e.board (made farm e)) (other_twice e.forward)
@@ -112,7 +112,7 @@ undoing_twice farm (e ∷ es) good =
     ∙ ap (λ xs. xs ++ moving next es) (line_twice farm e good)
 
 -- one line more at the end: what a loop over the lines keeps
-pub farm_more : (farm : List FarmBoard) (a : List Event) (e : Event) → farm_after farm (a ++ (e ∷ [])) ≡ at_board (after e.forward e.count) e.board (farm_after farm a)
+pub farm_more : (farm : List FarmBoard) (a : List Event) (e : Event) → farm_after farm (a ++ (e ∷ [])) ≡ at_board (after_steps e.forward e.count) e.board (farm_after farm a)
 farm_more farm a e = after_append farm a (e ∷ []) ∙ after_line (farm_after farm a) e [] ∙ lines_are_runs (farm_after farm a) e
 
 pub undoing_more : (farm : List FarmBoard) (a : List Event) (e : Event) → undoing farm (a ++ (e ∷ [])) ≡ event_of (other e.forward) e.board (made (farm_after farm a) e) ++ undoing farm a

@@ -9,17 +9,17 @@ use Rattle.bn_netlist_lines.specs.declared.net_config.NetConfig.{NetConfig}
 use Rattle.std.specs.Prelude.{option_map}
 use Rattle.bn_farm.specs.declared.event.Event.{Event}
 use Rattle.bn_farm.specs.Farms.{IsFarm}
-use Rattle.bn_farm.specs.FarmTexts.{IsFarmText, SpellBoards, joined, order_of, order_text, schedule_text, sign_text}
+use Rattle.bn_farm.specs.FarmTexts.{IsFarmText, SpellBoards, parts_text, order_of, order_text, schedule_text, sign_text}
 use Rattle.bn_farm.specs.Writing.{HasWritten}
 use Rattle.bn_farm.proofs.OrderLemmas.{pieces}
 
 pub none_written : (old : List ℕ) → HasWritten old old []
 none_written old = record { parts = []; spell = tt; is = sym (append-nil old) }
 
-joined_more : (parts : List (List ℕ)) (part : List ℕ) → joined (parts ++ part ∷ []) ≡ joined parts ++ (part ++ 37 ∷ 10 ∷ [])
+joined_more : (parts : List (List ℕ)) (part : List ℕ) → parts_text (parts ++ part ∷ []) ≡ parts_text parts ++ (part ++ 37 ∷ 10 ∷ [])
 joined_more [] part = refl
 joined_more (p ∷ parts) part =
-    ap (λ rest. p ++ 37 ∷ 10 ∷ rest) (joined_more parts part) ∙ sym (append_assoc p (37 ∷ 10 ∷ joined parts) (part ++ 37 ∷ 10 ∷ []))
+    ap (λ rest. p ++ 37 ∷ 10 ∷ rest) (joined_more parts part) ∙ sym (append_assoc p (37 ∷ 10 ∷ parts_text parts) (part ++ 37 ∷ 10 ∷ []))
 
 spell_more : (parts : List (List ℕ)) (bs : List FarmBoard) (part : List ℕ) (b : FarmBoard) → SpellBoards parts bs → IsSpelled b part → SpellBoards (parts ++ part ∷ []) (bs ++ b ∷ [])
 spell_more [] [] part b spell is = (is, tt)
@@ -38,13 +38,13 @@ pub one_written : (old before after : List ℕ) (bs : List NetConfig) (i : ℕ) 
     → HasWritten before after (board_of (get_or bs i d) ∷ []) → HasWritten old after (map board_of (take (i + 1) bs))
 one_written old before after bs i d so_far low one = by_parts one.parts one.spell one.is
   where
-    by_parts : (parts : List (List ℕ)) → SpellBoards parts (board_of (get_or bs i d) ∷ []) → after ≡ before ++ joined parts → HasWritten old after (map board_of (take (i + 1) bs))
+    by_parts : (parts : List (List ℕ)) → SpellBoards parts (board_of (get_or bs i d) ∷ []) → after ≡ before ++ parts_text parts → HasWritten old after (map board_of (take (i + 1) bs))
     by_parts [] spell is = absurd spell
     by_parts (p ∷ q ∷ parts) spell is = absurd spell.1
     by_parts (p ∷ []) spell is = record {
       parts = so_far.parts ++ p ∷ [];
       spell = subst (SpellBoards (so_far.parts ++ p ∷ [])) (sym (take_more bs i d low)) (spell_more so_far.parts (map board_of (take i bs)) p (board_of (get_or bs i d)) so_far.spell spell.0);
-      is = is ∙ ap (λ xs. xs ++ joined (p ∷ [])) so_far.is ∙ append_assoc old (joined so_far.parts) (joined (p ∷ []))
+      is = is ∙ ap (λ xs. xs ++ parts_text (p ∷ [])) so_far.is ∙ append_assoc old (parts_text so_far.parts) (parts_text (p ∷ []))
           ∙ ap (λ xs. old ++ xs) (sym (joined_more so_far.parts p));
     }
 

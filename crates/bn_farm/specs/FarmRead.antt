@@ -3,7 +3,7 @@ use Rattle.std.specs.Prelude.{◌≡◌, ◌≢◌, ℕ, ◌+◌, ◌<◌, ◌�
 use Rattle.bn_lists.specs.Lists.{IsFirstWith}
 use Rattle.bn_net.specs.declared.net.TheConstants.{MOST_ELEMENTS}
 use Rattle.bn_netlist_lines.specs.NetText.{IsTextRefusal}
-use Rattle.bn_farm.specs.Farms.{FarmBoard, IsSpelled, board_of, elements_of}
+use Rattle.bn_farm.specs.Farms.{FarmBoard, IsSpelled, board_of, elements_together}
 use Rattle.bn_netlist_lines.specs.declared.net_config.NetConfig.{NetConfig}
 use Rattle.bn_netlist_lines.specs.declared.refusal.NetlistRefusal.{NetlistRefusal}
 use Rattle.bn_netlist_lines.specs.declared.refusal.NetlistRefusal.TheVariants as netlist
@@ -24,13 +24,13 @@ IsUnspelled part = (b : FarmBoard) → IsSpelled b part → ⊥
 pub record IsRestRead (boards : List FarmBoard) (left : List ℕ) (bs : List FarmBoard) (es : List Event) : Type 0 where
   pub same : bs ≡ boards
   pub schedule : IsSchedule (length boards) left es
-  pub few : elements_of boards ≤ MOST_ELEMENTS
+  pub few : elements_together boards ≤ MOST_ELEMENTS
 
 -- what is left is a schedule, and the boards have so many elements together, which are too many
 pub record AreTooMany (boards : List FarmBoard) (left : List ℕ) (count : ℕ) : Type 0 where
   pub schedule : List Event
   pub is_schedule : IsSchedule (length boards) left schedule
-  pub is : count ≡ elements_of boards
+  pub is : count ≡ elements_together boards
   pub great : MOST_ELEMENTS < count
 
 -- what is left is no schedule of these boards, or they have too many elements together; want of memory says nothing
@@ -70,7 +70,7 @@ pub record IsFarmRead (bytes : List ℕ) (bs : List FarmBoard) (es : List Event)
   pub are : AreParts bytes parts last
   pub spell : SpellBoards parts bs
   pub schedule : IsSchedule (length bs) last es
-  pub few : elements_of bs ≤ MOST_ELEMENTS
+  pub few : elements_together bs ≤ MOST_ELEMENTS
 
 -- this board, counted from 1, is the first that is misspelled, and this is its first fault, which isn't want of memory
 pub record IsFirstMisspelled (bytes : List ℕ) (board : ℕ) (fault : NetlistRefusal) : Type 0 where

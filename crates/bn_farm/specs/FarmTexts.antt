@@ -19,7 +19,7 @@ abbrev pub order_text : Order → List ℕ
 order_text o = sign_text o.forward ++ (decimal o.number ++ (codes " " ++ decimal o.count))
 
 -- its numbers are read, and there is a step at least
-pub record IsSayable (o : Order) : Type 0 where
+pub record IsSayableOrder (o : Order) : Type 0 where
   pub number : o.number ≤ greatest
   pub some : 1 ≤ o.count
   pub few : o.count ≤ greatest
@@ -34,7 +34,7 @@ schedule_text (e ∷ es) = order_text (order_of e) ++ 10 ∷ schedule_text es
 
 -- the event's line can be written, and a farm of so many boards has its board
 pub record IsEventOf (boards : ℕ) (e : Event) : Type 0 where
-  pub sayable : IsSayable (order_of e)
+  pub sayable : IsSayableOrder (order_of e)
   pub has_board : e.board < boards
 
 abbrev pub AreEventsOf : ℕ → List Event → Type 0
@@ -52,25 +52,25 @@ pub data ScheduleFault : Type 0 where
   no_board : ScheduleFault
 
 -- something is left, and it doesn't begin with a whole line that has a form
-pub record IsMalformed (left : List ℕ) : Type 0 where
+pub record LacksForm (left : List ℕ) : Type 0 where
   pub some : left ≢ []
-  pub unsaid : (o : Order) (behind : List ℕ) → IsSayable o → left ≢ order_text o ++ 10 ∷ behind
+  pub unsaid : (o : Order) (behind : List ℕ) → IsSayableOrder o → left ≢ order_text o ++ 10 ∷ behind
 
 -- what is left begins with a whole line that has a form, and its number is 0 or above that of the boards
 pub record LacksBoard (boards : ℕ) (left : List ℕ) : Type 0 where
   pub says : Order
   pub behind : List ℕ
   pub begins : left ≡ order_text says ++ 10 ∷ behind
-  pub sayable : IsSayable says
+  pub sayable : IsSayableOrder says
   pub lacking : (says.number ≡ 0) ⊎ (boards < says.number)
 
-abbrev pub BeginsWithFault : ℕ → List ℕ → ScheduleFault → Type 0
-BeginsWithFault boards left malformed = IsMalformed left
-BeginsWithFault boards left no_board = LacksBoard boards left
+abbrev pub HasScheduleFault : ℕ → List ℕ → ScheduleFault → Type 0
+HasScheduleFault boards left malformed = LacksForm left
+HasScheduleFault boards left no_board = LacksBoard boards left
 
 -- behind the lines of so many events, the next line is the first with a fault
 abbrev pub FailsAfter : ℕ → ℕ → List ℕ → ScheduleFault → Type 0
-FailsAfter boards zero bytes fault = BeginsWithFault boards bytes fault
+FailsAfter boards zero bytes fault = HasScheduleFault boards bytes fault
 FailsAfter boards (suc n) bytes fault =
     (e : Event) × (behind : List ℕ) × IsEventOf boards e × (bytes ≡ order_text (order_of e) ++ 10 ∷ behind)
     × FailsAfter boards n behind fault
@@ -78,9 +78,9 @@ FailsAfter boards (suc n) bytes fault =
 -- ---- farms
 
 -- these texts, each with a line `%` behind it
-abbrev pub joined : List (List ℕ) → List ℕ
-joined [] = []
-joined (part ∷ parts) = part ++ 37 ∷ 10 ∷ joined parts
+abbrev pub parts_text : List (List ℕ) → List ℕ
+parts_text [] = []
+parts_text (part ∷ parts) = part ++ 37 ∷ 10 ∷ parts_text parts
 
 -- the parts spell these boards
 abbrev pub SpellBoards : List (List ℕ) → List FarmBoard → Type 0
@@ -93,7 +93,7 @@ SpellBoards (part ∷ parts) (b ∷ bs) = IsSpelled b part × SpellBoards parts 
 pub record IsFarmText (bs : List FarmBoard) (es : List Event) (text : List ℕ) : Type 0 where
   pub parts : List (List ℕ)
   pub spell : SpellBoards parts bs
-  pub written : text ≡ joined parts ++ schedule_text es
+  pub written : text ≡ parts_text parts ++ schedule_text es
 
 -- the parts of an input before each of its lines `%`, and what stands behind the last
 abbrev pub AreParts : List ℕ → List (List ℕ) → List ℕ → Type 0

@@ -33,17 +33,17 @@ abbrev pub IsSpelled : FarmBoard → List ℕ → Type 0
 IsSpelled b text = Spelled b.version b.spelling text
 
 -- the same board in another configuration
-abbrev pub moved : FarmBoard → Config → FarmBoard
-moved b c = record { version = b.version; spelling = moved_to b.spelling c }
+abbrev pub in_config : FarmBoard → Config → FarmBoard
+in_config b c = record { version = b.version; spelling = moved_to b.spelling c }
 
 -- each board may be spelled
 abbrev pub IsFarm : List FarmBoard → Type 0
 IsFarm farm = (i : ℕ) (b : FarmBoard) → slice_get farm i ≡ Some b → IsAdmitted b
 
 -- the elements of all boards together
-abbrev pub elements_of : List FarmBoard → ℕ
-elements_of [] = 0
-elements_of (b ∷ bs) = b.spelling.elements + elements_of bs
+abbrev pub elements_together : List FarmBoard → ℕ
+elements_together [] = 0
+elements_together (b ∷ bs) = b.spelling.elements + elements_together bs
 
 -- ---- events
 
@@ -61,8 +61,8 @@ stepped true k c n = run k c n
 stepped false k c n = back k c n
 
 -- the same board after at most n steps
-abbrev pub after : Bool → ℕ → FarmBoard → FarmBoard
-after forward n b = moved b (stepped forward (circuit_in b) b.spelling.config n)
+abbrev pub after_steps : Bool → ℕ → FarmBoard → FarmBoard
+after_steps forward n b = in_config b (stepped forward (circuit_in b) b.spelling.config n)
 
 -- the farm with one board changed, all others as they were
 abbrev pub at_board : (FarmBoard → FarmBoard) → ℕ → List FarmBoard → List FarmBoard
@@ -72,7 +72,7 @@ at_board change (suc i) (b ∷ bs) = b ∷ at_board change i bs
 
 -- the farm after one tick
 abbrev pub ticked : Tick → List FarmBoard → List FarmBoard
-ticked t farm = at_board (after t.forward 1) t.board farm
+ticked t farm = at_board (after_steps t.forward 1) t.board farm
 
 -- the farm after these ticks, the first tick first
 abbrev pub play : List FarmBoard → List Tick → List FarmBoard
@@ -100,4 +100,4 @@ own i (t ∷ ts) = if t.board == i then t.forward ∷ own i ts else own i ts
 -- one board after ticks of its own, the first tick first
 abbrev pub alone : FarmBoard → List Bool → FarmBoard
 alone b [] = b
-alone b (s ∷ ss) = alone (after s 1 b) ss
+alone b (s ∷ ss) = alone (after_steps s 1 b) ss

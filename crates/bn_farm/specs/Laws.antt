@@ -4,14 +4,14 @@ use Rattle.bn_lists.specs.Runs.{Reaches}
 use Rattle.bn_circuits.specs.Circuits.{Goes}
 use Rattle.bn_circuits.specs.Stepping.{run, back}
 use Rattle.bn_farm.specs.declared.event.Event.{Event}
-use Rattle.bn_farm.specs.Farms.{FarmBoard, IsAdmitted, IsFarm, Tick, after, alone, at_board, circuit_in, farm_after, moved}
+use Rattle.bn_farm.specs.Farms.{FarmBoard, IsAdmitted, IsFarm, Tick, after_steps, alone, at_board, circuit_in, farm_after, in_config}
 use Rattle.bn_farm.specs.Farms.{own, play, ticks, ticks_of}
-use Rattle.bn_farm.specs.Undo.{AllLawful, counted, moving, undoing}
+use Rattle.bn_farm.specs.Undo.{AllLawful, steps_between, moving, undoing}
 
 -- a line of n ticks leaves its board where a run of n steps does, forward or back, and all others as they were
 abbrev pub LinesAreRuns : Type 0
 LinesAreRuns =
-    (farm : List FarmBoard) (e : Event) → play farm (ticks_of e) ≡ at_board (after e.forward e.count) e.board farm
+    (farm : List FarmBoard) (e : Event) → play farm (ticks_of e) ≡ at_board (after_steps e.forward e.count) e.board farm
 
 -- each board ends where its own ticks alone leave it, whatever ticks of other boards come between
 abbrev pub BoardsAreApart : Type 0
@@ -34,10 +34,10 @@ FarmsStay = (farm : List FarmBoard) (es : List Tick) → IsFarm farm → IsFarm 
 abbrev pub CountsAreSteps : Type 0
 CountsAreSteps =
     ((b : FarmBoard) (n : ℕ) → IsAdmitted b
-    → Reaches (Goes (circuit_in b)) (counted true b.spelling.config (run (circuit_in b) b.spelling.config n))
+    → Reaches (Goes (circuit_in b)) (steps_between true b.spelling.config (run (circuit_in b) b.spelling.config n))
     b.spelling.config (run (circuit_in b) b.spelling.config n))
     × ((b : FarmBoard) (n : ℕ) → IsAdmitted b
-    → Reaches (Goes (circuit_in b)) (counted false b.spelling.config (back (circuit_in b) b.spelling.config n))
+    → Reaches (Goes (circuit_in b)) (steps_between false b.spelling.config (back (circuit_in b) b.spelling.config n))
     (back (circuit_in b) b.spelling.config n) b.spelling.config)
 
 -- playing the undoing schedule restores every board
@@ -62,4 +62,4 @@ abbrev pub BoardsKeepCircuits : Type 0
 BoardsKeepCircuits =
     ((farm : List FarmBoard) (es : List Tick) → length (play farm es) ≡ length farm)
     × ((farm : List FarmBoard) (es : List Tick) (i : ℕ) (b : FarmBoard) → slice_get farm i ≡ Some b
-    → (d : FarmBoard) × (slice_get (play farm es) i ≡ Some d) × (d ≡ moved b d.spelling.config))
+    → (d : FarmBoard) × (slice_get (play farm es) i ≡ Some d) × (d ≡ in_config b d.spelling.config))

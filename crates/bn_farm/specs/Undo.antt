@@ -13,13 +13,13 @@ other true = false
 other false = true
 
 -- how many steps led from c to d, forward or back: each one is counted by the configuration
-abbrev pub counted : Bool → Config → Config → ℕ
-counted true c d = d.steps - c.steps
-counted false c d = c.steps - d.steps
+abbrev pub steps_between : Bool → Config → Config → ℕ
+steps_between true c d = d.steps - c.steps
+steps_between false c d = c.steps - d.steps
 
 -- how many of its steps a line makes on this farm
 abbrev pub made_on : Event → FarmBoard → ℕ
-made_on e b = counted e.forward b.spelling.config (stepped e.forward (circuit_in b) b.spelling.config e.count)
+made_on e b = steps_between e.forward b.spelling.config (stepped e.forward (circuit_in b) b.spelling.config e.count)
 
 abbrev pub made : List FarmBoard → Event → ℕ
 made farm e = option_map_or (made_on e) (slice_get farm e.board) 0

@@ -1,10 +1,10 @@
 -- What stands behind the boards that were written so far.
 use Rattle.std.specs.Prelude.{◌≡◌, ℕ, List, ◌++◌}
 use Rattle.bn_farm.specs.Farms.{FarmBoard}
-use Rattle.bn_farm.specs.FarmTexts.{SpellBoards, joined}
+use Rattle.bn_farm.specs.FarmTexts.{SpellBoards, parts_text}
 
 -- a text has grown by the texts of these boards, each with a line `%` behind it
 pub record HasWritten (old now : List ℕ) (bs : List FarmBoard) : Type 0 where
   pub parts : List (List ℕ)
   pub spell : SpellBoards parts bs
-  pub is : now ≡ old ++ joined parts
+  pub is : now ≡ old ++ parts_text parts

@@ -1,9 +1,9 @@
 //! A farm of boards.
 
 ghost use Rattle.std.specs.Prelude.{◌≡◌, length, map, IfOk, OnErr};
-ghost use Rattle.bn_farm.specs.Farms.{board_of, IsAdmitted, IsFarm, after, farm_after};
+ghost use Rattle.bn_farm.specs.Farms.{board_of, IsAdmitted, IsFarm, after_steps, farm_after};
 ghost use Rattle.bn_farm.specs.Playing.{AreOnBoards};
-ghost use Rattle.bn_farm.specs.Undo.{counted, undoing};
+ghost use Rattle.bn_farm.specs.Undo.{steps_between, undoing};
 
 use crate::event::Event;
 use crate::schedule::Schedule;
@@ -79,8 +79,8 @@ impl Farm {
 // Makes so many steps of a board, or as many as can be made, forward or back, and answers how many.
 fn play_board(board: &mut NetConfig, forward: bool, count: u64) -> u64
     requires { IsAdmitted (board_of board.old) }
-    ensures board { board_of board.new ≡ after forward count (board_of board.old) }
-    ensures made { result ≡ counted forward board.old.config board.new.config }
+    ensures board { board_of board.new ≡ after_steps forward count (board_of board.old) }
+    ensures made { result ≡ steps_between forward board.old.config board.new.config }
 {
     if forward {
         board.net.run(&mut board.config, count)

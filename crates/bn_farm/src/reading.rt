@@ -1,7 +1,7 @@
 //! Reading a farm with a schedule.
 
 ghost use Rattle.std.specs.Prelude.{◌≡◌, ◌≢◌, ℕ, ◌+◌, ◌<◌, ◌≤◌, ◌^◌, List, length, map, IfOk, IfErr, OnOk};
-ghost use Rattle.bn_farm.specs.Farms.{board_of, elements_of, IsFarm};
+ghost use Rattle.bn_farm.specs.Farms.{board_of, elements_together, IsFarm};
 ghost use Rattle.bn_farm.specs.FarmRead.{HasPushed, IsFarmRead, IsFarmRefusal, IsPartRefusal, IsRestRead};
 ghost use Rattle.bn_farm.specs.FarmRead.{IsRestRefusal, IsUnspelled};
 ghost use Rattle.bn_netlist_lines.specs.NetText.{IsTextRefusal};
@@ -108,7 +108,7 @@ fn with_schedule(
 fn count_elements(boards: &[NetConfig]) -> u64
     requires farm { IsFarm (map board_of boards.now) }
     requires few { length boards.now < 2 ^ 32 }
-    ensures { result ≡ elements_of (map board_of boards.now) }
+    ensures { result ≡ elements_together (map board_of boards.now) }
 {
     let mut count = 0;
     for board in boards {

@@ -10,6 +10,3 @@ pub use bn_csv::NoMemory;
 pub use laws::{increments_are_counted, increments_are_standard, increments_fit_tables};
 pub use machine::{MOST_INCREMENTS, increments, most_increments_are_stated};
 pub use text::increments_text;
-
-#[cfg(test)]
-mod tests;

@@ -60,7 +60,7 @@ use Rattle.bn_reply_boards_laws.specs.Laws.{AnswersTellHeadline, BoardsAreCounte
 use Rattle.bn_reply_boards_laws.proofs.OutputLemmas.{halted_fits}
 use Rattle.bn_reply_boards_laws.proofs.WindowLemmas.{standard_machine}
 use Rattle.bn_headline_laws.specs.Elements.{elements, most_steps}
-use Rattle.bn_headline_laws.specs.MachineHeadline.{AreLastLines, AreTapes, IsOwnRun, MachineHeadline, MachineHeadlineWithin, Spans, TellsExit, TellsInside, TellsWithin, TookAnswer, least_steps, word_cells}
+use Rattle.bn_headline_laws.specs.MachineHeadline.{AreLastLines, AreTapes, IsOwnRun, MachineHeadline, MachineHeadlineWithin, Spans, TellsExit, TellsInside, TellsExitWithin, TookAnswer, least_steps, word_cells}
 use Rattle.bn_headline_laws.specs.Laws.{ElementsAreCounted, RepliesTellMachine}
 use Rattle.bn_headline_laws.proofs.CellLemmas.{cells-word}
 
@@ -330,7 +330,7 @@ module _ (machines : TablesAreMachines) (elements_are : ElementsAreCounted) (cou
           }
 
       within_told : (e : ℕ) (status : Status) (text : List ℕ) → RunsToExit t.machine f i o → (tells : within.TellsWithin e t l symbols f i o status text) →
-          TellsWithin e t l symbols i o tells.cost status text
+          TellsExitWithin e t l symbols i o tells.cost status text
       within_told e status text ran tells = record {
         ended = λ high.
             let out = tells.ended high in
@@ -384,7 +384,7 @@ module _ (machines : TablesAreMachines) (elements_are : ElementsAreCounted) (cou
       headline_within : (word : List ℕ) (l : Limits) (e : ℕ) → words ≡ run_words word l (decimal e ∷ []) → e ≤ greatest →
           length bytes ≤ MOST_INPUT_BYTES →
           (t : Named) (symbols : List ℕ) (i : ℕ) (o : Outcome) → IsOwnRun bytes word l t symbols i o →
-          TookAnswer (TellsWithin e t l symbols i o) t.machine l i o status taken took
+          TookAnswer (TellsExitWithin e t l symbols i o) t.machine l i o status taken took
       headline_within word l e asks low short t symbols i o own =
           let reply = replies word l (Some e) (asks, low) own.given.small short in
           record {

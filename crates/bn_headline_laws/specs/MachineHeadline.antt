@@ -97,7 +97,7 @@ pub record TellsInside (t : Named) (l : Limits) (e : ℕ) (status : Status) (tex
   pub status_is : status ≡ Inside
 
 -- With a greatest number e of steps: the exit, where the signal comes to it in so many, and else where it is then.
-pub record TellsWithin (e : ℕ) (t : Named) (l : Limits) (symbols : List ℕ) (i : ℕ) (o : Outcome) (cost : ℕ)
+pub record TellsExitWithin (e : ℕ) (t : Named) (l : Limits) (symbols : List ℕ) (i : ℕ) (o : Outcome) (cost : ℕ)
     (status : Status) (text : List ℕ) : Type 0 where
   pub ended : cost ≤ e → TellsExit t l symbols i o cost status text
   pub inside : e < cost → TellsInside t l e status text
@@ -139,4 +139,4 @@ MachineHeadlineWithin words bytes status taken took =
     (word : List ℕ) (l : Limits) (e : ℕ) → words ≡ run_words word l (decimal e ∷ []) → e ≤ greatest
     → length bytes ≤ MOST_INPUT_BYTES
     → (t : Named) (symbols : List ℕ) (i : ℕ) (o : Outcome) → IsOwnRun bytes word l t symbols i o
-    → TookAnswer (TellsWithin e t l symbols i o) t.machine l i o status taken took
+    → TookAnswer (TellsExitWithin e t l symbols i o) t.machine l i o status taken took

@@ -18,6 +18,3 @@ pub use machine::{Machine, MachineRefusal, Turn};
 pub use quint::{Quint, Shift, Side};
 pub use shifts::{shift_of, text_of_shift};
 pub use tape::{Tape, TapeRefusal};
-
-#[cfg(test)]
-mod tests;

@@ -8,6 +8,7 @@ use Rattle.bn_element.specs.Rotary.{rotary}
 use Rattle.bn_element.specs.Inverse.{exchanged}
 use Rattle.bn_circuits.specs.Circuits.{Circuit, target, source, line_at, same_line, IsOneToOne, IsPlace, IsInputOf, IsOutputOf, inputs_of, outputs_of}
 use Rattle.bn_circuits.specs.Situations.{counted, situation_of}
+use Rattle.bn_circuits.proofs.AlikeLemmas.{options_one, sources_one}
 use Rattle.bn_circuits.proofs.StepLemmas.{same_config}
 use Rattle.bn_circuits.specs.declared.line.Line.{Line}
 use Rattle.bn_circuits.specs.declared.line.Wire.{Wire}
@@ -201,16 +202,6 @@ mirrors-admitted v s m admitted is =
     subst (Admits v) same (mirrored_Admits v s admitted m.wires is.wires is.one_to_one)
 
 -- ---- there is one
-
-options_one : {X : Type 0} (o x : Option X) → ((y : X) → o ≡ Some y → x ≡ Some y) → ((y : X) → x ≡ Some y → o ≡ Some y) → o ≡ x
-options_one None None h k = refl
-options_one None (Some y) h k = k y refl
-options_one (Some y) x h k = sym (h y refl)
-
--- wires that are one to one and have the same targets have the same sources
-pub sources_one : (ws vs : List Wire) → IsOneToOne ws → IsOneToOne vs → ((from : Line) → target ws from ≡ target vs from) → (to : Line) → source ws to ≡ source vs to
-sources_one ws vs one also same to = options_one (source ws to) (source vs to)
-    (λ y h. (also y to).0 (sym (same y) ∙ (one y to).1 h)) (λ y h. (one y to).0 (same y ∙ (also y to).1 h))
 
 -- by the targets of one, the targets of the other
 targets_from : (ws vs us : List Wire) → AreMirrored ws vs → AreMirrored ws us → (from to : Line) → target vs from ≡ Some to → target us from ≡ Some to

@@ -26,6 +26,3 @@ pub use read_from::read_config_from;
 pub use refusal::{FromRefusal, ToRefusal};
 pub use write::write_config;
 pub use write_to::write_config_to;
-
-#[cfg(test)]
-mod tests;

@@ -20,7 +20,7 @@ use Rattle.bn_netlist_laws.proofs.WireLemmas.{rotary_input, rotary_output, rotar
 use Rattle.bn_netlist_laws.specs.Columns.{IsColumnAt, HasColumnAt, inner_wires, rotary_elements}
 use Rattle.bn_netlist_laws.specs.Sentences.{Sentence, Title, Count, Start, End, Steps, At, Element, Column, Row, IsSayable}
 use Rattle.bn_netlist_laws.specs.Spelling.{Admits, most_elements, header_of, header_then, IsWrittenAt, row_sentences, AreEntries, no_entry, element_entry, column_entry}
-use Rattle.bn_netlist_laws.specs.Faults.{header_lines, next_number, row_number, line_wires, wires_after, wires_in, states_in, rows_left, row_targets, wire_fault, outputs_fault, some_wire, inner_fault, named_fault, fault_of, IsOfVersion, IsNext, AreFaultlessAfter, AreFaultless, AreWhole, IsSpelledOut}
+use Rattle.bn_netlist_laws.specs.Faults.{header_lines, next_number, row_number, line_wires, wires_after, wires_in, bars_in, rows_left, row_targets, wire_fault, outputs_fault, some_wire, inner_fault, named_fault, fault_of, IsOfVersion, IsNext, AreFaultlessAfter, AreFaultless, AreWhole, IsSpelledOut}
 use Rattle.bn_netlist_laws.specs.declared.version.Version.{Version}
 use Rattle.bn_netlist_laws.specs.declared.version.Version.TheVariants.{One, Two}
 use Rattle.bn_net.specs.declared.net.TheConstants.{MOST_ELEMENTS}
@@ -439,7 +439,7 @@ module _ (v : Version) (s : Spelling) (a : Admits v s) where
   -- what the lines say, as a spelling
   abbrev said_spelling : List Sentence → Spelling
   said_spelling xs =
-      record { elements = s.elements; wires = wires_after 6 xs; config = record { states = states_in xs; place = s.config.place; steps = s.config.steps }; start = s.start; end = s.end }
+      record { elements = s.elements; wires = wires_after 6 xs; config = record { states = bars_in xs; place = s.config.place; steps = s.config.steps }; start = s.start; end = s.end }
 
   pub none-spelled-out : (xs : List Sentence) → AreEntries v s 0 xs → (e : ℕ) → IsSpelledOut (header_then head xs) e → ⊥
   none-spelled-out xs are e out =

@@ -23,7 +23,7 @@ use Rattle.bn_netlist_laws.proofs.WireLemmas.{rotary_inputs, rotary_outputs, rot
 use Rattle.bn_netlist_laws.specs.Columns.{IsColumnAt, HasColumnAt, inner_wires, rotary_elements}
 use Rattle.bn_netlist_laws.specs.Sentences.{Sentence, Title, Count, Start, End, Steps, At, Element, Column, Row, IsSayable, lines_text}
 use Rattle.bn_netlist_laws.specs.Spelling.{Admits, most_elements, header_of, header_then, IsWrittenAt, row_sentences, AreEntries, no_entry, element_entry, column_entry, Spelled}
-use Rattle.bn_netlist_laws.specs.Faults.{Fault, header_lines, count_in, next_number, row_number, line_wires, wires_after, wires_in, states_in, rows_left, row_targets, wire_fault, or_else, outputs_fault, some_wire, inner_fault, fault_of, kind_of, IsOfVersion, IsNext, AreFaultlessAfter, AreFaultless, AreWhole, IsSpelledOut}
+use Rattle.bn_netlist_laws.specs.Faults.{Fault, header_lines, count_in, next_number, row_number, line_wires, wires_after, wires_in, bars_in, rows_left, row_targets, wire_fault, or_else, outputs_fault, some_wire, inner_fault, fault_of, kind_of, IsOfVersion, IsNext, AreFaultlessAfter, AreFaultless, AreWhole, IsSpelledOut}
 use Rattle.bn_netlist_laws.specs.declared.version.Version.{Version}
 use Rattle.bn_netlist_laws.specs.declared.version.Version.TheVariants.{One, Two}
 use Rattle.bn_netlist_laws.specs.declared.header.Header.{Header}

@@ -25,7 +25,7 @@ use Rattle.bn_netlist_laws.specs.Columns.{HasColumnAt, rotary_elements, inner_wi
 use Rattle.bn_netlist_laws.specs.Sentences.{Sentence, Title, Count, Start, End, Steps, At, Element, Column, title_text, IsSayable, sentence_text, lines_text}
 use Rattle.bn_netlist_laws.specs.Sentences as sentences
 use Rattle.bn_netlist_laws.specs.Spelling.{Spelled, most_elements}
-use Rattle.bn_netlist_laws.specs.Faults.{Fault, malformed, too_many, no_element, out_of_order, end_wired, left_wired, start_fed, second_source, spelled_out, header_lines, version_in, count_in, is_end_in, is_left_in, is_start_in, wires_in, states_in, row_targets, next_number, row_number, wire_fault, or_else, outputs_fault, some_wire, inner_fault, fault_of, kind_of, kind_after, IsOfVersion, IsNext, AreFaultlessAfter, AreFaultless, IsFaulty, BeginsWithFault, IsFirstBadLine, AreWhole, IsSpelledOut, IsFirstSpelledOut, IsFirstFault, TextsSpellOrFault, rows_left}
+use Rattle.bn_netlist_laws.specs.Faults.{Fault, malformed, too_many, no_element, out_of_order, end_wired, left_wired, start_fed, second_source, spelled_out, header_lines, version_in, count_in, is_end_in, is_left_in, is_start_in, wires_in, bars_in, row_targets, next_number, row_number, wire_fault, or_else, outputs_fault, some_wire, inner_fault, fault_of, kind_of, kind_after, IsOfVersion, IsNext, AreFaultlessAfter, AreFaultless, IsFaulty, BeginsWithFault, IsFirstBadLine, AreWhole, IsSpelledOut, IsFirstSpelledOut, IsFirstFault, TextsSpellOrFault, rows_left}
 use Rattle.bn_netlist_laws.specs.Saying.{column_of, sides_of, first_some, version_said, title_said, count_said, start_said, end_said, steps_said, place_said_by, place_said, element_sentence, element_said, column_said_by, column_said, entry_said, row_said, said}
 use Rattle.bn_netlist_laws.specs.declared.element_line.ElementLine.{ElementLine}
 use Rattle.bn_netlist_laws.specs.declared.version.Version.{Version}
@@ -477,7 +477,7 @@ spelled_out_or_not lines e =
     by_line : version_in lines ≡ Two → IsLineOf e (slice_get lines (header_lines + e)) → IsSpelledOut lines e ⊎ (IsSpelledOut lines e → ⊥)
     by_line second (not_line_of not) = inr (λ out. not out.state out.targets out.has_line)
     by_line second (line_of q ts has) =
-        elim (column_or_none (count_in lines) (wires_in lines) (states_in lines) e) [
+        elim (column_or_none (count_in lines) (wires_in lines) (bars_in lines) e) [
           | inl column ↦ inl (record { second = second; state = q; targets = ts; has_line = has; column = column })
           | inr none ↦ inr (λ out. none out.column.0 out.column.1)
         ]

@@ -18,7 +18,7 @@ use Rattle.bn_netlist_laws.proofs.WireLemmas.{Each, each_append, each_weaker, ro
 use Rattle.bn_netlist_laws.specs.Columns.{IsColumnAt, inner_wires}
 use Rattle.bn_netlist_laws.specs.Sentences.{Sentence, Element, Column, Row}
 use Rattle.bn_netlist_laws.specs.Spelling.{Admits, IsWrittenAt, row_sentences, AreEntries, no_entry, element_entry, column_entry}
-use Rattle.bn_netlist_laws.specs.Faults.{line_wires, wires_after, states_in, row_targets, row_number}
+use Rattle.bn_netlist_laws.specs.Faults.{line_wires, wires_after, bars_in, row_targets, row_number}
 use Rattle.bn_netlist_laws.specs.declared.version.Version.{Version}
 use Rattle.bn_netlist_laws.proofs.ColumnLemmas.{inner-are}
 use Rattle.bn_netlist_laws.proofs.EntryLemmas.{count_states, column_within}
@@ -35,23 +35,23 @@ upright_drop states e (suc k) more upright is =
     let rest = upright_drop states (suc e) k more (λ r below. let same : suc e + r ≡ e + suc r = omega arith in subst (λ (n : ℕ). slice_get states n ≡ Some vertical) (sym same) (upright (suc r) (omega arith))) (ap (λ (n : ℕ). drop n states) place ∙ is) in
     drop_more states e vertical first ∙ ap (λ (qs : List ℕ). vertical ∷ qs) rest
 
-states_in-rows : (ws : List Wire) (e k : ℕ) (rest : List Sentence) → states_in (row_sentences ws e k ++ rest) ≡ states_in rest
+states_in-rows : (ws : List Wire) (e k : ℕ) (rest : List Sentence) → bars_in (row_sentences ws e k ++ rest) ≡ bars_in rest
 states_in-rows ws e zero rest = refl
 states_in-rows ws e (suc k) rest = states_in-rows ws (suc e) k rest
 
 module _ (v : Version) (s : Spelling) (a : Admits v s) where
-  pub states-said : (e : ℕ) (xs : List Sentence) → AreEntries v s e xs → states_in xs ≡ drop e s.config.states
+  pub states-said : (e : ℕ) (xs : List Sentence) → AreEntries v s e xs → bars_in xs ≡ drop e s.config.states
   states-said e xs (no_entry all is) =
       let count = count_states v s a in
-      ap states_in is ∙ sym (drop_all s.config.states e (omega arith))
+      ap bars_in is ∙ sym (drop_all s.config.states e (omega arith))
   states-said e xs (element_entry q rest has none is more) =
-      ap states_in is ∙ ap (λ (qs : List ℕ). q ∷ qs) (states-said (suc e) rest more) ∙ sym (drop_more s.config.states e q has)
+      ap bars_in is ∙ ap (λ (qs : List ℕ). q ∷ qs) (states-said (suc e) rest more) ∙ sym (drop_more s.config.states e q has)
   states-said e xs (column_entry k q rest written has is more) =
       let behind = states-said (suc (e + k)) rest more in
-      let tail : drop (e + k) s.config.states ≡ q ∷ states_in rest = drop_more s.config.states (e + k) q has ∙ ap (λ (qs : List ℕ). q ∷ qs) (sym behind) in
-      ap states_in is
+      let tail : drop (e + k) s.config.states ≡ q ∷ bars_in rest = drop_more s.config.states (e + k) q has ∙ ap (λ (qs : List ℕ). q ∷ qs) (sym behind) in
+      ap bars_in is
       ∙ ap (λ (qs : List ℕ). replicate k vertical ++ q ∷ qs) (states_in-rows s.wires e k rest)
-      ∙ sym (upright_drop s.config.states e k (q ∷ states_in rest) written.column.upright tail)
+      ∙ sym (upright_drop s.config.states e k (q ∷ bars_in rest) written.column.upright tail)
 
 -- ---- each wire that is said is one of the circuit
 

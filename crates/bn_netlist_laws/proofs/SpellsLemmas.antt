@@ -19,7 +19,7 @@ use Rattle.bn_netlist_laws.proofs.WireLemmas.{rotary_inputs, rotary_outputs, rot
 use Rattle.bn_netlist_laws.specs.Columns.{rotary_elements}
 use Rattle.bn_netlist_laws.specs.Sentences.{Sentence, At, IsSayable, lines_text}
 use Rattle.bn_netlist_laws.specs.Spelling.{Admits, most_elements, header_then, Spelled}
-use Rattle.bn_netlist_laws.specs.Faults.{Fault, header_lines, count_in, wires_after, states_in, AreFaultlessAfter, AreFaultless, AreWhole, IsSpelledOut}
+use Rattle.bn_netlist_laws.specs.Faults.{Fault, header_lines, count_in, wires_after, bars_in, AreFaultlessAfter, AreFaultless, AreWhole, IsSpelledOut}
 use Rattle.bn_netlist_laws.specs.declared.version.Version.{Version}
 use Rattle.bn_netlist_laws.specs.declared.header.Header.{Header}
 use Rattle.bn_netlist_laws.proofs.BlockLemmas.{has_header, Blocks, blocks}
@@ -70,9 +70,9 @@ said-admitted h rows f are count =
     let end_four = rotary_outputs h.count h.end.element end_there in
     let end_low : h.end.line < 4 = after_end.0.sayable.1 in
     let place_there = named-there (element_at h.place) h.count _ after_place.1 in
-    let made : length (states_in rows) ≡ h.count = states.count ∙ count in
-    let range : (e q : ℕ) → slice_get (states_in rows) e ≡ Some q → q < states_of (replicate h.count rotary) e =
-    λ e q has. (let low = low_at (states_in rows) e q states.low has in let below = slice_get_within (states_in rows) e q has in let two = rotary_states h.count e (omega arith) in omega arith)
+    let made : length (bars_in rows) ≡ h.count = states.count ∙ count in
+    let range : (e q : ℕ) → slice_get (bars_in rows) e ≡ Some q → q < states_of (replicate h.count rotary) e =
+    λ e q has. (let low = low_at (bars_in rows) e q states.low has in let below = slice_get_within (bars_in rows) e q has in let two = rotary_states h.count e (omega arith) in omega arith)
     in
     let left : (from : Line) → is_left_by h.place from ≡ true → target ws from ≡ None =
     λ from is. target-none ws from (all-each h (λ w. w.from ≢ from) (λ earlier w fits same. not_both (is_left_by h.place from) is (subst (λ (l : Line). is_left_by h.place l ≡ false) same fits.not_left)) [] ws fit)

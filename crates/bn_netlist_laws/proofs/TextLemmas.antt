@@ -14,7 +14,7 @@ use Rattle.bn_circuits.specs.declared.place.Place.{Place}
 use Rattle.bn_netlist_laws.specs.Spelling.{Spelling, AreSame}
 use Rattle.bn_netlist_laws.specs.Sentences.{Sentence, Title, Count, Start, End, Steps, At, Element, Column, Row, sentence_text, lines_text}
 use Rattle.bn_netlist_laws.specs.Spelling.{Admits, header_of, header_then, AreEntries, Spelled, SpellingsAgree, TextsEnd}
-use Rattle.bn_netlist_laws.specs.Faults.{Fault, malformed, too_many, no_element, out_of_order, end_wired, left_wired, start_fed, second_source, spelled_out, header_lines, version_in, count_in, states_in, wires_after, fault_of, IsNext, AreFaultlessAfter, AreFaultless, IsMalformed, IsFaulty, BeginsWithFault, IsFirstBadLine, AreWhole, IsSpelledOut, IsFirstSpelledOut, IsFirstFault, FaultyTextsSpellNothing, FaultsAgree}
+use Rattle.bn_netlist_laws.specs.Faults.{Fault, malformed, too_many, no_element, out_of_order, end_wired, left_wired, start_fed, second_source, spelled_out, header_lines, version_in, count_in, bars_in, wires_after, fault_of, IsNext, AreFaultlessAfter, AreFaultless, IsMalformed, IsFaulty, BeginsWithFault, IsFirstBadLine, AreWhole, IsSpelledOut, IsFirstSpelledOut, IsFirstFault, FaultyTextsSpellNothing, FaultsAgree}
 use Rattle.bn_netlist_laws.specs.declared.version.Version.{Version}
 use Rattle.bn_netlist_laws.proofs.SentenceLemmas.{lines-same}
 use Rattle.bn_netlist_laws.proofs.SaidLemmas.{states-said, wires-said}
@@ -143,7 +143,7 @@ spellings-agree v w s t text a b =
     let steps : s.config.steps ≡ t.config.steps = ap steps_in same in
     let place : s.config.place ≡ t.config.place = same_Some s.config.place t.config.place (ap place_in same) in
     let entries : a.is_text.entries ≡ longer.is_text.entries = ap entries_in same in
-    let states : s.config.states ≡ t.config.states = sym (states-said v s a.admitted 0 a.is_text.entries a.is_text.are) ∙ ap states_in entries ∙ states-said w t longer.admitted 0 longer.is_text.entries longer.is_text.are in
+    let states : s.config.states ≡ t.config.states = sym (states-said v s a.admitted 0 a.is_text.entries a.is_text.are) ∙ ap bars_in entries ∙ states-said w t longer.admitted 0 longer.is_text.entries longer.is_text.are in
     let targets : (from : Line) → target s.wires from ≡ target t.wires from =
     λ from. sym (wires-said v s a.is_text.entries a.admitted a.is_text.are from) ∙ ap (λ (xs : List Sentence). target (wires_after 6 xs) from) entries ∙ wires-said w t longer.is_text.entries longer.admitted longer.is_text.are from
     in (

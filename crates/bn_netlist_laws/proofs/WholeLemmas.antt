@@ -21,7 +21,7 @@ use Rattle.bn_netlist_laws.proofs.WireLemmas.{rotary_inputs, rotary_outputs, rot
 use Rattle.bn_netlist_laws.specs.Columns.{IsColumnAt, HasColumnAt, inner_wires, rotary_elements}
 use Rattle.bn_netlist_laws.specs.Sentences.{Sentence, Title, Count, Start, End, Steps, At, Element, Column, Row, IsSayable, lines_text}
 use Rattle.bn_netlist_laws.specs.Spelling.{Admits, most_elements, header_of, header_then, IsWrittenAt, row_sentences, AreEntries, no_entry, element_entry, column_entry, Spelled}
-use Rattle.bn_netlist_laws.specs.Faults.{Fault, header_lines, count_in, wires_after, states_in, row_targets, AreFaultlessAfter, AreFaultless, AreWhole, IsSpelledOut}
+use Rattle.bn_netlist_laws.specs.Faults.{Fault, header_lines, count_in, wires_after, bars_in, row_targets, AreFaultlessAfter, AreFaultless, AreWhole, IsSpelledOut}
 use Rattle.bn_netlist_laws.specs.declared.version.Version.{Version}
 use Rattle.bn_netlist_laws.specs.declared.header.Header.{Header}
 use Rattle.bn_netlist_laws.proofs.ColumnLemmas.{inner-are, rotary_at}
@@ -240,7 +240,7 @@ blocks_low h done rows e i (group b k q sides rest count is more) made place f =
 
 -- ---- states
 
-pub states_in-append : (xs ys : List Sentence) → states_in (xs ++ ys) ≡ states_in xs ++ states_in ys
+pub states_in-append : (xs ys : List Sentence) → bars_in (xs ++ ys) ≡ bars_in xs ++ bars_in ys
 states_in-append [] ys = refl
 states_in-append (Title v ∷ xs) ys = states_in-append xs ys
 states_in-append (Count c ∷ xs) ys = states_in-append xs ys
@@ -250,10 +250,10 @@ states_in-append (Steps t ∷ xs) ys = states_in-append xs ys
 states_in-append (At p ∷ xs) ys = states_in-append xs ys
 states_in-append (Element n q ts ∷ xs) ys = ap (λ (qs : List ℕ). q ∷ qs) (states_in-append xs ys)
 states_in-append (Column e k q ∷ xs) ys =
-    ap (λ (qs : List ℕ). replicate k vertical ++ q ∷ qs) (states_in-append xs ys) ∙ sym (append_assoc (replicate k vertical) (q ∷ states_in xs) (states_in ys))
+    ap (λ (qs : List ℕ). replicate k vertical ++ q ∷ qs) (states_in-append xs ys) ∙ sym (append_assoc (replicate k vertical) (q ∷ bars_in xs) (bars_in ys))
 states_in-append (Row x y ∷ xs) ys = states_in-append xs ys
 
-states_in-rows : (sides : List (Option Line × Option Line)) (rest : List Sentence) → states_in (row_lines sides ++ rest) ≡ states_in rest
+states_in-rows : (sides : List (Option Line × Option Line)) (rest : List Sentence) → bars_in (row_lines sides ++ rest) ≡ bars_in rest
 states_in-rows [] rest = refl
 states_in-rows (p ∷ ps) rest = states_in-rows ps rest
 
@@ -293,29 +293,29 @@ pub record AreStates (n : ℕ) (qs : List ℕ) : Type 0 where
   pub count : length qs ≡ n
   pub low : AreLow qs
 
-pub blocks_states : (h : Header) (done rows : List Sentence) → Blocks rows → AreFaultlessAfter (header_then h done) rows → AreStates (length rows) (states_in rows)
-blocks_states h done rows (no_block is) f = subst (λ (zs : List Sentence). AreStates (length zs) (states_in zs)) (sym is) (record { count = refl; low = tt })
+pub blocks_states : (h : Header) (done rows : List Sentence) → Blocks rows → AreFaultlessAfter (header_then h done) rows → AreStates (length rows) (bars_in rows)
+blocks_states h done rows (no_block is) f = subst (λ (zs : List Sentence). AreStates (length zs) (bars_in zs)) (sym is) (record { count = refl; low = tt })
 blocks_states h done rows (single n q ts rest is more) f =
     let g : AreFaultlessAfter (header_then h done) (Element n q ts ∷ rest) = subst (AreFaultlessAfter (header_then h done)) is f in
     let line = element_line h done n q ts g.0 g.1 in
     let behind = blocks_states h (done ++ Element n q ts ∷ []) rest more g.2 in
-    subst (λ (zs : List Sentence). AreStates (length zs) (states_in zs)) (sym is) (record { count = ap suc behind.count; low = (line.state, behind.low) })
+    subst (λ (zs : List Sentence). AreStates (length zs) (bars_in zs)) (sym is) (record { count = ap suc behind.count; low = (line.state, behind.low) })
 blocks_states h done rows (group b k q sides rest count is more) f =
     let x : Sentence = Column b k q in
     let g : AreFaultlessAfter (header_then h done) (x ∷ (row_lines sides ++ rest)) = subst (AreFaultlessAfter (header_then h done)) is f in
     let line = column_line h done b k q g.0 g.1 in
     let behind = blocks_states h ((done ++ x ∷ []) ++ row_lines sides) rest more (first_after (header_then h (done ++ x ∷ [])) (row_lines sides) rest g.2) in
-    let states : states_in (x ∷ (row_lines sides ++ rest)) ≡ replicate k vertical ++ q ∷ states_in rest = ap (λ (qs : List ℕ). replicate k vertical ++ q ∷ qs) (states_in-rows sides rest) in
-    let whole = length-append (replicate k vertical) (q ∷ states_in rest) in
+    let states : bars_in (x ∷ (row_lines sides ++ rest)) ≡ replicate k vertical ++ q ∷ bars_in rest = ap (λ (qs : List ℕ). replicate k vertical ++ q ∷ qs) (states_in-rows sides rest) in
+    let whole = length-append (replicate k vertical) (q ∷ bars_in rest) in
     let first = length-replicate k vertical in
     let lines = length-append (row_lines sides) rest in
     let rows_are = length_rows sides in
-    let behind_count : length (states_in rest) ≡ length rest = behind.count in
+    let behind_count : length (bars_in rest) ≡ length rest = behind.count in
     let same = ap length states in
-    subst (λ (zs : List Sentence). AreStates (length zs) (states_in zs)) (sym is)
+    subst (λ (zs : List Sentence). AreStates (length zs) (bars_in zs)) (sym is)
     (record {
       count = omega arith;
-      low = subst AreLow (sym states) (low_append (replicate k vertical) (q ∷ states_in rest) (low_vertical k) (line.state, behind.low));
+      low = subst AreLow (sym states) (low_append (replicate k vertical) (q ∷ bars_in rest) (low_vertical k) (line.state, behind.low));
     })
 
 -- ---- the entries
@@ -323,7 +323,7 @@ blocks_states h done rows (group b k q sides rest count is more) f =
 -- what the lines of entries say after a header
 abbrev pub said_by : Header → List Sentence → Spelling
 said_by h rows =
-    record { elements = h.count; wires = wires_after 6 rows; config = record { states = states_in rows; place = h.place; steps = h.steps }; start = h.start; end = h.end }
+    record { elements = h.count; wires = wires_after 6 rows; config = record { states = bars_in rows; place = h.place; steps = h.steps }; start = h.start; end = h.end }
 
 -- the rows of a column say where its east and west outputs lead
 rows_are : (ws : List Wire) (e : ℕ) (sides : List (Option Line × Option Line)) → ((f : ℕ) → e ≤ f → f < e + length sides → (target ws (line_at f east) ≡ target (row_wires e sides) (line_at f east)) × (target ws (line_at f west) ≡ target (row_wires e sides) (line_at f west))) → row_sentences ws e (length sides) ≡ row_lines sides
@@ -364,7 +364,7 @@ module _ (h : Header) (all : List Sentence) (none : (e : ℕ) → IsSpelledOut (
   pub record IsAt (done rows : List Sentence) (e : ℕ) : Type 0 where
     pub lines : all ≡ done ++ rows
     pub made : length done ≡ e
-    pub states : length (states_in done) ≡ e
+    pub states : length (bars_in done) ≡ e
     pub count : e + length rows ≡ h.count
     pub before : Each (λ w. w.from.element < e) (wires_after 6 done)
     pub faultless : AreFaultlessAfter (header_then h done) rows
@@ -374,8 +374,8 @@ module _ (h : Header) (all : List Sentence) (none : (e : ℕ) → IsSpelledOut (
       let place : 6 + length done ≡ i = (let made : length done ≡ e = is.made in omega arith) in
       ap (wires_after 6) is.lines ∙ wires_after-append 6 done rows ∙ ap (λ (n : ℕ). wires_after 6 done ++ wires_after n rows) place
 
-  said_states : (done rows : List Sentence) (e : ℕ) → IsAt done rows e → said.config.states ≡ states_in done ++ states_in rows
-  said_states done rows e is = ap states_in is.lines ∙ states_in-append done rows
+  said_states : (done rows : List Sentence) (e : ℕ) → IsAt done rows e → said.config.states ≡ bars_in done ++ bars_in rows
+  said_states done rows e is = ap bars_in is.lines ∙ states_in-append done rows
 
   -- the wires of later elements are those of the entries that are left
   later_target : (done rows : List Sentence) (e i : ℕ) → IsAt done rows e → i ≡ e + 6 → (f l : ℕ) → e ≤ f → target said.wires (line_at f l) ≡ target (wires_after i rows) (line_at f l)
@@ -392,7 +392,7 @@ module _ (h : Header) (all : List Sentence) (none : (e : ℕ) → IsSpelledOut (
       let number : n ≡ length done = line.number in
       let made : length done ≡ e = is.made in
       let same : n ≡ e = omega arith in
-      let made_states : length (states_in done) ≡ e = is.states in
+      let made_states : length (bars_in done) ≡ e = is.states in
       let count : e + length rows ≡ h.count = is.count in
       let rows_count : length rows ≡ suc (length rest) = ap length lines in
       let made_more = length_more done (Element n q ts) in
@@ -406,11 +406,11 @@ module _ (h : Header) (all : List Sentence) (none : (e : ℕ) → IsSpelledOut (
       ∙ from_target n 0 ts i i x (omega arith) has)
       in
       let state_at : slice_get said.config.states e ≡ Some q =
-      ap (λ (qs : List ℕ). slice_get qs e) (said_states done rows e is ∙ ap (λ (zs : List Sentence). states_in done ++ states_in zs) lines) ∙ get_behind (states_in done) (q ∷ states_in rest) 0 e (omega arith)
+      ap (λ (qs : List ℕ). slice_get qs e) (said_states done rows e is ∙ ap (λ (zs : List Sentence). bars_in done ++ bars_in zs) lines) ∙ get_behind (bars_in done) (q ∷ bars_in rest) 0 e (omega arith)
       in
       let here : Element n q ts ≡ Element e q (targets_of said.wires e) = ap (Element n q) (sym targets) ∙ ap (λ (m : ℕ). Element m q (targets_of said.wires m)) same in
       let split : all ≡ (done ++ Element n q ts ∷ []) ++ rest = is.lines ∙ ap (λ (zs : List Sentence). done ++ zs) lines ∙ sym (append_assoc done (Element n q ts ∷ []) rest) in
-      let states_more : length (states_in (done ++ Element n q ts ∷ [])) ≡ suc e = ap length (states_in-append done (Element n q ts ∷ [])) ∙ length-append (states_in done) (q ∷ []) ∙ omega arith in
+      let states_more : length (bars_in (done ++ Element n q ts ∷ [])) ≡ suc e = ap length (states_in-append done (Element n q ts ∷ [])) ∙ length-append (bars_in done) (q ∷ []) ∙ omega arith in
       let wires_more : wires_after 6 (done ++ Element n q ts ∷ []) ≡ wires_after 6 done ++ wires_from n 0 ts = wires_after-more 6 done (Element n q ts) in
       let before_more : Each (λ w. w.from.element < suc e) (wires_after 6 (done ++ Element n q ts ∷ [])) = subst (Each (λ w. w.from.element < suc e)) (sym wires_more)
       (each_append (λ w. w.from.element < suc e) (wires_after 6 done) (wires_from n 0 ts)
@@ -444,7 +444,7 @@ module _ (h : Header) (all : List Sentence) (none : (e : ℕ) → IsSpelledOut (
       let made : length done ≡ e = is.made in
       let same : b ≡ e = omega arith in
       let there : b + k < h.count = line.there in
-      let made_states : length (states_in done) ≡ e = is.states in
+      let made_states : length (bars_in done) ≡ e = is.states in
       let count : e + length rows ≡ h.count = is.count in
       let group_is = group_said h done b k q sides (sym number) count_sides in
       let behind_f : AreFaultlessAfter (header_then h group_is.lines) rest = subst (λ (zs : List Sentence). AreFaultlessAfter (header_then h zs) rest) (sym group_is.are) (first_after (header_then h (done ++ x ∷ [])) (row_lines sides) rest g.2) in
@@ -470,18 +470,18 @@ module _ (h : Header) (all : List Sentence) (none : (e : ℕ) → IsSpelledOut (
       ∙ target_after_none (inner_wires b k) (row_wires b sides) (line_at (b + k) east) no_east
       ∙ target-none (row_wires b sides) (line_at (b + k) east) (each_weaker (λ w. w.from.element < b + k) (λ w. w.from ≢ line_at (b + k) east) (λ w high. apart_element w.from (line_at (b + k) east) (λ eq. omega (arith, high, eq))) (row_wires b sides) (row_wires_high b (b + k) sides (omega arith)))
       in
-      let states_are : said.config.states ≡ states_in done ++ (replicate k vertical ++ q ∷ states_in rest) =
-      said_states done rows e is ∙ ap (λ (zs : List Sentence). states_in done ++ states_in zs) lines ∙ ap (λ (qs : List ℕ). states_in done ++ (replicate k vertical ++ q ∷ qs)) (states_in-rows sides rest)
+      let states_are : said.config.states ≡ bars_in done ++ (replicate k vertical ++ q ∷ bars_in rest) =
+      said_states done rows e is ∙ ap (λ (zs : List Sentence). bars_in done ++ bars_in zs) lines ∙ ap (λ (qs : List ℕ). bars_in done ++ (replicate k vertical ++ q ∷ qs)) (states_in-rows sides rest)
       in
       let upright : (r : ℕ) → r < k → slice_get said.config.states (b + r) ≡ Some vertical = λ r below.
       ap (λ (qs : List ℕ). slice_get qs (b + r)) states_are
-      ∙ get_behind (states_in done) (replicate k vertical ++ q ∷ states_in rest) r (b + r) (omega arith)
-      ∙ get_replicate k r (q ∷ states_in rest) below
+      ∙ get_behind (bars_in done) (replicate k vertical ++ q ∷ bars_in rest) r (b + r) (omega arith)
+      ∙ get_replicate k r (q ∷ bars_in rest) below
       in
       let bottom : slice_get said.config.states (b + k) ≡ Some q =
       ap (λ (qs : List ℕ). slice_get qs (b + k)) states_are
-      ∙ get_behind (states_in done) (replicate k vertical ++ q ∷ states_in rest) k (b + k) (omega arith)
-      ∙ get_behind (replicate k vertical) (q ∷ states_in rest) 0 k (let first = length-replicate k vertical in omega arith)
+      ∙ get_behind (bars_in done) (replicate k vertical ++ q ∷ bars_in rest) k (b + k) (omega arith)
+      ∙ get_behind (replicate k vertical) (q ∷ bars_in rest) 0 k (let first = length-replicate k vertical in omega arith)
       in
       let column : IsColumnAt (circuit_of said) said.config.states b k =
       record {
@@ -501,11 +501,11 @@ module _ (h : Header) (all : List Sentence) (none : (e : ℕ) → IsSpelledOut (
       let lengths = length-append group_is.lines rest in
       let all_split : length done + length rows ≡ length group_is.lines + length rest = sym (length-append done rows) ∙ ap length (sym is.lines ∙ split) ∙ lengths in
       let group_count : length group_is.lines ≡ suc (b + k) = group_is.count in
-      let states_more : length (states_in group_is.lines) ≡ suc (b + k) =
-      ap (λ (zs : List Sentence). length (states_in zs)) group_is.are
-      ∙ ap length (states_in-append (done ++ x ∷ []) (row_lines sides) ∙ ap (λ (qs : List ℕ). qs ++ states_in (row_lines sides)) (states_in-append done (x ∷ [])))
-      ∙ length-append (states_in done ++ (replicate k vertical ++ q ∷ [])) (states_in (row_lines sides))
-      ∙ (let a = length-append (states_in done) (replicate k vertical ++ q ∷ []) in let c = length-append (replicate k vertical) (q ∷ []) in let d = length-replicate k vertical in let z : length (states_in (row_lines sides)) ≡ 0 = ap length (ap states_in (sym (append-nil (row_lines sides))) ∙ states_in-rows sides []) in omega arith)
+      let states_more : length (bars_in group_is.lines) ≡ suc (b + k) =
+      ap (λ (zs : List Sentence). length (bars_in zs)) group_is.are
+      ∙ ap length (states_in-append (done ++ x ∷ []) (row_lines sides) ∙ ap (λ (qs : List ℕ). qs ++ bars_in (row_lines sides)) (states_in-append done (x ∷ [])))
+      ∙ length-append (bars_in done ++ (replicate k vertical ++ q ∷ [])) (bars_in (row_lines sides))
+      ∙ (let a = length-append (bars_in done) (replicate k vertical ++ q ∷ []) in let c = length-append (replicate k vertical) (q ∷ []) in let d = length-replicate k vertical in let z : length (bars_in (row_lines sides)) ≡ 0 = ap length (ap bars_in (sym (append-nil (row_lines sides))) ∙ states_in-rows sides []) in omega arith)
       in
       let before_more : Each (λ w. w.from.element < suc (b + k)) (wires_after 6 group_is.lines) = subst (Each (λ w. w.from.element < suc (b + k))) (sym group_is.wires)
       (each_append (λ w. w.from.element < suc (b + k)) (wires_after 6 done) (inner_wires b k ++ row_wires b sides)

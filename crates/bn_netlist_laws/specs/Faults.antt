@@ -115,11 +115,11 @@ abbrev pub wires_in : List Sentence → List Wire
 wires_in xs = wires_after 0 xs
 
 -- the states of the bars that lines say, in the order of the elements
-abbrev pub states_in : List Sentence → List ℕ
-states_in [] = []
-states_in (Element n q ts ∷ xs) = q ∷ states_in xs
-states_in (Column e k q ∷ xs) = replicate k vertical ++ q ∷ states_in xs
-states_in (x ∷ xs) = states_in xs
+abbrev pub bars_in : List Sentence → List ℕ
+bars_in [] = []
+bars_in (Element n q ts ∷ xs) = q ∷ bars_in xs
+bars_in (Column e k q ∷ xs) = replicate k vertical ++ q ∷ bars_in xs
+bars_in (x ∷ xs) = bars_in xs
 
 -- ---- the first fault of a line
 
@@ -272,7 +272,7 @@ pub record IsSpelledOut (lines : List Sentence) (e : ℕ) : Type 0 where
   pub state : ℕ
   pub targets : List (Option Line)
   pub has_line : slice_get lines (header_lines + e) ≡ Some (Element e state targets)
-  pub column : HasColumnAt (rotary_elements (count_in lines) (wires_in lines)) (states_in lines) e
+  pub column : HasColumnAt (rotary_elements (count_in lines) (wires_in lines)) (bars_in lines) e
 
 -- the line of this number is the first line of an element at which a column begins, and no line has another fault
 pub record IsFirstSpelledOut (text : List ℕ) (line : ℕ) : Type 0 where

@@ -10,7 +10,7 @@ use Rattle.bn_netlist_laws.specs.Faults.{wires_from}
 use Rattle.bn_netlist_laws.specs.Columns.{inner_wires}
 use Rattle.bn_netlist_laws.specs.Sentences.{Sentence, Title, Count, Start, End, Steps, At, Element, Column, Row}
 use Rattle.bn_netlist_laws.specs.Spelling.{header_then}
-use Rattle.bn_netlist_laws.specs.Faults.{Fault, out_of_order, next_number, row_number, states_in, wires_after, row_targets, wire_fault, or_else, outputs_fault, fault_of}
+use Rattle.bn_netlist_laws.specs.Faults.{Fault, out_of_order, next_number, row_number, bars_in, wires_after, row_targets, wire_fault, or_else, outputs_fault, fault_of}
 use Rattle.bn_netlist_laws.specs.declared.header.Header.{Header}
 use Rattle.bn_netlist_laws.proofs.LineLemmas.{wires_after-more, rows_left-append, length_more}
 use Rattle.bn_netlist_laws.proofs.WholeLemmas.{states_in-append}
@@ -83,7 +83,7 @@ row_read h rows lines left e more less states own wires new fed fed_new x y at_e
       holds = record {
         lines_are = omega arith;
         left_are = fewer ∙ ap (λ (n : ℕ). n - 1) holds.left_are ∙ sym (rows_left-append 0 rows (Row x y ∷ []));
-        states_are = holds.states_are ∙ sym (append-nil (states_in rows)) ∙ sym (states_in-append rows (Row x y ∷ []));
+        states_are = holds.states_are ∙ sym (append-nil (bars_in rows)) ∙ sym (states_in-append rows (Row x y ∷ []));
         own_are = holds.own_are ∙ sym (append-nil (own_in rows)) ∙ sym (own_in-append rows (Row x y ∷ []));
         wires_are = connects.wires ∙ ap (λ (ws : List Wire). ws ++ wires_from e east (row_targets x y)) holds.wires_are ∙ ap (λ (n : ℕ). wires_after 6 rows ++ wires_from n east (row_targets x y)) (sym place) ∙ sym (wires_after-more 6 rows (Row x y));
         marked = connects.marked;

@@ -19,7 +19,7 @@ use Rattle.bn_netlist_laws.proofs.WireLemmas.{rotary_inputs, rotary_outputs}
 use Rattle.bn_netlist_laws.specs.Columns.{IsColumnAt, rotary_elements}
 use Rattle.bn_netlist_laws.specs.Sentences.{Sentence, Element, Column, Row, lines_text}
 use Rattle.bn_netlist_laws.specs.Spelling.{header_then, Spelled}
-use Rattle.bn_netlist_laws.specs.Faults.{header_lines, states_in, wires_after, AreFaultlessAfter, AreWhole, IsSpelledOut, IsFirstSpelledOut}
+use Rattle.bn_netlist_laws.specs.Faults.{header_lines, bars_in, wires_after, AreFaultlessAfter, AreWhole, IsSpelledOut, IsFirstSpelledOut}
 use Rattle.bn_netlist_laws.specs.declared.version.Version.TheVariants.{Two}
 use Rattle.bn_netlist_laws.specs.declared.header.Header.{Header}
 use Rattle.bn_netlist_laws.proofs.LineLemmas.{length_more}
@@ -213,13 +213,13 @@ module _ {X : Type 0} (h : Header) (rows : List Sentence) (n : Parts X) (whole :
   net_tables : map (λ _. rotary) n.elements ≡ replicate h.count rotary
   net_tables = map-replicate rotary n.elements ∙ ap (λ (m : ℕ). replicate m rotary) is_net.count
 
-  here : (e k : ℕ) → IsColumnAt (circuit (λ _. rotary) n) (states_in rows) e k → IsColumnAt (rotary_elements h.count (wires_after 6 rows)) (states_in rows) e k
-  here e k column = column_moves (circuit (λ _. rotary) n) (rotary_elements h.count (wires_after 6 rows)) (states_in rows) e k net_tables is_net.targets column
+  here : (e k : ℕ) → IsColumnAt (circuit (λ _. rotary) n) (bars_in rows) e k → IsColumnAt (rotary_elements h.count (wires_after 6 rows)) (bars_in rows) e k
+  here e k column = column_moves (circuit (λ _. rotary) n) (rotary_elements h.count (wires_after 6 rows)) (bars_in rows) e k net_tables is_net.targets column
 
-  there : (e k : ℕ) → IsColumnAt (rotary_elements h.count (wires_after 6 rows)) (states_in rows) e k → IsColumnAt (circuit (λ _. rotary) n) (states_in rows) e k
-  there e k column = column_moves (rotary_elements h.count (wires_after 6 rows)) (circuit (λ _. rotary) n) (states_in rows) e k (sym net_tables) (λ from. sym (is_net.targets from)) column
+  there : (e k : ℕ) → IsColumnAt (rotary_elements h.count (wires_after 6 rows)) (bars_in rows) e k → IsColumnAt (circuit (λ _. rotary) n) (bars_in rows) e k
+  there e k column = column_moves (rotary_elements h.count (wires_after 6 rows)) (circuit (λ _. rotary) n) (bars_in rows) e k (sym net_tables) (λ from. sym (is_net.targets from)) column
 
-  to_out : (e : ℕ) → h.version ≡ Two → IsOwnColumn (own_in rows) (circuit (λ _. rotary) n) (states_in rows) e → IsSpelledOut (header_then h rows) e
+  to_out : (e : ℕ) → h.version ≡ Two → IsOwnColumn (own_in rows) (circuit (λ _. rotary) n) (bars_in rows) e → IsSpelledOut (header_then h rows) e
   to_out e second own =
       let line = own_line h [] rows e e (whole_blocks h rows whole) (omega arith) whole.faultless.2.2.2.2.2.2 own.has_line in
       let place : header_lines + e ≡ suc (suc (suc (suc (suc (suc e))))) = omega arith in
@@ -231,7 +231,7 @@ module _ {X : Type 0} (h : Header) (rows : List Sentence) (n : Parts X) (whole :
         column = (own.column.0, here e own.column.0 own.column.1);
       }
 
-  from_out : (e : ℕ) → IsSpelledOut (header_then h rows) e → IsOwnColumn (own_in rows) (circuit (λ _. rotary) n) (states_in rows) e
+  from_out : (e : ℕ) → IsSpelledOut (header_then h rows) e → IsOwnColumn (own_in rows) (circuit (λ _. rotary) n) (bars_in rows) e
   from_out e out =
       let place : header_lines + e ≡ suc (suc (suc (suc (suc (suc e))))) = omega arith in
       let has : slice_get rows e ≡ Some (Element e out.state out.targets) = ap (λ (m : ℕ). slice_get (header_then h rows) m) (sym place) ∙ out.has_line in
@@ -240,9 +240,9 @@ module _ {X : Type 0} (h : Header) (rows : List Sentence) (n : Parts X) (whole :
         column = (out.column.0, there e out.column.0 out.column.1);
       }
 
-  pub first_out : (states : List ℕ) (own : List Bool) (e line : ℕ) → states ≡ states_in rows → own ≡ own_in rows → h.version ≡ Two → IsLeast (IsOwnColumn own (circuit (λ _. rotary) n) states) e → line ≡ e + 7 → IsFirstSpelledOut (lines_text (header_then h rows)) line
+  pub first_out : (states : List ℕ) (own : List Bool) (e line : ℕ) → states ≡ bars_in rows → own ≡ own_in rows → h.version ≡ Two → IsLeast (IsOwnColumn own (circuit (λ _. rotary) n) states) e → line ≡ e + 7 → IsFirstSpelledOut (lines_text (header_then h rows)) line
   first_out states own e line states_are own_are second least counted =
-      let at_rows : IsLeast (IsOwnColumn (own_in rows) (circuit (λ _. rotary) n) (states_in rows)) e = subst (λ (bs : List Bool). IsLeast (IsOwnColumn bs (circuit (λ _. rotary) n) (states_in rows)) e) own_are (subst (λ (qs : List ℕ). IsLeast (IsOwnColumn own (circuit (λ _. rotary) n) qs) e) states_are least) in
+      let at_rows : IsLeast (IsOwnColumn (own_in rows) (circuit (λ _. rotary) n) (bars_in rows)) e = subst (λ (bs : List Bool). IsLeast (IsOwnColumn bs (circuit (λ _. rotary) n) (bars_in rows)) e) own_are (subst (λ (qs : List ℕ). IsLeast (IsOwnColumn own (circuit (λ _. rotary) n) qs) e) states_are least) in
       record {
         lines = header_then h rows;
         begins = refl;
@@ -252,16 +252,16 @@ module _ {X : Type 0} (h : Header) (rows : List Sentence) (n : Parts X) (whole :
         counted = omega arith;
       }
 
-  pub none_out : (states : List ℕ) (own : List Bool) → states ≡ states_in rows → own ≡ own_in rows → ((e : ℕ) → h.version ≡ Two → IsOwnColumn own (circuit (λ _. rotary) n) states e → ⊥) → (e : ℕ) → IsSpelledOut (header_then h rows) e → ⊥
+  pub none_out : (states : List ℕ) (own : List Bool) → states ≡ bars_in rows → own ≡ own_in rows → ((e : ℕ) → h.version ≡ Two → IsOwnColumn own (circuit (λ _. rotary) n) states e → ⊥) → (e : ℕ) → IsSpelledOut (header_then h rows) e → ⊥
   none_out states own states_are own_are none e out =
-      let at_rows : (f : ℕ) → h.version ≡ Two → IsOwnColumn (own_in rows) (circuit (λ _. rotary) n) (states_in rows) f → ⊥ = subst (λ (bs : List Bool). (f : ℕ) → h.version ≡ Two → IsOwnColumn bs (circuit (λ _. rotary) n) (states_in rows) f → ⊥) own_are (subst (λ (qs : List ℕ). (f : ℕ) → h.version ≡ Two → IsOwnColumn own (circuit (λ _. rotary) n) qs f → ⊥) states_are none) in
+      let at_rows : (f : ℕ) → h.version ≡ Two → IsOwnColumn (own_in rows) (circuit (λ _. rotary) n) (bars_in rows) f → ⊥ = subst (λ (bs : List Bool). (f : ℕ) → h.version ≡ Two → IsOwnColumn bs (circuit (λ _. rotary) n) (bars_in rows) f → ⊥) own_are (subst (λ (qs : List ℕ). (f : ℕ) → h.version ≡ Two → IsOwnColumn own (circuit (λ _. rotary) n) qs f → ⊥) states_are none) in
       at_rows e out.second (from_out e out)
 
 -- the net spells what the lines say
-pub made_spelled : (h : Header) (rows : List Sentence) (c : NetConfig) (states : List ℕ) (own : List Bool) → AreWhole (header_then h rows) → IsNetOf h rows c.net → states ≡ states_in rows → own ≡ own_in rows → c.config ≡ record { states = states; place = h.place; steps = h.steps } → c.start ≡ h.start → c.end ≡ h.end → ((e : ℕ) → h.version ≡ Two → IsOwnColumn own (circuit (λ _. rotary) c.net) states e → ⊥) → Spelled h.version (spelling_of c) (lines_text (header_then h rows))
+pub made_spelled : (h : Header) (rows : List Sentence) (c : NetConfig) (states : List ℕ) (own : List Bool) → AreWhole (header_then h rows) → IsNetOf h rows c.net → states ≡ bars_in rows → own ≡ own_in rows → c.config ≡ record { states = states; place = h.place; steps = h.steps } → c.start ≡ h.start → c.end ≡ h.end → ((e : ℕ) → h.version ≡ Two → IsOwnColumn own (circuit (λ _. rotary) c.net) states e → ⊥) → Spelled h.version (spelling_of c) (lines_text (header_then h rows))
 made_spelled h rows c states own whole is_net states_are own_are config start end none =
     let said = whole-said h rows whole (none_out h rows c.net whole is_net states own states_are own_are none) in
-    let same_config : record { states = states_in rows; place = h.place; steps = h.steps } ≡ c.config = sym (config ∙ ap (λ (qs : List ℕ). let d : Config = record { states = qs; place = h.place; steps = h.steps } in d) states_are) in
+    let same_config : record { states = bars_in rows; place = h.place; steps = h.steps } ≡ c.config = sym (config ∙ ap (λ (qs : List ℕ). let d : Config = record { states = qs; place = h.place; steps = h.steps } in d) states_are) in
     let same : AreSame (said_by h rows) (spelling_of c) =
     record {
       elements = sym is_net.count;
@@ -275,18 +275,18 @@ made_spelled h rows c states own whole is_net states_are own_are config start en
     spelled-alike h.version (said_by h rows) (spelling_of c) (lines_text (header_then h rows)) same said
 
 -- how many states and marks there are
-count_own : (h : Header) (done rows : List Sentence) → Blocks rows → AreFaultlessAfter (header_then h done) rows → (length (own_in rows) ≡ length rows) × (length (states_in rows) ≡ length rows)
-count_own h done rows (no_block is) f = subst (λ (zs : List Sentence). (length (own_in zs) ≡ length zs) × (length (states_in zs) ≡ length zs)) (sym is) (refl, refl)
+count_own : (h : Header) (done rows : List Sentence) → Blocks rows → AreFaultlessAfter (header_then h done) rows → (length (own_in rows) ≡ length rows) × (length (bars_in rows) ≡ length rows)
+count_own h done rows (no_block is) f = subst (λ (zs : List Sentence). (length (own_in zs) ≡ length zs) × (length (bars_in zs) ≡ length zs)) (sym is) (refl, refl)
 count_own h done rows (single m q ts rest is more) f =
     let g : AreFaultlessAfter (header_then h done) (Element m q ts ∷ rest) = subst (AreFaultlessAfter (header_then h done)) is f in
     let behind = count_own h (done ++ Element m q ts ∷ []) rest more g.2 in
-    subst (λ (zs : List Sentence). (length (own_in zs) ≡ length zs) × (length (states_in zs) ≡ length zs)) (sym is) (ap suc behind.0, ap suc behind.1)
+    subst (λ (zs : List Sentence). (length (own_in zs) ≡ length zs) × (length (bars_in zs) ≡ length zs)) (sym is) (ap suc behind.0, ap suc behind.1)
 count_own h done rows (group b k q sides rest count is more) f =
     let x : Sentence = Column b k q in
     let g : AreFaultlessAfter (header_then h done) (x ∷ (row_lines sides ++ rest)) = subst (AreFaultlessAfter (header_then h done)) is f in
     let behind = count_own h ((done ++ x ∷ []) ++ row_lines sides) rest more (first_after (header_then h (done ++ x ∷ [])) (row_lines sides) rest g.2) in
     let marks = length-append (replicate k false) (false ∷ own_in (row_lines sides ++ rest)) in
-    let bars = length-append (replicate k vertical) (q ∷ states_in (row_lines sides ++ rest)) in
+    let bars = length-append (replicate k vertical) (q ∷ bars_in (row_lines sides ++ rest)) in
     let marks_k = length-replicate k false in
     let bars_k = length-replicate k vertical in
     let own_rest = ap length (own_rows sides rest) in
@@ -294,10 +294,10 @@ count_own h done rows (group b k q sides rest count is more) f =
     let lines = length-append (row_lines sides) rest in
     let rows_count = length_rows sides in
     let own_count : length (own_in rest) ≡ length rest = behind.0 in
-    let states_count : length (states_in rest) ≡ length rest = behind.1 in
-    subst (λ (zs : List Sentence). (length (own_in zs) ≡ length zs) × (length (states_in zs) ≡ length zs)) (sym is) (omega arith, omega arith)
+    let states_count : length (bars_in rest) ≡ length rest = behind.1 in
+    subst (λ (zs : List Sentence). (length (own_in zs) ≡ length zs) × (length (bars_in zs) ≡ length zs)) (sym is) (omega arith, omega arith)
   where
-    states_rows : (sides : List (Option Line × Option Line)) (rest : List Sentence) → states_in (row_lines sides ++ rest) ≡ states_in rest
+    states_rows : (sides : List (Option Line × Option Line)) (rest : List Sentence) → bars_in (row_lines sides ++ rest) ≡ bars_in rest
     states_rows [] rest = refl
     states_rows (p ∷ ps) rest = states_rows ps rest
 

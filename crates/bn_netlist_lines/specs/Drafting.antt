@@ -8,7 +8,7 @@ use Rattle.bn_netlist_laws.specs.Columns.{HasColumnAt, inner_wires}
 use Rattle.bn_netlist_laws.specs.Spelling.{header_then}
 use Rattle.bn_netlist_laws.specs.Faults.{Fault, malformed, too_many, no_element, out_of_order, end_wired, left_wired}
 use Rattle.bn_netlist_laws.specs.Faults.{start_fed, second_source, spelled_out, inner_fault, wire_fault, outputs_fault}
-use Rattle.bn_netlist_laws.specs.Faults.{states_in, wires_after, rows_left, fault_of}
+use Rattle.bn_netlist_laws.specs.Faults.{bars_in, wires_after, rows_left, fault_of}
 use Rattle.bn_netlist_laws.specs.Faults.{wires_from}
 use Rattle.std.specs.Prelude.{Result, Ok, Err}
 use Rattle.bn_netlist_laws.specs.Sentences.{Sentence, Element, Column}
@@ -91,7 +91,7 @@ pub record Holds (h : Header) (rows : List Sentence) (lines left : ℕ) (states 
     (wires : List Wire) (fed : List Bool) : Type 0 where
   pub lines_are : lines ≡ length rows
   pub left_are : left ≡ rows_left 0 rows
-  pub states_are : states ≡ states_in rows
+  pub states_are : states ≡ bars_in rows
   pub own_are : own ≡ own_in rows
   pub wires_are : wires ≡ wires_after 6 rows
   pub marked : IsFed h.count wires fed

@@ -15,6 +15,3 @@ mod wiring;
 pub use bn_net::NoMemory;
 pub use packed::Packed;
 pub use stop::Stop;
-
-#[cfg(test)]
-mod tests;

@@ -7,7 +7,7 @@ use Rattle.bn_circuits.specs.declared.line.Wire.{Wire}
 use Rattle.bn_plan.specs.declared.tracked.Tracked.{Tracked}
 use Rattle.bn_lists.specs.Lists.{Has}
 use Rattle.bn_plan.specs.Wires.{lesser, greater}
-use Rattle.bn_plan.specs.Plans.{wire_of, wires_of, IsFree, TakesLeast, TakeLeast, IsPlan, tracks_of}
+use Rattle.bn_plan.specs.Plans.{untracked, wires_of, IsFree, TakesLeast, TakeLeast, IsPlan, tracks_of}
 use Rattle.bn_plan.specs.Assigned.{is_free, first_free, tracked, assigned}
 use Rattle.bn_plan.proofs.TrackLemmas.{Blocks, block_later}
 use Rattle.bn_plan.proofs.PlanLemmas.{free_beyond, same_tracks}
@@ -30,7 +30,7 @@ free_tells (t ∷ ts) n w = elim (eqb_tells t.track n) [
     | inl free ↦ inl (rw (other.0, free.0) refl, λ s h e. passed free.1 (λ f. absurd (other.1 f)) s h e)
     | inr blocked ↦ inr (rw (other.0, blocked.0) refl, block_later t ts n w blocked.1)
   ]
-  | inl same ↦ elim (ltb_tells (greater (wire_of t)) (lesser w)) [
+  | inl same ↦ elim (ltb_tells (greater (untracked t)) (lesser w)) [
     | inr reaches ↦ inr (rw (same.0, reaches.0) refl, record { tracked = t; stands = inl refl; track = same.1; reaches = reaches.1 })
     | inl before ↦ elim (free_tells ts n w) [
       | inl free ↦ inl (rw (same.0, before.0, free.0) refl, λ s h e. passed free.1 (λ _. before.1) s h e)
@@ -39,8 +39,8 @@ free_tells (t ∷ ts) n w = elim (eqb_tells t.track n) [
   ]
 ]
   where
-    passed : IsFree ts n (lesser w) → (t.track ≡ n → greater (wire_of t) < lesser w) → (s : Tracked) → Has (t ∷ ts) s → s.track ≡ n → greater (wire_of s) < lesser w
-    passed free here s (inl e) f = subst (λ (x : Tracked). greater (wire_of x) < lesser w) (sym e) (here (sym (ap (λ (x : Tracked). x.track) e) ∙ f))
+    passed : IsFree ts n (lesser w) → (t.track ≡ n → greater (untracked t) < lesser w) → (s : Tracked) → Has (t ∷ ts) s → s.track ≡ n → greater (untracked s) < lesser w
+    passed free here s (inl e) f = subst (λ (x : Tracked). greater (untracked x) < lesser w) (sym e) (here (sym (ap (λ (x : Tracked). x.track) e) ∙ f))
     passed free here s (inr h) f = free s h f
 
 -- a search from n on, where none before n is free

@@ -9,7 +9,7 @@ use Rattle.bn_plan.specs.declared.tracked.Tracked.{Tracked}
 use Rattle.bn_plan.specs.Lists.{Pairwise}
 use Rattle.bn_lists.specs.Lists.{Has}
 use Rattle.bn_plan.specs.Wires.{lesser, greater, AreRotary}
-use Rattle.bn_plan.specs.Plans.{wire_of, wires_of, IsFree, TakeLeast, tracks_of}
+use Rattle.bn_plan.specs.Plans.{untracked, wires_of, IsFree, TakeLeast, tracks_of}
 use Rattle.bn_plan.specs.Sweeping.{Swept, IsWidest, IsSwept, TakesFree, TakesNew, TakesTrack, placed}
 use Rattle.bn_plan.proofs.ListLemmas.{in_map, in_map_cases}
 use Rattle.bn_plan.proofs.PositionLemmas.{lesser_below, greaters_apart, lessers_apart, ends_apart}
@@ -19,18 +19,18 @@ use Rattle.bn_plan.proofs.SweepLemmas.{in_push, push_old, push_new, pairwise_pus
 
 module _ (ws : List Wire) (r : AreRotary ws) (w : Wire) (s : Swept) (is : IsSwept ws (lesser w) s) (member : Has ws w) where
   -- it hasn't begun before, and no wire that has ends where it begins or ends
-  ends_elsewhere : (t : Tracked) → Has s.wires t → greater (wire_of t) ≢ greater w
+  ends_elsewhere : (t : Tracked) → Has s.wires t → greater (untracked t) ≢ greater w
   ends_elsewhere t h e =
       let know = known ws r (lesser w) s is t h in
-      let same : wire_of t ≡ w = greaters_apart ws r (wire_of t) w know.0 member e in
-      let also : lesser (wire_of t) ≡ lesser w = ap lesser same in
+      let same : untracked t ≡ w = greaters_apart ws r (untracked t) w know.0 member e in
+      let also : lesser (untracked t) ≡ lesser w = ap lesser same in
       let low = know.1 in
       absurd (omega (arith, low, also))
 
-  ends_before : (t : Tracked) → Has s.wires t → greater (wire_of t) < lesser w + 1 → greater (wire_of t) < lesser w
-  ends_before t h low = elim (cases_lt (greater (wire_of t)) (lesser w)) [
+  ends_before : (t : Tracked) → Has s.wires t → greater (untracked t) < lesser w + 1 → greater (untracked t) < lesser w
+  ends_before t h low = elim (cases_lt (greater (untracked t)) (lesser w)) [
     | inl less ↦ less
-    | inr high ↦ absurd (ends_apart ws r (wire_of t) w (known ws r (lesser w) s is t h).0 member (omega (arith, low, high)))
+    | inr high ↦ absurd (ends_apart ws r (untracked t) w (known ws r (lesser w) s is t h).0 member (omega (arith, low, high)))
   ]
 
   -- with this track
@@ -38,44 +38,44 @@ module _ (ws : List Wire) (r : AreRotary ws) (w : Wire) (s : Swept) (is : IsSwep
     more_cases : (t : Tracked) → Has (s.wires ++ placed w n ∷ []) t → Has s.wires t ⊎ (t ≡ placed w n)
     more_cases = in_push s.wires (placed w n)
 
-    order_more : Pairwise (λ (t u : Tracked). lesser (wire_of t) < lesser (wire_of u)) (s.wires ++ placed w n ∷ [])
-    order_more = pairwise_push (λ (t u : Tracked). lesser (wire_of t) < lesser (wire_of u)) s.wires (placed w n) is.order (λ t h. (known ws r (lesser w) s is t h).1)
+    order_more : Pairwise (λ (t u : Tracked). lesser (untracked t) < lesser (untracked u)) (s.wires ++ placed w n ∷ [])
+    order_more = pairwise_push (λ (t u : Tracked). lesser (untracked t) < lesser (untracked u)) s.wires (placed w n) is.order (λ t h. (known ws r (lesser w) s is t h).1)
 
     begun_more : (v : Wire) → Has (wires_of (s.wires ++ placed w n ∷ [])) v ↔ Has ws v × (lesser v < lesser w + 1)
     begun_more v = (there, back)
       where
         there : Has (wires_of (s.wires ++ placed w n ∷ [])) v → Has ws v × (lesser v < lesser w + 1)
-        there h = let from = in_map_cases wire_of (s.wires ++ placed w n ∷ []) v h in elim (more_cases from.0 from.1) [
+        there h = let from = in_map_cases untracked (s.wires ++ placed w n ∷ []) v h in elim (more_cases from.0 from.1) [
           | inl k ↦
               let know = known ws r (lesser w) s is from.0 k in
               let low = know.1 in
               subst (λ x. Has ws x × (lesser x < lesser w + 1)) (sym from.2) (know.0, omega (arith, low))
           | inr e ↦
-              let same : v ≡ w = from.2 ∙ ap wire_of e in
+              let same : v ≡ w = from.2 ∙ ap untracked e in
               subst (λ x. Has ws x × (lesser x < lesser w + 1)) (sym same) (member, let self : lesser w ≡ lesser w = refl in omega (arith, self))
         ]
 
         back : Has ws v × (lesser v < lesser w + 1) → Has (wires_of (s.wires ++ placed w n ∷ [])) v
         back h = elim (cases_lt (lesser v) (lesser w)) [
           | inl low ↦
-              let from = in_map_cases wire_of s.wires v ((is.begun v).1 (h.0, low)) in
-              subst (Has (wires_of (s.wires ++ placed w n ∷ []))) (sym from.2) (in_map wire_of (s.wires ++ placed w n ∷ []) from.0 (push_old s.wires (placed w n) from.0 from.1))
+              let from = in_map_cases untracked s.wires v ((is.begun v).1 (h.0, low)) in
+              subst (Has (wires_of (s.wires ++ placed w n ∷ []))) (sym from.2) (in_map untracked (s.wires ++ placed w n ∷ []) from.0 (push_old s.wires (placed w n) from.0 from.1))
           | inr high ↦
               let upper = h.1 in
               let same : v ≡ w = lessers_apart ws r v w h.0 member (omega (arith, high, upper)) in
-              subst (Has (wires_of (s.wires ++ placed w n ∷ []))) (sym same) (in_map wire_of (s.wires ++ placed w n ∷ []) (placed w n) (push_new s.wires (placed w n)))
+              subst (Has (wires_of (s.wires ++ placed w n ∷ []))) (sym same) (in_map untracked (s.wires ++ placed w n ∷ []) (placed w n) (push_new s.wires (placed w n)))
         ]
 
     -- the positions at which wires end
-    ends_more : greater w < length s.ending → (t : Tracked) → Has (s.wires ++ placed w n ∷ []) t → lesser w + 1 ≤ greater (wire_of t)
-        → get_or (slice_set s.ending (greater w) (Some n)) (greater (wire_of t)) None ≡ Some t.track
+    ends_more : greater w < length s.ending → (t : Tracked) → Has (s.wires ++ placed w n ∷ []) t → lesser w + 1 ≤ greater (untracked t)
+        → get_or (slice_set s.ending (greater w) (Some n)) (greater (untracked t)) None ≡ Some t.track
     ends_more inside t h reach = elim (more_cases t h) [
-      | inl k ↦ get_or-set_other s.ending (greater w) (greater (wire_of t)) (Some n) None (ends_elsewhere t k) ∙ is.ends t k (omega (arith, reach))
-      | inr e ↦ subst (λ (x : Tracked). get_or (slice_set s.ending (greater w) (Some n)) (greater (wire_of x)) None ≡ Some x.track) (sym e) (get_or-set_same s.ending (greater w) (Some n) None inside)
+      | inl k ↦ get_or-set_other s.ending (greater w) (greater (untracked t)) (Some n) None (ends_elsewhere t k) ∙ is.ends t k (omega (arith, reach))
+      | inr e ↦ subst (λ (x : Tracked). get_or (slice_set s.ending (greater w) (Some n)) (greater (untracked x)) None ≡ Some x.track) (sym e) (get_or-set_same s.ending (greater w) (Some n) None inside)
     ]
 
     ended_more : (q m : ℕ) → lesser w + 1 ≤ q → q < length (slice_set s.ending (greater w) (Some n)) → get_or (slice_set s.ending (greater w) (Some n)) q None ≡ Some m
-        → (t : Tracked) × Has (s.wires ++ placed w n ∷ []) t × (greater (wire_of t) ≡ q)
+        → (t : Tracked) × Has (s.wires ++ placed w n ∷ []) t × (greater (untracked t) ≡ q)
     ended_more q m reach more some = elim (eqb_tells q (greater w)) [
       | inl same ↦ (placed w n, push_new s.wires (placed w n), sym same.1)
       | inr other ↦
@@ -156,11 +156,11 @@ module _ (ws : List Wire) (r : AreRotary ws) (w : Wire) (s : Swept) (is : IsSwep
         before = before;
       })
         where
-          before : (t : Tracked) → Has (s.wires ++ placed w n ∷ []) t → lesser (wire_of t) < new.densest → t.track < new.tracks
+          before : (t : Tracked) → Has (s.wires ++ placed w n ∷ []) t → lesser (untracked t) < new.densest → t.track < new.tracks
           before t k low = elim (more_cases n t k) [
             | inl l ↦ let less = h.before t l (let same = takes.densest in omega (arith, low, same)) in let same = takes.tracks in omega (arith, less, same)
             | inr e ↦
-                let place : lesser (wire_of t) ≡ lesser w = ap (λ (x : Tracked). lesser (wire_of x)) e in
+                let place : lesser (untracked t) ≡ lesser w = ap (λ (x : Tracked). lesser (untracked x)) e in
                 let early = (known ws r (lesser w) s is h.first h.stands).1 in
                 let begins = h.begins in
                 let same = takes.densest in
@@ -204,11 +204,11 @@ module _ (ws : List Wire) (r : AreRotary ws) (w : Wire) (s : Swept) (is : IsSwep
             absurd (subst (λ x. Has x m) takes.none_free ((is.free m).1 (h.0, few, free_old n m h.2)))
       ]
 
-      before : (t : Tracked) → Has (s.wires ++ placed w n ∷ []) t → lesser (wire_of t) < new.densest → t.track < new.tracks
+      before : (t : Tracked) → Has (s.wires ++ placed w n ∷ []) t → lesser (untracked t) < new.densest → t.track < new.tracks
       before t k low = elim (more_cases n t k) [
         | inl l ↦ let bound = within ws r (lesser w) s is t l in let next = takes.is_next in let same = takes.tracks in omega (arith, bound, next, same)
         | inr e ↦
-            let place : lesser (wire_of t) ≡ lesser w = ap (λ (x : Tracked). lesser (wire_of x)) e in
+            let place : lesser (untracked t) ≡ lesser w = ap (λ (x : Tracked). lesser (untracked x)) e in
             let same = takes.densest in
             absurd (omega (arith, low, place, same))
       ]

@@ -15,7 +15,7 @@ use Rattle.bn_plan.specs.declared.tracked.Tracked.{Tracked}
 use Rattle.bn_plan.specs.Lists.{Pairwise}
 use Rattle.bn_lists.specs.Lists.{Has}
 use Rattle.bn_plan.specs.Wires.{lesser, Covers, density, IsDensest, AreRotary}
-use Rattle.bn_plan.specs.Plans.{wire_of, wires_of, tracks_of, IsPlan, IsFloorPlan}
+use Rattle.bn_plan.specs.Plans.{untracked, wires_of, tracks_of, IsPlan, IsFloorPlan}
 use Rattle.bn_plan.specs.Sweeping.{Swept, IsWidest, IsSwept, floor_of}
 use Rattle.bn_plan.proofs.ListLemmas.{down_from, down_from_in, length-down_from, distinct_pairwise, pairwise_weaker, pairwise_both, pairwise_map, pairwise_unmap, eqb_flips}
 use Rattle.bn_plan.proofs.DensityLemmas.{ends_ordered, densest, densest_is, starts_are_apart}
@@ -43,8 +43,8 @@ same_permutation ws us r order same =
 module _ (ws : List Wire) (r : AreRotary ws) (p : ℕ) (s : Swept) (is : IsSwept ws p s) (behind : (w : Wire) → Has ws w → lesser w < p) where
   whole : IsPlan ws s.wires
   whole = record {
-    all = same_permutation ws (wires_of s.wires) r (pairwise_map (λ v w. lesser v < lesser w) wire_of s.wires is.order) (λ w. ((λ h. ((is.begun w).0 h).0), λ h. (is.begun w).1 (h, behind w h)));
-    order = pairwise_weaker (λ (t u : Tracked). lesser (wire_of t) < lesser (wire_of u)) (λ (t u : Tracked). lesser (wire_of t) ≤ lesser (wire_of u)) s.wires (λ t u h k low. omega (arith, low)) is.order;
+    all = same_permutation ws (wires_of s.wires) r (pairwise_map (λ v w. lesser v < lesser w) untracked s.wires is.order) (λ w. ((λ h. ((is.begun w).0 h).0), λ h. (is.begun w).1 (h, behind w h)));
+    order = pairwise_weaker (λ (t u : Tracked). lesser (untracked t) < lesser (untracked u)) (λ (t u : Tracked). lesser (untracked t) ≤ lesser (untracked u)) s.wires (λ t u h k low. omega (arith, low)) is.order;
     tracks = is.least;
   }
 
@@ -59,8 +59,8 @@ module _ (ws : List Wire) (r : AreRotary ws) (p : ℕ) (s : Swept) (is : IsSwept
     reached : density ws s.densest ≡ s.tracks
     reached =
         let bound = track_bound [] s.wires (λ t u h k. absurd h) whole.order is.least d.first d.stands in
-        let count : density ws (lesser (wire_of d.first)) ≡ count_by (covers_at (lesser (wire_of d.first))) s.wires = density_of ws s.wires (lesser (wire_of d.first)) whole.all in
-        let place : density ws (lesser (wire_of d.first)) ≡ density ws s.densest = ap (density ws) d.begins in
+        let count : density ws (lesser (untracked d.first)) ≡ count_by (covers_at (lesser (untracked d.first))) s.wires = density_of ws s.wires (lesser (untracked d.first)) whole.all in
+        let place : density ws (lesser (untracked d.first)) ≡ density ws s.densest = ap (density ws) d.begins in
         let track = d.track in
         let most_there = greatest s.densest in
         omega (arith, bound, count, place, track, most_there)
@@ -73,7 +73,7 @@ module _ (ws : List Wire) (r : AreRotary ws) (p : ℕ) (s : Swept) (is : IsSwept
         let size = length-down_from n in
         omega (arith, bound, count, size, next)
       where
-        low : (t : Tracked) → Has s.wires t → Covers q (wire_of t) → Has (down_from n) t.track
+        low : (t : Tracked) → Has s.wires t → Covers q (untracked t) → Has (down_from n) t.track
         low t h c =
             let less = d.before t h (let starts = c.starts in omega (arith, starts, early)) in
             down_from_in n t.track (all_counted [] s.wires is.least t h) (omega (arith, less, next))

@@ -11,7 +11,7 @@ use Rattle.bn_plan.specs.declared.tracked.Tracked.{Tracked}
 use Rattle.bn_plan.specs.Lists.{Pairwise}
 use Rattle.bn_lists.specs.Lists.{Has}
 use Rattle.bn_plan.specs.Wires.{lesser}
-use Rattle.bn_plan.specs.Plans.{wire_of, wires_of, IsFree, TakesLeast, TakeLeast, IsPlan, tracks_of}
+use Rattle.bn_plan.specs.Plans.{untracked, wires_of, IsFree, TakesLeast, TakeLeast, IsPlan, tracks_of}
 use Rattle.bn_plan.proofs.ListLemmas.{pairwise_weaker, pairwise_map, pairwise_unmap, pairwise_both, distinct_pairwise, in_contains, contains_in, eqb_flips}
 use Rattle.bn_plan.proofs.TrackLemmas.{free_or_blocked, below_tracks_of}
 
@@ -70,7 +70,7 @@ pub free_beyond : (earlier : List Tracked) (n : ℕ) (w : Wire) → tracks_of ea
 free_beyond earlier n w far t h e = let low = below_tracks_of earlier t h in absurd (omega (arith, far, e, low))
 
 -- the least free track from n on, where none before n is free
-least_free : (earlier : List Tracked) (w : Wire) (fuel n : ℕ) → 0 < n → tracks_of earlier < n + fuel → ((m : ℕ) → 0 < m → m < n → IsFree earlier m (lesser w) → ⊥) → (t : Tracked) × (wire_of t ≡ w) × TakesLeast earlier t
+least_free : (earlier : List Tracked) (w : Wire) (fuel n : ℕ) → 0 < n → tracks_of earlier < n + fuel → ((m : ℕ) → 0 < m → m < n → IsFree earlier m (lesser w) → ⊥) → (t : Tracked) × (untracked t ≡ w) × TakesLeast earlier t
 least_free earlier w zero n some far before = (record { from = w.from; to = w.to; track = n }, refl, record { counted = some; free = free_beyond earlier n w (omega (arith, far)); least = before })
 least_free earlier w (suc fuel) n some far before = elim (free_or_blocked earlier n w) [
   | inl free ↦ (record { from = w.from; to = w.to; track = n }, refl, record { counted = some; free = free; least = before })
@@ -99,7 +99,7 @@ plan_exists ws =
       tracks.0,
       record {
         all = subst (IsPermutation ws) (sym tracks.1) sorted.2;
-        order = pairwise_unmap (λ v w. lesser v ≤ lesser w) wire_of tracks.0 (subst InOrder (sym tracks.1) sorted.1);
+        order = pairwise_unmap (λ v w. lesser v ≤ lesser w) untracked tracks.0 (subst InOrder (sym tracks.1) sorted.1);
         tracks = tracks.2;
       },
     )
@@ -135,7 +135,7 @@ strict : (ws : List Wire) (plan : List Tracked) → IsDistinct eqb (map lesser w
 strict ws plan distinct p =
     let moved = IsDistinct-IsPermutation eqb eqb_flips (map lesser ws) (map lesser (wires_of plan)) (IsPermutation-map lesser ws (wires_of plan) p.all) distinct in
     let apart = pairwise_unmap (λ x y. x ≢ y) lesser (wires_of plan) (distinct_pairwise (map lesser (wires_of plan)) moved) in
-    let order = pairwise_map (λ v w. lesser v ≤ lesser w) wire_of plan p.order in
+    let order = pairwise_map (λ v w. lesser v ≤ lesser w) untracked plan p.order in
     pairwise_weaker (λ v w. (lesser v ≤ lesser w) × (lesser v ≢ lesser w)) (λ v w. lesser v < lesser w) (wires_of plan) (λ v w h k both. let low = both.0 in let other = both.1 in omega (arith, low, other))
     (pairwise_both (λ v w. lesser v ≤ lesser w) (λ v w. lesser v ≢ lesser w) (wires_of plan) order apart)
 
@@ -150,7 +150,7 @@ same_wires ws vs a b first second same p q = same_sorted (wires_of a) (wires_of 
     (λ w h. moves_in ws (wires_of a) p.all w ((same w).1 (moves_in (wires_of b) vs (IsPermutation-sym vs (wires_of b) q.all) w h)))
 
 -- the least free track is one
-least_once : (earlier : List Tracked) (s t : Tracked) → (wire_of s) ≡ (wire_of t) → TakesLeast earlier s → TakesLeast earlier t → s ≡ t
+least_once : (earlier : List Tracked) (s t : Tracked) → (untracked s) ≡ (untracked t) → TakesLeast earlier s → TakesLeast earlier t → s ≡ t
 least_once earlier s t wires a b = let tracks = by_order (cases_lt s.track t.track) (cases_lt t.track s.track) in λ i. record { from = (wires i).from; to = (wires i).to; track = tracks i }
   where
     by_order : (s.track < t.track) ⊎ (t.track ≤ s.track) → (t.track < s.track) ⊎ (s.track ≤ t.track) → s.track ≡ t.track
@@ -164,7 +164,7 @@ same_tracks earlier [] [] e p q = refl
 same_tracks earlier [] (t ∷ b) e p q = absurd (cc)
 same_tracks earlier (s ∷ a) [] e p q = absurd (cc)
 same_tracks earlier (s ∷ a) (t ∷ b) e p q =
-    let wires : (wire_of s) ≡ (wire_of t) = cc in
+    let wires : (untracked s) ≡ (untracked t) = cc in
     let others : wires_of a ≡ wires_of b = cc in
     let first : s ≡ t = least_once earlier s t wires p.0 q.0 in
     let rest = same_tracks (s ∷ earlier) a b others p.1 (subst (λ x. TakeLeast (x ∷ earlier) b) (sym first) q.1) in

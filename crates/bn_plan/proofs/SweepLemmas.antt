@@ -11,7 +11,7 @@ use Rattle.bn_plan.specs.declared.tracked.Tracked.{Tracked}
 use Rattle.bn_plan.specs.Lists.{Pairwise}
 use Rattle.bn_lists.specs.Lists.{Has}
 use Rattle.bn_plan.specs.Wires.{lesser, greater, Covers, Fit, AreRotary}
-use Rattle.bn_plan.specs.Plans.{wire_of, wires_of, IsFree, TakesLeast, TakeLeast, tracks_of}
+use Rattle.bn_plan.specs.Plans.{untracked, wires_of, IsFree, TakesLeast, TakeLeast, tracks_of}
 use Rattle.bn_plan.specs.Sweeping.{Swept, IsSwept, BeginsAt}
 use Rattle.bn_plan.proofs.ListLemmas.{in_map, in_contains, contains_in, distinct_pairwise, pairwise_distinct, eqb_flips}
 use Rattle.bn_plan.proofs.TrackLemmas.{tracks_fit, below_tracks_of, all_counted}
@@ -112,8 +112,8 @@ take_least_push ts t a here = least_push [] ts t a (least_onto ts t here)
 
 module _ (ws : List Wire) (r : AreRotary ws) (p : ℕ) (s : Swept) (is : IsSwept ws p s) where
   -- a wire that has begun is one of the list's, and its lesser end is behind
-  pub known : (t : Tracked) → Has s.wires t → Has ws (wire_of t) × (lesser (wire_of t) < p)
-  known t h = (is.begun (wire_of t)).0 (in_map wire_of s.wires t h)
+  pub known : (t : Tracked) → Has s.wires t → Has ws (untracked t) × (lesser (untracked t) < p)
+  known t h = (is.begun (untracked t)).0 (in_map untracked s.wires t h)
 
   pub counted : (t : Tracked) → Has s.wires t → 0 < t.track
   counted t h = all_counted [] s.wires is.least t h
@@ -122,21 +122,21 @@ module _ (ws : List Wire) (r : AreRotary ws) (p : ℕ) (s : Swept) (is : IsSwept
   within t h = let low = below_tracks_of s.wires t h in omega (arith, low, is.tracks)
 
   -- two wires of one track that both reach the position are one
-  one_reaches : (t u : Tracked) → Has s.wires t → Has s.wires u → t.track ≡ u.track → p ≤ greater (wire_of t) → p ≤ greater (wire_of u) → t ≡ u
-  one_reaches t u h k same low high = elim (pairwise_pick (λ (x y : Tracked). x.track ≡ y.track → Fit (wire_of x) (wire_of y)) s.wires (tracks_fit [] s.wires is.least) t u h k) [
+  one_reaches : (t u : Tracked) → Has s.wires t → Has s.wires u → t.track ≡ u.track → p ≤ greater (untracked t) → p ≤ greater (untracked u) → t ≡ u
+  one_reaches t u h k same low high = elim (pairwise_pick (λ (x y : Tracked). x.track ≡ y.track → Fit (untracked x) (untracked y)) s.wires (tracks_fit [] s.wires is.least) t u h k) [
     | inl e ↦ e
     | inr apart ↦ absurd (fits apart)
   ]
     where
-      cover : (x : Tracked) → Has s.wires x → p ≤ greater (wire_of x) → Covers p (wire_of x)
+      cover : (x : Tracked) → Has s.wires x → p ≤ greater (untracked x) → Covers p (untracked x)
       cover x l reach = let begun = (known x l).1 in record { starts = omega (arith, begun); ends = reach }
 
-      fits : (t.track ≡ u.track → Fit (wire_of t) (wire_of u)) ⊎ (u.track ≡ t.track → Fit (wire_of u) (wire_of t)) → ⊥
+      fits : (t.track ≡ u.track → Fit (untracked t) (untracked u)) ⊎ (u.track ≡ t.track → Fit (untracked u) (untracked t)) → ⊥
       fits (inl fit) = fit same p (cover t h low) (cover u k high)
       fits (inr fit) = fit (sym same) p (cover u k high) (cover t h low)
 
   -- where a wire of a track reaches the position, the track isn't free
-  not_free : (t : Tracked) → Has s.wires t → p ≤ greater (wire_of t) → Has s.free t.track → ⊥
+  not_free : (t : Tracked) → Has s.wires t → p ≤ greater (untracked t) → Has s.free t.track → ⊥
   not_free t h reach k = let early = ((is.free t.track).0 k).2 t h refl in absurd (omega (arith, early, reach))
 
   -- the wires that have begun, at the next position
@@ -166,11 +166,11 @@ module _ (ws : List Wire) (r : AreRotary ws) (p : ℕ) (s : Swept) (is : IsSwept
     densest = is.densest;
   }
     where
-      passed : (t : Tracked) → Has s.wires t → greater (wire_of t) < p + 1 → greater (wire_of t) < p
-      passed t h low = elim (cases_lt (greater (wire_of t)) p) [
+      passed : (t : Tracked) → Has s.wires t → greater (untracked t) < p + 1 → greater (untracked t) < p
+      passed t h low = elim (cases_lt (greater (untracked t)) p) [
         | inl less ↦ less
         | inr high ↦
-            let here : greater (wire_of t) ≡ p = omega (arith, low, high) in
+            let here : greater (untracked t) ≡ p = omega (arith, low, high) in
             let clash : Some t.track ≡ None = sym (is.ends t h high) ∙ ap (λ q. get_or s.ending q None) here ∙ empty in
             absurd (cc)
       ]
@@ -191,11 +191,11 @@ module _ (ws : List Wire) (r : AreRotary ws) (p : ℕ) (s : Swept) (is : IsSwept
     densest = is.densest;
   }
     where
-      last : (t : Tracked) × Has s.wires t × (greater (wire_of t) ≡ p)
+      last : (t : Tracked) × Has s.wires t × (greater (untracked t) ≡ p)
       last = is.ended p x (omega arith) inside some
 
       -- the wire that ends at the position has the track that is kept there
-      track_there : (t : Tracked) → Has s.wires t → greater (wire_of t) ≡ p → x ≡ t.track
+      track_there : (t : Tracked) → Has s.wires t → greater (untracked t) ≡ p → x ≡ t.track
       track_there t h here =
           let both : Some x ≡ Some t.track = sym some ∙ ap (λ q. get_or s.ending q None) (sym here) ∙ is.ends t h (omega (arith, here)) in
           cc
@@ -207,11 +207,11 @@ module _ (ws : List Wire) (r : AreRotary ws) (p : ℕ) (s : Swept) (is : IsSwept
       freed n e = ((let low = counted last.0 last.1 in omega (arith, e, track, low)), (let high = within last.0 last.1 in omega (arith, e, track, high)), ends_here)
         where
           ends_here : IsFree s.wires n (p + 1)
-          ends_here u h f = elim (cases_lt (greater (wire_of u)) p) [
+          ends_here u h f = elim (cases_lt (greater (untracked u)) p) [
             | inl less ↦ omega (arith, less)
             | inr high ↦
                 let same : u ≡ last.0 = one_reaches u last.0 h last.1 (f ∙ e ∙ track) high (let here = last.2 in omega (arith, here)) in
-                let place : greater (wire_of u) ≡ greater (wire_of last.0) = ap (λ (y : Tracked). greater (wire_of y)) same in
+                let place : greater (untracked u) ≡ greater (untracked last.0) = ap (λ (y : Tracked). greater (untracked y)) same in
                 let here = last.2 in
                 omega (arith, place, here)
           ]
@@ -224,7 +224,7 @@ module _ (ws : List Wire) (r : AreRotary ws) (p : ℕ) (s : Swept) (is : IsSwept
       there n h = sides n (moved_back (x ∷ s.free) free moved n h)
 
       earlier : (n : ℕ) → n ≢ x → IsFree s.wires n (p + 1) → IsFree s.wires n p
-      earlier n other ends t h e = elim (cases_lt (greater (wire_of t)) p) [
+      earlier n other ends t h e = elim (cases_lt (greater (untracked t)) p) [
         | inl less ↦ less
         | inr high ↦ let low = ends t h e in absurd (other (sym e ∙ sym (track_there t h (omega (arith, low, high)))))
       ]

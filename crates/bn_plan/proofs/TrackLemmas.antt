@@ -13,7 +13,7 @@ use Rattle.bn_plan.specs.declared.tracked.Tracked.{Tracked}
 use Rattle.bn_plan.specs.Lists.{Pairwise}
 use Rattle.bn_lists.specs.Lists.{Has}
 use Rattle.bn_plan.specs.Wires.{lesser, greater, Covers, covers, Fit, density, IsDensest}
-use Rattle.bn_plan.specs.Plans.{wire_of, wires_of, IsFree, TakeLeast, IsPlan, tracks_of, TracksFit, IsAssignment, HasTracks}
+use Rattle.bn_plan.specs.Plans.{untracked, wires_of, IsFree, TakeLeast, IsPlan, tracks_of, TracksFit, IsAssignment, HasTracks}
 use Rattle.bn_plan.proofs.ListLemmas.{in_map, in_map_cases, pairwise_weaker, pairwise_map, pairwise_filter, in_filter, filter_in, count-cons, count-map, no_longer, down_from, length-down_from, down_from_in, down_from_within, down_from_apart}
 use Rattle.bn_plan.proofs.DensityLemmas.{covers_is, covers_true, covers_start}
 
@@ -24,10 +24,10 @@ apart_fit : (v w : Wire) → greater v < lesser w → Fit v w
 apart_fit v w before p a b = absurd (omega (arith, before, a.ends, b.starts))
 
 -- an earlier wire and a later one of its track
-fits_earlier : (earlier ts : List Tracked) → TakeLeast earlier ts → (s t : Tracked) → Has earlier s → Has ts t → s.track ≡ t.track → Fit (wire_of s) (wire_of t)
+fits_earlier : (earlier ts : List Tracked) → TakeLeast earlier ts → (s t : Tracked) → Has earlier s → Has ts t → s.track ≡ t.track → Fit (untracked s) (untracked t)
 fits_earlier earlier [] a s t h k e = absurd k
 fits_earlier earlier (u ∷ ts) a s t h (inl same) e =
-    apart_fit (wire_of s) (wire_of t) (subst (λ (x : Tracked). greater (wire_of s) < lesser (wire_of x)) (sym same) (a.0.free s h (e ∙ ap (λ (x : Tracked). x.track) same)))
+    apart_fit (untracked s) (untracked t) (subst (λ (x : Tracked). greater (untracked s) < lesser (untracked x)) (sym same) (a.0.free s h (e ∙ ap (λ (x : Tracked). x.track) same)))
 fits_earlier earlier (u ∷ ts) a s t h (inr k) e = fits_earlier (u ∷ earlier) ts a.1 s t (inr h) k e
 
 -- so those of one track fit
@@ -43,7 +43,7 @@ plans_fit ws plan p = tracks_fit [] plan p.tracks
 
 -- the test on a wire with its track
 abbrev pub covers_at : ℕ → Tracked → Bool
-covers_at p t = covers p (wire_of t)
+covers_at p t = covers p (untracked t)
 
 -- the tracks of the wires that cover the position
 abbrev pub tracks_at : ℕ → List Tracked → List ℕ
@@ -55,28 +55,28 @@ length-tracks_at p ts = length-map (filter (covers_at p) ts) (λ (t : Tracked). 
 
 -- the same as of the wires, in any order
 pub density_of : (ws : List Wire) (ts : List Tracked) (p : ℕ) → IsPermutation ws (wires_of ts) → density ws p ≡ count_by (covers_at p) ts
-density_of ws ts p all = sym (sum_by-IsPermutation (λ w. cond (covers p w) 1 0) ws (wires_of ts) all) ∙ count-map (covers p) wire_of ts
+density_of ws ts p all = sym (sum_by-IsPermutation (λ w. cond (covers p w) 1 0) ws (wires_of ts) all) ∙ count-map (covers p) untracked ts
 
 -- ---- no assignment has fewer tracks
 
 -- the wires at one position have different tracks
-pub cover_bound : (ts : List Tracked) (used : List ℕ) (p : ℕ) → TracksFit ts → ((t : Tracked) → Has ts t → Covers p (wire_of t) → Has used t.track) → count_by (covers_at p) ts ≤ length used
+pub cover_bound : (ts : List Tracked) (used : List ℕ) (p : ℕ) → TracksFit ts → ((t : Tracked) → Has ts t → Covers p (untracked t) → Has used t.track) → count_by (covers_at p) ts ≤ length used
 cover_bound ts used p fit has =
     let apart = pairwise_map (λ x y. x ≢ y) (λ (t : Tracked). t.track) (filter (covers_at p) ts)
-    (pairwise_weaker (λ (s t : Tracked). s.track ≡ t.track → Fit (wire_of s) (wire_of t)) (λ (s t : Tracked). s.track ≢ t.track) (filter (covers_at p) ts) differ
-    (pairwise_filter (λ (s t : Tracked). s.track ≡ t.track → Fit (wire_of s) (wire_of t)) (covers_at p) ts fit)) in
+    (pairwise_weaker (λ (s t : Tracked). s.track ≡ t.track → Fit (untracked s) (untracked t)) (λ (s t : Tracked). s.track ≢ t.track) (filter (covers_at p) ts) differ
+    (pairwise_filter (λ (s t : Tracked). s.track ≡ t.track → Fit (untracked s) (untracked t)) (covers_at p) ts fit)) in
     let bound = no_longer (tracks_at p ts) used apart held in
     let count = length-tracks_at p ts in
     omega (arith, count, bound)
   where
-    differ : (s t : Tracked) → Has (filter (covers_at p) ts) s → Has (filter (covers_at p) ts) t → (s.track ≡ t.track → Fit (wire_of s) (wire_of t)) → s.track ≢ t.track
-    differ s t h k fits e = fits e p (covers_is p (wire_of s) (filter_in (covers_at p) ts s h).1) (covers_is p (wire_of t) (filter_in (covers_at p) ts t k).1)
+    differ : (s t : Tracked) → Has (filter (covers_at p) ts) s → Has (filter (covers_at p) ts) t → (s.track ≡ t.track → Fit (untracked s) (untracked t)) → s.track ≢ t.track
+    differ s t h k fits e = fits e p (covers_is p (untracked s) (filter_in (covers_at p) ts s h).1) (covers_is p (untracked t) (filter_in (covers_at p) ts t k).1)
 
     held : (x : ℕ) → Has (tracks_at p ts) x → Has used x
     held x h =
         let from = in_map_cases (λ (t : Tracked). t.track) (filter (covers_at p) ts) x h in
         let stays = filter_in (covers_at p) ts from.0 from.1 in
-        subst (Has used) (sym from.2) (has from.0 stays.0 (covers_is p (wire_of from.0) stays.1))
+        subst (Has used) (sym from.2) (has from.0 stays.0 (covers_is p (untracked from.0) stays.1))
 
 pub tracks_are_needed : (ws : List Wire) (ts : List Tracked) (used : List ℕ) (p : ℕ) → IsAssignment ws ts → HasTracks used ts → density ws p ≤ length used
 tracks_are_needed ws ts used p a has =
@@ -91,7 +91,7 @@ pub record Blocks (earlier : List Tracked) (n : ℕ) (w : Wire) : Type 0 where
   pub tracked : Tracked
   pub stands : Has earlier tracked
   pub track : tracked.track ≡ n
-  pub reaches : lesser w ≤ greater (wire_of tracked)
+  pub reaches : lesser w ≤ greater (untracked tracked)
 
 -- the same among more wires
 pub block_later : (t : Tracked) (ts : List Tracked) (n : ℕ) (w : Wire) → Blocks ts n w → Blocks (t ∷ ts) n w
@@ -104,19 +104,19 @@ free_or_blocked (t ∷ ts) n w = elim (free_or_blocked ts n w) [
   | inr blocked ↦ inr (block_later t ts n w blocked)
   | inl free ↦ elim (eqb_tells t.track n) [
     | inr other ↦ inl (λ s h e. passed free (λ f. absurd (other.1 f)) s h e)
-    | inl same ↦ elim (cases_lt (greater (wire_of t)) (lesser w)) [
+    | inl same ↦ elim (cases_lt (greater (untracked t)) (lesser w)) [
       | inl before ↦ inl (λ s h e. passed free (λ _. before) s h e)
       | inr reaches ↦ inr (record { tracked = t; stands = inl refl; track = same.1; reaches = reaches })
     ]
   ]
 ]
   where
-    passed : IsFree ts n (lesser w) → (t.track ≡ n → greater (wire_of t) < lesser w) → (s : Tracked) → Has (t ∷ ts) s → s.track ≡ n → greater (wire_of s) < lesser w
-    passed free here s (inl e) f = subst (λ (x : Tracked). greater (wire_of x) < lesser w) (sym e) (here (sym (ap (λ (x : Tracked). x.track) e) ∙ f))
+    passed : IsFree ts n (lesser w) → (t.track ≡ n → greater (untracked t) < lesser w) → (s : Tracked) → Has (t ∷ ts) s → s.track ≡ n → greater (untracked s) < lesser w
+    passed free here s (inl e) f = subst (λ (x : Tracked). greater (untracked x) < lesser w) (sym e) (here (sym (ap (λ (x : Tracked). x.track) e) ∙ f))
     passed free here s (inr h) f = free s h f
 
 -- where every track below T holds a wire that covers the position, T - 1 wires do
-many_cover : (ts : List Tracked) (p m : ℕ) → ((n : ℕ) → 0 < n → n ≤ m → (t : Tracked) × Has ts t × (t.track ≡ n) × Covers p (wire_of t)) → m ≤ count_by (covers_at p) ts
+many_cover : (ts : List Tracked) (p m : ℕ) → ((n : ℕ) → 0 < n → n ≤ m → (t : Tracked) × Has ts t × (t.track ≡ n) × Covers p (untracked t)) → m ≤ count_by (covers_at p) ts
 many_cover ts p m each =
     let bound = no_longer (down_from m) (tracks_at p ts) (down_from_apart m) held in
     let first = length-down_from m in
@@ -127,40 +127,40 @@ many_cover ts p m each =
     held n h =
         let within = down_from_within m n h in
         let found = each n within.0 within.1 in
-        subst (Has (tracks_at p ts)) found.2 (in_map (λ (t : Tracked). t.track) (filter (covers_at p) ts) found.0 (in_filter (covers_at p) ts found.0 found.1 (covers_true p (wire_of found.0) found.3)))
+        subst (Has (tracks_at p ts)) found.2 (in_map (λ (t : Tracked). t.track) (filter (covers_at p) ts) found.0 (in_filter (covers_at p) ts found.0 found.1 (covers_true p (untracked found.0) found.3)))
 
 -- a wire's track is at most the number of wires that cover its lesser end
-pub track_bound : (earlier ts : List Tracked) → ((s t : Tracked) → Has earlier s → Has ts t → lesser (wire_of s) ≤ lesser (wire_of t)) → Pairwise (λ (s t : Tracked). lesser (wire_of s) ≤ lesser (wire_of t)) ts → TakeLeast earlier ts → (t : Tracked) → Has ts t
-    → t.track ≤ count_by (covers_at (lesser (wire_of t))) earlier + count_by (covers_at (lesser (wire_of t))) ts
+pub track_bound : (earlier ts : List Tracked) → ((s t : Tracked) → Has earlier s → Has ts t → lesser (untracked s) ≤ lesser (untracked t)) → Pairwise (λ (s t : Tracked). lesser (untracked s) ≤ lesser (untracked t)) ts → TakeLeast earlier ts → (t : Tracked) → Has ts t
+    → t.track ≤ count_by (covers_at (lesser (untracked t))) earlier + count_by (covers_at (lesser (untracked t))) ts
 track_bound earlier [] before order a t h = absurd h
 track_bound earlier (u ∷ ts) before order a t (inr h) =
     let rest = track_bound (u ∷ earlier) ts still order.1 a.1 t h in
-    let first = count-cons (covers_at (lesser (wire_of t))) u earlier in
-    let second = count-cons (covers_at (lesser (wire_of t))) u ts in
+    let first = count-cons (covers_at (lesser (untracked t))) u earlier in
+    let second = count-cons (covers_at (lesser (untracked t))) u ts in
     omega (arith, rest, first, second)
   where
-    still : (s t : Tracked) → Has (u ∷ earlier) s → Has ts t → lesser (wire_of s) ≤ lesser (wire_of t)
-    still s t (inl e) k = subst (λ (x : Tracked). lesser (wire_of x) ≤ lesser (wire_of t)) (sym e) (order.0 t k)
+    still : (s t : Tracked) → Has (u ∷ earlier) s → Has ts t → lesser (untracked s) ≤ lesser (untracked t)
+    still s t (inl e) k = subst (λ (x : Tracked). lesser (untracked x) ≤ lesser (untracked t)) (sym e) (order.0 t k)
     still s t (inr h) k = before s t h (inr k)
-track_bound earlier (u ∷ ts) before order a t (inl e) = subst (λ (x : Tracked). x.track ≤ count_by (covers_at (lesser (wire_of x))) earlier + count_by (covers_at (lesser (wire_of x))) (u ∷ ts)) (sym e) here
+track_bound earlier (u ∷ ts) before order a t (inl e) = subst (λ (x : Tracked). x.track ≤ count_by (covers_at (lesser (untracked x))) earlier + count_by (covers_at (lesser (untracked x))) (u ∷ ts)) (sym e) here
   where
-    covered : (m : ℕ) → suc m ≡ u.track → (n : ℕ) → 0 < n → n ≤ m → (s : Tracked) × Has earlier s × (s.track ≡ n) × Covers (lesser (wire_of u)) (wire_of s)
-    covered m sum n some h = elim (free_or_blocked earlier n (wire_of u)) [
+    covered : (m : ℕ) → suc m ≡ u.track → (n : ℕ) → 0 < n → n ≤ m → (s : Tracked) × Has earlier s × (s.track ≡ n) × Covers (lesser (untracked u)) (untracked s)
+    covered m sum n some h = elim (free_or_blocked earlier n (untracked u)) [
       | inl free ↦ absurd (a.0.least n some (omega (arith, sum, h)) free)
       | inr b ↦ (b.tracked, b.stands, b.track, record { starts = before b.tracked u b.stands (inl refl); ends = b.reaches })
     ]
 
-    by_track : (m : ℕ) → suc m ≡ u.track → u.track ≤ count_by (covers_at (lesser (wire_of u))) earlier + count_by (covers_at (lesser (wire_of u))) (u ∷ ts)
+    by_track : (m : ℕ) → suc m ≡ u.track → u.track ≤ count_by (covers_at (lesser (untracked u))) earlier + count_by (covers_at (lesser (untracked u))) (u ∷ ts)
     by_track m sum =
-        let many = many_cover earlier (lesser (wire_of u)) m (covered m sum) in
-        let own : covers (lesser (wire_of u)) (wire_of u) ≡ true = covers_true (lesser (wire_of u)) (wire_of u) (covers_start (wire_of u)) in
-        let count : count_by (covers_at (lesser (wire_of u))) (u ∷ ts) ≡ 1 + count_by (covers_at (lesser (wire_of u))) ts = count-cons (covers_at (lesser (wire_of u))) u ts ∙ ap (λ b. cond b 1 0 + count_by (covers_at (lesser (wire_of u))) ts) own in
+        let many = many_cover earlier (lesser (untracked u)) m (covered m sum) in
+        let own : covers (lesser (untracked u)) (untracked u) ≡ true = covers_true (lesser (untracked u)) (untracked u) (covers_start (untracked u)) in
+        let count : count_by (covers_at (lesser (untracked u))) (u ∷ ts) ≡ 1 + count_by (covers_at (lesser (untracked u))) ts = count-cons (covers_at (lesser (untracked u))) u ts ∙ ap (λ b. cond b 1 0 + count_by (covers_at (lesser (untracked u))) ts) own in
         omega (arith, many, count, sum)
 
-    here : u.track ≤ count_by (covers_at (lesser (wire_of u))) earlier + count_by (covers_at (lesser (wire_of u))) (u ∷ ts)
+    here : u.track ≤ count_by (covers_at (lesser (untracked u))) earlier + count_by (covers_at (lesser (untracked u))) (u ∷ ts)
     here = from_track u.track refl a.0.counted
       where
-        from_track : (k : ℕ) → k ≡ u.track → 0 < u.track → u.track ≤ count_by (covers_at (lesser (wire_of u))) earlier + count_by (covers_at (lesser (wire_of u))) (u ∷ ts)
+        from_track : (k : ℕ) → k ≡ u.track → 0 < u.track → u.track ≤ count_by (covers_at (lesser (untracked u))) earlier + count_by (covers_at (lesser (untracked u))) (u ∷ ts)
         from_track zero e some = absurd (omega (arith, e, some))
         from_track (suc m) e some = by_track m e
 
@@ -196,7 +196,7 @@ below_used : (earlier ts : List Tracked) → TakeLeast earlier ts → (t : Track
 below_used earlier [] a t h n some low = absurd h
 below_used earlier (u ∷ ts) a t (inl e) n some low =
     let same : t.track ≡ u.track = ap (λ (x : Tracked). x.track) e in
-    elim (free_or_blocked earlier n (wire_of u)) [
+    elim (free_or_blocked earlier n (untracked u)) [
       | inl free ↦ absurd (a.0.least n some (omega (arith, low, same)) free)
       | inr b ↦ (b.tracked, inl b.stands, b.track)
     ]
@@ -217,8 +217,8 @@ plans_use_no_more ws plan d p a densest = (same, (λ t h. (all_counted [] plan a
     each : (t : Tracked) → Has plan t → t.track ≤ d
     each t h =
         let bound = track_bound [] plan (λ s u k l. absurd k) a.order a.tracks t h in
-        let count = density_of ws plan (lesser (wire_of t)) a.all in
-        let most = densest.greatest (lesser (wire_of t)) in
+        let count = density_of ws plan (lesser (untracked t)) a.all in
+        let most = densest.greatest (lesser (untracked t)) in
         omega (arith, bound, count, most)
 
     same : tracks_of plan ≡ d

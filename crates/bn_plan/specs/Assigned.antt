@@ -3,12 +3,12 @@ use Rattle.std.specs.Prelude.{ℕ, zero, suc, Bool, true, cond, eqb, ltb, not, �
 use Rattle.bn_circuits.specs.declared.line.Wire.{Wire}
 use Rattle.bn_plan.specs.declared.tracked.Tracked.{Tracked}
 use Rattle.bn_plan.specs.Wires.{lesser, greater}
-use Rattle.bn_plan.specs.Plans.{wire_of, tracks_of}
+use Rattle.bn_plan.specs.Plans.{untracked, tracks_of}
 
 -- whether every earlier wire of this track ends before the wire
 abbrev pub is_free : List Tracked → ℕ → Wire → Bool
 is_free [] n w = true
-is_free (t ∷ ts) n w = (not (eqb t.track n) || ltb (greater (wire_of t)) (lesser w)) && is_free ts n w
+is_free (t ∷ ts) n w = (not (eqb t.track n) || ltb (greater (untracked t)) (lesser w)) && is_free ts n w
 
 -- the least free track from n on, or n + fuel
 abbrev pub first_free : List Tracked → Wire → ℕ → ℕ → ℕ

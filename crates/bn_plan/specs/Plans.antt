@@ -8,22 +8,22 @@ use Rattle.bn_lists.specs.Lists.{Has}
 use Rattle.bn_plan.specs.Wires.{lesser, greater, Fit, IsDensest}
 
 -- the wire without its track
-abbrev pub wire_of : Tracked → Wire
-wire_of t = record { from = t.from; to = t.to }
+abbrev pub untracked : Tracked → Wire
+untracked t = record { from = t.from; to = t.to }
 
 -- wires without their tracks
 abbrev pub wires_of : List Tracked → List Wire
-wires_of ts = map wire_of ts
+wires_of ts = map untracked ts
 
 -- each of these wires that is on this track ends before the position
 abbrev pub IsFree : List Tracked → ℕ → ℕ → Type 0
-IsFree ts n p = (t : Tracked) → Has ts t → t.track ≡ n → greater (wire_of t) < p
+IsFree ts n p = (t : Tracked) → Has ts t → t.track ≡ n → greater (untracked t) < p
 
 -- the wire is on the least track, from 1, on which each earlier wire ends before it
 pub record TakesLeast (earlier : List Tracked) (t : Tracked) : Type 0 where
   pub counted : 0 < t.track
-  pub free : IsFree earlier t.track (lesser (wire_of t))
-  pub least : (n : ℕ) → 0 < n → n < t.track → IsFree earlier n (lesser (wire_of t)) → ⊥
+  pub free : IsFree earlier t.track (lesser (untracked t))
+  pub least : (n : ℕ) → 0 < n → n < t.track → IsFree earlier n (lesser (untracked t)) → ⊥
 
 -- so is each of these wires, one after another
 abbrev pub TakeLeast : List Tracked → List Tracked → Type 0
@@ -34,7 +34,7 @@ TakeLeast earlier (t ∷ ts) = TakesLeast earlier t × TakeLeast (t ∷ earlier)
 -- earlier wire ends before it.
 pub record IsPlan (ws : List Wire) (plan : List Tracked) : Type 0 where
   pub all : IsPermutation ws (wires_of plan)
-  pub order : Pairwise (λ (s t : Tracked). lesser (wire_of s) ≤ lesser (wire_of t)) plan
+  pub order : Pairwise (λ (s t : Tracked). lesser (untracked s) ≤ lesser (untracked t)) plan
   pub tracks : TakeLeast [] plan
 
 -- the greatest track, 0 where there are no wires
@@ -57,7 +57,7 @@ pub record IsFloorPlan (ws : List Wire) (f : FloorPlan) : Type 0 where
 
 -- wires of one track fit
 abbrev pub TracksFit : List Tracked → Type 0
-TracksFit ts = Pairwise (λ (s t : Tracked). s.track ≡ t.track → Fit (wire_of s) (wire_of t)) ts
+TracksFit ts = Pairwise (λ (s t : Tracked). s.track ≡ t.track → Fit (untracked s) (untracked t)) ts
 
 -- any way to give the wires tracks so that those of one track fit
 pub record IsAssignment (ws : List Wire) (ts : List Tracked) : Type 0 where

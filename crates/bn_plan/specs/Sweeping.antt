@@ -6,7 +6,7 @@ use Rattle.bn_plan.specs.declared.tracked.Tracked.{Tracked}
 use Rattle.bn_plan.specs.Lists.{Pairwise}
 use Rattle.bn_lists.specs.Lists.{Has}
 use Rattle.bn_plan.specs.Wires.{lesser, greater}
-use Rattle.bn_plan.specs.Plans.{FloorPlan, wire_of, wires_of, IsFree, TakeLeast, tracks_of}
+use Rattle.bn_plan.specs.Plans.{FloorPlan, untracked, wires_of, IsFree, TakeLeast, tracks_of}
 
 -- the wires that have begun; the tracks up to the greatest that are free; for each position the track of the wire that
 -- has begun and ends there, or none; the greatest track, and the position at which the first wire begins that has it
@@ -22,24 +22,24 @@ pub record IsWidest (ts : List Tracked) (n p : ℕ) : Type 0 where
   pub first : Tracked
   pub stands : Has ts first
   pub track : first.track ≡ n
-  pub begins : lesser (wire_of first) ≡ p
-  pub before : (t : Tracked) → Has ts t → lesser (wire_of t) < p → t.track < n
+  pub begins : lesser (untracked first) ≡ p
+  pub before : (t : Tracked) → Has ts t → lesser (untracked t) < p → t.track < n
 
 -- This is kept before position p of the wires that begin before it. They stand in order, each on its least track; the
 -- free tracks are those whose wires all end before p, each there once; and at each position from p on the track is kept
 -- of the wire that ends there.
 pub record IsSwept (ws : List Wire) (p : ℕ) (s : Swept) : Type 0 where
-  pub order : Pairwise (λ (t u : Tracked). lesser (wire_of t) < lesser (wire_of u)) s.wires
+  pub order : Pairwise (λ (t u : Tracked). lesser (untracked t) < lesser (untracked u)) s.wires
   pub least : TakeLeast [] s.wires
   pub begun : (w : Wire) → Has (wires_of s.wires) w ↔ Has ws w × (lesser w < p)
   pub tracks : tracks_of s.wires ≡ s.tracks
   pub few : s.tracks ≤ p
   pub free : (n : ℕ) → Has s.free n ↔ (0 < n) × (n ≤ s.tracks) × IsFree s.wires n p
   pub once : Pairwise (λ (m n : ℕ). m ≢ n) s.free
-  pub ends : (t : Tracked) → Has s.wires t → p ≤ greater (wire_of t) →
-      get_or s.ending (greater (wire_of t)) None ≡ Some t.track
+  pub ends : (t : Tracked) → Has s.wires t → p ≤ greater (untracked t) →
+      get_or s.ending (greater (untracked t)) None ≡ Some t.track
   pub ended : (q n : ℕ) → p ≤ q → q < length s.ending → get_or s.ending q None ≡ Some n →
-      (t : Tracked) × Has s.wires t × (greater (wire_of t) ≡ q)
+      (t : Tracked) × Has s.wires t × (greater (untracked t) ≡ q)
   pub densest : ((s.tracks ≡ 0) × (s.densest ≡ 0)) ⊎ IsWidest s.wires s.tracks s.densest
 
 -- this wire of the list begins at this position, or none does

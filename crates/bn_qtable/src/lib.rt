@@ -16,6 +16,3 @@ pub use laws::{
 };
 pub use refusal::QuadTableRefusal;
 pub use text::{read_quads, write_quads};
-
-#[cfg(test)]
-mod tests;

@@ -24,6 +24,3 @@ pub use quad::{Act, Quad};
 pub use refusal::{NotUniform, QuadRefusal, UniformRefusal};
 pub use tapes::{QuadTurn, Tapes};
 pub use uniform::Uniform;
-
-#[cfg(test)]
-mod tests;

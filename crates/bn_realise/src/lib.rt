@@ -20,6 +20,3 @@ pub use make::bank;
 pub use refusal::BankRefusal;
 pub use standing::Bank;
 pub use wires::bank_wires;
-
-#[cfg(test)]
-mod tests;

@@ -8,6 +8,7 @@ use Rattle.std.proofs.lemmas.List.{length-replicate, length-set}
 use Rattle.std.proofs.lemmas.Option.{slice_get_within}
 use Rattle.bn_element.specs.Tables.{Table}
 use Rattle.bn_circuits.specs.Circuits.{target, source, IsCircuit, IsConfig}
+use Rattle.bn_circuits.proofs.AlikeLemmas.{options_one}
 use Rattle.bn_circuits.proofs.StepLemmas.{same_lines, slice_get-set_same, slice_get-set_other}
 use Rattle.bn_circuits.specs.Situations.{Situation}
 use Rattle.bn_circuits.specs.declared.line.Line.{Line}
@@ -76,11 +77,6 @@ bars_low (t ∷ ts) [] e q h = absurd (cc)
 bars_low (t ∷ ts) (r ∷ qs) e q h =
     bars_joined (slice_set (replicate (size_of t) vertical) (bottom_at 0 t.inputs r) horizontal) (bars_of ts qs)
     (bars_marked (replicate (size_of t) vertical) (bottom_at 0 t.inputs r) (bars_alike (size_of t))) (bars_low ts qs) e q h
-
-options_one : {X : Type 0} (o x : Option X) → ((y : X) → o ≡ Some y → x ≡ Some y) → ((y : X) → x ≡ Some y → o ≡ Some y) → o ≡ x
-options_one None None h k = refl
-options_one None (Some y) h k = k y refl
-options_one (Some y) x h k = sym (h y refl)
 
 -- ---- the network's wires
 

@@ -6,7 +6,7 @@ use Rattle.std.proofs.lemmas.List.Sorted.{IsPermutation-sym}
 use Rattle.bn_plan.specs.declared.tracked.Tracked.{Tracked}
 use Rattle.bn_lists.specs.Lists.{Has}
 use Rattle.bn_plan.specs.Wires.{HasFourLines, AreRotary}
-use Rattle.bn_plan.specs.Plans.{FloorPlan, IsFloorPlan, wire_of, wires_of}
+use Rattle.bn_plan.specs.Plans.{FloorPlan, IsFloorPlan, untracked, wires_of}
 use Rattle.bn_plan.proofs.ListLemmas.{in_map}
 use Rattle.bn_plan.proofs.PlanLemmas.{moves_in}
 use Rattle.bn_reply_circuits.specs.PlanReply.{wire_line, wire_lines}
@@ -33,5 +33,5 @@ text_more old before after ts i d so_far h is =
     ∙ ap (λ xs. old ++ xs) (sym (lines_more ts i d h)) ∙ ap (λ n. old ++ wire_lines (take n ts)) next
 
 -- the wires of a floor plan lead from elements of four lines to such
-pub floor_lines : (ws : List Wire) (f : FloorPlan) → AreRotary ws → IsFloorPlan ws f → (t : Tracked) → Has f.wires t → HasFourLines (wire_of t)
-floor_lines ws f r is t h = r.lines (wire_of t) (moves_in (wires_of f.wires) ws (IsPermutation-sym ws (wires_of f.wires) is.plan.all) (wire_of t) (in_map wire_of f.wires t h))
+pub floor_lines : (ws : List Wire) (f : FloorPlan) → AreRotary ws → IsFloorPlan ws f → (t : Tracked) → Has f.wires t → HasFourLines (untracked t)
+floor_lines ws f r is t h = r.lines (untracked t) (moves_in (wires_of f.wires) ws (IsPermutation-sym ws (wires_of f.wires) is.plan.all) (untracked t) (in_map untracked f.wires t h))

@@ -18,6 +18,3 @@ pub use realise::{give_realise, realise_has_one_reply, reply_realise};
 pub use refuse::refuse_config;
 pub use stream::{back_stream, give_config, migrate_stream, plan_stream, refuse_from, step_stream};
 pub use unwritten::Unwritten;
-
-#[cfg(test)]
-mod plan_tests;

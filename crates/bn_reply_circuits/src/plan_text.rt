@@ -4,7 +4,7 @@ ghost use Rattle.std.specs.Prelude.{◌≡◌, ◌<◌, ◌++◌, ◌∷◌, [],
 ghost use Rattle.bn_netlist_laws.specs.Sentences.{line_text};
 ghost use Rattle.bn_plan.specs.declared.tracked.Tracked.{Tracked};
 ghost use Rattle.bn_lists.specs.Lists.{Has};
-ghost use Rattle.bn_plan.specs.Plans.{wire_of};
+ghost use Rattle.bn_plan.specs.Plans.{untracked};
 ghost use Rattle.bn_plan.specs.Wires.{HasFourLines};
 ghost use Rattle.bn_reply_circuits.specs.PlanReply.{plan_text, wire_line, wire_lines};
 
@@ -18,7 +18,7 @@ use std::alloc::Global;
 /// The text of a floor plan of so many elements: four lines with a number each, and a line a wire.
 /// Elements and positions are counted from 0, tracks from 1. (This project's own profile.)
 pub(crate) fn plan_text(alloc: Global, elements: u32, plan: &Plan) -> Result<Vec<u8>, NoMemory>
-    requires { (t : Tracked) → Has plan.now.wires t → HasFourLines (wire_of t) }
+    requires { (t : Tracked) → Has plan.now.wires t → HasFourLines (untracked t) }
     ensures { IfOk result (λ text. text.items ≡ plan_text elements plan.now) }
 {
     let wires = plan.wires();
@@ -33,7 +33,7 @@ pub(crate) fn plan_text(alloc: Global, elements: u32, plan: &Plan) -> Result<Vec
 
 // The line of each wire, in their order.
 fn push_wires(text: &mut Vec<u8>, wires: &[Tracked]) -> Result<(), NoMemory>
-    requires { (t : Tracked) → Has wires.now t → HasFourLines (wire_of t) }
+    requires { (t : Tracked) → Has wires.now t → HasFourLines (untracked t) }
     ensures { OnOk result (text.new.items ≡ text.old.items ++ wire_lines wires.now) }
 {
     for wire in wires {
@@ -44,7 +44,7 @@ fn push_wires(text: &mut Vec<u8>, wires: &[Tracked]) -> Result<(), NoMemory>
 
 // The line of one wire.
 fn push_wire(text: &mut Vec<u8>, wire: Tracked) -> Result<(), NoMemory>
-    requires { HasFourLines (wire_of wire) }
+    requires { HasFourLines (untracked wire) }
     ensures { OnOk result (text.new.items ≡ text.old.items ++ wire_line wire) }
 {
     push_named(text, b"wire ", wire.from)?;

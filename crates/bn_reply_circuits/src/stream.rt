@@ -126,8 +126,8 @@ fn give_moved<K: Sink>(alloc: Global, sink: &mut K, read: NetConfig, packed: Pac
     give_config(alloc, sink, &moved)
 }
 
-/// Gives the text of a configuration that may be spelled in its version, in pieces; or, where the sink fails or memory is
-/// wanting, a front of it.
+/// Gives the text of a configuration that may be spelled in its version, in pieces; or, where the sink fails or memory
+/// is wanting, a front of it.
 pub fn give_config<K: Sink>(alloc: Global, sink: &mut K, config: &NetConfig) -> Status
     requires { Admits config.now.version (spelling_of config.now) }
     ensures ends { TextEnds (IsTextOf config.now.version (spelling_of config.now)) result (K.taken sink.old)

@@ -4,11 +4,10 @@ use Rattle.std.proofs.Common.{zero, suc, inl, inr, sym, ap, subst, ◌∙◌}
 use Rattle.bn_circuits.specs.Circuits.{Circuit, IsCircuit, IsConfig}
 use Rattle.bn_circuits.specs.declared.place.Place.{Place}
 use Rattle.bn_circuits.specs.declared.config.Config.{Config}
-use Rattle.bn_circuits.specs.Stepping.{run, back, places, places_back, previous, retreat}
+use Rattle.bn_circuits.specs.Stepping.{run, back, places, places_back}
 use Rattle.bn_circuits.specs.Alike.{AreAlike}
 use Rattle.bn_circuits.proofs.AlikeLemmas.{run-alike, back-alike, places-alike, places_back-alike}
-use Rattle.bn_circuits.proofs.RunLemmas.{run_makes, Reaches-IsConfig, back-zero}
-use Rattle.bn_circuits.proofs.StepLemmas.{previous-Goes, previous-IsConfig}
+use Rattle.bn_circuits.proofs.RunLemmas.{run-IsConfig, back-IsConfig}
 use Rattle.bn_element.specs.Rotary.{rotary}
 use Rattle.bn_netlist_laws.specs.Spelling.{Spelling, AreSame, circuit_of, moved_to}
 use Rattle.bn_reply.specs.Answering.{HasAnswer, IsOneAnswer, IsSettled}
@@ -30,30 +29,6 @@ use Rattle.bn_reply_circuits_laws.specs.CircuitReply.{BackReplies, StepReplies, 
 use Rattle.bn_reply_circuits_laws.specs.MigrateReply.{MigrateIsSettled, MigrateReplies, MigratedStays}
 use Rattle.bn_reply_circuits_laws.specs.CircuitReply.{misspelled, walked}
 use Rattle.bn_reply_circuits_laws.specs.MigrateReply.{faulty, migrated}
-
--- ---- where a run ends
-
--- a run ends in a configuration of the circuit
-pub run-IsConfig : (k : Circuit) → IsCircuit k → (c : Config) → IsConfig k c → (t : ℕ) → IsConfig k (run k c t)
-run-IsConfig k circuit c config t =
-    let m = run_makes k c t in
-    Reaches-IsConfig k circuit m.made c (run k c t) config m.reaches
-
-retreat-IsConfig : (k : Circuit) → IsCircuit k → (c : Config) → IsConfig k c → IsConfig k (retreat k c)
-retreat-IsConfig k circuit c config = by_previous (previous k c) refl
-  where
-    by_previous : (o : Option Config) → previous k c ≡ o → IsConfig k (retreat k c)
-    by_previous None is = rw is config
-    by_previous (Some b) is = rw is (previous-IsConfig k circuit b c config (previous-Goes k circuit b c config is))
-
-back-suc : (k : Circuit) (c : Config) (t : ℕ) → back k c (suc t) ≡ retreat k (back k c t)
-unfolding back
-back-suc k c t = refl
-
--- a run back ends in a configuration of the circuit
-pub back-IsConfig : (k : Circuit) → IsCircuit k → (c : Config) → IsConfig k c → (t : ℕ) → IsConfig k (back k c t)
-back-IsConfig k circuit c config zero = subst (IsConfig k) (sym (back-zero k c)) config
-back-IsConfig k circuit c config (suc t) = subst (IsConfig k) (sym (back-suc k c t)) (retreat-IsConfig k circuit (back k c t) (back-IsConfig k circuit c config t))
 
 -- ---- one text, spelled by spellings that are the same
 

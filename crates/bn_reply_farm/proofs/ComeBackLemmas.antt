@@ -4,12 +4,12 @@ use Rattle.std.proofs.Common.{arith, sym, ap, subst, ◌∙◌}
 use Rattle.bn_net.specs.declared.net.TheConstants.{MOST_ELEMENTS}
 use Rattle.bn_reply.specs.declared.status.Status.TheVariants as statuses
 use Rattle.bn_farm.specs.declared.event.Event.{Event}
-use Rattle.bn_farm.specs.Farms.{FarmBoard, IsFarm, Tick, elements_of, farm_after, play, ticks}
+use Rattle.bn_farm.specs.Farms.{FarmBoard, IsFarm, Tick, elements_together, farm_after, play, ticks}
 use Rattle.bn_farm.specs.Undo.{moving, undoing}
-use Rattle.bn_farm.specs.FarmTexts.{AreEventsOf, IsFarmText, SpellBoards, joined, schedule_text}
+use Rattle.bn_farm.specs.FarmTexts.{AreEventsOf, IsFarmText, SpellBoards, parts_text, schedule_text}
 use Rattle.bn_farm.proofs.FarmLemmas.{farms_stay}
 use Rattle.bn_farm.proofs.LawfulLemmas.{length_play}
-use Rattle.bn_farm.proofs.PartLemmas.{parts_text, spelled_farm}
+use Rattle.bn_farm.proofs.PartLemmas.{spelled_farm, text_of_parts}
 use Rattle.bn_farm.proofs.TextLawLemmas.{elements_play, farms-read_back, undoing-schedule}
 use Rattle.bn_farm.proofs.UndoLemmas.{undoing_restores, undoing_twice}
 use Rattle.bn_reply_farm.specs.FarmReply.{FarmReplies, FarmsComeBack, faulty, large, misspelled, no_schedule, played, read}
@@ -36,8 +36,8 @@ some_parts [] (b ∷ bs) some spell e = spell
 some_parts (part ∷ parts) bs some spell e = cc
 
 -- the answer to the text of a farm after a schedule and the schedule that undoes it
-answered_back : (parts : List (List ℕ)) (bs : List FarmBoard) (es : List Event) (text : List ℕ) → bs ≢ [] → SpellBoards parts bs → AreEventsOf (length bs) es → elements_of bs ≤ MOST_ELEMENTS →
-    IsFarmText (farm_after bs es) (undoing bs es) text → FarmReplies text statuses.Done (joined parts ++ schedule_text (moving bs es)) []
+answered_back : (parts : List (List ℕ)) (bs : List FarmBoard) (es : List Event) (text : List ℕ) → bs ≢ [] → SpellBoards parts bs → AreEventsOf (length bs) es → elements_together bs ≤ MOST_ELEMENTS →
+    IsFarmText (farm_after bs es) (undoing bs es) text → FarmReplies text statuses.Done (parts_text parts ++ schedule_text (moving bs es)) []
 answered_back parts bs es text some spell all few is =
     let left = farm_after bs es in
     let good = spelled_farm parts bs spell in
@@ -46,11 +46,11 @@ answered_back parts bs es text some spell all few is =
     let twice = undoing_twice bs es good in
     let elements = elements_play bs (ticks es) in
     let there = farms-read_back left (undoing bs es) text back is in
-    let first : IsFarmText bs (moving bs es) (joined parts ++ schedule_text (moving bs es)) = record { parts = parts; spell = spell; written = refl } in
+    let first : IsFarmText bs (moving bs es) (parts_text parts ++ schedule_text (moving bs es)) = record { parts = parts; spell = spell; written = refl } in
     read there.parts there.last left (some_parts there.parts left (some_played bs (ticks es) some) there.boards) there.are there.boards
     (played (undoing bs es) there.schedule (omega (arith, few, elements))
-    (subst (λ xs. IsFarmText xs (undoing left (undoing bs es)) (joined parts ++ schedule_text (moving bs es))) (sym restored)
-    (subst (λ xs. IsFarmText bs xs (joined parts ++ schedule_text (moving bs es))) (sym twice) first)) refl refl)
+    (subst (λ xs. IsFarmText xs (undoing left (undoing bs es)) (parts_text parts ++ schedule_text (moving bs es))) (sym restored)
+    (subst (λ xs. IsFarmText bs xs (parts_text parts ++ schedule_text (moving bs es))) (sym twice) first)) refl refl)
 
 done_text : statuses.Done ≢ statuses.Text
 done_text e = cc
@@ -66,7 +66,7 @@ farms-come_back bytes text again told heard status (read ps last bs some are spe
 farms-come_back bytes text again told heard status (read ps last bs some are spell (played es h few is e n)) reply =
     let there = some_boards ps bs some spell in
     let answer = answered_back ps bs es text there spell h.lawful few is in
-    let one = farm_one text status statuses.Done again (joined ps ++ schedule_text (moving bs es)) heard [] reply answer in (
+    let one = farm_one text status statuses.Done again (parts_text ps ++ schedule_text (moving bs es)) heard [] reply answer in (
       one.statuses,
       record {
         boards = bs;
@@ -75,7 +75,7 @@ farms-come_back bytes text again told heard status (read ps last bs some are spe
         some = there;
         spell = spell;
         lawful = h.lawful;
-        bytes_are = parts_text bytes ps last are ∙ ap (λ l. joined ps ++ l) h.spelled;
+        bytes_are = text_of_parts bytes ps last are ∙ ap (λ l. parts_text ps ++ l) h.spelled;
         again_is = one.texts;
       },
     )

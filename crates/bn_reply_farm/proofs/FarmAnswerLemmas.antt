@@ -17,7 +17,7 @@ use Rattle.bn_farm.specs.Playing.{AreOnBoards}
 use Rattle.bn_farm.specs.Undo.{undoing}
 use Rattle.bn_farm.specs.FarmTexts as texts
 use Rattle.bn_farm.specs.FarmTexts.{AreEventsOf, FailsAfter, IsFarmText, ScheduleFault}
-use Rattle.bn_reply_farm.specs.FarmReply.{FarmReplies, TellsBoard, board_line, elements_line, faulty, large, misspelled, no_schedule, played, read, schedule_line}
+use Rattle.bn_reply_farm.specs.FarmReply.{FarmReplies, TellsBoard, board_line, farm_elements_line, faulty, large, misspelled, no_schedule, played, read, schedule_line}
 use Rattle.bn_farm.specs.FarmRead.{AreTooMany, IsFarmRead, IsFarmRefusal, IsFirstMisspelled, IsRefusedBehind}
 use Rattle.bn_reply_farm.specs.FarmRefused.{IsBoardRefused, IsFarmRefused}
 
@@ -52,12 +52,12 @@ module _ (bytes : List ℕ) where
       read h.parts h.last h.boards h.some h.are h.spell (faulty n fault fails (text ∙ ap (λ m. schedule_line m fault) same) status refl)
 
   tells_elements : (refusal : FarmRefusal) (h : IsRefusedBehind bytes refusal) (r : Reply) (count : ℕ) → AreTooMany h.boards h.last count → r.status ≡ statuses.Size
-      → r.text.items ≡ elements_line count → FarmReplies bytes r.status r.text.items []
+      → r.text.items ≡ farm_elements_line count → FarmReplies bytes r.status r.text.items []
   tells_elements refusal h r count many status text =
       let great = many.great in
       let is = many.is in
       read h.parts h.last h.boards h.some h.are h.spell
-      (large many.schedule many.is_schedule (omega (arith, great, is)) (text ∙ ap elements_line is) status refl)
+      (large many.schedule many.is_schedule (omega (arith, great, is)) (text ∙ ap farm_elements_line is) status refl)
 
   refused : (refusal : FarmRefusal) (r : Reply) → IsFarmRefusal bytes refusal → IsFarmRefused refusal r.status r.text.items → FarmReplies bytes r.status r.text.items []
   refused farm.NoSchedule r uncut is = no_schedule uncut is.1 is.0 refl

@@ -6,7 +6,7 @@ use Rattle.bn_lists.specs.Lists.{HasNone, nth}
 use Rattle.bn_lists.proofs.ListLemmas.{first_once, first_or_none}
 use Rattle.bn_circuits.specs.declared.place.Place.{Place}
 use Rattle.bn_net.specs.declared.net.TheConstants.{MOST_ELEMENTS}
-use Rattle.bn_farm.specs.Farms.{FarmBoard, IsFarm, IsSpelled, elements_of, farm_after, ticks}
+use Rattle.bn_farm.specs.Farms.{FarmBoard, IsFarm, IsSpelled, elements_together, farm_after, ticks}
 use Rattle.bn_farm.specs.FarmRead.{IsUnspelled}
 use Rattle.bn_netlist_laws.specs.Faults.{Fault, IsFirstFault}
 use Rattle.bn_netlist_laws.proofs.DecideLemmas.{texts-spell-or-fault}
@@ -21,7 +21,7 @@ use Rattle.bn_reply.proofs.SettledLemmas.{agree}
 use Rattle.bn_farm.specs.declared.event.Event.{Event}
 use Rattle.bn_farm.specs.Undo.{undoing}
 use Rattle.bn_farm.specs.FarmTexts.{AreParts, FailsAfter, IsSchedule, IsFarmText, ScheduleFault, SpellBoards}
-use Rattle.bn_reply_farm.specs.FarmReply.{FarmIsSettled, FarmReplies, ScheduleReplies, TellsBoard, board_line, elements_line, faulty, large, misspelled, no_schedule, no_schedule_line, played, read, schedule_line}
+use Rattle.bn_reply_farm.specs.FarmReply.{FarmIsSettled, FarmReplies, ScheduleReplies, TellsBoard, board_line, farm_elements_line, faulty, large, misspelled, no_schedule, no_schedule_line, played, read, schedule_line}
 use Rattle.bn_farm.proofs.FarmLemmas.{farms_stay}
 use Rattle.bn_farm.proofs.PartLemmas.{parts_once, parts_there, spelled_farm}
 use Rattle.bn_farm.proofs.TextLawLemmas.{farms-have_texts}
@@ -30,15 +30,15 @@ use Rattle.bn_farm.proofs.ScheduleLemmas.{fault_once, faulty_none, schedule_once
 
 -- ---- boards and a schedule
 
-same_elements : (bs cs : List FarmBoard) → AreAllSame bs cs → elements_of cs ≡ elements_of bs
+same_elements : (bs cs : List FarmBoard) → AreAllSame bs cs → elements_together cs ≡ elements_together bs
 same_elements bs cs same = sym (elements_same bs cs same)
 
 schedule_some : (bs : List FarmBoard) (bytes : List ℕ) → IsFarm bs → HasAnswer (ScheduleReplies bs bytes)
 schedule_some bs bytes good = by_schedule (schedule_or_fault (length bs) bytes)
   where
     by_schedule : ((es : List Event) × IsSchedule (length bs) bytes es) ⊎ ((n : ℕ) × (fault : ScheduleFault) × FailsAfter (length bs) n bytes fault) → HasAnswer (ScheduleReplies bs bytes)
-    by_schedule (inl (es, is)) = elim (cases_lt MOST_ELEMENTS (elements_of bs)) [
-      | inl great ↦ (statuses.Size, elements_line (elements_of bs), [], large es is great refl refl refl)
+    by_schedule (inl (es, is)) = elim (cases_lt MOST_ELEMENTS (elements_together bs)) [
+      | inl great ↦ (statuses.Size, farm_elements_line (elements_together bs), [], large es is great refl refl refl)
       | inr few ↦ (let text = farms-have_texts (farm_after bs es) (undoing bs es) (farms_stay bs (ticks es) good) in (statuses.Done, text.0, [], played es is few text.1 refl refl))
     ]
     by_schedule (inr (n, fault, is)) = (statuses.Text, schedule_line (suc n) fault, [], faulty n fault is refl refl refl)
@@ -59,7 +59,7 @@ schedule_one bs cs bytes same s u a b x y (large es h great is e told) (faulty m
     let there : FailsAfter (length bs) m bytes other = subst (λ l. FailsAfter l m bytes other) (sym (length_same bs cs same)) k in
     absurd (faulty_none (length bs) m bytes other es there h.lawful h.spelled)
 schedule_one bs cs bytes same s u a b x y (large es h great is e told) (large fs k more also f heard) =
-    agree statuses.Size s u a b x y e f (is ∙ ap elements_line (elements_same bs cs same) ∙ sym also) told heard
+    agree statuses.Size s u a b x y e f (is ∙ ap farm_elements_line (elements_same bs cs same) ∙ sym also) told heard
 schedule_one bs cs bytes same s u a b x y (large es h great is e told) (played fs k few also f heard) =
     let count = elements_same bs cs same in
     absurd (omega arith)

@@ -10,7 +10,7 @@ use Rattle.bn_reply.specs.Lines.{line}
 use Rattle.bn_reply.specs.declared.status.Status.{Status}
 use Rattle.bn_reply.specs.declared.status.Status.TheVariants as statuses
 use Rattle.bn_farm.specs.FarmTexts as texts
-use Rattle.bn_reply_farm.specs.FarmReply.{board_line, elements_line, no_schedule_line, schedule_line}
+use Rattle.bn_reply_farm.specs.FarmReply.{board_line, farm_elements_line, no_schedule_line, schedule_line}
 use Rattle.bn_farm.specs.declared.farm_refusal.FarmRefusal.{FarmRefusal}
 use Rattle.bn_farm.specs.declared.farm_refusal.FarmRefusal.TheVariants as farm
 
@@ -43,5 +43,5 @@ IsFarmRefused (farm.Board board fault) status text = (status ≡ statuses.Text) 
 IsFarmRefused (farm.Form number) status text = (status ≡ statuses.Text) × (text ≡ schedule_line number texts.malformed)
 IsFarmRefused (farm.NoBoard number) status text =
     (status ≡ statuses.Text) × (text ≡ schedule_line number texts.no_board)
-IsFarmRefused (farm.Elements count) status text = (status ≡ statuses.Size) × (text ≡ elements_line count)
+IsFarmRefused (farm.Elements count) status text = (status ≡ statuses.Size) × (text ≡ farm_elements_line count)
 IsFarmRefused farm.NoMemory status text = ⊥

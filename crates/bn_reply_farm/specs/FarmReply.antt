@@ -13,10 +13,10 @@ use Rattle.bn_reply.specs.Lines.{line}
 use Rattle.bn_reply.specs.declared.status.Status.{Status}
 use Rattle.bn_reply.specs.declared.status.Status.TheVariants as statuses
 use Rattle.bn_farm.specs.declared.event.Event.{Event}
-use Rattle.bn_farm.specs.Farms.{FarmBoard, elements_of, farm_after}
+use Rattle.bn_farm.specs.Farms.{FarmBoard, elements_together, farm_after}
 use Rattle.bn_farm.specs.Undo.{moving, undoing}
 use Rattle.bn_farm.specs.FarmTexts.{AreEventsOf, AreParts, FailsAfter, IsFarmText, IsSchedule, ScheduleFault}
-use Rattle.bn_farm.specs.FarmTexts.{SpellBoards, joined, malformed, no_board, schedule_text}
+use Rattle.bn_farm.specs.FarmTexts.{SpellBoards, parts_text, malformed, no_board, schedule_text}
 use Rattle.bn_farm.specs.FarmRead.{IsUnspelled}
 
 -- ---- lines
@@ -36,8 +36,8 @@ abbrev pub schedule_line : ℕ → ScheduleFault → List ℕ
 schedule_line number fault =
     line (codes "text: schedule line " ∷ decimal number ∷ codes " " ∷ fault_words fault ∷ [])
 
-abbrev pub elements_line : ℕ → List ℕ
-elements_line count = line (codes "size: elements " ∷ decimal count ∷ [])
+abbrev pub farm_elements_line : ℕ → List ℕ
+farm_elements_line count = line (codes "size: elements " ∷ decimal count ∷ [])
 
 -- ---- answers
 
@@ -58,10 +58,10 @@ pub data ScheduleReplies (bs : List FarmBoard) (bytes : List ℕ) (status : Stat
     (told : List Place) : Type 0 where
   faulty : (n : ℕ) (fault : ScheduleFault) → FailsAfter (length bs) n bytes fault → text ≡ schedule_line (suc n) fault
       → status ≡ statuses.Text → told ≡ [] → ScheduleReplies bs bytes status text told
-  large : (es : List Event) → IsSchedule (length bs) bytes es → MOST_ELEMENTS < elements_of bs
-      → text ≡ elements_line (elements_of bs) → status ≡ statuses.Size → told ≡ []
+  large : (es : List Event) → IsSchedule (length bs) bytes es → MOST_ELEMENTS < elements_together bs
+      → text ≡ farm_elements_line (elements_together bs) → status ≡ statuses.Size → told ≡ []
       → ScheduleReplies bs bytes status text told
-  played : (es : List Event) → IsSchedule (length bs) bytes es → elements_of bs ≤ MOST_ELEMENTS
+  played : (es : List Event) → IsSchedule (length bs) bytes es → elements_together bs ≤ MOST_ELEMENTS
       → IsFarmText (farm_after bs es) (undoing bs es) text → status ≡ statuses.Done → told ≡ []
       → ScheduleReplies bs bytes status text told
 
@@ -90,8 +90,8 @@ pub record ComesBack (bytes again : List ℕ) : Type 0 where
   pub some : boards ≢ []
   pub spell : SpellBoards parts boards
   pub lawful : AreEventsOf (length boards) schedule
-  pub bytes_are : bytes ≡ joined parts ++ schedule_text schedule
-  pub again_is : again ≡ joined parts ++ schedule_text (moving boards schedule)
+  pub bytes_are : bytes ≡ parts_text parts ++ schedule_text schedule
+  pub again_is : again ≡ parts_text parts ++ schedule_text (moving boards schedule)
 
 abbrev pub FarmsComeBack : Type 0
 FarmsComeBack =

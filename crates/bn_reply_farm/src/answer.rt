@@ -2,7 +2,7 @@
 
 ghost use Rattle.std.specs.Prelude.{◌≡◌, ◌≤◌, [], length, IfOk};
 ghost use Rattle.bn_reply_farm.specs.FarmRefused.{IsBoardRefused, IsFarmRefused, board_fault_text, schedule_fault_text};
-ghost use Rattle.bn_reply_farm.specs.FarmReply.{FarmReplies, elements_line, no_schedule_line};
+ghost use Rattle.bn_reply_farm.specs.FarmReply.{FarmReplies, farm_elements_line, no_schedule_line};
 ghost use Rattle.bn_farm.specs.FarmTexts.{IsFarmText};
 ghost use Rattle.bn_farm.specs.Farms.{farm_after};
 ghost use Rattle.bn_farm.specs.Playing.{AreOnBoards};

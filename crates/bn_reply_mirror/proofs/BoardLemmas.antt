@@ -19,7 +19,7 @@ use Rattle.bn_netlist_laws.specs.declared.version.Version.{Version}
 use Rattle.bn_netlist_laws.proofs.VersionLemmas.{spellings-move}
 use Rattle.bn_mirror.specs.Mirror.{IsMirror}
 use Rattle.bn_mirror.specs.Laws.{ComesBack}
-use Rattle.bn_mirror.proofs.AdmittedLemmas.{sources_one}
+use Rattle.bn_circuits.proofs.AlikeLemmas.{sources_one}
 use Rattle.bn_mirror.proofs.RunLemmas.{runs-come_back}
 use Rattle.bn_board.specs.Flats.{Flat, IsFlatOf, flat_start}
 use Rattle.bn_board_laws.proofs.ClosedLemmas.{run_to_exit}

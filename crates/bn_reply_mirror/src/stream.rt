@@ -13,8 +13,8 @@ use bn_reply::{MOST_INPUT_BYTES, Status};
 use bn_reply_circuits::{give_config, refuse_from};
 use std::alloc::Global;
 
-/// Answers `mirror`: reads a configuration text of either version from the source and gives the sink that of its mirror,
-/// in the version that was read. It tells no watch anything.
+/// Answers `mirror`: reads a configuration text of either version from the source and gives the sink that of its
+/// mirror, in the version that was read. It tells no watch anything.
 pub fn mirror_stream<S: Source, K: Sink>(alloc: Global, source: &mut S, sink: &mut K) -> Status
     ensures { (told : Option (List Place)) → StreamEnds MirrorReplies result
         (outside (S.left source.old) (K.taken sink.old) told (S.faults source.old) (K.faults sink.old))

@@ -18,6 +18,3 @@ pub use session::reply_session;
 pub use session_laws::{session_has_one_reply, sessions_stay_on_the_run};
 pub use view::{layers_text, reply_view};
 pub use view_laws::{view_has_one_reply, views_show_steps};
-
-#[cfg(test)]
-mod view_tests;

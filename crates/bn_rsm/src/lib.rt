@@ -14,6 +14,3 @@ pub use laws::{
 pub use refusal::RsmRefusal;
 pub use rsm::Rsm;
 pub use rsm_move::RsmMove;
-
-#[cfg(test)]
-mod tests;

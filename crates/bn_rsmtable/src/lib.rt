@@ -15,6 +15,3 @@ pub use laws::{
 };
 pub use refusal::RsmTableRefusal;
 pub use text::{read_rsm, write_rsm};
-
-#[cfg(test)]
-mod tests;

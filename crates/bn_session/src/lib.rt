@@ -24,6 +24,3 @@ pub use player::play;
 pub use refusal::ScriptRefusal;
 pub use script::{Script, read_script};
 pub use shows::Shows;
-
-#[cfg(test)]
-mod tests;

@@ -9,6 +9,3 @@ mod why;
 pub use laws::{standard_is_accepted, verdicts_are_one};
 pub use standard::{Standard, check};
 pub use why::Why;
-
-#[cfg(test)]
-mod tests;

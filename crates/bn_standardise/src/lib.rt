@@ -20,6 +20,3 @@ pub use laws::{
 pub use machine::standardise;
 pub use refusal::LooseRefusal;
 pub use text::standard_text;
-
-#[cfg(test)]
-mod tests;

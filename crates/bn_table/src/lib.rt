@@ -15,6 +15,3 @@ pub use laws::{bytes_have_a_reading_or_a_fault, bytes_have_one_reading, tables_a
 pub use refusal::TableRefusal;
 pub use table::Table;
 pub use text::{read_quints, write_quints, write_row};
-
-#[cfg(test)]
-mod tests;

@@ -3,7 +3,7 @@ use Rattle.std.proofs.Common.{◌≡◌, ◌∙◌, List, ℕ, ap, arith, length
 use Rattle.bn_machine.specs.Machine.{Program}
 use Rattle.bn_lists.specs.Lists.{IsIn}
 use Rattle.bn_erase.specs.Joint.{IsJoint}
-use Rattle.bn_erase.specs.Recoded.{recoded, widened}
+use Rattle.bn_erase.specs.Recoded.{recoded, with_symbols}
 use Rattle.bn_erase.proofs.JoinedLemmas.{code_among, joined_is, joint_few, tables_joined}
 use Rattle.bn_erase.proofs.JointLemmas.{second_in}
 use Rattle.bn_erase.proofs.joined.join_letters.Goals as goal
@@ -26,6 +26,6 @@ invariant_of-result c =
     let n = c.len.result in
     let counted : n ≡ length c.in_ok-letters.letters.items = omega arith in
     let is = joined_is t u c.in_ok-first.first c.in_ok-second.second c.in_ok-letters.letters.items n e.made counted
-    (c.in_ok-first.ensures ∙ ap (λ (p : Program). widened n p) c.machine.ensures.value)
+    (c.in_ok-first.ensures ∙ ap (λ (p : Program). with_symbols n p) c.machine.ensures.value)
     (c.in_ok-second.ensures ∙ ap (λ (ls : List ℕ). recoded (code_among ls u.letters) (length ls) u.machine) c.as_slice.ensures.value) in
     subst IsJoint (sym is) (tables_joined t u e.first e.second)
