@@ -7,3 +7,4 @@ pub mod Faults
 pub mod Watching
 pub mod Walking
 pub mod Heard
+pub mod Ends

@@ -1,6 +1,7 @@
 //! Nets of elements with wires, run forward and backward by one signal.
 #![tactic(auto)]
 
+mod end;
 mod laws;
 mod net;
 mod refusal;

@@ -243,6 +243,7 @@ impl<E: Element> Net<E> {
     {
         let outputs = output_counts(alloc, elements.as_slice())?;
         let targets = RowMap::try_new(alloc, outputs.as_slice())?;
+        drop(outputs);
         let inputs = input_counts(alloc, elements.as_slice())?;
         let sources = RowMap::try_new(alloc, inputs.as_slice())?;
         Ok(Net {

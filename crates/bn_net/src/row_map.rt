@@ -2,8 +2,10 @@
 
 ghost use Rattle.std.specs.Prelude.{◌≡◌, ℕ, ◌+◌, ◌^◌, ◌<◌, ◌≤◌, List, [], length, map, replicate, None, IfOk};
 ghost use Rattle.std.specs.Prelude.{slice_get};
+ghost use Rattle.bn_net.specs.declared.end.TheConstants.{NO_ELEMENT};
 ghost use Rattle.bn_net.specs.Rows.{entry, width, put, rows_at, AreStarts, starts_from};
 
+use crate::end::End;
 use bn_circuits::Line;
 use bn_lists::NoMemory;
 use std::alloc::Global;
@@ -14,7 +16,7 @@ use std::marker::Model;
 pub(crate) struct RowMap {
     // Where each row begins among the cells, and at last the number of cells.
     starts: Vec<usize>,
-    cells: Vec<Option<Line>>,
+    cells: Vec<End>,
 }
 
 impl Model for RowMap {
@@ -39,7 +41,8 @@ impl RowMap {
 
     /// Writes a line into the cell of this line.
     pub(crate) fn set(&mut self, line: Line, to: Line)
-        requires { line.line < width self.old line.element }
+        requires within { line.line < width self.old line.element }
+        requires low { to.element < NO_ELEMENT }
         ensures { self.new ≡ put self.old line to }
     {
         write_at(self.starts.as_slice(), self.cells.as_mut_slice(), line, to);
@@ -52,7 +55,7 @@ impl RowMap {
     {
         let starts = starts_of(alloc, widths)?;
         let total = starts[widths.len()];
-        let Ok(cells) = vec![in alloc; None; total] else {
+        let Ok(cells) = vec![in alloc; End::none(); total] else {
             return Err(NoMemory);
         };
         Ok(RowMap { starts, cells })
@@ -60,23 +63,24 @@ impl RowMap {
 }
 
 // What the cell of this line holds, among rows that begin at these starts.
-fn cell_at(starts: &[usize], cells: &[Option<Line>], line: Line) -> Option<Line>
+fn cell_at(starts: &[usize], cells: &[End], line: Line) -> Option<Line>
     requires are { AreStarts starts.now (length cells.now) }
     requires within { line.line < width (rows_at starts.now cells.now) line.element }
     ensures { result ≡ entry (rows_at starts.now cells.now) line }
 {
     let start = starts[line.element as usize];
-    cells[start + line.line as usize]
+    cells[start + line.line as usize].line()
 }
 
 // Writes a line into the cell of this line.
-fn write_at(starts: &[usize], cells: &mut [Option<Line>], line: Line, to: Line)
+fn write_at(starts: &[usize], cells: &mut [End], line: Line, to: Line)
     requires are { AreStarts starts.now (length cells.old) }
     requires within { line.line < width (rows_at starts.now cells.old) line.element }
+    requires low { to.element < NO_ELEMENT }
     ensures { rows_at starts.now cells.new ≡ put (rows_at starts.now cells.old) line to }
 {
     let start = starts[line.element as usize];
-    cells[start + line.line as usize] = Some(to);
+    cells[start + line.line as usize] = End::of(to);
 }
 
 // Where each row of these widths begins, and at last where all end.

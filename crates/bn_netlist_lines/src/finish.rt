@@ -10,6 +10,7 @@ ghost use Rattle.bn_netlist_lines.specs.Drafting.{IsOwnColumn};
 ghost use Rattle.bn_netlist_laws.specs.Sentences.{Sentence};
 ghost use Rattle.bn_netlist_lines.specs.Finishing.{IsWholeDraft, SpellsAll, RefusesAll};
 
+use crate::draft::Draft;
 use crate::entries::Entries;
 use crate::net_config::NetConfig;
 use crate::refusal::NetlistRefusal;
@@ -42,10 +43,14 @@ impl Entries {
             ends,
             ..
         } = self;
+        // The net stands beside the wires of the list, and they are most of what this call takes: no room is kept.
+        let Draft { mut wires, fed } = ends;
+        drop(fed);
+        wires.shrink_to_fit();
         let Ok(elements) = vec![in alloc; Rotary; header.count as usize] else {
             return Err(NetlistRefusal::NoMemory);
         };
-        let Ok(net) = Net::new(alloc, elements, &ends.wires) else {
+        let Ok(net) = Net::new(alloc, elements, &wires) else {
             return Err(NetlistRefusal::NoMemory);
         };
         let states = States::new(states);

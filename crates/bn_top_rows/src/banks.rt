@@ -1,6 +1,6 @@
 //! `realise` on tables of reversible sequential machines.
 
-use crate::desk::answer;
+use crate::desk::{answer, hold_each};
 use bn_top::Status;
 use std::test::Fail;
 
@@ -17,33 +17,47 @@ const MOVED: &str = "rotary 2\nelements 6\nstart 0.w\nend 4.e\nsteps 8\nleft 4.e
 
 #[test]
 fn writes_the_bank_of_a_machine(rt: HostRuntime) -> Result<(), Fail> {
-    let rows = [
-        (TWO_MOVES, "1", "1", 0, BANK),
-        (TWO_MOVES, "3", "1", 5, "word: state\n"),
-        (TWO_MOVES, "3", "3", 5, "word: state\n"),
-        (TWO_MOVES, "1", "3", 5, "word: line\n"),
+    let rows: [(&[&str], &str, u8, &str); 13] = [
+        (&["realise", "1", "1"], TWO_MOVES, 0, BANK),
+        (&["realise", "3", "1"], TWO_MOVES, 5, "word: state\n"),
+        (&["realise", "3", "3"], TWO_MOVES, 5, "word: state\n"),
+        (&["realise", "1", "3"], TWO_MOVES, 5, "word: line\n"),
         (
+            &["realise", "1", "1"],
             "1,1,2,2\n2,2,1,1\n1,2,2,2\n",
-            "1",
-            "1",
             4,
             "machine: range 1 3\n",
         ),
-        ("1,1,2,2\n1,1,1,1\n", "9", "9", 4, "machine: domain 1 2\n"),
-        ("4,1048576,1,1\n", "1", "1", 6, "size: elements 4194308\n"),
-        ("1,1,2\n", "1", "1", 3, "text: record 1 fields\n"),
-        ("1,0,2,2\n", "1", "1", 3, "text: record 1 field 2 number\n"),
-        ("", "1", "1", 3, "text: empty\n"),
-        (TWO_MOVES, "0", "1", 2, "usage\n"),
-        (TWO_MOVES, "1", "01", 2, "usage\n"),
-        (TWO_MOVES, "1", "1048577", 2, "usage\n"),
+        (
+            &["realise", "9", "9"],
+            "1,1,2,2\n1,1,1,1\n",
+            4,
+            "machine: domain 1 2\n",
+        ),
+        (
+            &["realise", "1", "1"],
+            "4,1048576,1,1\n",
+            6,
+            "size: elements 4194308\n",
+        ),
+        (
+            &["realise", "1", "1"],
+            "1,1,2\n",
+            3,
+            "text: record 1 fields\n",
+        ),
+        (
+            &["realise", "1", "1"],
+            "1,0,2,2\n",
+            3,
+            "text: record 1 field 2 number\n",
+        ),
+        (&["realise", "1", "1"], "", 3, "text: empty\n"),
+        (&["realise", "0", "1"], TWO_MOVES, 2, "usage\n"),
+        (&["realise", "1", "01"], TWO_MOVES, 2, "usage\n"),
+        (&["realise", "1", "1048577"], TWO_MOVES, 2, "usage\n"),
     ];
-    for (input, state, line, code, output) in rows {
-        let answer = answer(rt.alloc(), &["realise", state, line], input.as_bytes())?;
-        assert_eq!(rt; answer.text.as_slice(), output.as_bytes(), "{state} {line}");
-        assert_eq!(rt; answer.status.code(), code, "{state} {line}");
-    }
-    Ok(())
+    hold_each(&rt, rt.alloc(), &rows)
 }
 
 #[test]

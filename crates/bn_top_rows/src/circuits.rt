@@ -1,6 +1,6 @@
 //! `step` and `back` on configuration texts.
 
-use crate::desk::{answer, answer_watched};
+use crate::desk::{answer, answer_watched, hold, hold_each};
 use bn_net::{MemWatch, Place};
 use bn_top::Status;
 use std::test::Fail;
@@ -23,34 +23,22 @@ const ENDLESS: &str =
 
 #[test]
 fn steps_forward_and_back(rt: HostRuntime) -> Result<(), Fail> {
-    let rows = [
-        ("step", "1", PARALLEL, PASSED),
-        ("step", "9", PARALLEL, PASSED),
-        ("step", "0", PARALLEL, PARALLEL),
-        ("back", "1", PASSED, PARALLEL),
-        ("step", "1", ACROSS, TURNED),
-        ("back", "1", TURNED, ACROSS),
-        ("back", "1", ACROSS, ACROSS),
+    let rows: [(&[&str], &str, u8, &str); 7] = [
+        (&["step", "1"], PARALLEL, 0, PASSED),
+        (&["step", "9"], PARALLEL, 0, PASSED),
+        (&["step", "0"], PARALLEL, 0, PARALLEL),
+        (&["back", "1"], PASSED, 0, PARALLEL),
+        (&["step", "1"], ACROSS, 0, TURNED),
+        (&["back", "1"], TURNED, 0, ACROSS),
+        (&["back", "1"], ACROSS, 0, ACROSS),
     ];
-    for (command, count, input, output) in rows {
-        let answer = answer(rt.alloc(), &[command, count], input.as_bytes())?;
-        assert_eq!(rt; answer.status, Status::Done, "{command} {count}");
-        assert_eq!(rt;
-            answer.text.as_slice(),
-            output.as_bytes(),
-            "{command} {count}"
-        );
-    }
-    Ok(())
+    hold_each(&rt, rt.alloc(), &rows)
 }
 
 #[test]
 fn runs_a_ring_for_a_thousand_steps(rt: HostRuntime) -> Result<(), Fail> {
     let after = "rotary 1\nelements 1\nstart 0.e\nend 0.w\nsteps 1000\nat 0.n\ne 0 V - - 0.n -\n";
-    let answer = answer(rt.alloc(), &["step", "1000"], ENDLESS.as_bytes())?;
-    assert_eq!(rt; answer.status, Status::Done);
-    assert_eq!(rt; answer.text.as_slice(), after.as_bytes());
-    Ok(())
+    hold(&rt, rt.alloc(), &["step", "1000"], &[(ENDLESS, 0, after)])
 }
 
 #[test]
@@ -73,59 +61,65 @@ fn refuses_a_text_at_its_first_faulty_line(rt: HostRuntime) -> Result<(), Fail> 
     let two = "rotary 1\nelements 2\nstart 0.n\nend 0.s\nsteps 0\nat 0.n\n\
                e 0 V 1.w - - -\ne 1 V 1.w - - -\n";
     let rows = [
-        ("", "text: line 1 syntax\n"),
+        ("", 3, "text: line 1 syntax\n"),
         (
             "rotary 1\nelements 0\nstart 0.n\nend 0.s\nsteps 0\nat 0.n\ne 0 V - - - -\n",
+            3,
             "text: line 2 syntax\n",
         ),
         (
             "rotary 1\nelements 1048577\nstart 0.n\nend 0.s\nsteps 0\nat 0.n\ne 0 V - - - -\n",
+            3,
             "text: line 2 too many\n",
         ),
         (
             "rotary 1\nelements 1048576\nstart 0.n\nend 0.s\nsteps 0\nat 0.n\n",
+            3,
             "text: line 7 syntax\n",
         ),
         (
             "rotary 1\nelements 1\nstart 0.n\nend 1.s\nsteps 0\nat 0.n\ne 0 V - - - -\n",
+            3,
             "text: line 4 target\n",
         ),
         (
             "rotary 1\nelements 1\nstart 0.n\nend 0.s\nsteps 0\nat 0.n\ne 0 V - - - -",
+            3,
             "text: line 7 syntax\n",
         ),
         (
             "rotary 1\nelements 1\nstart 0.n\nend 0.s\nsteps 0\nat 0.n\ne 00 V - - - -\n",
+            3,
             "text: line 7 syntax\n",
         ),
         (
             "rotary 1\nelements 1\nstart 0.n\nend 0.s\nsteps 0\nat 0.n\ne 1 V - - - -\n",
+            3,
             "text: line 7 order\n",
         ),
         (
             "rotary 1\nelements 1\nstart 0.n\nend 0.s\nsteps 0\nat 0.n\ne 0 V - - 0.e -\n",
+            3,
             "text: line 7 end wired\n",
         ),
         (
             "rotary 1\nelements 1\nstart 0.n\nend 0.w\nsteps 0\nleft 0.s\ne 0 V - - 0.e -\n",
+            3,
             "text: line 7 left wired\n",
         ),
         (
             "rotary 1\nelements 1\nstart 0.n\nend 0.w\nsteps 0\nat 0.n\ne 0 V - - 0.n -\n",
+            3,
             "text: line 7 start fed\n",
         ),
         (
             "rotary 1\nelements 1\nstart 0.n\nend 0.s\nsteps 0\nat 0.n\ne 0 V - - - -\n\n",
+            3,
             "text: line 8 syntax\n",
         ),
-        (two, "text: line 8 two sources\n"),
+        (two, 3, "text: line 8 two sources\n"),
     ];
-    for (input, output) in rows {
-        let answer = answer(rt.alloc(), &["step", "1"], input.as_bytes())?;
-        assert_eq!(rt; answer.text.as_slice(), output.as_bytes());
-        assert_eq!(rt; answer.status.code(), 3);
-    }
-    Ok(())
+    hold(&rt, rt.alloc(), &["step", "1"], &rows)
 }
 
 #[test]

@@ -6,6 +6,8 @@ use bn_io::{MemSink, MemSource};
 use bn_net::{Quiet, Watch};
 use bn_top::{Status, workbench};
 use std::alloc::{AllocError, Global};
+use std::process::Abort;
+use std::test::Fail;
 
 /// What the workbench answered.
 #[derive(Drop)]
@@ -56,6 +58,46 @@ pub(crate) fn answer_in_pieces<W: Watch>(
         status,
         text: Vec::from_slice(alloc, sink.taken())?,
     })
+}
+
+/// The row is held: to these words and this input the text is answered, with the status of this code.
+fn hold_row(
+    rt: &impl Abort,
+    alloc: Global,
+    list: &[&str],
+    input: &str,
+    code: u8,
+    text: &str,
+) -> Result<(), Fail> {
+    let answer = answer(alloc, list, input.as_bytes())?;
+    assert_eq!(rt; answer.text.as_slice(), text.as_bytes(), "{input}");
+    assert_eq!(rt; answer.status.code(), code, "{input}");
+    Ok(())
+}
+
+/// Each row is held: its words, its input, its code and its text.
+pub(crate) fn hold_each(
+    rt: &impl Abort,
+    alloc: Global,
+    rows: &[(&[&str], &str, u8, &str)],
+) -> Result<(), Fail> {
+    for (list, input, code, text) in rows {
+        hold_row(rt, alloc, list, input, *code, text)?;
+    }
+    Ok(())
+}
+
+/// Each row is held for these words: its input, its code and its text.
+pub(crate) fn hold(
+    rt: &impl Abort,
+    alloc: Global,
+    list: &[&str],
+    rows: &[(&str, u8, &str)],
+) -> Result<(), Fail> {
+    for (input, code, text) in rows {
+        hold_row(rt, alloc, list, input, *code, text)?;
+    }
+    Ok(())
 }
 
 /// The answer to words and bytes, with ample memory and no fault.

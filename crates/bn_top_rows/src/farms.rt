@@ -1,6 +1,6 @@
 //! `farm`: several boards under a schedule.
 
-use crate::desk::answer;
+use crate::desk::hold;
 use std::test::Fail;
 
 /// An element about to be entered, an endless run, and a schedule; and the answer.
@@ -54,10 +54,5 @@ fn boards_are_played_and_refused_in_order(rt: HostRuntime) -> Result<(), Fail> {
             "text: schedule line 1 board\n",
         ),
     ];
-    for (input, code, output) in rows {
-        let answer = answer(rt.alloc(), &["farm"], input.as_bytes())?;
-        assert_eq!(rt; answer.text.as_slice(), output.as_bytes());
-        assert_eq!(rt; answer.status.code(), code);
-    }
-    Ok(())
+    hold(&rt, rt.alloc(), &["farm"], &rows)
 }

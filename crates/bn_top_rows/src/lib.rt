@@ -13,6 +13,8 @@ mod circuits;
 #[cfg(test)]
 mod desk;
 #[cfg(test)]
+mod devices;
+#[cfg(test)]
 mod erased;
 #[cfg(test)]
 mod farms;

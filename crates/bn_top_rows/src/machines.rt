@@ -1,6 +1,6 @@
 //! `check` and `machine` on tables of quintuples.
 
-use crate::desk::answer;
+use crate::desk::{answer, hold, hold_each};
 use bn_top::Status;
 use std::test::Fail;
 
@@ -55,12 +55,7 @@ fn tells_whether_a_table_is_in_standard_form(rt: HostRuntime) -> Result<(), Fail
             "text: record 1 field 1 name\n",
         ),
     ];
-    for (input, code, output) in rows {
-        let answer = answer(rt.alloc(), &["check"], input.as_bytes())?;
-        assert_eq!(rt; answer.text.as_slice(), output.as_bytes(), "{input}");
-        assert_eq!(rt; answer.status.code(), code, "{input}");
-    }
-    Ok(())
+    hold(&rt, rt.alloc(), &["check"], &rows)
 }
 
 #[test]
@@ -80,25 +75,35 @@ fn takes_four_thousand_entries_and_no_more(rt: HostRuntime) -> Result<(), Fail> 
 
 #[test]
 fn runs_a_machine_by_itself(rt: HostRuntime) -> Result<(), Fail> {
-    let rows = [
-        (INCREMENT, "=1011", "20", 0, "halted 11\noutput =1100\n"),
-        (INCREMENT, "=1011", "11", 0, "halted 11\noutput =1100\n"),
-        (INCREMENT, "=1011", "10", 12, "running 10\n"),
-        (INCREMENT, "=", "100", 0, "halted 4\noutput =1\n"),
-        (LEAST, "=", "2", 0, "halted 2\noutput =\n"),
-        (LEAST, "=", "1", 12, "running 1\n"),
-        (LEAST, "=", "0", 12, "running 0\n"),
-        (BROKEN, "=1", "5", 10, "stuck R1 1 1\n"),
-        (INCREMENT, "=12", "5", 5, "word: 2\n"),
-        (INCREMENT, "=1_", "5", 5, "word: 2\n"),
-        (TWO_ENDS, "=z", "5", 4, "machine: S5 2\n"),
-        (INCREMENT, "1011", "20", 2, "usage\n"),
-        (INCREMENT, "=1011", "1048577", 2, "usage\n"),
+    let rows: [(&[&str], &str, u8, &str); 13] = [
+        (
+            &["machine", "=1011", "20"],
+            INCREMENT,
+            0,
+            "halted 11\noutput =1100\n",
+        ),
+        (
+            &["machine", "=1011", "11"],
+            INCREMENT,
+            0,
+            "halted 11\noutput =1100\n",
+        ),
+        (&["machine", "=1011", "10"], INCREMENT, 12, "running 10\n"),
+        (
+            &["machine", "=", "100"],
+            INCREMENT,
+            0,
+            "halted 4\noutput =1\n",
+        ),
+        (&["machine", "=", "2"], LEAST, 0, "halted 2\noutput =\n"),
+        (&["machine", "=", "1"], LEAST, 12, "running 1\n"),
+        (&["machine", "=", "0"], LEAST, 12, "running 0\n"),
+        (&["machine", "=1", "5"], BROKEN, 10, "stuck R1 1 1\n"),
+        (&["machine", "=12", "5"], INCREMENT, 5, "word: 2\n"),
+        (&["machine", "=1_", "5"], INCREMENT, 5, "word: 2\n"),
+        (&["machine", "=z", "5"], TWO_ENDS, 4, "machine: S5 2\n"),
+        (&["machine", "1011", "20"], INCREMENT, 2, "usage\n"),
+        (&["machine", "=1011", "1048577"], INCREMENT, 2, "usage\n"),
     ];
-    for (input, word, steps, code, output) in rows {
-        let answer = answer(rt.alloc(), &["machine", word, steps], input.as_bytes())?;
-        assert_eq!(rt; answer.text.as_slice(), output.as_bytes(), "{word} {steps}");
-        assert_eq!(rt; answer.status.code(), code, "{word} {steps}");
-    }
-    Ok(())
+    hold_each(&rt, rt.alloc(), &rows)
 }

@@ -1,6 +1,6 @@
 //! `mirror`: circuits whose steps are the steps back of others.
 
-use crate::desk::answer;
+use crate::desk::hold_each;
 use std::test::Fail;
 
 /// One element, the signal at its north line.
@@ -44,27 +44,24 @@ const INSIDE_TURNED: &str = "rotary 1\nelements 2\nstart 0.e\nend 0.n\nsteps 0\n
 
 #[test]
 fn undoes_a_circuit_by_a_circuit(rt: HostRuntime) -> Result<(), Fail> {
-    let rows: [(&[&str], &str, &str); 12] = [
-        (&["step", "1"], ELEMENT, ELEMENT_LEFT),
-        (&["mirror"], ELEMENT_LEFT, ELEMENT_TURNED),
-        (&["step", "1"], ELEMENT_TURNED, ELEMENT_BACK),
-        (&["mirror"], ELEMENT_BACK, ELEMENT),
-        (&["step", "8"], BANK, BANK_LEFT),
-        (&["mirror"], BANK_LEFT, BANK_TURNED),
-        (&["step", "8"], BANK_TURNED, BANK_BACK),
-        (&["mirror"], BANK_BACK, BANK),
-        (&["mirror"], INSIDE, INSIDE_TURNED),
-        (&["mirror"], "rotary 2\n", "text: line 2 syntax\n"),
+    let rows: [(&[&str], &str, u8, &str); 12] = [
+        (&["step", "1"], ELEMENT, 0, ELEMENT_LEFT),
+        (&["mirror"], ELEMENT_LEFT, 0, ELEMENT_TURNED),
+        (&["step", "1"], ELEMENT_TURNED, 0, ELEMENT_BACK),
+        (&["mirror"], ELEMENT_BACK, 0, ELEMENT),
+        (&["step", "8"], BANK, 0, BANK_LEFT),
+        (&["mirror"], BANK_LEFT, 0, BANK_TURNED),
+        (&["step", "8"], BANK_TURNED, 0, BANK_BACK),
+        (&["mirror"], BANK_BACK, 0, BANK),
+        (&["mirror"], INSIDE, 0, INSIDE_TURNED),
+        (&["mirror"], "rotary 2\n", 3, "text: line 2 syntax\n"),
         (
             &["mirror"],
             "rotary 1\nelements 0\n",
+            3,
             "text: line 2 syntax\n",
         ),
-        (&["mirror", "1"], ELEMENT, "usage\n"),
+        (&["mirror", "1"], ELEMENT, 2, "usage\n"),
     ];
-    for (list, input, output) in rows {
-        let answer = answer(rt.alloc(), list, input.as_bytes())?;
-        assert_eq!(rt; answer.text.as_slice(), output.as_bytes());
-    }
-    Ok(())
+    hold_each(&rt, rt.alloc(), &rows)
 }

@@ -1,6 +1,6 @@
 //! `plan`: floor plans of circuits.
 
-use crate::desk::answer;
+use crate::desk::{answer, hold_each};
 use std::test::Fail;
 
 /// One element, the signal at its north line.
@@ -35,10 +35,5 @@ fn gives_each_wire_the_least_free_track(rt: HostRuntime) -> Result<(), Fail> {
         (&["plan"], "rotary 3\n", 3, "text: line 1 syntax\n"),
         (&["plan", "1"], ELEMENT, 2, "usage\n"),
     ];
-    for (list, input, code, output) in rows {
-        let answer = answer(rt.alloc(), list, input.as_bytes())?;
-        assert_eq!(rt; answer.text.as_slice(), output.as_bytes());
-        assert_eq!(rt; answer.status.code(), code);
-    }
-    Ok(())
+    hold_each(&rt, rt.alloc(), &rows)
 }

@@ -1,7 +1,6 @@
 //! `reversible` on tables of quadruples.
 
-use crate::desk::answer;
-use bn_top::Status;
+use crate::desk::hold;
 use std::test::Fail;
 
 /// Bennett's list for the machine that goes one cell to the right and stops.
@@ -17,55 +16,51 @@ fn tells_whether_quadruples_overlap(rt: HostRuntime) -> Result<(), Fail> {
         // They read different tapes.
         (
             "A,_,/,/,_,0,0,B\nA,/,_,/,0,_,0,C\n",
+            0,
             "deterministic no 1 2\nreversible yes\n",
         ),
         // One shifts the tape that the other writes.
         (
             "A,/,_,/,+,1,0,B\nC,_,_,/,_,1,+,B\n",
+            0,
             "deterministic yes\nreversible no 1 2\n",
         ),
         // Both shift tapes 1 and 3, and write the same symbol, and then different ones, on tape 2.
         (
             "A,/,_,/,+,1,0,B\nC,/,_,/,0,1,+,B\n",
+            0,
             "deterministic yes\nreversible no 1 2\n",
         ),
         (
             "A,/,_,/,+,1,0,B\nC,/,_,/,0,2,+,B\n",
+            0,
             "deterministic yes\nreversible yes\n",
         ),
         // The second overlaps with the third and the fourth.
         (
             "S,_,_,_,_,_,_,A\nA,1,_,_,1,_,_,B\nA,1,_,_,2,_,_,B\nA,1,/,_,1,0,_,B\n",
+            0,
             "deterministic no 2 3\nreversible no 2 4\n",
         ),
-        (BENNETT, "deterministic yes\nreversible yes\n"),
+        (BENNETT, 0, "deterministic yes\nreversible yes\n"),
     ];
-    for (input, output) in rows {
-        let answer = answer(rt.alloc(), &["reversible"], input.as_bytes())?;
-        assert_eq!(rt; answer.text.as_slice(), output.as_bytes(), "{input}");
-        assert_eq!(rt; answer.status, Status::Done, "{input}");
-    }
-    Ok(())
+    hold(&rt, rt.alloc(), &["reversible"], &rows)
 }
 
 #[test]
 fn refuses_a_table_of_quadruples_at_its_first_fault(rt: HostRuntime) -> Result<(), Fail> {
     let rows = [
-        ("", "text: empty\n"),
-        ("A,_,/,/,_,0,0\n", "text: record 1 fields\n"),
-        ("A_,_,/,/,_,0,0,B\n", "text: record 1 field 1 name\n"),
+        ("", 3, "text: empty\n"),
+        ("A,_,/,/,_,0,0\n", 3, "text: record 1 fields\n"),
+        ("A_,_,/,/,_,0,0,B\n", 3, "text: record 1 field 1 name\n"),
         (
             "A,_,/,/,_,0,0,B\nB,//,/,/,0,0,0,C\n",
+            3,
             "text: record 2 field 2 symbol\n",
         ),
-        ("A,_,/,/,/,0,0,B\n", "text: record 1 field 5 symbol\n"),
-        ("A,_,/,/,_,1,0,B\n", "text: record 1 field 6 shift\n"),
-        ("A,_,/,/,_,0,0,\n", "text: record 1 field 8 name\n"),
+        ("A,_,/,/,/,0,0,B\n", 3, "text: record 1 field 5 symbol\n"),
+        ("A,_,/,/,_,1,0,B\n", 3, "text: record 1 field 6 shift\n"),
+        ("A,_,/,/,_,0,0,\n", 3, "text: record 1 field 8 name\n"),
     ];
-    for (input, output) in rows {
-        let answer = answer(rt.alloc(), &["reversible"], input.as_bytes())?;
-        assert_eq!(rt; answer.text.as_slice(), output.as_bytes(), "{input}");
-        assert_eq!(rt; answer.status.code(), 3, "{input}");
-    }
-    Ok(())
+    hold(&rt, rt.alloc(), &["reversible"], &rows)
 }

@@ -1,6 +1,6 @@
 //! `bennett` on tables of quintuples.
 
-use crate::desk::answer;
+use crate::desk::{answer, hold};
 use std::test::Fail;
 
 /// The least machine in standard form.
@@ -25,12 +25,7 @@ fn prints_the_reversible_machine(rt: HostRuntime) -> Result<(), Fail> {
         ("S,_,_,+\n", 3, "text: record 1 fields\n"),
         ("", 3, "text: empty\n"),
     ];
-    for (input, code, output) in rows {
-        let answer = answer(rt.alloc(), &["bennett"], input.as_bytes())?;
-        assert_eq!(rt; answer.text.as_slice(), output.as_bytes(), "{input}");
-        assert_eq!(rt; answer.status.code(), code, "{input}");
-    }
-    Ok(())
+    hold(&rt, rt.alloc(), &["bennett"], &rows)
 }
 
 #[test]

@@ -1,6 +1,6 @@
 //! `session`: scripts on boards.
 
-use crate::desk::answer;
+use crate::desk::{answer, hold};
 use std::test::Fail;
 
 /// The words of a session on the least machine's board.
@@ -74,10 +74,5 @@ fn cuts_its_input_before_the_table_is_read(rt: HostRuntime) -> Result<(), Fail> 
         ("S,_,_\n%", 3, "text: no script\n"),
         ("S,_,_\n%\ngo 0\n", 3, "text: record 1 fields\n"),
     ];
-    for (input, code, output) in rows {
-        let answer = answer(rt.alloc(), &WORDS, input.as_bytes())?;
-        assert_eq!(rt; answer.text.as_slice(), output.as_bytes(), "{input}");
-        assert_eq!(rt; answer.status.code(), code, "{input}");
-    }
-    Ok(())
+    hold(&rt, rt.alloc(), &WORDS, &rows)
 }

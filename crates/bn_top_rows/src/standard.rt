@@ -1,6 +1,6 @@
 //! `standard` on tables of quintuples, and what `check` and `machine` say of what it answers.
 
-use crate::desk::answer;
+use crate::desk::{answer, hold, hold_each};
 use std::test::Fail;
 
 /// It turns each letter of its word, from the first one on.
@@ -37,41 +37,35 @@ fn brings_a_table_into_standard_form(rt: HostRuntime) -> Result<(), Fail> {
         ("", 3, "text: empty\n"),
         ("A,0,1,+\n", 3, "text: record 1 fields\n"),
     ];
-    for (input, code, output) in rows {
-        let answer = answer(rt.alloc(), &["standard"], input.as_bytes())?;
-        assert_eq!(rt; answer.text.as_slice(), output.as_bytes(), "{input}");
-        assert_eq!(rt; answer.status.code(), code, "{input}");
-    }
-    let answer = answer(rt.alloc(), &["standard", "1"], TURNS.as_bytes())?;
-    assert_eq!(rt; answer.text.as_slice(), b"usage\n".as_slice());
-    Ok(())
+    hold(&rt, rt.alloc(), &["standard"], &rows)?;
+    hold(
+        &rt,
+        rt.alloc(),
+        &["standard", "1"],
+        &[(TURNS, 2, "usage\n")],
+    )
 }
 
 #[test]
 fn what_is_brought_into_standard_form_is_run(rt: HostRuntime) -> Result<(), Fail> {
-    let rows: [(&str, &[&str], u8, &str); 5] = [
+    let rows: [(&[&str], &str, u8, &str); 5] = [
         (
-            NOT,
             &["check"],
+            NOT,
             0,
             "standard states 4 symbols 3 quintuples 7\n",
         ),
         (
-            NOT,
             &["machine", "=101", "20"],
+            NOT,
             0,
             "halted 9\noutput =010\n",
         ),
-        (NOT, &["machine", "=", "20"], 0, "halted 3\noutput =\n"),
-        (HALF_NOT, &["machine", "=001", "20"], 10, "stuck Q1 1 3\n"),
-        (NOT, &["machine", "=101", "8"], 12, "running 8\n"),
+        (&["machine", "=", "20"], NOT, 0, "halted 3\noutput =\n"),
+        (&["machine", "=001", "20"], HALF_NOT, 10, "stuck Q1 1 3\n"),
+        (&["machine", "=101", "8"], NOT, 12, "running 8\n"),
     ];
-    for (input, words, code, output) in rows {
-        let answer = answer(rt.alloc(), words, input.as_bytes())?;
-        assert_eq!(rt; answer.text.as_slice(), output.as_bytes(), "{output}");
-        assert_eq!(rt; answer.status.code(), code, "{output}");
-    }
-    Ok(())
+    hold_each(&rt, rt.alloc(), &rows)
 }
 
 #[test]

@@ -1,6 +1,6 @@
 //! Configuration texts of version 2, and `migrate`.
 
-use crate::desk::{answer, answer_in_pieces};
+use crate::desk::{answer, answer_in_pieces, hold, hold_each};
 use bn_net::Quiet;
 use bn_top::Status;
 use std::test::Fail;
@@ -36,21 +36,16 @@ const SPELLED_OUT: &str = "rotary 2\nelements 6\nstart 0.w\nend 4.e\nsteps 0\nat
 
 #[test]
 fn a_text_is_stepped_in_its_version(rt: HostRuntime) -> Result<(), Fail> {
-    let rows: [(&[&str], &str, &str); 7] = [
-        (&["step", "1"], COLUMNS, STEPPED),
-        (&["step", "8"], COLUMNS, CROSSED),
-        (&["back", "1"], STEPPED, COLUMNS),
-        (&["back", "100"], CROSSED, COLUMNS),
-        (&["step", "1"], ELEMENTS, ELEMENTS_STEPPED),
-        (&["migrate"], ELEMENTS, COLUMNS),
-        (&["migrate"], COLUMNS, COLUMNS),
+    let rows: [(&[&str], &str, u8, &str); 7] = [
+        (&["step", "1"], COLUMNS, 0, STEPPED),
+        (&["step", "8"], COLUMNS, 0, CROSSED),
+        (&["back", "1"], STEPPED, 0, COLUMNS),
+        (&["back", "100"], CROSSED, 0, COLUMNS),
+        (&["step", "1"], ELEMENTS, 0, ELEMENTS_STEPPED),
+        (&["migrate"], ELEMENTS, 0, COLUMNS),
+        (&["migrate"], COLUMNS, 0, COLUMNS),
     ];
-    for (list, input, output) in rows {
-        let answer = answer(rt.alloc(), list, input.as_bytes())?;
-        assert_eq!(rt; answer.text.as_slice(), output.as_bytes());
-        assert_eq!(rt; answer.status, Status::Done);
-    }
-    Ok(())
+    hold_each(&rt, rt.alloc(), &rows)
 }
 
 #[test]
@@ -112,22 +107,19 @@ fn an_end_start_or_exit_inside_a_column_is_told(rt: HostRuntime) -> Result<(), F
 #[test]
 fn a_column_that_is_spelled_out_is_told_last(rt: HostRuntime) -> Result<(), Fail> {
     let rows = [
-        (SPELLED_OUT, "text: line 10 spelling\n"),
-        ("", "text: line 1 syntax\n"),
-        ("rotary 2\n", "text: line 2 syntax\n"),
-        ("rotary 2\nelements 4194305\n", "text: line 2 too many\n"),
-        ("rotary 2\nelements 4194304\n", "text: line 3 syntax\n"),
-        ("rotary 1\nelements 1048577\n", "text: line 2 too many\n"),
+        (SPELLED_OUT, 3, "text: line 10 spelling\n"),
+        ("", 3, "text: line 1 syntax\n"),
+        ("rotary 2\n", 3, "text: line 2 syntax\n"),
+        ("rotary 2\nelements 4194305\n", 3, "text: line 2 too many\n"),
+        ("rotary 2\nelements 4194304\n", 3, "text: line 3 syntax\n"),
+        ("rotary 1\nelements 1048577\n", 3, "text: line 2 too many\n"),
         (
             "rotary 1\nelements 1\nstart 0.n\nend 0.s\nsteps 0\nat 0.n\nc 0 1 V\n",
+            3,
             "text: line 7 syntax\n",
         ),
     ];
-    for (input, output) in rows {
-        let answer = answer(rt.alloc(), &["step", "0"], input.as_bytes())?;
-        assert_eq!(rt; answer.text.as_slice(), output.as_bytes());
-        assert_eq!(rt; answer.status.code(), 3);
-    }
+    hold(&rt, rt.alloc(), &["step", "0"], &rows)?;
     let mut more = Vec::from_slice(rt.alloc(), SPELLED_OUT.as_bytes())?;
     more.push(b'\n')?;
     let behind = answer(rt.alloc(), &["step", "0"], more.as_slice())?;

@@ -1,4 +1,4 @@
-use Rattle.std.proofs.Common.{◌+◌, get_or, arith, rules, sym, ◌∙◌, refl, None}
+use Rattle.std.proofs.Common.{◌+◌, get_or, arith, rules, sym, ◌∙◌, refl}
 use Rattle.std.proofs.lemmas.Option.{slice_get-get_or}
 use Rattle.bn_net.proofs.RowLemmas.{cell_of}
 use Rattle.bn_net.proofs.row_map.cell_at.Goals as goal
@@ -8,8 +8,8 @@ bounds-starts-line c =
     let cell = cell_of c.args.starts.now c.args.cells.now c.requires.are c.args.line.element c.args.line.line c.requires.within in
     omega (arith, cell.last)
 
-pub overflow_add-result : goal.overflow_add-result
-overflow_add-result c =
+pub overflow_add-start : goal.overflow_add-start
+overflow_add-start c =
     let cell = cell_of c.args.starts.now c.args.cells.now c.requires.are c.args.line.element c.args.line.line c.requires.within in
     let within = cell.within in search rules
 
@@ -26,5 +26,6 @@ bounds-cells-start c =
 pub returns : goal.returns
 returns c =
     let cell = cell_of c.args.starts.now c.args.cells.now c.requires.are c.args.line.element c.args.line.line c.requires.within in
-    let at_place = slice_get-get_or c.args.cells.now (get_or c.args.starts.now c.args.line.element 0 + c.args.line.line) None cell.within in
-    sym (cell.reads ∙ rw at_place refl)
+    let place = get_or c.args.starts.now c.args.line.element 0 + c.args.line.line in
+    let at_place = slice_get-get_or c.args.cells.now place c.index-cells-start.result cell.within in
+    c.line.ensures ∙ c.index-cells-start.is ∙ sym (cell.reads ∙ rw at_place refl)

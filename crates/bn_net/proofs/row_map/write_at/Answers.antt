@@ -1,4 +1,6 @@
-use Rattle.std.proofs.Common.{arith, rules}
+use Rattle.std.specs.Prelude.{◌+◌, slice_set}
+use Rattle.std.proofs.Common.{get_or, ap, ◌∙◌, arith, rules}
+use Rattle.bn_net.specs.Rows.{rows_at}
 use Rattle.bn_net.proofs.RowLemmas.{cell_of}
 use Rattle.bn_net.proofs.row_map.write_at.Goals as goal
 
@@ -25,4 +27,5 @@ bounds-cells-start c =
 pub returns : goal.returns
 returns c =
     let cell = cell_of c.args.starts.now c.args.cells.now c.requires.are c.args.line.element c.args.line.line c.requires.within in
-    cell.writes c.args.to
+    let place = get_or c.args.starts.now c.args.line.element 0 + c.args.line.line in
+    ap (λ e. rows_at c.args.starts.now (slice_set c.args.cells.now place e)) c.of.ensures ∙ cell.writes c.args.to

@@ -6,7 +6,7 @@ use Rattle.bn_netlist_lines.proofs.entries.Entries.into_net_config.Goals as goal
 pub new-requires-clause-faultless : goal.new-requires-clause-faultless
 new-requires-clause-faultless c =
     let count : length c.in-Ok.elements.items ≡ c.args.header.now.count = omega (arith, c.in-Ok.elements.ok, c.in-Ok.ensures.len) in
-    whole_faultless c.args.header.now c.requires.whole.rows c.deref.result.now c.in-Ok.elements.items c.requires.whole.whole (c.deref.ensures.value ∙ c.requires.whole.holds.wires_are) count
+    whole_faultless c.args.header.now c.requires.whole.rows c.deref.result.now c.in-Ok.elements.items c.requires.whole.whole (c.deref.ensures.value ∙ c.shrink_to_fit.ensures.items ∙ c.requires.whole.holds.wires_are) count
 
 pub spelled_out_in-requires-clause-states : goal.spelled_out_in-requires-clause-states
 spelled_out_in-requires-clause-states c =
@@ -30,7 +30,7 @@ returns-in-Some-clause-refused c =
     let line_is : c.from.result + 7 ≡ c.in-Some.element + 7 = omega arith in
     finds_column (c.from.result + 7) refl (λ rows whole holds.
     first_out h rows c.in-Ok-new.net whole
-    (net_of h rows c.in-Ok-new.net c.deref.result.now count c.in-Ok-new.ensures.targets c.in-Ok-new.ensures.sources (c.deref.ensures.value ∙ holds.wires_are))
+    (net_of h rows c.in-Ok-new.net c.deref.result.now count c.in-Ok-new.ensures.targets c.in-Ok-new.ensures.sources (c.deref.ensures.value ∙ c.shrink_to_fit.ensures.items ∙ holds.wires_are))
     c.new-states.result c.as_slice.result.now c.in-Some.element (c.from.result + 7)
     (c.new-states.ensures ∙ holds.states_are) (c.as_slice.ensures.value ∙ holds.own_are) c.in-Some.ensures.0 c.in-Some.ensures.1 line_is)
 
@@ -42,6 +42,6 @@ returns-clause-made c =
     λ rows whole holds. (
       refl,
       made_spelled h rows (record { version = h.version; net = c.in-Ok-new.net; config = record { states = c.new-states.result; place = h.place; steps = h.steps }; start = h.start; end = h.end }) c.new-states.result c.as_slice.result.now whole
-          (net_of h rows c.in-Ok-new.net c.deref.result.now count c.in-Ok-new.ensures.targets c.in-Ok-new.ensures.sources (c.deref.ensures.value ∙ holds.wires_are))
+          (net_of h rows c.in-Ok-new.net c.deref.result.now count c.in-Ok-new.ensures.targets c.in-Ok-new.ensures.sources (c.deref.ensures.value ∙ c.shrink_to_fit.ensures.items ∙ holds.wires_are))
           (c.new-states.ensures ∙ holds.states_are) (c.as_slice.ensures.value ∙ holds.own_are) refl refl refl c.in_default-spelled_out_in.ensures,
     )

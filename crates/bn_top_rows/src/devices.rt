@@ -1,0 +1,216 @@
+//! Devices that fail in one call, for each call that a command makes.
+
+use crate::desk::{Outcome, answer, words};
+use bn_io::{MemSink, MemSource};
+use bn_net::Quiet;
+use bn_top::workbench;
+use std::alloc::{AllocError, Global};
+use std::process::Abort;
+use std::test::Fail;
+
+/// One element, the signal at its north line.
+const ELEMENT: &str = "rotary 1\nelements 1\nstart 0.n\nend 0.s\nsteps 0\nat 0.n\ne 0 V - - - -\n";
+
+/// The same after its step.
+const ELEMENT_LEFT: &str =
+    "rotary 1\nelements 1\nstart 0.n\nend 0.s\nsteps 1\nleft 0.s\ne 0 V - - - -\n";
+
+/// The least machine in standard form.
+const LEAST: &str = "S,_,_,+,T\nT,_,_,0,F\n";
+
+/// Two moves that undo each other.
+const MOVES: &str = "1,1,2,2\n2,2,1,1\n";
+
+/// Two quadruples that overlap.
+const QUADRUPLES: &str = "A,_,/,/,_,0,0,B\nA,/,_,/,0,_,0,C\n";
+
+/// Two tables with the line between them.
+const TABLES: &str = "S,_,_,+,T\nT,_,_,0,F\n%\nS,_,_,+,T\nT,_,_,0,F\n";
+
+/// A board with its schedule.
+const FARM: &str =
+    "rotary 1\nelements 1\nstart 0.n\nend 0.s\nsteps 0\nat 0.n\ne 0 V - - - -\n%\n+ 1 3\n";
+
+/// A table with its script.
+const SESSION: &str = "S,_,_,+,T\nT,_,_,0,F\n%\nstep 5\nback 2\n";
+
+/// Each command that reads an input, with a small one.
+const COMMANDS: [(&[&str], &str); 21] = [
+    (&["step", "1"], ELEMENT),
+    (&["back", "1"], ELEMENT_LEFT),
+    (&["check"], LEAST),
+    (&["machine", "=", "9"], LEAST),
+    (&["reversible"], QUADRUPLES),
+    (&["bennett"], LEAST),
+    (&["realise", "1", "1"], MOVES),
+    (&["standard"], "A,_,_,+,H\n"),
+    (&["compile", "=", "0", "2", "0", "1"], LEAST),
+    (&["run", "=", "0", "2", "0", "1"], LEAST),
+    (&["run", "=", "0", "2", "2", "1", "9"], LEAST),
+    (&["run", "=", "auto"], LEAST),
+    (&["view", "=", "0", "2", "2", "1", "9"], LEAST),
+    (&["session", "=", "0", "2", "2", "1"], SESSION),
+    (&["plan"], ELEMENT),
+    (&["migrate"], ELEMENT),
+    (&["mirror"], ELEMENT_LEFT),
+    (&["farm"], FARM),
+    (&["erase"], TABLES),
+    (&["erase", "=", "9"], TABLES),
+    (&["check"], "S,_\n"),
+];
+
+/// How many bytes a call of a device passes on at most.
+const PIECES: [usize; 3] = [1, 7, 100];
+
+/// The pieces at which a sink is tried: all of them, but for commands that make a board, whose answer is
+/// made anew for each call of the sink.
+fn pieces_for(list: &[&str]) -> &'static [usize] {
+    match list.first() {
+        Some(&("compile" | "run" | "view" | "session")) => &PIECES[2..],
+        _ => &PIECES,
+    }
+}
+
+/// The answer where the source fails in the call of this number, counted from 1.
+fn answer_from(
+    alloc: Global,
+    list: &[&str],
+    input: &str,
+    piece: usize,
+    call: u64,
+) -> Result<Outcome, AllocError>
+    requires piece { 0 < piece }
+{
+    let words = words(alloc, list)?;
+    let failing = vec![in alloc; call]?;
+    let bytes = Vec::from_slice(alloc, input.as_bytes())?;
+    let mut source = MemSource::new(bytes, piece, failing);
+    let Ok(mut sink) = MemSink::try_new(alloc, 100_000, 100, Vec::new(alloc)) else {
+        return Err(AllocError);
+    };
+    let status = workbench(alloc, &words, &mut source, &mut sink, &mut Quiet);
+    Ok(Outcome {
+        status,
+        text: Vec::from_slice(alloc, sink.taken())?,
+    })
+}
+
+/// The answer where the sink fails in the call of this number, counted from 1.
+fn answer_into(
+    alloc: Global,
+    list: &[&str],
+    input: &str,
+    piece: usize,
+    call: u64,
+) -> Result<Outcome, AllocError>
+    requires piece { 0 < piece }
+{
+    let words = words(alloc, list)?;
+    let failing = vec![in alloc; call]?;
+    let bytes = Vec::from_slice(alloc, input.as_bytes())?;
+    let mut source = MemSource::new(bytes, 100, Vec::new(alloc));
+    let Ok(mut sink) = MemSink::try_new(alloc, 100_000, piece, failing) else {
+        return Err(AllocError);
+    };
+    let status = workbench(alloc, &words, &mut source, &mut sink, &mut Quiet);
+    Ok(Outcome {
+        status,
+        text: Vec::from_slice(alloc, sink.taken())?,
+    })
+}
+
+/// The number of calls that pass so many bytes on in pieces.
+fn calls(bytes: usize, piece: usize) -> u64
+    requires piece { 0 < piece }
+{
+    let whole = (bytes / piece) as u64;
+    if bytes % piece == 0 {
+        whole
+    } else {
+        whole.saturating_add(1)
+    }
+}
+
+/// In whichever call the source fails, the one that tells the end among them, that is told, and
+/// nothing else.
+fn source_fails(
+    rt: &impl Abort,
+    alloc: Global,
+    list: &[&str],
+    input: &str,
+    piece: usize,
+) -> Result<(), Fail>
+    requires piece { 0 < piece }
+{
+    let made = calls(input.len(), piece).saturating_add(1);
+    for call in 0..made {
+        let answer = answer_from(alloc, list, input, piece, call + 1)?;
+        assert_eq!(rt; answer.status.code(), 7, "{input} {piece} {call}");
+        assert_eq!(rt;
+            answer.text.as_slice(),
+            b"read fault\n".as_slice(),
+            "{input}"
+        );
+    }
+    let whole = answer(alloc, list, input.as_bytes())?;
+    let unfailing = answer_from(alloc, list, input, piece, made.saturating_add(1))?;
+    assert_eq!(rt; unfailing.text.as_slice(), whole.text.as_slice(), "{input}");
+    assert_eq!(rt; unfailing.status, whole.status, "{input}");
+    Ok(())
+}
+
+/// In whichever call the sink fails, that is told, and it has taken a front of the answer.
+fn sink_fails(
+    rt: &impl Abort,
+    alloc: Global,
+    list: &[&str],
+    input: &str,
+    piece: usize,
+) -> Result<(), Fail>
+    requires piece { 0 < piece }
+{
+    let whole = answer(alloc, list, input.as_bytes())?;
+    let made = calls(whole.text.len(), piece);
+    for call in 0..made {
+        let answer = answer_into(alloc, list, input, piece, call + 1)?;
+        assert_eq!(rt; answer.status.code(), 8, "{input} {piece} {call}");
+        assert!(rt;
+            whole.text.as_slice().starts_with(answer.text.as_slice()),
+            "{input}"
+        );
+        assert!(rt;
+            answer.text.len() as u64 <= call.saturating_mul(piece as u64),
+            "{input}"
+        );
+    }
+    Ok(())
+}
+
+#[test]
+fn a_source_may_fail_in_each_call(rt: HostRuntime) -> Result<(), Fail> {
+    for (list, input) in COMMANDS {
+        for piece in PIECES {
+            source_fails(&rt, rt.alloc(), list, input, piece)?;
+        }
+    }
+    Ok(())
+}
+
+#[test]
+fn a_sink_may_fail_in_each_call(rt: HostRuntime) -> Result<(), Fail> {
+    for (list, input) in COMMANDS {
+        for piece in pieces_for(list) {
+            sink_fails(&rt, rt.alloc(), list, input, *piece)?;
+        }
+    }
+    Ok(())
+}
+
+#[test]
+fn a_command_that_reads_nothing_needs_no_source(rt: HostRuntime) -> Result<(), Fail> {
+    let told = answer(rt.alloc(), &["generate", "1"], b"")?;
+    let read = answer_from(rt.alloc(), &["generate", "1"], "", 1, 1)?;
+    assert_eq!(rt; read.text.as_slice(), told.text.as_slice());
+    assert_eq!(rt; read.status, told.status);
+    sink_fails(&rt, rt.alloc(), &["generate", "1"], "", 100)
+}
