@@ -1,5 +1,7 @@
 //! Devices that fail in one call, for each call that a command makes.
 
+ghost use Rattle.std.specs.Prelude.{◌<◌};
+
 use crate::desk::{Outcome, answer, words};
 use bn_io::{MemSink, MemSource};
 use bn_net::Quiet;
@@ -60,14 +62,47 @@ const COMMANDS: [(&[&str], &str); 21] = [
 ];
 
 /// How many bytes a call of a device passes on at most.
-const PIECES: [usize; 3] = [1, 7, 100];
+#[derive(Clone, Copy)]
+enum Piece {
+    One,
+    Seven,
+    Hundred,
+    Thousand,
+}
+
+impl Piece {
+    /// The number of bytes.
+    fn bytes(self) -> usize
+        ensures { 0 < result }
+    {
+        match self {
+            Piece::One => 1,
+            Piece::Seven => 7,
+            Piece::Hundred => 100,
+            Piece::Thousand => 1000,
+        }
+    }
+
+    /// The number of calls that pass so many bytes on.
+    fn calls(self, bytes: usize) -> u64 {
+        let whole = (bytes / self.bytes()) as u64;
+        if bytes % self.bytes() == 0 {
+            whole
+        } else {
+            whole.saturating_add(1)
+        }
+    }
+}
+
+/// The pieces at which a device is tried.
+const PIECES: [Piece; 3] = [Piece::One, Piece::Seven, Piece::Hundred];
 
 /// The pieces at which a sink is tried: all of them, but for commands that make a board, whose answer is
 /// made anew for each call of the sink; and the text of a board is long.
-fn pieces_for(list: &[&str]) -> &'static [usize] {
+fn pieces_for(list: &[&str]) -> &'static [Piece] {
     match list.first() {
-        Some(&"compile") => &[1000],
-        Some(&("run" | "view" | "session")) => &[100],
+        Some(&"compile") => &[Piece::Thousand],
+        Some(&("run" | "view" | "session")) => &[Piece::Hundred],
         _ => &PIECES,
     }
 }
@@ -77,15 +112,13 @@ fn answer_from(
     alloc: Global,
     list: &[&str],
     input: &str,
-    piece: usize,
+    piece: Piece,
     call: u64,
-) -> Result<Outcome, AllocError>
-    requires piece { 0 < piece }
-{
+) -> Result<Outcome, AllocError> {
     let words = words(alloc, list)?;
     let failing = vec![in alloc; call]?;
     let bytes = Vec::from_slice(alloc, input.as_bytes())?;
-    let mut source = MemSource::new(bytes, piece, failing);
+    let mut source = MemSource::new(bytes, piece.bytes(), failing);
     let Ok(mut sink) = MemSink::try_new(alloc, 100_000, 100, Vec::new(alloc)) else {
         return Err(AllocError);
     };
@@ -101,16 +134,14 @@ fn answer_into(
     alloc: Global,
     list: &[&str],
     input: &str,
-    piece: usize,
+    piece: Piece,
     call: u64,
-) -> Result<Outcome, AllocError>
-    requires piece { 0 < piece }
-{
+) -> Result<Outcome, AllocError> {
     let words = words(alloc, list)?;
     let failing = vec![in alloc; call]?;
     let bytes = Vec::from_slice(alloc, input.as_bytes())?;
     let mut source = MemSource::new(bytes, 100, Vec::new(alloc));
-    let Ok(mut sink) = MemSink::try_new(alloc, 100_000, piece, failing) else {
+    let Ok(mut sink) = MemSink::try_new(alloc, 100_000, piece.bytes(), failing) else {
         return Err(AllocError);
     };
     let status = workbench(alloc, &words, &mut source, &mut sink, &mut Quiet);
@@ -120,18 +151,6 @@ fn answer_into(
     })
 }
 
-/// The number of calls that pass so many bytes on in pieces.
-fn calls(bytes: usize, piece: usize) -> u64
-    requires piece { 0 < piece }
-{
-    let whole = (bytes / piece) as u64;
-    if bytes % piece == 0 {
-        whole
-    } else {
-        whole.saturating_add(1)
-    }
-}
-
 /// In whichever call the source fails, the one that tells the end among them, that is told, and
 /// nothing else.
 fn source_fails(
@@ -139,14 +158,12 @@ fn source_fails(
     alloc: Global,
     list: &[&str],
     input: &str,
-    piece: usize,
-) -> Result<(), Fail>
-    requires piece { 0 < piece }
-{
-    let made = calls(input.len(), piece).saturating_add(1);
+    piece: Piece,
+) -> Result<(), Fail> {
+    let made = piece.calls(input.len()).saturating_add(1);
     for call in 0..made {
         let answer = answer_from(alloc, list, input, piece, call + 1)?;
-        assert_eq!(rt; answer.status.code(), 7, "{input} {piece} {call}");
+        assert_eq!(rt; answer.status.code(), 7, "{input} {call}");
         assert_eq!(rt;
             answer.text.as_slice(),
             b"read fault\n".as_slice(),
@@ -166,21 +183,19 @@ fn sink_fails(
     alloc: Global,
     list: &[&str],
     input: &str,
-    piece: usize,
-) -> Result<(), Fail>
-    requires piece { 0 < piece }
-{
+    piece: Piece,
+) -> Result<(), Fail> {
     let whole = answer(alloc, list, input.as_bytes())?;
-    let made = calls(whole.text.len(), piece);
+    let made = piece.calls(whole.text.len());
     for call in 0..made {
         let answer = answer_into(alloc, list, input, piece, call + 1)?;
-        assert_eq!(rt; answer.status.code(), 8, "{input} {piece} {call}");
+        assert_eq!(rt; answer.status.code(), 8, "{input} {call}");
         assert!(rt;
             whole.text.as_slice().starts_with(answer.text.as_slice()),
             "{input}"
         );
         assert!(rt;
-            answer.text.len() as u64 <= call.saturating_mul(piece as u64),
+            answer.text.len() as u64 <= call.saturating_mul(piece.bytes() as u64),
             "{input}"
         );
     }
@@ -210,7 +225,7 @@ fn a_sink_may_fail_in_each_call(rt: HostRuntime) -> Result<(), Fail> {
 #[test]
 fn a_command_that_reads_nothing_needs_no_source(rt: HostRuntime) -> Result<(), Fail> {
     let told = answer(rt.alloc(), &["generate", "1"], b"")?;
-    let read = answer_from(rt.alloc(), &["generate", "1"], "", 1, 1)?;
+    let read = answer_from(rt.alloc(), &["generate", "1"], "", Piece::One, 1)?;
     assert_eq!(rt; read.text.as_slice(), told.text.as_slice());
     assert_eq!(rt; read.status, told.status);
     Ok(())
