@@ -94,6 +94,14 @@ def children_of(running):
     return sorted(found)
 
 
+def workers_of(running):
+    """The numbers of the processes that answer for it; Python's own tracker of resources is none."""
+    def words(child):
+        with open(f"/proc/{child}/cmdline", "rb") as file:
+            return file.read()
+    return [child for child in children_of(running) if b"spawn_main" in words(child)]
+
+
 @unittest.skipUnless(os.path.exists("/proc/self/task"), "there is no /proc")
 class Resumed(Sweeps):
     WORDS = [INCREMENT, "--up-to", 4, "--form", "machine", "run", "--jobs", 2]
@@ -137,10 +145,21 @@ class Resumed(Sweeps):
         self.assert_line(said, "stopped; the same words with --resume go on")
         self.assert_goes_on()
 
+    def test_ctrl_c_and_a_death_end_no_sweep_of_large_batches_by_waiting(self):
+        words = self.file("words", "".join(f"{number:060b}\n" for number in range(0, 2 ** 60, 2 ** 60 // 30_000)))
+        running = self.start("sweep", INCREMENT, "--words", words, "--jobs", 2, "--out", self.table, stderr=subprocess.PIPE)
+        self.wait_for_rows(1000, running)
+        os.kill(workers_of(running)[0], signal.SIGKILL)
+        self.wait_for_rows(5000, running)
+        running.send_signal(signal.SIGINT)
+        said = running.communicate(timeout=PATIENCE)[1].decode()
+        self.assertEqual(running.returncode, 130, said)
+        self.assert_line(said, "stopped; the same words with --resume go on")
+
     def test_a_process_that_dies_loses_nothing(self):
         running = self.start("sweep", *self.WORDS, "--check", "--out", self.table, stdout=subprocess.PIPE)
         self.wait_for_rows(9, running)
-        for worker in children_of(running)[-1:]:
+        for worker in workers_of(running)[-1:]:
             os.kill(worker, signal.SIGKILL)
         out, _ = running.communicate(timeout=PATIENCE)
         self.assertEqual((running.returncode, out), (0, b"31 agree, 0 differ\n"))

@@ -4,10 +4,12 @@ A pool has `room`, how many batches may be under way; `submit`, which gives a fu
 works again after a future's exception; and `end`, which leaves no process behind. `answers_in_order` hands out batches that
 take about its `target` of seconds, so that handing them out is little beside their work, and gives the answers in order.
 """
+import contextlib
 import logging
 import math
 import multiprocessing
 import os
+import sys
 import time
 from collections import deque
 from concurrent.futures import ProcessPoolExecutor
@@ -46,23 +48,36 @@ class Local:
         try:
             return self.pool.submit(work, batch)
         except BrokenProcessPool:
-            self.start()
+            self.renew()
             return self.pool.submit(work, batch)
 
-    def mended(self, error):
+    def renew(self):
         """A process that died leaves a pool that answers nothing more: a new one takes its place."""
-        if not isinstance(error, BrokenProcessPool):
-            return False
+        release(self.pool)
         self.pool.shutdown(wait=False, cancel_futures=True)
         self.start()
+
+    def mended(self, error):
+        if not isinstance(error, BrokenProcessPool):
+            return False
+        self.renew()
         return True
 
     def end(self):
-        """Ends all processes, whatever they do."""
-        self.pool.shutdown(wait=False, cancel_futures=True)
+        """Ends all processes, whatever they do, and then the pool's own thread: Python's end would fall over it."""
         for process in multiprocessing.active_children():
             kill_group(process.pid)
             process.kill()
+        release(self.pool)
+        self.pool.shutdown(wait=True, cancel_futures=True)
+
+
+def release(pool):
+    """Lets a pool's thread go that writes to processes which are gone. Before 3.11.5 Python didn't, and the thread, and
+    Python's end behind it, would wait for ever."""
+    if sys.version_info < (3, 11, 5):
+        with contextlib.suppress(OSError):
+            pool._call_queue._reader.close()
 
 
 class Cluster:
