@@ -1,5 +1,6 @@
 # Completion for bash: `source tools/completion.bash`, here or in ~/.bashrc, and then the names of commands are completed
-# behind ./workbench, ./try and a link to either; files are, behind `<`. The names are those of tools/front.sh.
+# behind ./workbench, ./try and a link to either; files are, behind `<`. The names are those of tools/front.sh. Behind
+# `hithwelor` the two words of the Python package are completed too: ./workbench and ./try don't know them.
 # shellcheck shell=bash
 
 _hithwelor_front=$(cd "$(dirname "${BASH_SOURCE[0]}")" && pwd)/front.sh
@@ -13,7 +14,9 @@ _hithwelor_names() {
 _hithwelor() {
     COMPREPLY=()
     [ "$COMP_CWORD" = 1 ] || return 0
-    mapfile -t COMPREPLY < <(compgen -W "$(_hithwelor_names) help" -- "${COMP_WORDS[1]}")
+    local own=
+    [[ ${COMP_WORDS[0]##*/} = hithwelor ]] && own='sweep plot'
+    mapfile -t COMPREPLY < <(compgen -W "$(_hithwelor_names) help $own" -- "${COMP_WORDS[1]}")
 }
 
 complete -o bashdefault -o default -F _hithwelor workbench try hithwelor

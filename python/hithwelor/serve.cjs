@@ -1,6 +1,6 @@
 // Answers one call after another for the package, by the workbench of bin/hithwelor, whose path is the one word. A call is
 // two numbers of 32 bits, the lowest byte first, and then so many bytes of words and of input; an answer is the status, the
-// length, and the text. It ends with its input.
+// length, and the text. It ends with its input, or where nobody reads its answers any more.
 "use strict";
 const fs = require("fs");
 const bench = require(require("path").resolve(process.argv[2])).workbench();
@@ -16,7 +16,11 @@ function take(count) {
   return bytes;
 }
 function give(bytes) {
-  for (let at = 0; at < bytes.length;) at += fs.writeSync(1, bytes, at, bytes.length - at);
+  try {
+    for (let at = 0; at < bytes.length;) at += fs.writeSync(1, bytes, at, bytes.length - at);
+  } catch {
+    process.exit(1);
+  }
 }
 
 for (;;) {

@@ -5,6 +5,7 @@ import importlib.util
 import os
 import pty
 import shutil
+import signal
 import subprocess
 import sys
 import tempfile
@@ -22,7 +23,9 @@ INCREMENT = os.path.join(TOP, "examples", "increment.csv")
 LEAST = os.path.join(TOP, "examples", "least.csv")
 # It goes to and fro on the empty word, and halts on a word that begins with 0.
 ENDLESS = "S,_,_,+,T\nT,_,_,+,U\nU,_,_,-,T\nT,0,_,0,V\nV,_,_,0,F\n"
-PATIENCE = 60
+PATIENCE = 240
+# What a shell starts behind & has Ctrl-C ignored, and so would all sweeps that are started here.
+signal.signal(signal.SIGINT, signal.default_int_handler)
 
 
 def answering():
@@ -34,9 +37,23 @@ def answering():
     return True
 
 
-def has(module):
-    """Whether a module is installed."""
-    return importlib.util.find_spec(module) is not None
+@functools.cache
+def python_with(module):
+    """A Python of this machine that has a module: this one, where it has it, else another on the path, or the system's
+    own, to which the packages of the system belong. None where there is none."""
+    if importlib.util.find_spec(module):
+        return sys.executable
+    find = f"import importlib.util as it, sys; sys.exit(sys.version_info < (3, 9) or it.find_spec({module!r}) is None)"
+    folders = [*os.environ.get("PATH", "").split(os.pathsep), "/usr/local/bin", "/usr/bin"]
+    for path in dict.fromkeys(os.path.join(folder, "python3") for folder in folders):
+        if os.access(path, os.X_OK) and subprocess.run([path, "-c", find], stderr=subprocess.DEVNULL).returncode == 0:
+            return path
+    return None
+
+
+def needs(module):
+    """Skips a test where no Python here has a module."""
+    return unittest.skipUnless(python_with(module), f"no Python here has {module}")
 
 
 def environment(blocked, folder):
@@ -78,14 +95,14 @@ class Sweeps(unittest.TestCase):
             file.write(text)
         return path
 
-    def start(self, *words, blocked=(), **more):
+    def start(self, *words, blocked=(), python=sys.executable, **more):
         """A command of the package, started."""
-        return subprocess.Popen([sys.executable, "-m", "hithwelor", *map(str, words)], cwd=self.folder,
+        return subprocess.Popen([python, "-m", "hithwelor", *map(str, words)], cwd=self.folder,
                                 env=environment(blocked, self.blocks), **more)
 
-    def call(self, *words, blocked=()):
+    def call(self, *words, blocked=(), python=sys.executable):
         """The status, the output and what was said."""
-        ran = self.start(*words, blocked=blocked, stdout=subprocess.PIPE, stderr=subprocess.PIPE)
+        ran = self.start(*words, blocked=blocked, python=python, stdout=subprocess.PIPE, stderr=subprocess.PIPE)
         out, said = ran.communicate(timeout=PATIENCE)
         return ran.returncode, out.decode(), said.decode()
 
@@ -113,10 +130,10 @@ class Sweeps(unittest.TestCase):
         for part in parts:
             self.assertIn(part, said)
 
-    def said_on_a_terminal(self, *words, blocked=()):
+    def said_on_a_terminal(self, *words, blocked=(), python=sys.executable):
         """What a command says where standard error is a terminal."""
         master, slave = pty.openpty()
-        ran = self.start(*words, blocked=blocked, stdout=subprocess.DEVNULL, stderr=slave)
+        ran = self.start(*words, blocked=blocked, python=python, stdout=subprocess.DEVNULL, stderr=slave)
         os.close(slave)
         said = b""
         with contextlib.suppress(OSError):

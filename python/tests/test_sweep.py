@@ -5,7 +5,7 @@ import subprocess
 import time
 import unittest
 
-from sweeping import ENDLESS, INCREMENT, LEAST, PATIENCE, TOP, Sweeps, has, whole, without_seconds
+from sweeping import ENDLESS, INCREMENT, LEAST, PATIENCE, TOP, Sweeps, needs, python_with, whole, without_seconds
 from hithwelor import answers
 from hithwelor.faults import Fault
 from hithwelor.sweep import cases, command, rows, table
@@ -94,13 +94,21 @@ def children_of(running):
     return sorted(found)
 
 
+def workers_of(running):
+    """The numbers of the processes that answer for it; Python's own tracker of resources is none."""
+    def words(child):
+        with open(f"/proc/{child}/cmdline", "rb") as file:
+            return file.read()
+    return [child for child in children_of(running) if b"spawn_main" in words(child)]
+
+
 @unittest.skipUnless(os.path.exists("/proc/self/task"), "there is no /proc")
 class Resumed(Sweeps):
     WORDS = [INCREMENT, "--up-to", 4, "--form", "machine", "run", "--jobs", 2]
 
     def end_in_the_middle(self, how):
         """A sweep that is ended in the middle, once more where it was faster: what it said, and the processes below it."""
-        while True:
+        for _ in range(10):
             running = self.start("sweep", *self.WORDS, "--out", self.table, stderr=subprocess.PIPE)
             self.wait_for_rows(9, running)
             below = children_of(running)
@@ -109,6 +117,7 @@ class Resumed(Sweeps):
             if running.returncode:
                 return running.returncode, said, below
             os.remove(self.table)
+        self.fail("ten sweeps were whole before they could be ended")
 
     def kill(self, how):
         """A sweep that is ended in the middle; the processes below it are gone soon."""
@@ -137,10 +146,22 @@ class Resumed(Sweeps):
         self.assert_line(said, "stopped; the same words with --resume go on")
         self.assert_goes_on()
 
+    def test_ctrl_c_and_a_death_end_no_sweep_of_large_batches_by_waiting(self):
+        words = self.file("words", "".join(f"{number:060b}\n" for number in range(0, 2 ** 60, 2 ** 60 // 300_000)))
+        running = self.start("sweep", INCREMENT, "--words", words, "--jobs", 2, "--out", self.table,
+                             stderr=subprocess.PIPE)
+        self.wait_for_rows(1000, running)
+        os.kill(workers_of(running)[0], signal.SIGKILL)
+        self.wait_for_rows(5000, running)
+        running.send_signal(signal.SIGINT)
+        said = running.communicate(timeout=PATIENCE)[1].decode()
+        self.assertEqual(running.returncode, 130, said)
+        self.assert_line(said, "stopped; the same words with --resume go on")
+
     def test_a_process_that_dies_loses_nothing(self):
         running = self.start("sweep", *self.WORDS, "--check", "--out", self.table, stdout=subprocess.PIPE)
         self.wait_for_rows(9, running)
-        for worker in children_of(running)[-1:]:
+        for worker in workers_of(running)[-1:]:
             os.kill(worker, signal.SIGKILL)
         out, _ = running.communicate(timeout=PATIENCE)
         self.assertEqual((running.returncode, out), (0, b"31 agree, 0 differ\n"))
@@ -183,9 +204,10 @@ class Long(Sweeps):
         self.assertRegex(said, r"31 of 31 rows, [\d,]+ a second, 0 s left")
         self.assertEqual(self.call(*words)[2], "")
 
-    @unittest.skipUnless(has("tqdm"), "tqdm isn't installed")
+    @needs("tqdm")
     def test_the_line_is_that_of_tqdm_where_it_is_installed(self):
-        self.assertRegex(self.said_on_a_terminal("sweep", INCREMENT, "--up-to", 4, "--jobs", 1), r"31/31 .* rows/s")
+        said = self.said_on_a_terminal("sweep", INCREMENT, "--up-to", 4, "--jobs", 1, python=python_with("tqdm"))
+        self.assertRegex(said, r"31/31 .* rows/s")
 
     @unittest.skipUnless(os.path.exists("/dev/full"), "there is no /dev/full")
     def test_a_full_device_says_its_cause(self):

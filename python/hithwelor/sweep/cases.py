@@ -207,13 +207,16 @@ class Batch:
 
 @dataclass(frozen=True)
 class Plan:
-    """All cases of a sweep. `front` is what stands before the form in a row: `standard ` or nothing."""
+    """All cases of a sweep. `front` is what stands before the form in a row: `standard ` or nothing. `sources` are the
+    machines as they were read, and `back` the machine back of `erase`, where one was named."""
 
     tables: tuple
     words: tuple
     kinds: tuple
     front: str = ""
     seconds: object = None
+    sources: tuple = ()
+    back: object = None
 
     @functools.cached_property
     def starts(self):

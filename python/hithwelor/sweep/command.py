@@ -17,7 +17,7 @@ import sys
 
 from ..answers import Unavailable
 from ..faults import STOPPED, Fault
-from . import cases, table
+from . import cases, record, table
 from .progress import progress
 from .rows import Tally
 from .workers import Cluster, Local, answers_in_order
@@ -119,18 +119,19 @@ def words_for(options, letters):
 
 def plan_of(options):
     """All cases that are asked for."""
-    tables = cases.tables_of(options.machines, tell)
-    second = cases.Table(options.second, cases.read(options.second)) if options.second else None
-    given = [it.letters for it in tables]
+    sources = tuple(cases.tables_of(options.machines, tell))
+    back = cases.Table(options.second, cases.read(options.second)) if options.second else None
+    tables, second = sources, back
     if options.standard:
         tables = [cases.in_standard_form(it) for it in tables]
         second = second and cases.in_standard_form(second)
     if "erase" in options.form:
         tables = [cases.with_second(it, second and second.data) for it in tables]
     listed = cases.words_of_file(options.words) if options.words else None
-    words = [listed or words_for(options, letters) for letters in given]
+    words = [listed or words_for(options, it.letters) for it in sources]
     kinds = cases.kinds_of(options.form, list(dict.fromkeys(map(cases.window_of, options.window))), options.steps)
-    return cases.Plan(tuple(tables), tuple(words), kinds, "standard " if options.standard else "", options.seconds)
+    return cases.Plan(tuple(tables), tuple(words), kinds, "standard " if options.standard else "", options.seconds,
+                      sources, back if "erase" in options.form else None)
 
 
 def place_of(options):
@@ -151,6 +152,7 @@ def old_of(options, path, whole, plan, bounds):
         if not options.resume:
             raise Fault(f"{there} is there: --resume goes on with it; or name another table by --out")
         old.read(there, plan, *bounds)
+        record.hold(whole, record.files_of(plan, bounds[0], bounds[0] + old.groups))
     return old
 
 
@@ -205,6 +207,8 @@ def sweep(words):
     try:
         written = table.Written(path)
         written.open(old.length)
+        if written.is_kept:
+            record.write(whole, record.files_of(plan, *bounds))
         old.tally.add(fill(pool, plan, written, old.groups, bounds))
     finally:
         if pool:
@@ -220,7 +224,7 @@ def join(words):
     it = Parser(prog="hithwelor sweep join", description="Joins the parts of a table that `sweep --part` made.")
     it.add_argument("table", metavar="TABLE", help="the table's name, as --out had it")
     options = it.parse_args(words)
-    count, tally = table.join(options.table)
+    count, tally = table.join(options.table, tell)
     tell(f"{options.table} joined of {count} parts")
     return close(tally, tally.agree + tally.differ > 0, sys.stdout)
 

@@ -7,6 +7,7 @@ import stat
 import sys
 
 from ..faults import FULL, Fault, cause
+from . import record
 from .cases import AUTO
 from .rows import COLUMNS, FORM, MACHINE, WINDOW, WORD, Tally
 
@@ -82,7 +83,8 @@ class Written:
         """Opens it behind so many bytes, and writes the head where there are none."""
         try:
             self.file = open(self.path, "r+b" if length else "wb", buffering=0) if self.path else sys.stdout.buffer
-            if self.path and stat.S_ISREG(os.fstat(self.file.fileno()).st_mode):
+            self.is_kept = bool(self.path) and stat.S_ISREG(os.fstat(self.file.fileno()).st_mode)
+            if self.is_kept:
                 self.lock()
                 self.file.truncate(length)
                 self.file.seek(length)
@@ -159,8 +161,8 @@ def tally_of_text(data):
     return tally
 
 
-def join(path):
-    """Joins the parts of a table. Gives the number of parts, and the tally."""
+def join(path, tell):
+    """Joins the parts of a table, with their records. Gives the number of parts, and the tally."""
     names, tally, missing = parts_of(path), Tally(), []
     missing = [name for name in names if not os.path.exists(name)]
     if missing:
@@ -168,6 +170,7 @@ def join(path):
         raise Fault(f"{missing[0]} {what}; {len(names) - len(missing)} of {len(names)} parts are whole")
     if os.path.exists(path):
         raise Fault(f"{path} is there, and stays as it is: move it away first")
+    files = record.together(names, tell)
     joined = Written(path + UNFINISHED, "; make room, and join again")
     joined.open(0)
     for name in names:
@@ -178,5 +181,7 @@ def join(path):
         tally.add(tally_of_text(data))
         joined.write(data)
     joined.close()
+    if files is not None:
+        record.write(path, files)
     os.replace(path + UNFINISHED, path)
     return len(names), tally

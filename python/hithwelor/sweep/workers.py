@@ -1,16 +1,19 @@
 """Who answers the batches of a sweep: processes of this machine, or the workers of a Dask scheduler.
 
-A pool has `room`, how many batches may be under way; `submit`, which gives a future; `mended`, which says whether the pool
-works again after a future's exception; and `end`, which leaves no process behind. `answers_in_order` hands out batches that
-take about its `target` of seconds, so that handing them out is little beside their work, and gives the answers in order.
+A pool has `room`, how many batches may be under way; `submit`, which gives a future; `result`, its answer; `mended`, which
+says whether the pool works again after a future's exception; and `end`, which leaves no process behind. `answers_in_order`
+hands out batches that take about its `target` of seconds, so that handing them out is little beside their work, and gives
+the answers in order.
 """
+import contextlib
 import logging
 import math
 import multiprocessing
 import os
+import sys
 import time
 from collections import deque
-from concurrent.futures import ProcessPoolExecutor
+from concurrent.futures import ProcessPoolExecutor, TimeoutError
 from concurrent.futures.process import BrokenProcessPool
 
 from ..answers import Unavailable
@@ -22,7 +25,7 @@ AHEAD = 4
 GROWTH = 8
 MOST_GROUPS = 50_000
 MOST_BREAKS = 3
-PATIENCE, EVERY = 20, 2
+PATIENCE, EVERY, LOOK = 20, 2, 1
 
 
 class Local:
@@ -46,23 +49,48 @@ class Local:
         try:
             return self.pool.submit(work, batch)
         except BrokenProcessPool:
-            self.start()
+            self.renew()
             return self.pool.submit(work, batch)
 
-    def mended(self, error):
+    def result(self, future):
+        """The answer of a batch. A process that dies while it hands in a large answer leaves the others, and the pool's
+        own thread, waiting for its rest: so where one has died all are ended, and the pool tells it."""
+        while True:
+            try:
+                return future.result(timeout=LOOK)
+            except TimeoutError:
+                if not all(process.is_alive() for process in list((self.pool._processes or {}).values())):
+                    self.kill()
+
+    def renew(self):
         """A process that died leaves a pool that answers nothing more: a new one takes its place."""
-        if not isinstance(error, BrokenProcessPool):
-            return False
+        self.kill()
         self.pool.shutdown(wait=False, cancel_futures=True)
         self.start()
+
+    def mended(self, error):
+        if not isinstance(error, BrokenProcessPool):
+            return False
+        self.renew()
         return True
 
     def end(self):
-        """Ends all processes, whatever they do."""
-        self.pool.shutdown(wait=False, cancel_futures=True)
+        """Ends all processes, whatever they do, and then the pool's own thread: Python's end would fall over it."""
+        self.kill()
+        self.pool.shutdown(wait=True, cancel_futures=True)
+
+    def kill(self):
+        """Kills the pool's processes, and closes the pipes by which its own thread may still be reading from them or
+        writing to them: it would wait for ever, and Python's end for it. From 3.11.5 on Python sees to the writing."""
         for process in multiprocessing.active_children():
             kill_group(process.pid)
             process.kill()
+        ends = [self.pool._result_queue._writer]
+        if sys.version_info < (3, 11, 5):
+            ends.append(self.pool._call_queue._reader)
+        for end in ends:
+            with contextlib.suppress(OSError):
+                end.close()
 
 
 class Cluster:
@@ -92,22 +120,41 @@ class Cluster:
     def room(self):
         """So many batches for each thread of a worker; the scheduler is asked for them now and then."""
         if time.monotonic() - self.asked > EVERY:
-            workers = self.client.scheduler_info()["workers"].values()
+            with self.there():
+                workers = self.client.scheduler_info()["workers"].values()
             self.threads, self.asked = max(1, sum(worker["nthreads"] for worker in workers)), time.monotonic()
         return self.threads * AHEAD
 
     def submit(self, batch):
-        return self.client.submit(work, batch, pure=False)
+        with self.there():
+            return self.client.submit(work, batch, pure=False)
+
+    def result(self, future):
+        return future.result()
+
+    @contextlib.contextmanager
+    def there(self):
+        """Tells that the scheduler has gone where a call of the client fails: it says so by errors of many kinds."""
+        try:
+            yield
+        except Exception:
+            raise self.gone() from None
+
+    def gone(self):
+        """The fault that is told, in one line: what Dask's own tasks say when they are cut off at the end isn't."""
+        sys.unraisablehook = lambda _: None
+        return Fault(f"the scheduler at {self.address} has gone; the same words with --resume go on")
 
     def mended(self, error):
         if isinstance(error, ModuleNotFoundError):
             raise Fault(f"a worker of {self.address} hasn't the package hithwelor: put its folder on PYTHONPATH there") from None
         if isinstance(error, self.lost):
-            raise Fault(f"the scheduler at {self.address} has gone; the same words with --resume go on") from None
+            raise self.gone() from None
         return False
 
     def end(self):
-        self.client.close(timeout=2)
+        with contextlib.suppress(Exception):
+            self.client.close(timeout=2)
 
 
 def grown(size, answer, target):
@@ -120,7 +167,7 @@ def result_of(pool, waiting):
     """The answer to the first of the batches under way. Where a worker died with it, all of them are handed out again."""
     for _ in range(MOST_BREAKS):
         try:
-            return waiting[0][1].result()
+            return pool.result(waiting[0][1])
         except Unavailable as error:
             raise Fault(f"a worker: {error}") from None
         except Exception as error:
