@@ -13,8 +13,8 @@ const ENDS = ["work tape, to the left", "work tape, to the right", "history", "o
 export function openWindow() {
   if (!current.run) return;
   const rows = ENDS.map((it, k) => `<tr><td>${it}</td><td><input id="w${k}" class="cells" type="number" min="0" max="${MOST_CELLS}" value="${current.run.window[k]}"></td></tr>`);
-  dialog('<h2>The window</h2><p class="quiet">How many cells each tape has in the circuit. The page finds a window in which the '
-    + "run comes to its end; a smaller one lets the signal leave by a tape's end.</p>"
+  dialog('<h2>The window</h2><p class="quiet">How many cells each tape has in the circuit. The program finds a window in which '
+    + "the run comes to its end; a smaller one lets the signal leave by a tape's end.</p>"
     + `<table>${rows.join("")}</table><p><button id="usewindow" class="main">Use it</button> <button id="findwindow">Find it again</button></p>`);
   const use = window => {
     state.window = window;

@@ -5,11 +5,12 @@ import {chips} from "./breaks.js";
 import {editorText, markFaults} from "./editor.js";
 import {renderFilm, resetFilm} from "./film.js";
 import {fetchFrame, pause} from "./play.js";
-import {findWindow, narrowed, Refused, Run} from "./run.js";
+import {Run} from "./run.js";
 import {busy, byId, current, dialog, escaped, nameOf, state} from "./state.js";
 import {put} from "./sizes.js";
 import {blankCandidates, faultOf, rulesOf, statesOf, turned} from "./table.js";
 import {render} from "./view.js";
+import {findRun, Refused} from "./window.js";
 import {number} from "./words.js";
 
 const MOST_BLANKS = 4;
@@ -88,20 +89,12 @@ async function judge(text, isOld) {
   return {fault: fault.text, lines: fault.lines, ...offers};
 }
 
-// The run in the window that is chosen, or in one that is found, with tape 1 as short as its heads need it.
+// The run in the window that is chosen, or in the one that the program finds.
 async function makeRun(table, isOld) {
   busy("looking for a window …");
-  const found = await findWindow(table, state.word, state.window);
-  busy("its circuit, and its moments …");
-  let run = await new Run(table, state.word, found.window).open();
-  if (!isOld() && !state.window && !run.isCut && !run.outcome.exit.startsWith("window 1")) {
-    const window = narrowed(found.window, run, state.word);
-    if (window.some((it, k) => it !== found.window[k])) {
-      found.window = window;
-      run = await new Run(table, state.word, window).open();
-    }
-  }
-  return {run, found};
+  const found = await findRun(table, state.word, state.window);
+  if (!isOld()) busy("its circuit, and its moments …");
+  return {run: await new Run(table, state.word, found).open(), found};
 }
 
 function showRun({run, found}, keep) {
