@@ -20,9 +20,20 @@ SHOWN = """(async () => {
     module: at.hasLeft ? "exit " + run.outcome.exit : `module ${name}${row >= 0 ? " line " + lineOf(run, bank, row).name : " inside"}`,
     quadruple: "quadruple " + m.name, tapes: [...document.querySelectorAll("#three svg")].map(cells),
     machine: `machine ${m.stage} ${m.state !== null ? "state " + m.state : "quintuple " + m.rule} step ${m.step}`,
+    marked: [...document.querySelectorAll("#quadruples tr.now td")].map(it => it.textContent),
     base: bank.base, bars: [...run.bankBars(bank, e)].map(bar => bar ? "H" : "V").join(""),
   };
 })()"""
+
+
+def next_quadruple(table, view):
+    """The quadruple that is made next behind a view, as its number, its state and the next one; or nothing."""
+    tapes = [read_tape(line, number, "view") for number, line in enumerate(view[3:6], 1)]
+    for number, row in enumerate((line.split(",") for line in table.splitlines()), 1):
+        holds = [it == "/" or tape.head is not None and it == tape.symbols[tape.head - tape.first] for it, tape in zip(row[1:4], tapes)]
+        if f"quadruple {row[0]}" == view[2] and all(holds):
+            return [str(number), row[0], row[7]]
+    return []
 
 
 def faults_at(page, program, table, words, compiled, e):
@@ -34,6 +45,9 @@ def faults_at(page, program, table, words, compiled, e):
               (("element", view[0]), ("module", view[1]), ("quadruple", view[2]), ("machine", view[6])) if shown[name] != line]
     if bars[shown["base"]:shown["base"] + len(shown["bars"])] != shown["bars"]:
         faults.append(f"the bars of the module from element {shown['base']} on")
+    marked, right = shown["marked"], next_quadruple(program.text(["bennett"], table), view)
+    if [*marked[:2], *marked[5:]] != right:
+        faults.append(f"the quadruple {marked}, and not {right}")
     for number, (cells, line) in enumerate(zip(shown["tapes"], view[3:6]), 1):
         tape = read_tape(line, number, "view")
         if not cells or any(tape.symbols[cell - tape.first] != symbol for cell, symbol in cells):
@@ -46,6 +60,7 @@ def check_machine(page, program, fragment, more, draw, count):
     page.visit(f"file://{PAGE}{fragment}")
     table, words, end = page.ask("bench.current.run.table"), page.ask("bench.current.run.words"), page.ask("bench.current.run.end")
     compiled = program.text(["compile", *words], table)
+    page.ask("document.getElementById('tab-table').click(); 0")
     for e in [0, 1, end - 1, end] + [draw.randrange(end + 1) for _ in range(more)]:
         faults = faults_at(page, program, table, words, compiled, e)
         count.hold(not faults, f"{fragment[:30]}, step {e} of {end}: the page shows {'; '.join(faults)}")

@@ -11,7 +11,7 @@ import re
 
 SRC = os.path.join(os.path.dirname(os.path.dirname(os.path.abspath(__file__))), "page", "src")
 FIRST = "app.js"
-STYLES = ["style.css", "pictures.css"]
+STYLES = ["style.css", "pictures.css", "dialogs.css"]
 # What a browser may do with the page: run the one script that it has, and the module; draw. Nothing goes out.
 POLICY = ("default-src 'none'; script-src 'sha256-{script}' 'wasm-unsafe-eval'; worker-src blob:; style-src 'unsafe-inline'; "
           "img-src data: blob:; base-uri 'none'; form-action 'none'")

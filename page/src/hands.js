@@ -12,6 +12,8 @@ import {linkOf} from "./links.js";
 import {stale, takeMachine, typed} from "./machine.js";
 import {listed} from "./moves.js";
 import {exportPicture} from "./picture.js";
+import {chooseMiddle} from "./quadruples.js";
+import {openSaidOf} from "./said.js";
 import {chooseLayer, goTo, lastStep, pause, play, speedWords, step} from "./play.js";
 import {forgetSizes} from "./sizes.js";
 import {busy, byId, current, LAYERS, state, toast} from "./state.js";
@@ -31,6 +33,7 @@ export function takeHands() {
   onTime();
   onPictures();
   onBank();
+  onPanels();
   onHeader();
   document.addEventListener("keydown", onKey);
   let resting = null;
@@ -179,6 +182,27 @@ function onBank() {
 }
 
 // ---- the head of the page, and keys
+
+// Panels: the tabs below the tapes, and the texts behind each picture.
+function onPanels() {
+  const tabs = [...byId("middle").querySelectorAll("[role=tab]")];
+  const choose = it => {
+    chooseMiddle(it.dataset.middle);
+    if (current.run) render(false);
+  };
+  for (const it of tabs) {
+    it.onclick = () => choose(it);
+    it.onkeydown = event => {
+      if (event.key !== "ArrowRight" && event.key !== "ArrowLeft") return;
+      event.preventDefault();
+      event.stopPropagation();
+      const other = tabs[(tabs.indexOf(it) + (event.key === "ArrowRight" ? 1 : tabs.length - 1)) % tabs.length];
+      choose(other);
+      other.focus();
+    };
+  }
+  for (const it of document.querySelectorAll("[data-said]")) it.onclick = () => { pause(); openSaidOf(it.dataset.said); };
+}
 
 function onHeader() {
   byId("size").onclick = openWindow;

@@ -9,6 +9,7 @@ export class Moments {
     const [, , n, r3] = this.window;
     const most = Math.min(MOST_MOMENTS, this.outcome.quadruples !== null ? this.outcome.quadruples + 1 : 4 * n + 4 * r3 + 12);
     const script = this.names.map((name, k) => `break s${k} state ${name}\n`).join("") + `go ${GREATEST}\nview\n`.repeat(most);
+    this.script = this.inputOf(script);
     const lines = (await this.session(script)).text.split("\n").slice(this.names.length), moments = [];
     for (let at = 0; at + 7 < lines.length; at += 8) {
       const view = readView(lines, at + 1);

@@ -32,7 +32,7 @@ export function renderMoves(f) {
 }
 
 function tableOf({from, to, list}) {
-  const head = `<h3><span>Moves<i> of the circuit</i> for this quadruple</span><span class="quiet">${number(to - from)}<i> element</i> steps</span></h3>`;
+  const head = `<h3><span>For this quadruple</span><span class="quiet">${number(to - from)} element steps</span></h3>`;
   if (list.isPart && !list.length) {
     return head + `<p class="quiet">${state.playing ? "Stop, or play slower, and they are listed." : "The program lists them …"}</p>`;
   }

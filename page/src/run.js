@@ -18,10 +18,9 @@ export class Run extends Moments {
     this.letters = lettersOf(this.rules);
     this.words = ["=" + word, ...window.map(String)];
   }
-  session(script, how = {}) {
-    const table = this.table.endsWith("\n") ? this.table : this.table + "\n";
-    return answer(["session", ...this.words], `${table}%\n${script}`, how);
-  }
+  // The input of `session` with a script.
+  inputOf(script) { return `${this.table.endsWith("\n") ? this.table : this.table + "\n"}%\n${script}`; }
+  session(script, how = {}) { return answer(["session", ...this.words], this.inputOf(script), how); }
 
   // Fetches the circuit and the moments; how the run ended is known from the answer that found its window.
   async open() {

@@ -4,6 +4,7 @@ import {renderCell} from "./cell.js";
 import {markLine} from "./editor.js";
 import {renderTime} from "./film.js";
 import {renderMoves} from "./moves.js";
+import {renderQuadruples} from "./quadruples.js";
 import {diagramPicture} from "./diagram_picture.js";
 import {heightOf, isPhone, put, widthOf} from "./sizes.js";
 import {byId, current, editorLine, escaped, nameOf, state} from "./state.js";
@@ -34,6 +35,7 @@ export function render(isLive = !state.playing) {
   renderItself(f, rule);
   renderBank(f);
   renderMoves(f);
+  renderQuadruples(f);
   renderTime(f);
   if (isLive) say(f);
 }
