@@ -1,25 +1,33 @@
 """What the checks of the page share: the program that they compare with, and a browser with the page."""
 import os
+import shutil
 import subprocess
 import sys
 import time
 
 from counting import TOP
 
-sys.path.insert(0, os.path.join(TOP, "tools"))
+sys.path[:0] = [os.path.join(TOP, "tools"), os.path.join(TOP, "python")]
 from browser import Browser
+from hithwelor.answers import Node
+
+COMMAND = os.path.join(TOP, "bin", "hithwelor")
 
 PAGE = os.path.join(TOP, "page", "hithwelor.html")
 PATIENCE = 60
 
 
 class Program:
-    """The proved program."""
+    """The proved program; or the command of node, of which one process is kept for all answers."""
 
     def __init__(self, path):
         self.path = path
+        self.kept = Node(shutil.which("node"), path) if path == COMMAND and shutil.which("node") else None
 
     def answer(self, words, data):
+        if self.kept:
+            status, text = self.kept.answer("\0".join(words).encode(), data.encode())
+            return status, text.decode()
         ran = subprocess.run([self.path, *words], input=data.encode(), stdout=subprocess.PIPE, check=False)
         return ran.returncode, ran.stdout.decode()
 

@@ -11,7 +11,9 @@ import {frames, goTo, pause, play, showButtons, step, timings} from "./play.js";
 import {byId, current, escaped, state} from "./state.js";
 import {placeName} from "./texts.js";
 import {render} from "./view.js";
+import {inTurn} from "./turns.js";
 import {lineOf} from "./words.js";
+import {openWorkshop, pageOf} from "./workshop.js";
 
 export function start() {
   document.body.classList.add("empty");
@@ -40,4 +42,7 @@ function begin() {
 }
 
 // For the checks, and for the curious.
-window.bench = {answer, composed, current, frames, goTo, lineOf, log, pause, PICTURES, placeName, play, render, state, step, TEXTS, timings};
+window.bench = {
+  answer, composed, current, frames, goTo, inTurn, lineOf, log, openWorkshop, pageOf, pause, PICTURES, placeName, play, render, state,
+  step, TEXTS, timings,
+};

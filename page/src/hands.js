@@ -4,7 +4,6 @@ import {dragBy, lookAt, seen, zoomBy} from "./bank.js";
 import {dropBreak, runBreak, toggleBreak} from "./breaks.js";
 import {openDiagram, openHelp, openTasks, openWindow} from "./dialogs.js";
 import {renderLines} from "./editor.js";
-import {openElements} from "./elements.js";
 import {EXAMPLES} from "./examples.js";
 import {openFile} from "./files.js";
 import {renderFilm} from "./film.js";
@@ -17,7 +16,9 @@ import {openSaidOf} from "./said.js";
 import {chooseLayer, goTo, lastStep, pause, play, speedWords, step} from "./play.js";
 import {forgetSizes} from "./sizes.js";
 import {busy, byId, current, LAYERS, state, toast} from "./state.js";
+import {takeTabs} from "./tabs.js";
 import {frame, render} from "./view.js";
+import {openWorkshop} from "./workshop.js";
 import {number} from "./words.js";
 
 // What a picture of the whole is made of.
@@ -185,22 +186,10 @@ function onBank() {
 
 // Panels: the tabs below the tapes, and the texts behind each picture.
 function onPanels() {
-  const tabs = [...byId("middle").querySelectorAll("[role=tab]")];
-  const choose = it => {
+  takeTabs(byId("middle"), it => {
     chooseMiddle(it.dataset.middle);
     if (current.run) render(false);
-  };
-  for (const it of tabs) {
-    it.onclick = () => choose(it);
-    it.onkeydown = event => {
-      if (event.key !== "ArrowRight" && event.key !== "ArrowLeft") return;
-      event.preventDefault();
-      event.stopPropagation();
-      const other = tabs[(tabs.indexOf(it) + (event.key === "ArrowRight" ? 1 : tabs.length - 1)) % tabs.length];
-      choose(other);
-      other.focus();
-    };
-  }
+  });
   for (const it of document.querySelectorAll("[data-said]")) it.onclick = () => { pause(); openSaidOf(it.dataset.said); };
 }
 
@@ -208,7 +197,7 @@ function onHeader() {
   byId("size").onclick = openWindow;
   byId("help").onclick = openHelp;
   byId("tasks").onclick = openTasks;
-  byId("openelements").onclick = () => { pause(); openElements(); };
+  byId("openworkshop").onclick = () => { pause(); openWorkshop(); };
   byId("stop").onclick = () => {
     state.editions++;
     stopAll();

@@ -49,11 +49,6 @@ function bringIntoSight(row) {
 // Below the tapes stand the moves of the circuit, or this table.
 export function chooseMiddle(kind) {
   state.middle = kind;
-  for (const it of byId("middle").querySelectorAll("[role=tab]")) {
-    const isChosen = it.dataset.middle === kind;
-    it.setAttribute("aria-selected", isChosen);
-    it.tabIndex = isChosen ? 0 : -1;
-  }
   byId("moves").hidden = kind !== "moves";
   byId("quadruples").hidden = kind !== "table";
   table.at = null;
