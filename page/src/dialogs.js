@@ -1,9 +1,7 @@
-// The dialogs: the window by hand, the diagram in large, keys and colours, and the exercises.
-import {EXAMPLES} from "./examples.js";
-import {takeMachine, typed} from "./machine.js";
+// The dialogs: the window by hand, the diagram in large, keys and colours.
+import {typed} from "./machine.js";
 import {diagramPicture} from "./diagram_picture.js";
-import {byId, current, dialog, escaped, nameOf, state} from "./state.js";
-import {TASKS} from "./tasks.js";
+import {byId, current, dialog, nameOf, state} from "./state.js";
 import {frame} from "./view.js";
 import {ruleAt} from "./words.js";
 
@@ -51,32 +49,4 @@ export function openHelp() {
     the bar. No two moves end alike, so each can be undone.</p>
     <p class="quiet">Every step that is shown is an answer of a program that is proved to give it. It runs in this page, and
     nothing is sent anywhere.</p>`);
-}
-
-// ---- exercises
-
-export function openTasks() {
-  const listed = TASKS.map((it, k) => `<div class="task"><b>${k + 1}. ${escaped(it.title)}</b> <p>${escaped(it.ask)}</p><button data-task="${k}">Begin</button></div>`);
-  dialog("<h2>Exercises</h2>" + listed.join(""));
-  for (const it of byId("dialogbody").querySelectorAll("[data-task]")) {
-    it.onclick = () => {
-      byId("dialog").close();
-      beginTask(TASKS[it.dataset.task]);
-    };
-  }
-}
-function beginTask(task) {
-  const example = EXAMPLES.find(it => it.key === task.example);
-  takeMachine(example ? {...example, word: task.word, letter: false} : {table: task.table, word: task.word, about: ""});
-  const box = byId("about"), field = '<input id="taskvalue" inputmode="numeric" size="4" aria-label="your answer">';
-  box.innerHTML = `<span class="ask"><b>${escaped(task.title)}.</b> ${escaped(task.ask)}</span> <span class="row">`
-    + `${task.wants === "number" ? field : ""}<button id="taskcheck" class="main">Check</button><button id="taskend">End</button>`
-    + '<span id="tasksaid" role="status"></span></span>';
-  byId("taskcheck").onclick = () => {
-    const {run, found, machine} = current, isFresh = !document.body.classList.contains("stale");
-    const isStandard = Boolean(machine) && !machine.isStandard && machine.table === state.text && isFresh;
-    const isRight = Boolean(run) && task.check({value: Number(byId("taskvalue")?.value), run, found, isStandard});
-    byId("tasksaid").innerHTML = `<b class="${isRight ? "right" : "fault"}">${escaped(isRight ? task.right : task.wrong)}</b>`;
-  };
-  byId("taskend").onclick = () => { box.textContent = example?.about ?? ""; };
 }

@@ -87,6 +87,7 @@ export const elementsPage = {
     chooseCircuit(0);
   },
   open() { desk.stepper.draw(); },
+  take(text, start) { if (text) chooseCircuit(Math.max(0, CIRCUITS.findIndex(it => it.text === text)), text, start); },
   close: stopDesk,
   keys: {ArrowRight: () => stepDesk(1), ArrowLeft: () => stepDesk(-1), " ": playDesk, Home: rewindDesk},
   stepper: () => desk.stepper,

@@ -2,7 +2,7 @@
 import {stopAll} from "./answer.js";
 import {dragBy, lookAt, seen, zoomBy} from "./bank.js";
 import {dropBreak, runBreak, toggleBreak} from "./breaks.js";
-import {openDiagram, openHelp, openTasks, openWindow} from "./dialogs.js";
+import {openDiagram, openHelp, openWindow} from "./dialogs.js";
 import {renderLines} from "./editor.js";
 import {EXAMPLES} from "./examples.js";
 import {openFile} from "./files.js";
@@ -13,6 +13,7 @@ import {listed} from "./moves.js";
 import {exportPicture} from "./picture.js";
 import {chooseMiddle} from "./quadruples.js";
 import {openSaidOf} from "./said.js";
+import {openTasks, taskAtHand} from "./sheet.js";
 import {chooseLayer, goTo, lastStep, pause, play, speedWords, step} from "./play.js";
 import {forgetSizes} from "./sizes.js";
 import {busy, byId, current, LAYERS, state, toast} from "./state.js";
@@ -55,7 +56,7 @@ function onMachine() {
   on("table", "input", () => {
     state.text = byId("table").value;
     byId("examples").value = "";
-    if (!byId("taskcheck")) byId("about").textContent = "Your own machine, run by the program.";
+    if (taskAtHand() === null) byId("about").textContent = "Your own machine, run by the program.";
     renderLines();
     typed();
   });

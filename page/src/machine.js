@@ -16,10 +16,10 @@ import {number} from "./words.js";
 const MOST_BLANKS = 4;
 let waiting = null;
 
-// Something was typed: it is looked at when the typing rests.
-export function typed(delay = 300) {
+// Something was typed: it is looked at when the typing rests. A step may be given at which the run is shown.
+export function typed(delay = 300, keep = 0) {
   clearTimeout(waiting);
-  waiting = setTimeout(() => rebuild().catch(fault => {
+  waiting = setTimeout(() => rebuild(keep).catch(fault => {
     busy("");
     showFault({fault: String(fault.message ?? fault)});
     console.error(fault);
@@ -27,16 +27,16 @@ export function typed(delay = 300) {
 }
 
 // Takes an example, or a machine like one.
-export function takeMachine(example) {
+export function takeMachine(example, e = 0) {
   pause();
   Object.assign(state, {text: example.table, word: example.word, names: example.names ?? {}, asStandard: Boolean(example.letter),
-                        blank: null, window: null, breaks: [], e: 0, example: example.key ?? ""});
+                        blank: null, window: example.window ?? null, breaks: [], e: 0, example: example.key ?? ""});
   byId("about").textContent = example.about;
   byId("examples").value = state.example;
   byId("word").value = state.word;
   editorText();
   chips();
-  typed(0);
+  typed(0, e);
 }
 
 // Makes the run of what is typed, at a step that is to be kept.

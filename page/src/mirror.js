@@ -94,6 +94,7 @@ export const mirrorPage = {
     glass.mirror.draw();
   },
   close() {},
+  take: text => chooseGlass(text),
   keys: {
     ArrowRight: () => stepCircuit(() => glass.circuit.go(1)), ArrowLeft: () => stepCircuit(() => glass.circuit.go(-1)),
     ArrowUp: () => stepMirror(-1), ArrowDown: () => stepMirror(1),

@@ -26,7 +26,11 @@ function makeWorkshop() {
   workshop.box.querySelector("#e-close").onclick = () => workshop.box.close();
   workshop.box.querySelector("#e-texts").onclick = () => openSaid(workshop.page.title.toLowerCase(), workshop.page.calls());
   workshop.box.addEventListener("keydown", onWorkshopKey);
-  workshop.box.addEventListener("close", () => workshop.page.close());
+  workshop.box.addEventListener("close", () => {
+    workshop.page.close();
+    const sheet = workshop.box.querySelector("#sheet");
+    if (sheet) document.getElementById("sheetplace").append(sheet);
+  });
 }
 function onWorkshopKey(event) {
   if (event.target.matches("textarea,input,select,[role=tab]") || event.ctrlKey || event.metaKey || event.altKey) return;
@@ -55,4 +59,5 @@ export function openWorkshop(key = workshop.page?.key ?? PAGES[0].key) {
   if (!workshop.box.open) workshop.box.showModal();
   choosePage(PAGES.find(it => it.key === key));
 }
+export const workshopBox = () => workshop.box;
 export const pageOf = key => PAGES.find(it => it.key === key);
