@@ -1,4 +1,5 @@
 // Hands on: what each field, button, picture and key does.
+import {openAbout} from "./about.js";
 import {stopAll} from "./answer.js";
 import {dragBy, lookAt, seen, zoomBy} from "./bank.js";
 import {dropBreak, runBreak, toggleBreak} from "./breaks.js";
@@ -7,6 +8,7 @@ import {renderLines} from "./editor.js";
 import {EXAMPLES} from "./examples.js";
 import {openFile} from "./files.js";
 import {renderFilm} from "./film.js";
+import {endHints, placeHint} from "./hints.js";
 import {linkOf} from "./links.js";
 import {stale, takeMachine, typed} from "./machine.js";
 import {listed} from "./moves.js";
@@ -43,6 +45,7 @@ export function takeHands() {
     clearTimeout(resting);
     resting = setTimeout(() => {
       forgetSizes();
+      placeHint();
       if (!current.run) return;
       renderFilm();
       render(false);
@@ -191,6 +194,7 @@ function onPanels() {
     chooseMiddle(it.dataset.middle);
     if (current.run) render(false);
   });
+  for (const it of document.querySelectorAll("[data-about]")) it.onclick = () => { pause(); openAbout(it.dataset.about); };
   for (const it of document.querySelectorAll("[data-said]")) it.onclick = () => { pause(); openSaidOf(it.dataset.said); };
 }
 
@@ -231,7 +235,7 @@ function onKey(event) {
     " ": () => togglePlay(-1), ArrowRight: () => runBreak(1), ArrowLeft: () => runBreak(-1), ArrowUp: () => layer(-1), ArrowDown: () => layer(1),
   }[key] : {
     " ": () => state.playing ? pause() : play(1), ArrowRight: () => step(1), ArrowLeft: () => step(-1),
-    Home: () => byId("first").click(), End: () => byId("last").click(),
+    Home: () => byId("first").click(), End: () => byId("last").click(), Escape: endHints,
   }[key];
   if (!act) return;
   event.preventDefault();

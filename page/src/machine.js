@@ -4,6 +4,7 @@ import {answer, STATUS} from "./answer.js";
 import {chips} from "./breaks.js";
 import {editorText, markFaults} from "./editor.js";
 import {renderFilm, resetFilm} from "./film.js";
+import {beginHints} from "./hints.js";
 import {fetchFrame, pause} from "./play.js";
 import {Run} from "./run.js";
 import {busy, byId, current, dialog, escaped, nameOf, state} from "./state.js";
@@ -109,6 +110,7 @@ function showRun({run, found}, keep) {
   renderFilm();
   render();
   fetchFrame(1);
+  beginHints();
 }
 
 // Whether what is shown is of an earlier table.

@@ -27,7 +27,7 @@ export function render(isLive = !state.playing) {
   const f = frame(), rule = ruleAt(current.run, f.q, nameOf), {stage} = f.moment;
   byId("machine").className = "panel " + stage;
   for (const it of byId("stages").children) it.classList.toggle("now", it.dataset.stage === stage);
-  const tag = rule.rule ? `<span class="tagno">rule ${rule.rule}${rule.isBack ? ", undone" : ""}</span>` : "";
+  const tag = rule.rule ? `<span class="tagno">rule ${rule.rule}${rule.isBack ? ", undone" : ""}</span> ` : "";
   put("rule", `<p class="head">${tag}${escaped(rule.head)}</p><p class="more">${escaped(rule.more)}</p>`);
   renderTapes(f);
   renderCell();
