@@ -51,7 +51,8 @@ class Shown(Browser):
         ready = "typeof bench === 'object' && Boolean(bench.current.run) && !document.getElementById('busy').textContent.includes('…')"
         while not self.ask(ready):
             if time.monotonic() > until:
-                raise OSError(f"{address[:80]}: no run is shown; the page says {self.ask('document.body.innerText')[:200]!r}")
+                raise OSError(f"{address[:80]}: no run is shown; the page says "
+                              f"{self.ask('document.body.innerText')[:200]!r}")
             time.sleep(0.05)
 
     def wait(self, expression):
@@ -61,7 +62,15 @@ class Shown(Browser):
             raise OSError(it["exceptionDetails"].get("exception", {}).get("description", "a fault of the script"))
         return it["result"].get("value")
 
+    def strike(self, key, number, text="", shift=False):
+        """A key of the keyboard, by its name and its number."""
+        for kind in ("keyDown" if text else "rawKeyDown", "keyUp"):
+            self.call("Input.dispatchKeyEvent", type=kind, key=key, code=key, windowsVirtualKeyCode=number, modifiers=8
+                      if shift else 0,
+                      **({"text": text} if text and kind == "keyDown" else {}))
+
     def asked_for(self):
         """The addresses outside the file that were asked for."""
-        found = [it["params"]["request"]["url"] for it in self.events if it.get("method") == "Network.requestWillBeSent"]
+        found = [it["params"]["request"]["url"] for it in self.events
+                 if it.get("method") == "Network.requestWillBeSent"]
         return [it for it in found if not it.startswith(("file:", "data:", "blob:", "about:"))]

@@ -30,7 +30,8 @@ def next_quadruple(table, view):
     """The quadruple that is made next behind a view, as its number, its state and the next one; or nothing."""
     tapes = [read_tape(line, number, "view") for number, line in enumerate(view[3:6], 1)]
     for number, row in enumerate((line.split(",") for line in table.splitlines()), 1):
-        holds = [it == "/" or tape.head is not None and it == tape.symbols[tape.head - tape.first] for it, tape in zip(row[1:4], tapes)]
+        holds = [it == "/" or tape.head is not None and it == tape.symbols[tape.head - tape.first] for it,
+                 tape in zip(row[1:4], tapes)]
         if f"quadruple {row[0]}" == view[2] and all(holds):
             return [str(number), row[0], row[7]]
     return []
@@ -42,7 +43,8 @@ def faults_at(page, program, table, words, compiled, e):
     view = program.text(["view", *words, str(e)], table).splitlines()
     bars = "".join(read_configuration(program.text(["step", str(e)], compiled)).bars)
     faults = [f"{shown[name]!r}, and not {line!r}" for name, line in
-              (("element", view[0]), ("module", view[1]), ("quadruple", view[2]), ("machine", view[6])) if shown[name] != line]
+              (("element", view[0]), ("module", view[1]), ("quadruple", view[2]),
+               ("machine", view[6])) if shown[name] != line]
     if bars[shown["base"]:shown["base"] + len(shown["bars"])] != shown["bars"]:
         faults.append(f"the bars of the module from element {shown['base']} on")
     marked, right = shown["marked"], next_quadruple(program.text(["bennett"], table), view)
@@ -66,7 +68,8 @@ def check_machine(page, program, fragment, more, draw, count):
         count.hold(not faults, f"{fragment[:30]}, step {e} of {end}: the page shows {'; '.join(faults)}")
     page.wait("(async () => { const {goTo, state, step} = bench; state.layer = 'quadruple'; goTo(0);"
               " for (let k = 0; k < 5; k++) await step(1); for (let k = 0; k < 5; k++) await step(-1); })()")
-    count.hold(page.ask("bench.state.e") == 0, f"{fragment[:30]}: five quadruples there and back don't lead to the start")
+    count.hold(page.ask("bench.state.e") == 0,
+               f"{fragment[:30]}: five quadruples there and back don't lead to the start")
     count.hold(not page.faults(), f"{fragment[:30]}: {page.faults()}")
 
 

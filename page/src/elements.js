@@ -14,9 +14,11 @@ const DESK_PAGE = `<div class="e-left">
     <div id="e-moves"><label for="e-state">in state</label> <input id="e-state" size="2" value="1" inputmode="numeric">
       <label for="e-line">the signal at line</label> <input id="e-line" size="2" value="1" inputmode="numeric"></div>
     <p id="e-fault" class="e-fault" role="status"></p>
-    <p class="quiet">A box is an element with its bar. Along the bar the signal goes straight on; across it, it turns right
+    <p class="quiet">A box is an element with its bar. Along the bar the signal goes straight on; across it, it turns
+    right
       and turns the bar. No two of the eight cases end alike, so each step can be taken back.</p></div>
-  <div class="e-right"><div id="e-picture" class="e-picture"></div><div class="e-foot"><button id="e-first">To the start</button>
+  <div class="e-right"><div id="e-picture" class="e-picture"></div><div class="e-foot"><button id="e-first">To the
+  start</button>
     <button id="e-back">◂ Step back</button><button id="e-forth">Step ▸</button>
     <button id="e-play" class="main">Play</button><span id="e-place" class="e-place" role="status"></span></div></div>`;
 
@@ -27,7 +29,8 @@ async function takeCircuit() {
   stopDesk();
   const given = deskPart("e-text").value;
   deskPart("e-moves").hidden = isConfiguration(given);
-  const reply = await circuitText(given, deskPart("e-state").value.trim() || "1", deskPart("e-line").value.trim() || "1");
+  const reply = await circuitText(given, deskPart("e-state").value.trim() || "1", deskPart("e-line").value.trim()
+    || "1");
   deskPart("e-fault").textContent = circuitFault(reply);
   if (reply.status === STATUS.done) desk.stepper.take(reply.text);
 }
@@ -91,5 +94,6 @@ export const elementsPage = {
   close: stopDesk,
   keys: {ArrowRight: () => stepDesk(1), ArrowLeft: () => stepDesk(-1), " ": playDesk, Home: rewindDesk},
   stepper: () => desk.stepper,
-  calls: () => [{words: ["step", "1"], input: desk.stepper.text, what: "the circuit's text"}, {words: ["back", "1"], input: desk.stepper.text, what: "the circuit's text"}],
+  calls: () => [{words: ["step", "1"], input: desk.stepper.text, what: "the circuit's text"},
+    {words: ["back", "1"], input: desk.stepper.text, what: "the circuit's text"}],
 };

@@ -1,25 +1,30 @@
-// Two machines, the second of which takes the first one back: Bennett's machine of the first leaves its input beside the
-// output; the machine that `erase` makes of both leaves the output alone.
+// Two machines, the second of which takes the first one back: Bennett's machine of the first leaves its input beside
+// the output; the machine that `erase` makes of both leaves the output alone.
 import {answer, STATUS} from "./answer.js";
 import {escaped} from "./state.js";
 import {faultOf} from "./table.js";
+import {exampleTable} from "./task_tools.js";
 import {readRun} from "./texts.js";
 import {inTurn} from "./turns.js";
 import {number} from "./words.js";
 
 const ERASE_REST = 300, MOST_ERASING = "1000000";
 const NOT_TABLE = "I,_,_,+,Q1\nQ1,0,1,+,Q1\nQ1,1,0,+,Q1\nQ1,_,_,-,Q2\nQ2,0,0,-,Q2\nQ2,1,1,-,Q2\nQ2,_,_,0,O\n";
-const ADD_TABLE = "S,_,_,+,Go\nGo,0,0,+,Go\nGo,1,1,+,Go\nGo,_,_,-,Add\nAdd,1,0,-,Add\nAdd,0,1,-,Home\nAdd,_,1,-,Home\nHome,0,0,-,Home\nHome,1,1,-,Home\nHome,_,_,0,Halt\n";
+const ADD_TABLE = exampleTable("increment");
 const PAIRS = [{title: "Turn each letter, twice", first: NOT_TABLE, second: NOT_TABLE, word: "101"},
                {title: "A second machine that takes nothing back", first: ADD_TABLE, second: NOT_TABLE, word: "101"}];
 const ERASE_PAGE = `<div class="e-left">
-    <select id="x-examples" aria-label="Pairs of machines">${PAIRS.map((it, k) => `<option value="${k}">${it.title}</option>`).join("")}</select>
-    <label for="x-first">The first machine: from the word to the output</label><textarea id="x-first" spellcheck="false"></textarea>
-    <label for="x-second">The second: from the output back to the word</label><textarea id="x-second" spellcheck="false"></textarea>
+    <select id="x-examples" aria-label="Pairs of machines">${PAIRS.map((it, k) => `<option
+    value="${k}">${it.title}</option>`).join("")}</select>
+    <label for="x-first">The first machine: from the word to the output</label><textarea id="x-first"
+    spellcheck="false"></textarea>
+    <label for="x-second">The second: from the output back to the word</label><textarea id="x-second"
+    spellcheck="false"></textarea>
     <div><label for="x-word">Word</label> <input id="x-word" size="8" spellcheck="false" autocomplete="off"></div>
     <p id="x-fault" class="e-fault" role="status"></p></div>
   <div class="e-right"><div id="x-ends" class="x-ends" role="status"></div>
-    <h3 id="x-count"></h3><div id="x-table" class="x-table" tabindex="0" role="group" aria-label="the quadruples of the erasing machine"></div></div>`;
+    <h3 id="x-count"></h3><div id="x-table" class="x-table" tabindex="0" role="group"
+    aria-label="the quadruples of the erasing machine"></div></div>`;
 
 const eraser = {box: null, input: "", word: ""};
 const eraserPart = id => eraser.box.querySelector("#" + id);
@@ -35,7 +40,8 @@ function eraseFault({status, text}, first, second) {
 async function takePair() {
   const [first, second] = ["x-first", "x-second"].map(id => eraserPart(id).value.replace(/\n*$/, "\n"));
   const word = eraserPart("x-word").value.trim(), input = `${first}%\n${second}`;
-  const [made, ended, ran] = await Promise.all([answer(["erase"], input), answer(["erase", "=" + word, MOST_ERASING], input),
+  const [made, ended, ran] =
+    await Promise.all([answer(["erase"], input), answer(["erase", "=" + word, MOST_ERASING], input),
                                                 answer(["run", "=" + word, "auto"], first)]);
   Object.assign(eraser, {input, word, first});
   eraserPart("x-fault").textContent = eraseFault(made, first, second) || eraseFault(ended, first, second);
@@ -56,10 +62,15 @@ function endsText(ended, ran) {
   const bennett = run.exit === "end" ? [wordOf(run.tapes[0]), run.output].map(shownWord).concat(steps(run.quadruples))
     : ["", "", "it doesn't come to its end"];
   const erasing = kind === "halted" ? [of("work"), of("output")].map(shownWord).concat(steps(first))
-    : ["", "", kind === "stuck" ? `stuck in ${escaped(first)} after ${escaped(second)}: the second machine doesn't take the first one back` : "it runs on"];
-  return `<table><thead><tr><td></td><th scope="col">work tape</th><th scope="col">output tape</th><th scope="col">after</th></tr></thead><tbody>`
-    + `${row("Bennett's machine of the first leaves", bennett)}${row("The erasing machine of both leaves", erasing)}</tbody></table>`
-    + (kind === "halted" && of("work") === "" ? "<p>Nothing is left but the output, and no step forgot anything.</p>" : "");
+    : ["", "", kind === "stuck"
+      ? `stuck in ${escaped(first)} after ${escaped(second)}: the second machine doesn't take the first one back`
+        : "it runs on"];
+  return `<table><thead><tr><td></td><th scope="col">work tape</th><th scope="col">output tape</th><th
+      scope="col">after</th></tr></thead><tbody>`
+    + `${row("Bennett's machine of the first leaves", bennett)}${row("The erasing machine of both " +
+      "leaves", erasing)}</tbody></table>`
+    + (kind === "halted" && of("work") === "" ? "<p>Nothing is left but the output, and no step forgot anything.</p>"
+      : "");
 }
 
 function choosePair(k) {
@@ -84,6 +95,7 @@ export const erasePage = {
   open() {},
   close() {},
   keys: {},
-  calls: () => [{words: ["erase", "=" + eraser.word, MOST_ERASING], input: eraser.input, what: "both tables"}, {words: ["erase"], input: eraser.input, what: "both tables"},
+  calls: () => [{words: ["erase", "=" + eraser.word, MOST_ERASING], input: eraser.input, what: "both tables"},
+    {words: ["erase"], input: eraser.input, what: "both tables"},
                 {words: ["run", "=" + eraser.word, "auto"], input: eraser.first, what: "the first table"}],
 };

@@ -1,5 +1,5 @@
-// Two boards under a schedule: after so many events of it the boards are what `farm` answers to its front, and behind them
-// stands the schedule that undoes those events, which can be gone on with.
+// Two boards under a schedule: after so many events of it the boards are what `farm` answers to its front, and behind
+// them stands the schedule that undoes those events, which can be gone on with.
 import {answer, STATUS} from "./answer.js";
 import {circuitFault} from "./circuits.js";
 import {Stepper} from "./stepper.js";
@@ -7,18 +7,23 @@ import {escaped} from "./state.js";
 import {inTurn} from "./turns.js";
 
 const FARM_REST = 300, MOST_EVENTS = 1000;
-const BOARDS = ["rotary 2\nelements 6\nstart 0.w\nend 4.e\nsteps 0\nat 0.w\nc 0 2 H\nr 3.w 4.e\nr 4.w -\nc 3 2 V\nr - -\nr - 0.e\n",
+const BOARDS = ["rotary 2\nelements 6\nstart 0.w\nend 4.e\nsteps 0\nat 0.w\nc 0 2 H\nr 3.w 4.e\nr 4.w -\nc 3 2 V\nr " +
+  "- -\nr - 0.e\n",
                 "rotary 1\nelements 1\nstart 0.e\nend 0.w\nsteps 0\nat 0.n\ne 0 V - - 0.n -\n"];
 const SCHEDULE = "+ 1 5\n+ 2 3\n+ 1 10\n- 2 1\n";
 const FARM_PAGE = `<div class="e-left">
     <label for="f-0">Board 1</label><textarea id="f-0" spellcheck="false"></textarea>
     <label for="f-1">Board 2</label><textarea id="f-1" spellcheck="false"></textarea>
-    <label for="f-schedule">Schedule: + or -, the board, how many events</label><textarea id="f-schedule" spellcheck="false"></textarea>
+    <label for="f-schedule">Schedule: + or -, the board, how many events</label><textarea id="f-schedule"
+    spellcheck="false"></textarea>
     <p id="f-fault" class="e-fault" role="status"></p></div>
   <div class="e-right two">
-    <figure><figcaption>Board 1</figcaption><div id="f-room0" class="e-picture"></div><p id="f-place0" class="e-place"></p></figure>
-    <figure><figcaption>Board 2</figcaption><div id="f-room1" class="e-picture"></div><p id="f-place1" class="e-place"></p></figure>
-    <div class="f-lists"><div><h3>Schedule</h3><ol id="f-lines"></ol></div><div><h3>What undoes it so far</h3><ol id="f-undoing"></ol></div></div>
+    <figure><figcaption>Board 1</figcaption><div id="f-room0" class="e-picture"></div><p id="f-place0"
+    class="e-place"></p></figure>
+    <figure><figcaption>Board 2</figcaption><div id="f-room1" class="e-picture"></div><p id="f-place1"
+    class="e-place"></p></figure>
+    <div class="f-lists"><div><h3>Schedule</h3><ol id="f-lines"></ol></div><div><h3>What undoes it so far</h3><ol
+    id="f-undoing"></ol></div></div>
     <div class="e-foot"><button id="f-first">To the start</button><button id="f-back">◂ Event</button>
       <button id="f-forth" class="main">Event ▸</button><button id="f-line">Line ▸</button>
       <button id="f-undo">Go on with what undoes it</button></div>
@@ -67,15 +72,20 @@ async function showFarm() {
   farm.steppers.forEach((it, k) => it.show(parts[k]));
   let before = 0;
   const items = farm.lines.map(it => {
-    const made = Math.max(0, Math.min(it.count, farm.at - before)), isNow = farm.at > before && farm.at <= before + it.count;
+    const made = Math.max(0, Math.min(it.count, farm.at - before)), isNow = farm.at > before && farm.at <= before
+      + it.count;
     before += it.count;
-    return `<li class="${isNow ? "now" : ""}"${isNow ? ' aria-current="step"' : ""}><code>${escaped(it.line)}</code> <span class="quiet">${made ? `${made} made` : ""}</span></li>`;
+    return `<li class="${isNow ? "now" : ""}"${isNow ? ' aria-current="step"' : ""}><code>${escaped(it.line)}</code>
+        <span class="quiet">${made ? `${made} made` : ""}</span></li>`;
   });
   farmPart("f-lines").innerHTML = items.join("");
-  farmPart("f-undoing").innerHTML = readSchedule(undoing).map(it => `<li><code>${escaped(it.line)}</code></li>`).join("") || '<li class="quiet">nothing yet</li>';
+  farmPart("f-undoing").innerHTML =
+    readSchedule(undoing).map(it => `<li><code>${escaped(it.line)}</code></li>`).join("")
+      || '<li class="quiet">nothing yet</li>';
   farmPart("f-undo").disabled = undoing === "";
   const isFirst = parts.join("%\n") === farm.first, total = totalOf(farm.lines);
-  farmPart("f-said").textContent = `Event ${farm.at} of ${total}. ` + (isFirst ? "The boards are the first ones, byte for byte."
+  farmPart("f-said").textContent = `Event ${farm.at} of ${total}. `
+    + (isFirst ? "The boards are the first ones, byte for byte."
     : "An event of one board leaves the other one as it is.");
 }
 const goFarm = where => inTurn(async () => {
@@ -119,7 +129,8 @@ export const farmPage = {
   },
   open() { for (const it of farm.steppers) it.draw(); },
   close() {},
-  keys: {ArrowRight: () => goFarm(() => farm.at + 1), ArrowLeft: () => goFarm(() => farm.at - 1), Home: () => inTurn(takeFarm)},
+  keys: {ArrowRight: () => goFarm(() => farm.at + 1), ArrowLeft: () => goFarm(() => farm.at - 1),
+    Home: () => inTurn(takeFarm)},
   farm,
   calls: () => [{words: ["farm"], input: farm.input, what: "the boards, and the front of the schedule"}],
 };

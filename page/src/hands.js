@@ -1,7 +1,7 @@
 // Hands on: what each field, button, picture and key does.
 import {openAbout} from "./about.js";
 import {stopAll} from "./answer.js";
-import {dragBy, lookAt, seen, zoomBy} from "./bank.js";
+import {dragBy, lookAt, moveBy, seen, zoomBy} from "./bank.js";
 import {dropBreak, runBreak, toggleBreak} from "./breaks.js";
 import {openDiagram, openHelp, openWindow} from "./dialogs.js";
 import {renderLines} from "./editor.js";
@@ -18,6 +18,7 @@ import {openSaidOf} from "./said.js";
 import {openTasks, taskAtHand} from "./sheet.js";
 import {chooseLayer, goTo, lastStep, pause, play, speedWords, step} from "./play.js";
 import {forgetSizes} from "./sizes.js";
+import {openStops} from "./stops.js";
 import {busy, byId, current, LAYERS, state, toast} from "./state.js";
 import {takeTabs} from "./tabs.js";
 import {frame, render} from "./view.js";
@@ -93,6 +94,7 @@ function onTime() {
   byId("forth").onclick = () => step(1);
   byId("play").onclick = () => togglePlay(1);
   byId("playback").onclick = () => togglePlay(-1);
+  byId("addstop").onclick = () => { pause(); openStops(); };
   byId("breakon").onclick = () => runBreak(1);
   byId("breakback").onclick = () => runBreak(-1);
   on("speed", "input", () => {
@@ -173,17 +175,30 @@ function onBank() {
     event.preventDefault();
     zoomBy(event.deltaY < 0 ? 1.15 : 1 / 1.15);
   }, {passive: false});
+  on("bank", "keydown", event => {
+    const act = {
+      ArrowLeft: () => moveBy(-1, 0), ArrowRight: () => moveBy(1, 0), ArrowUp: () => moveBy(0, -1), ArrowDown: () => moveBy(0, 1),
+      "+": () => zoomBy(1.35), "-": () => zoomBy(1 / 1.35), 0: fitBank,
+    }[event.key];
+    if (!act || event.ctrlKey || event.metaKey || event.altKey || event.shiftKey && event.key !== "+") return;
+    event.preventDefault();
+    event.stopPropagation();
+    act();
+  });
   on("zoom", "click", event => {
     const kind = event.target.dataset.zoom;
     if (kind === "in" || kind === "out") zoomBy(kind === "in" ? 1.35 : 1 / 1.35);
-    if (kind !== "fit") return;
-    state.zoom = null;
-    render(false);
+    if (kind === "fit") fitBank();
   });
   on("overview", "pointerdown", event => {
     const {bank} = frame(), box = byId("overview").getBoundingClientRect();
     if (bank) lookAt(bank, (event.clientX - box.left) / box.width, (event.clientY - box.top) / box.height);
   });
+}
+
+function fitBank() {
+  state.zoom = null;
+  render(false);
 }
 
 // ---- the head of the page, and keys

@@ -1,11 +1,12 @@
-// Three short hints at a first visit, each at its place. That they were seen is kept in the browser; where nothing can be
-// kept, none is shown.
+// Three short hints at a first visit, each at its place. That they were seen is kept in the browser; where nothing can
+// be kept, none is shown.
 import {byId} from "./state.js";
 
 const KEPT_AS = "hithwelor hints", HINT_GAP = 10;
 const HINTS = [
   {at: "#layers", words: "Play it, and take it back: space, → and ←. Here you choose what a step is."},
-  {at: "#map", words: "The same step in the circuit. A click on a state, a cell or an element stops there; ? says what is seen."},
+  {at: "#map", words: "The same step in the circuit. A click on a state, a cell or an element stops there; ? says " +
+    "what is seen."},
   {at: ".editor", words: "Type a machine here, or take one of the examples. What the program says of it stands below."},
 ];
 let shownHint = -1;
@@ -42,7 +43,8 @@ function showHint(k) {
   box.id = "hint";
   box.setAttribute("aria-label", `Hint ${k + 1} of ${HINTS.length}`);
   box.innerHTML = `<p>${HINTS[k].words}</p><p class="row"><span class="quiet">${k + 1} of ${HINTS.length}</span>
-    <button id="hintend">${isLast ? "Close" : "No more"}</button>${isLast ? "" : '<button id="hintnext" class="main">Next</button>'}</p>`;
+    <button id="hintend">${isLast ? "Close" : "No more"}</button>
+    ${isLast ? "" : '<button id="hintnext" class="main">Next</button>'}</p>`;
   document.querySelector("header").after(box);
   byId("hintend").onclick = endHints;
   if (!isLast) byId("hintnext").onclick = () => {
@@ -59,7 +61,8 @@ export function placeHint() {
   const place = it.getBoundingClientRect();
   if (place.top < 0 || place.bottom > innerHeight) it.scrollIntoView({block: "center"});
   const target = it.getBoundingClientRect(), {width, height} = box.getBoundingClientRect();
-  const isRoomBelow = target.bottom + HINT_GAP + height < innerHeight, left = Math.max(HINT_GAP, Math.min(innerWidth - width - HINT_GAP, target.left));
+  const isRoomBelow = target.bottom + HINT_GAP + height < innerHeight,
+    left = Math.max(HINT_GAP, Math.min(innerWidth - width - HINT_GAP, target.left));
   box.style.left = `${left}px`;
   box.style.top = `${Math.max(HINT_GAP, isRoomBelow ? target.bottom + HINT_GAP : target.top - height - HINT_GAP)}px`;
 }

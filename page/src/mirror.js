@@ -1,5 +1,5 @@
-// A circuit and its mirror, side by side: the mirror is what `mirror` makes of the circuit as it stands, and each of its
-// steps on takes a step of the circuit back. Both are stepped by the program, and their bars are compared.
+// A circuit and its mirror, side by side: the mirror is what `mirror` makes of the circuit as it stands, and each of
+// its steps on takes a step of the circuit back. Both are stepped by the program, and their bars are compared.
 import {answer, STATUS} from "./answer.js";
 import {readConfiguration} from "./circuit.js";
 import {circuitFault, CIRCUITS, circuitText} from "./circuits.js";
@@ -12,7 +12,8 @@ const GLASS_PAGE = `<div class="e-left">
     <select id="m-examples" aria-label="Circuits to begin with">${GLASS_OPTIONS}</select>
     <label for="m-text">Moves (state, line, next state, line), or a configuration text</label>
     <textarea id="m-text" spellcheck="false"></textarea><p id="m-fault" class="e-fault" role="status"></p>
-    <p class="quiet">In a mirror each wire is turned round, and east and west are exchanged. It is made of the same element,
+    <p class="quiet">In a mirror each wire is turned round, and east and west are exchanged. It is made of the same
+    element,
       so what it does isn't a step back: it is another circuit, going on.</p></div>
   <div class="e-right two">
     <figure><figcaption>The circuit</figcaption><div id="m-circuit" class="e-picture"></div>
@@ -20,7 +21,8 @@ const GLASS_PAGE = `<div class="e-left">
         <button id="m-forth" class="main">Step ▸</button><button id="m-end">To its end</button></div>
       <p id="m-place" class="e-place"></p></figure>
     <figure><figcaption>Its mirror</figcaption><div id="m-mirror" class="e-picture"></div>
-      <div class="e-foot"><button id="m-mback">◂ Step back</button><button id="m-mforth" class="main">Step of the mirror ▸</button></div>
+      <div class="e-foot"><button id="m-mback">◂ Step back</button><button id="m-mforth" class="main">Step of the
+      mirror ▸</button></div>
       <p id="m-mplace" class="e-place"></p></figure>
     <p id="m-said" class="e-said" role="status"></p></div>`;
 
@@ -55,11 +57,12 @@ async function compare() {
   const made = glass.mirror.steps(), left = glass.circuit.steps() - made, bars = glass.mirror.bars();
   const before = await answer(["back", String(made)], glass.circuit.text);
   const isEqual = readConfiguration(before.text).bars.join("") === bars;
+  const atStart = left ? "." : ": at its start. All is undone.";
   const count = made === 1 ? "one step" : `${made} steps`;
   glassPart("m-said").textContent = !glass.circuit.steps() ? "Step the circuit; then let its mirror undo what it did."
     : !made ? `The mirror begins where the circuit stands, after ${glass.circuit.steps()} of its steps.`
       : left < 0 ? "The mirror has gone on beyond the circuit's start."
-        : isEqual ? `After ${count} of the mirror its bars stand as the circuit's stood ${count} before${left ? "." : ": at its start. All is undone."}`
+        : isEqual ? `After ${count} of the mirror its bars stand as the circuit's stood ${count} before${atStart}`
           : "The mirror's bars stand otherwise than the circuit's stood.";
 }
 
@@ -79,7 +82,8 @@ export const mirrorPage = {
     glass.mirror = new Stepper(glassPart("m-mirror"), glassPart("m-mplace"));
     let later = null;
     glassPart("m-examples").onchange = () => chooseGlass(CIRCUITS[Number(glassPart("m-examples").value)].text);
-    glassPart("m-text").oninput = () => { clearTimeout(later); later = setTimeout(() => inTurn(takeGlass), GLASS_REST); };
+    glassPart("m-text").oninput = () => { clearTimeout(later); later = setTimeout(() => inTurn(takeGlass), GLASS_REST);
+      };
     const {circuit} = glass;
     glassPart("m-start").onclick = () => stepCircuit(() => circuit.far(-1));
     glassPart("m-back").onclick = () => stepCircuit(() => circuit.go(-1));
@@ -100,6 +104,7 @@ export const mirrorPage = {
     ArrowUp: () => stepMirror(-1), ArrowDown: () => stepMirror(1),
   },
   steppers: () => [glass.circuit, glass.mirror],
-  calls: () => [{words: ["mirror"], input: glass.circuit.text, what: "the circuit's text"}, {words: ["step", String(glass.mirror.steps())], input: glass.made, what: "the mirror's text"},
+  calls: () => [{words: ["mirror"], input: glass.circuit.text, what: "the circuit's text"},
+    {words: ["step", String(glass.mirror.steps())], input: glass.made, what: "the mirror's text"},
                 {words: ["back", String(glass.mirror.steps())], input: glass.circuit.text, what: "the circuit's text"}],
 };

@@ -7,14 +7,17 @@ const MOST_MOMENTS = 4000;
 export class Moments {
   async findMoments() {
     const [, , n, r3] = this.window;
-    const most = Math.min(MOST_MOMENTS, this.outcome.quadruples !== null ? this.outcome.quadruples + 1 : 4 * n + 4 * r3 + 12);
-    const script = this.names.map((name, k) => `break s${k} state ${name}\n`).join("") + `go ${GREATEST}\nview\n`.repeat(most);
+    const most = Math.min(MOST_MOMENTS, this.outcome.quadruples !== null ? this.outcome.quadruples + 1 : 4 * n + 4 * r3
+      + 12);
+    const script = this.names.map((name, k) => `break s${k} state ${name}\n`).join("")
+      + `go ${GREATEST}\nview\n`.repeat(most);
     this.script = this.inputOf(script);
     const lines = (await this.session(script)).text.split("\n").slice(this.names.length), moments = [];
     for (let at = 0; at + 7 < lines.length; at += 8) {
       const view = readView(lines, at + 1);
       const last = moments.at(-1);
-      const isSame = last?.name === view.name && last.step === view.step && JSON.stringify(last.tapes) === JSON.stringify(view.tapes);
+      const isSame = last?.name === view.name && last.step === view.step
+        && JSON.stringify(last.tapes) === JSON.stringify(view.tapes);
       if (view.hasLeft && isSame) {
         last.leaves = view;
         break;
@@ -51,7 +54,8 @@ export class Moments {
     return q + (to > from ? Math.min(1, (e - from) / (to - from)) : 0);
   }
   stepAt(time) {
-    const q = Math.max(0, Math.min(this.starts.length - 1, Math.floor(time))), from = this.starts[q], to = this.starts[q + 1] ?? this.end;
+    const q = Math.max(0, Math.min(this.starts.length - 1, Math.floor(time))), from = this.starts[q],
+      to = this.starts[q + 1] ?? this.end;
     return Math.round(from + (to - from) * Math.min(1, Math.max(0, time - q)));
   }
 
@@ -69,7 +73,8 @@ export class Moments {
     return null;
   }
   firstWritten(tape, cell) {
-    for (let q = 1; q < this.moments.length; q++) if (this.cellAt(q, tape, cell) !== this.cellAt(q - 1, tape, cell)) return q;
+    for (let q = 1; q < this.moments.length; q++) if (this.cellAt(q, tape, cell) !== this.cellAt(q - 1, tape,
+      cell)) return q;
     return null;
   }
 }

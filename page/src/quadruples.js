@@ -10,7 +10,8 @@ const table = {at: null, run: null};
 export function quadrupleAt(run, q) {
   const {name, tapes} = run.moments[q];
   const scanned = tapes.map(tape => tape.head === null ? null : tape.symbols[tape.head - tape.first]);
-  return run.quadruples.findIndex(row => row[0] === name && scanned.every((it, k) => row[1 + k] === "/" || row[1 + k] === it));
+  return run.quadruples.findIndex(row => row[0] === name && scanned.every((it, k) => row[1 + k] === "/"
+    || row[1 + k] === it));
 }
 
 export function renderQuadruples({q}) {
@@ -32,7 +33,8 @@ function tableText(run) {
   const heads = ["", "state", "work", "history", "output", "then"].map(it => `<th scope="col">${it}</th>`);
   const rows = run.quadruples.map((row, k) => {
     const tapes = [1, 2, 3].map(tape => `<td class="m${tape}">${escaped(actWords(row[tape], row[tape + 3]))}</td>`);
-    return `<tr><td class="no">${k + 1}</td><td>${escaped(row[0])}</td>${tapes.join("")}<td>${escaped(row[7])}</td></tr>`;
+    const [from, then] = [row[0], row[7]].map(it => `<td>${escaped(it)}</td>`);
+    return `<tr><td class="no">${k + 1}</td>${from}${tapes.join("")}${then}</tr>`;
   });
   return `<table><thead><tr>${heads.join("")}</tr></thead><tbody>${rows.join("")}</tbody></table>`;
 }
@@ -43,7 +45,8 @@ function actWords(read, write) {
 }
 function bringIntoSight(row) {
   const box = byId("quadruples"), inner = row.getBoundingClientRect(), outer = box.getBoundingClientRect();
-  if (inner.top < outer.top + 26 || inner.bottom > outer.bottom - 4) box.scrollTop += inner.top - outer.top - outer.height * .45;
+  if (inner.top < outer.top + 26
+    || inner.bottom > outer.bottom - 4) box.scrollTop += inner.top - outer.top - outer.height * .45;
 }
 
 // Below the tapes stand the moves of the circuit, or this table.

@@ -1,5 +1,5 @@
-// The sheet of an exercise: its words, its fields, and what the program's answers say of what was filled in. It stands over
-// the circuit, or in the workshop where the exercise is done there.
+// The sheet of an exercise: its words, its fields, and what the program's answers say of what was filled in. It stands
+// over the circuit, or in the workshop where the exercise is done there.
 import {EXAMPLES} from "./examples.js";
 import {takeMachine} from "./machine.js";
 import {byId, current, dialog, escaped, state} from "./state.js";
@@ -10,8 +10,11 @@ import {openWorkshop, pageOf, workshopBox} from "./workshop.js";
 const sheet = {task: null, choice: 0};
 
 export function openTasks() {
-  const listed = TASKS.map(it => `<li><b>${escaped(it.title)}</b> <button data-task="${it.number}" aria-label="begin exercise ${it.number}">Begin</button></li>`);
-  dialog(`<h2>Exercises</h2><p class="quiet">Try each with pencil and paper first. What you fill in is compared with what the program answers.</p>`
+  const listed = TASKS.map(it =>
+    `<li><b>${escaped(it.title)}</b> <button data-task="${it.number}"
+        aria-label="begin exercise ${it.number}">Begin</button></li>`);
+  dialog(`<h2>Exercises</h2><p class="quiet">Try each with pencil and paper first. What you fill in is compared with
+      what the program answers.</p>`
     + `<ol class="tasks">${listed.join("")}</ol>`);
   for (const it of byId("dialogbody").querySelectorAll("[data-task]")) {
     it.onclick = () => {
@@ -55,11 +58,13 @@ export function endTask() {
 
 function fillSheet() {
   const {task} = sheet, box = byId("sheet"), last = TASKS.length;
-  box.innerHTML = `<div class="row top"><h2 tabindex="-1">Exercise ${task.number} · ${escaped(task.title)}</h2><span class="mini">
+  box.innerHTML = `<div class="row top"><h2 tabindex="-1">Exercise ${task.number} · ${escaped(task.title)}</h2><span
+      class="mini">
     <button id="taskback" aria-label="the exercise before" ${task.number === 1 ? "disabled" : ""}>◂</button>
     <button id="tasknext" aria-label="the next exercise" ${task.number === last ? "disabled" : ""}>▸</button>
     <button id="taskend">End</button></span></div>${task.ask.map(it => `<p>${escaped(it)}</p>`).join("")}
-    <div id="taskfields"></div><p class="row"><button id="taskcheck" class="main">${escaped(task.act ?? "Check")}</button>
+    <div id="taskfields"></div><p class="row"><button id="taskcheck"
+    class="main">${escaped(task.act ?? "Check")}</button>
     <span id="tasksaid" role="status"></span></p><pre id="tasktold" class="listing" hidden></pre>`;
   if (task.choices) addChoices(task.choices);
   for (const it of task.fields) addField(it);

@@ -28,6 +28,8 @@ export function toast(words) {
 }
 export function dialog(html) {
   byId("dialogbody").innerHTML = html;
+  const head = byId("dialogbody").querySelector("h2");
+  if (head) head.id = "dialoghead";
   byId("dialog").showModal();
 }
 

@@ -1,5 +1,6 @@
-// A circuit that is drawn, and stepped by the program: the text that it answered last is the input of the next `step 1` or
-// `back 1`. What is kept beside it is where its elements stand, the last wires of the way, and the element that has turned.
+// A circuit that is drawn, and stepped by the program: the text that it answered last is the input of the next `step
+// 1` or `back 1`. What is kept beside it is where its elements stand, the last wires of the way, and the element that
+// has turned.
 import {answer, STATUS} from "./answer.js";
 import {circuitSvg, lineName, planOf, readConfiguration} from "./circuit.js";
 import {sideOf} from "./svg.js";
@@ -46,7 +47,8 @@ export class Stepper {
   // A step on or back; whether there was one.
   async go(direction) {
     if (this.text === null) return false;
-    const before = readConfiguration(this.text), reply = await answer([direction > 0 ? "step" : "back", "1"], this.text);
+    const before = readConfiguration(this.text), reply = await answer([direction > 0 ? "step" : "back", "1"],
+      this.text);
     if (reply.status !== STATUS.done || reply.text === this.text) return false;
     if (direction > 0) {
       const {element, side} = before.place;
@@ -72,5 +74,6 @@ function placeWords(it, turned) {
   const side = sideOf(SIDES.indexOf(it.place.side)), {element} = it.place;
   const place = it.hasLeft ? `the signal has left by the ${side} line of element ${element}`
     : `the signal is about to enter element ${element} by the ${side} line`;
-  return `step <b>${number(Number(it.steps))}</b> · ${place}${turned === null ? "" : ` · element ${turned} has turned`}`;
+  return `step <b>${number(Number(it.steps))}</b> · ${place}${turned === null ? "" : ` · element ${turned} has
+      turned`}`;
 }

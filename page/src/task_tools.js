@@ -14,4 +14,5 @@ export const barsOf = text => rowsOf(text).filter(it => it.startsWith("e ")).map
 export const placeOf = text => rowsOf(text)[5]?.split(" ")[1];
 export const exampleTable = key => EXAMPLES.find(it => it.key === key).table;
 // An answer of a check: whether it is right, the words for both cases, and what the program said.
-export const judged = (isRight, right, wrong, told = "") => ({isRight: Boolean(isRight), words: isRight ? right : wrong, told});
+export const judged = (isRight, right, wrong, told = "") => ({isRight: Boolean(isRight), words: isRight ? right : wrong,
+  told});

@@ -26,7 +26,10 @@ export function render(isLive = !state.playing) {
   if (!current.run) return;
   const f = frame(), rule = ruleAt(current.run, f.q, nameOf), {stage} = f.moment;
   byId("machine").className = "panel " + stage;
-  for (const it of byId("stages").children) it.classList.toggle("now", it.dataset.stage === stage);
+  for (const it of byId("stages").children) {
+    it.classList.toggle("now", it.dataset.stage === stage);
+    it.setAttribute("aria-current", it.dataset.stage === stage ? "step" : "false");
+  }
   const tag = rule.rule ? `<span class="tagno">rule ${rule.rule}${rule.isBack ? ", undone" : ""}</span> ` : "";
   put("rule", `<p class="head">${tag}${escaped(rule.head)}</p><p class="more">${escaped(rule.more)}</p>`);
   renderTapes(f);
@@ -67,7 +70,7 @@ function renderItself({moment}, rule) {
   const words = isOver ? "<b>By itself</b> it has halted; it can't go back."
     : `<b>By itself</b>, step ${moment.step}: in <b>${escaped(nameOf(ownState))}</b>`;
   const tape = tapePicture({...shown.tapes[0], tape: 1}, {width: widthOf("own"), size: 24, isNumbered: false});
-  put("own", `<p>${words}</p><div style="opacity:${isOver ? .55 : 1}">${tape}</div>`);
+  put("own", `<p>${words}</p><div class="${isOver ? "over" : ""}">${tape}</div>`);
   const high = heightOf("diagram"), stops = new Set(state.breaks.filter(it => it.kind === "state").map(it => it.state));
   byId("diagrambox").classList.toggle("low", high < LEAST_DIAGRAM);
   put("diagram", high < LEAST_DIAGRAM ? "" : diagramPicture(run.rules, {

@@ -1,5 +1,5 @@
-// How a machine runs by itself, and the run of its circuit in a window that has room for it. The program finds the window:
-// the first line of `run =W auto` names it, and the rest is what `run` says in it.
+// How a machine runs by itself, and the run of its circuit in a window that has room for it. The program finds the
+// window: the first line of `run =W auto` names it, and the rest is what `run` says in it.
 import {answer, STATUS} from "./answer.js";
 
 // How many steps a machine is run by itself, and how many are shown of one that runs on.
@@ -12,8 +12,8 @@ export class Refused extends Error {
   }
 }
 
-// A window that is given, by a link or by hand, stays. For a machine that runs on there is none that has room: so many of
-// its steps are shown.
+// A window that is given, by a link or by hand, stays. For a machine that runs on there is none that has room: so many
+// of its steps are shown.
 export async function findRun(table, word, given = null) {
   const own = await ownRun(table, word), shown = [SHOWN_STEPS, Math.max(word.length, SHOWN_STEPS), SHOWN_STEPS, 1];
   const asked = given ?? (own.outcome === "running" ? shown : null);

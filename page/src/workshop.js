@@ -17,15 +17,23 @@ const pageTab = page => workshop.box.querySelector(`#tab-${page.key}`);
 function makeWorkshop() {
   workshop.box = Object.assign(document.createElement("dialog"), {id: "workshop"});
   workshop.box.setAttribute("aria-label", "Workshop");
-  const tabs = PAGES.map(it => `<button role="tab" id="tab-${it.key}" data-page="${it.key}" aria-controls="page-${it.key}" aria-selected="false" tabindex="-1">${it.title}</button>`);
-  const boxes = PAGES.map(it => `<div role="tabpanel" id="page-${it.key}" class="e-body" aria-labelledby="tab-${it.key}" hidden></div>`);
-  workshop.box.innerHTML = `<div class="e-head"><h2>Workshop</h2><div role="tablist" aria-label="Pages of the workshop">${tabs.join("")}</div>
-    <span class="mini"><button id="e-texts" aria-label="what the program said of this page">Texts</button><button id="e-about-page" aria-label="this page, in words">?</button></span>
-    <button id="e-close" class="plain" aria-label="close the workshop">×</button></div><div id="e-sheet"></div>${boxes.join("")}`;
+  const tabs = PAGES.map(it =>
+    `<button role="tab" id="tab-${it.key}" data-page="${it.key}" aria-controls="page-${it.key}" aria-selected="false"
+        tabindex="-1">${it.title}</button>`);
+  const boxes = PAGES.map(it =>
+    `<div role="tabpanel" id="page-${it.key}" class="e-body" aria-labelledby="tab-${it.key}" hidden></div>`);
+  workshop.box.innerHTML = `<div class="e-head"><h2>Workshop</h2><div role="tablist"
+      aria-label="Pages of the workshop">${tabs.join("")}</div>
+    <span class="mini"><button id="e-texts" aria-label="what the program said of this page">Texts</button><button
+    id="e-about-page" aria-label="this page, in words">?</button></span>
+    <button id="e-close" class="plain" aria-label="close the workshop">×</button></div><div
+    id="e-sheet"></div>${boxes.join("")}`;
   document.body.append(workshop.box);
-  takeTabs(workshop.box.querySelector("[role=tablist]"), it => choosePage(PAGES.find(page => page.key === it.dataset.page)));
+  takeTabs(workshop.box.querySelector("[role=tablist]"),
+    it => choosePage(PAGES.find(page => page.key === it.dataset.page)));
   workshop.box.querySelector("#e-close").onclick = () => workshop.box.close();
-  workshop.box.querySelector("#e-texts").onclick = () => openSaid(workshop.page.title.toLowerCase(), workshop.page.calls());
+  workshop.box.querySelector("#e-texts").onclick = () => openSaid(workshop.page.title.toLowerCase(),
+    workshop.page.calls());
   workshop.box.querySelector("#e-about-page").onclick = () => openAboutPage(workshop.page);
   workshop.box.addEventListener("keydown", onWorkshopKey);
   workshop.box.addEventListener("close", () => {
@@ -35,7 +43,8 @@ function makeWorkshop() {
   });
 }
 function onWorkshopKey(event) {
-  if (event.target.matches("textarea,input,select,[role=tab]") || event.ctrlKey || event.metaKey || event.altKey) return;
+  if (event.target.matches("textarea,input,select,[role=tab]") || event.ctrlKey || event.metaKey
+    || event.altKey) return;
   if (event.key === " " && event.target.matches("button")) return;
   const act = workshop.page.keys[event.key];
   if (!act) return;
