@@ -11,7 +11,7 @@ import re
 
 SRC = os.path.join(os.path.dirname(os.path.dirname(os.path.abspath(__file__))), "page", "src")
 FIRST = "app.js"
-STYLES = ["style.css", "pictures.css"]
+STYLES = ["style.css", "pictures.css", "dialogs.css", "print.css"]
 # What a browser may do with the page: run the one script that it has, and the module; draw. Nothing goes out.
 POLICY = ("default-src 'none'; script-src 'sha256-{script}' 'wasm-unsafe-eval'; worker-src blob:; style-src 'unsafe-inline'; "
           "img-src data: blob:; base-uri 'none'; form-action 'none'")
@@ -96,7 +96,8 @@ def page_text(module):
     policy = f'<meta http-equiv="Content-Security-Policy" content="{POLICY.format(script=digest)}">'
     style = "".join(text_of(name) for name in STYLES)
     page = text_of("index.html")
-    for place, made in (("<!-- STYLE -->", f"{policy}\n<style>\n{style}</style>"), ("<!-- SCRIPT -->", f"<script>{script}</script>")):
+    for place, made in (("<!-- STYLE -->", f"{policy}\n<style>\n{style}</style>"), ("<!-- STILL -->", text_of("still.svg").strip()),
+                        ("<!-- SCRIPT -->", f"<script>{script}</script>")):
         if page.count(place) != 1:
             raise Bundle(f"index.html has the place {place} {page.count(place)} times")
         page = page.replace(place, made)

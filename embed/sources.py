@@ -54,11 +54,26 @@ def digest(path):
     return whole.hexdigest()
 
 
+def digest_of(module):
+    return hashlib.sha256(module).hexdigest()
+
+
 def record(toolchain, module):
     """The text of the list, for a toolchain's line and the bytes of the module."""
-    lines = [f"toolchain {toolchain}", f"{hashlib.sha256(module).hexdigest()}  the module"]
+    lines = [f"toolchain {toolchain}", f"{digest_of(module)}  the module"]
     lines += [f"{digest(path)}  {path}" for path in sources() + MADE]
     return HEAD + "".join(f"{line}\n" for line in lines)
+
+
+def record_again(module):
+    """The text of the list for pages of the module that it names already: what that module was built from stays as it is
+    told, whatever stands in the crates by now. None where it names another module."""
+    with open(os.path.join(TOP, RECORD), encoding="utf-8") as file:
+        told = [line.rstrip("\n") for line in file if not line.startswith("#")]
+    kept = [line for line in told if line.partition("  ")[2] not in PARTS + MADE]
+    if f"{digest_of(module)}  the module" not in kept:
+        return None
+    return HEAD + "".join(f"{line}\n" for line in kept + [f"{digest(path)}  {path}" for path in PARTS + MADE])
 
 
 def sources():

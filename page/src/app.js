@@ -8,10 +8,13 @@ import {readLink} from "./links.js";
 import {rebuild, takeMachine} from "./machine.js";
 import {composed} from "./picture.js";
 import {frames, goTo, pause, play, showButtons, step, timings} from "./play.js";
+import {beginTask} from "./sheet.js";
 import {byId, current, escaped, state} from "./state.js";
 import {placeName} from "./texts.js";
 import {render} from "./view.js";
+import {inTurn} from "./turns.js";
 import {lineOf} from "./words.js";
+import {openWorkshop, pageOf} from "./workshop.js";
 
 export function start() {
   document.body.classList.add("empty");
@@ -27,6 +30,11 @@ function begin() {
   const link = readLink(location.hash);
   chips();
   showButtons();
+  const task = Number(new URLSearchParams(location.hash.slice(1)).get("x"));
+  if (task) {
+    beginTask(task);
+    if (current.run || state.text) return;
+  }
   if (!link) {
     takeMachine(EXAMPLES[0]);
     return;
@@ -40,4 +48,7 @@ function begin() {
 }
 
 // For the checks, and for the curious.
-window.bench = {answer, composed, current, frames, goTo, lineOf, log, pause, PICTURES, placeName, play, render, state, step, TEXTS, timings};
+window.bench = {
+  answer, beginTask, composed, current, frames, goTo, inTurn, lineOf, log, openWorkshop, pageOf, pause, PICTURES, placeName, play, render, state,
+  step, TEXTS, timings,
+};

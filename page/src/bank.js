@@ -105,6 +105,13 @@ export function dragBy(view, dx, dy) {
   state.zoom = {pitch: view.pitch, bank: view.bank, follows: false, x: view.x - dx / (view.pitch * view.wide), y: view.y - dy / view.pitch};
   render(false);
 }
+// The part of the bank that is seen, by so many thirds of it to the right and down.
+export function moveBy(right, down) {
+  if (!seen.view) return;
+  const {pitch, bank, x, y, columns, rows} = seen.view;
+  state.zoom = {pitch, bank, follows: false, x: x + right * columns / 3, y: y + down * rows / 3};
+  render(false);
+}
 // The part of the bank around a place of the whole in little, which is a share of its width and height.
 export function lookAt(bank, across, down) {
   if (!seen.view) return;

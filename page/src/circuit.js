@@ -238,5 +238,5 @@ export function circuitSvg(it, plan, past = new Set(), turned = null) {
   const [x, y] = plan.port(it.place, it.hasLeft ? "out" : "in"), [dx, dy] = STEP[it.place.side];
   body += `<g transform="translate(${x + dx * 9} ${y + dy * 9})"><circle class="ring" r="9"/><circle class="signal" r="5.5"/></g>`;
   const wide = plan.width + 92, high = plan.height + 60;
-  return `<svg class="circuit" xmlns="http://www.w3.org/2000/svg" width="${wide}" height="${high}" viewBox="-46 -30 ${wide} ${high}" role="img">${body}</svg>`;
+  return `<svg class="circuit" xmlns="http://www.w3.org/2000/svg" width="${wide}" height="${high}" viewBox="-46 -30 ${wide} ${high}" role="img" aria-label="the circuit">${body}</svg>`;
 }

@@ -1,9 +1,7 @@
-// The dialogs: the window by hand, the diagram in large, keys and colours, and the exercises.
-import {EXAMPLES} from "./examples.js";
-import {takeMachine, typed} from "./machine.js";
+// The dialogs: the window by hand, the diagram in large, keys and colours.
+import {typed} from "./machine.js";
 import {diagramPicture} from "./diagram_picture.js";
-import {byId, current, dialog, escaped, nameOf, state} from "./state.js";
-import {TASKS} from "./tasks.js";
+import {byId, current, dialog, nameOf, state} from "./state.js";
 import {frame} from "./view.js";
 import {ruleAt} from "./words.js";
 
@@ -12,10 +10,14 @@ const ENDS = ["work tape, to the left", "work tape, to the right", "history", "o
 
 export function openWindow() {
   if (!current.run) return;
-  const rows = ENDS.map((it, k) => `<tr><td>${it}</td><td><input id="w${k}" class="cells" type="number" min="0" max="${MOST_CELLS}" value="${current.run.window[k]}"></td></tr>`);
-  dialog('<h2>The window</h2><p class="quiet">How many cells each tape has in the circuit. The page finds a window in which the '
-    + "run comes to its end; a smaller one lets the signal leave by a tape's end.</p>"
-    + `<table>${rows.join("")}</table><p><button id="usewindow" class="main">Use it</button> <button id="findwindow">Find it again</button></p>`);
+  const rows = ENDS.map((it, k) =>
+    `<tr><td>${it}</td><td><input id="w${k}" class="cells" type="number" min="0" max="${MOST_CELLS}"
+        value="${current.run.window[k]}"></td></tr>`);
+  dialog('<h2>The window</h2><p class="quiet">How many cells each tape has in the circuit. The program finds a ' +
+    'window in which '
+    + "the run comes to its end; a smaller one lets the signal leave by a tape's end.</p>"
+    + `<table>${rows.join("")}</table><p><button id="usewindow" class="main">Use it</button> <button
+        id="findwindow">Find it again</button></p>`);
   const use = window => {
     state.window = window;
     byId("dialog").close();
@@ -31,52 +33,33 @@ export function openDiagram() {
   if (!run) return;
   const {q, moment} = frame(), width = Math.min(600, innerWidth - 90), height = Math.min(420, innerHeight - 260);
   const now = moment.state ?? run.rules[moment.rule - 1].state, rule = ruleAt(run, q, nameOf).rule;
-  dialog("<h2>State diagram</h2>" + diagramPicture(run.rules, {width, height, now, rule, stage: moment.stage, stops: new Set(), name: nameOf}));
+  dialog("<h2>State diagram</h2>"
+    + diagramPicture(run.rules, {width, height, now, rule, stage: moment.stage, stops: new Set(), name: nameOf}));
 }
 
 export function openHelp() {
   const keys = [
-    ["<kbd>space</kbd>", "play and pause; with <kbd>shift</kbd> backward"], ["<kbd>←</kbd> <kbd>→</kbd>", "a step back, a step on"],
-    ["<kbd>shift</kbd> <kbd>↑</kbd> <kbd>↓</kbd>", "what a step is: machine step, quadruple, module move, element step"],
-    ["<kbd>shift</kbd> <kbd>←</kbd> <kbd>→</kbd>", "back, or on, to a breakpoint"], ["<kbd>Home</kbd> <kbd>End</kbd>", "the start, the end"],
+    ["<kbd>space</kbd>", "play and pause; with <kbd>shift</kbd> backward"],
+      ["<kbd>←</kbd> <kbd>→</kbd>", "a step back, a step on"],
+    ["<kbd>shift</kbd> <kbd>↑</kbd> <kbd>↓</kbd>",
+      "what a step is: machine step, quadruple, module move, element step"],
+    ["<kbd>shift</kbd> <kbd>←</kbd> <kbd>→</kbd>", "back, or on, to a breakpoint"],
+      ["<kbd>Home</kbd> <kbd>End</kbd>", "the start, the end"],
   ];
-  const colours = [["work", "work tape"], ["history", "history"], ["output", "output"], ["signal", "the signal and its way"],
+  const colours = [["work", "work tape"], ["history", "history"], ["output", "output"],
+    ["signal", "the signal and its way"],
                    ["mark", "the marked column: the module's state"]];
   const rows = keys.map(([key, words]) => `<tr><td>${key}</td><td>${words}</td></tr>`);
-  const samples = colours.map(([colour, words]) => `<span class="key" style="background:var(--${colour})"></span>${words}`);
+  const samples = colours.map(([colour, words]) =>
+    `<span class="key" style="background:var(--${colour})"></span>${words}`);
   dialog(`<h2>Keys and colours</h2><table>${rows.join("")}</table><p class="samples">${samples.join(" ")}</p>
-    <p class="quiet">In the time line each row is a cell and each column a moment: the history grows, stands while the output is
+    <p class="quiet">In the time line each row is a cell and each column a moment: the history grows, stands while the
+    output is
     copied, and is taken back.</p>
-    <p class="quiet">An element is a box with a bar. A signal along the bar goes straight on; across it, it turns right and turns
+    <p class="quiet">An element is a box with a bar. A signal along the bar goes straight on; across it, it turns
+    right and turns
     the bar. No two moves end alike, so each can be undone.</p>
-    <p class="quiet">Every step that is shown is an answer of a program that is proved to give it. It runs in this page, and
+    <p class="quiet">Every step that is shown is an answer of a program that is proved to give it. It runs in this
+    page, and
     nothing is sent anywhere.</p>`);
-}
-
-// ---- exercises
-
-export function openTasks() {
-  const listed = TASKS.map((it, k) => `<div class="task"><b>${k + 1}. ${escaped(it.title)}</b> <p>${escaped(it.ask)}</p><button data-task="${k}">Begin</button></div>`);
-  dialog("<h2>Exercises</h2>" + listed.join(""));
-  for (const it of byId("dialogbody").querySelectorAll("[data-task]")) {
-    it.onclick = () => {
-      byId("dialog").close();
-      beginTask(TASKS[it.dataset.task]);
-    };
-  }
-}
-function beginTask(task) {
-  const example = EXAMPLES.find(it => it.key === task.example);
-  takeMachine(example ? {...example, word: task.word, letter: false} : {table: task.table, word: task.word, about: ""});
-  const box = byId("about"), field = '<input id="taskvalue" inputmode="numeric" size="4" aria-label="your answer">';
-  box.innerHTML = `<span class="ask"><b>${escaped(task.title)}.</b> ${escaped(task.ask)}</span> <span class="row">`
-    + `${task.wants === "number" ? field : ""}<button id="taskcheck" class="main">Check</button><button id="taskend">End</button>`
-    + '<span id="tasksaid" role="status"></span></span>';
-  byId("taskcheck").onclick = () => {
-    const {run, found, machine} = current, isFresh = !document.body.classList.contains("stale");
-    const isStandard = Boolean(machine) && !machine.isStandard && machine.table === state.text && isFresh;
-    const isRight = Boolean(run) && task.check({value: Number(byId("taskvalue")?.value), run, found, isStandard});
-    byId("tasksaid").innerHTML = `<b class="${isRight ? "right" : "fault"}">${escaped(isRight ? task.right : task.wrong)}</b>`;
-  };
-  byId("taskend").onclick = () => { box.textContent = example?.about ?? ""; };
 }

@@ -1,21 +1,28 @@
 // Hands on: what each field, button, picture and key does.
+import {openAbout} from "./about.js";
 import {stopAll} from "./answer.js";
-import {dragBy, lookAt, seen, zoomBy} from "./bank.js";
+import {dragBy, lookAt, moveBy, seen, zoomBy} from "./bank.js";
 import {dropBreak, runBreak, toggleBreak} from "./breaks.js";
-import {openDiagram, openHelp, openTasks, openWindow} from "./dialogs.js";
+import {openDiagram, openHelp, openWindow} from "./dialogs.js";
 import {renderLines} from "./editor.js";
-import {openElements} from "./elements.js";
 import {EXAMPLES} from "./examples.js";
 import {openFile} from "./files.js";
 import {renderFilm} from "./film.js";
+import {endHints, placeHint} from "./hints.js";
 import {linkOf} from "./links.js";
 import {stale, takeMachine, typed} from "./machine.js";
 import {listed} from "./moves.js";
 import {exportPicture} from "./picture.js";
+import {chooseMiddle} from "./quadruples.js";
+import {openSaidOf} from "./said.js";
+import {openTasks, taskAtHand} from "./sheet.js";
 import {chooseLayer, goTo, lastStep, pause, play, speedWords, step} from "./play.js";
 import {forgetSizes} from "./sizes.js";
+import {openStops} from "./stops.js";
 import {busy, byId, current, LAYERS, state, toast} from "./state.js";
+import {takeTabs} from "./tabs.js";
 import {frame, render} from "./view.js";
+import {openWorkshop} from "./workshop.js";
 import {number} from "./words.js";
 
 // What a picture of the whole is made of.
@@ -31,6 +38,7 @@ export function takeHands() {
   onTime();
   onPictures();
   onBank();
+  onPanels();
   onHeader();
   document.addEventListener("keydown", onKey);
   let resting = null;
@@ -38,6 +46,7 @@ export function takeHands() {
     clearTimeout(resting);
     resting = setTimeout(() => {
       forgetSizes();
+      placeHint();
       if (!current.run) return;
       renderFilm();
       render(false);
@@ -51,7 +60,7 @@ function onMachine() {
   on("table", "input", () => {
     state.text = byId("table").value;
     byId("examples").value = "";
-    if (!byId("taskcheck")) byId("about").textContent = "Your own machine, run by the program.";
+    if (taskAtHand() === null) byId("about").textContent = "Your own machine, run by the program.";
     renderLines();
     typed();
   });
@@ -85,6 +94,7 @@ function onTime() {
   byId("forth").onclick = () => step(1);
   byId("play").onclick = () => togglePlay(1);
   byId("playback").onclick = () => togglePlay(-1);
+  byId("addstop").onclick = () => { pause(); openStops(); };
   byId("breakon").onclick = () => runBreak(1);
   byId("breakback").onclick = () => runBreak(-1);
   on("speed", "input", () => {
@@ -165,12 +175,20 @@ function onBank() {
     event.preventDefault();
     zoomBy(event.deltaY < 0 ? 1.15 : 1 / 1.15);
   }, {passive: false});
+  on("bank", "keydown", event => {
+    const act = {
+      ArrowLeft: () => moveBy(-1, 0), ArrowRight: () => moveBy(1, 0), ArrowUp: () => moveBy(0, -1), ArrowDown: () => moveBy(0, 1),
+      "+": () => zoomBy(1.35), "-": () => zoomBy(1 / 1.35), 0: fitBank,
+    }[event.key];
+    if (!act || event.ctrlKey || event.metaKey || event.altKey || event.shiftKey && event.key !== "+") return;
+    event.preventDefault();
+    event.stopPropagation();
+    act();
+  });
   on("zoom", "click", event => {
     const kind = event.target.dataset.zoom;
     if (kind === "in" || kind === "out") zoomBy(kind === "in" ? 1.35 : 1 / 1.35);
-    if (kind !== "fit") return;
-    state.zoom = null;
-    render(false);
+    if (kind === "fit") fitBank();
   });
   on("overview", "pointerdown", event => {
     const {bank} = frame(), box = byId("overview").getBoundingClientRect();
@@ -178,13 +196,28 @@ function onBank() {
   });
 }
 
+function fitBank() {
+  state.zoom = null;
+  render(false);
+}
+
 // ---- the head of the page, and keys
+
+// Panels: the tabs below the tapes, and the texts behind each picture.
+function onPanels() {
+  takeTabs(byId("middle"), it => {
+    chooseMiddle(it.dataset.middle);
+    if (current.run) render(false);
+  });
+  for (const it of document.querySelectorAll("[data-about]")) it.onclick = () => { pause(); openAbout(it.dataset.about); };
+  for (const it of document.querySelectorAll("[data-said]")) it.onclick = () => { pause(); openSaidOf(it.dataset.said); };
+}
 
 function onHeader() {
   byId("size").onclick = openWindow;
   byId("help").onclick = openHelp;
   byId("tasks").onclick = openTasks;
-  byId("openelements").onclick = () => { pause(); openElements(); };
+  byId("openworkshop").onclick = () => { pause(); openWorkshop(); };
   byId("stop").onclick = () => {
     state.editions++;
     stopAll();
@@ -217,7 +250,7 @@ function onKey(event) {
     " ": () => togglePlay(-1), ArrowRight: () => runBreak(1), ArrowLeft: () => runBreak(-1), ArrowUp: () => layer(-1), ArrowDown: () => layer(1),
   }[key] : {
     " ": () => state.playing ? pause() : play(1), ArrowRight: () => step(1), ArrowLeft: () => step(-1),
-    Home: () => byId("first").click(), End: () => byId("last").click(),
+    Home: () => byId("first").click(), End: () => byId("last").click(), Escape: endHints,
   }[key];
   if (!act) return;
   event.preventDefault();

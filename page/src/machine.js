@@ -4,21 +4,23 @@ import {answer, STATUS} from "./answer.js";
 import {chips} from "./breaks.js";
 import {editorText, markFaults} from "./editor.js";
 import {renderFilm, resetFilm} from "./film.js";
+import {beginHints} from "./hints.js";
 import {fetchFrame, pause} from "./play.js";
-import {findWindow, narrowed, Refused, Run} from "./run.js";
+import {Run} from "./run.js";
 import {busy, byId, current, dialog, escaped, nameOf, state} from "./state.js";
 import {put} from "./sizes.js";
 import {blankCandidates, faultOf, rulesOf, statesOf, turned} from "./table.js";
 import {render} from "./view.js";
+import {findRun, Refused} from "./window.js";
 import {number} from "./words.js";
 
 const MOST_BLANKS = 4;
 let waiting = null;
 
-// Something was typed: it is looked at when the typing rests.
-export function typed(delay = 300) {
+// Something was typed: it is looked at when the typing rests. A step may be given at which the run is shown.
+export function typed(delay = 300, keep = 0) {
   clearTimeout(waiting);
-  waiting = setTimeout(() => rebuild().catch(fault => {
+  waiting = setTimeout(() => rebuild(keep).catch(fault => {
     busy("");
     showFault({fault: String(fault.message ?? fault)});
     console.error(fault);
@@ -26,16 +28,16 @@ export function typed(delay = 300) {
 }
 
 // Takes an example, or a machine like one.
-export function takeMachine(example) {
+export function takeMachine(example, e = 0) {
   pause();
   Object.assign(state, {text: example.table, word: example.word, names: example.names ?? {}, asStandard: Boolean(example.letter),
-                        blank: null, window: null, breaks: [], e: 0, example: example.key ?? ""});
+                        blank: null, window: example.window ?? null, breaks: [], e: 0, example: example.key ?? ""});
   byId("about").textContent = example.about;
   byId("examples").value = state.example;
   byId("word").value = state.word;
   editorText();
   chips();
-  typed(0);
+  typed(0, e);
 }
 
 // Makes the run of what is typed, at a step that is to be kept.
@@ -88,20 +90,12 @@ async function judge(text, isOld) {
   return {fault: fault.text, lines: fault.lines, ...offers};
 }
 
-// The run in the window that is chosen, or in one that is found, with tape 1 as short as its heads need it.
+// The run in the window that is chosen, or in the one that the program finds.
 async function makeRun(table, isOld) {
   busy("looking for a window …");
-  const found = await findWindow(table, state.word, state.window);
-  busy("its circuit, and its moments …");
-  let run = await new Run(table, state.word, found.window).open();
-  if (!isOld() && !state.window && !run.isCut && !run.outcome.exit.startsWith("window 1")) {
-    const window = narrowed(found.window, run, state.word);
-    if (window.some((it, k) => it !== found.window[k])) {
-      found.window = window;
-      run = await new Run(table, state.word, window).open();
-    }
-  }
-  return {run, found};
+  const found = await findRun(table, state.word, state.window);
+  if (!isOld()) busy("its circuit, and its moments …");
+  return {run: await new Run(table, state.word, found).open(), found};
 }
 
 function showRun({run, found}, keep) {
@@ -116,6 +110,7 @@ function showRun({run, found}, keep) {
   renderFilm();
   render();
   fetchFrame(1);
+  beginHints();
 }
 
 // Whether what is shown is of an earlier table.

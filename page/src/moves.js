@@ -32,14 +32,14 @@ export function renderMoves(f) {
 }
 
 function tableOf({from, to, list}) {
-  const head = `<h3><span>Moves<i> of the circuit</i> for this quadruple</span><span class="quiet">${number(to - from)}<i> element</i> steps</span></h3>`;
+  const head = `<h3><span>For this quadruple</span><span class="quiet">${number(to - from)} element steps</span></h3>`;
   if (list.isPart && !list.length) {
     return head + `<p class="quiet">${state.playing ? "Stop, or play slower, and they are listed." : "The program lists them …"}</p>`;
   }
   const rows = list.map((it, k) => {
     const {run} = current, bank = run.bankOf(it.place >> 2), line = lineOf(run, bank, run.entryOf(it.place));
     const next = list[k + 1]?.step ?? (list.isPart ? null : to), cost = next === null ? "" : number(next - it.step);
-    return `<tr data-step="${it.step}"><td><i class="m${bank.tape ?? 0}"></i>${escaped(shortBank(bank))}</td>`
+    return `<tr data-step="${it.step}"><td><i class="m${bank.tape ?? 0}"></i><button class="link">${escaped(shortBank(bank))}</button></td>`
       + `<td>${escaped(line.words)}</td><td class="no">${cost}</td></tr>`;
   });
   return head + `<table>${rows.join("")}</table>`;
@@ -57,7 +57,11 @@ function stripOf({from, to, list}) {
 function mark(at) {
   listed.at = at;
   const box = byId("moves"), table = box.querySelector("table"), row = table?.rows[at];
-  if (table) [...table.rows].forEach((it, k) => it.classList.toggle("now", k === at));
+  if (table) [...table.rows].forEach((it, k) => {
+    it.classList.toggle("now", k === at);
+    if (k === at) it.setAttribute("aria-current", "step");
+    else it.removeAttribute("aria-current");
+  });
   if (row) {
     const inner = row.getBoundingClientRect(), outer = box.getBoundingClientRect();
     if (inner.top < outer.top + 24 || inner.bottom > outer.bottom - 4) box.scrollTop += inner.top - outer.top - outer.height * .45;

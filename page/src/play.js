@@ -1,6 +1,7 @@
 // Time: to a step, a step on or back on a layer, and playing both ways. What a frame wants of the program is fetched, and
 // then it is drawn again; nothing is computed as a step.
 import {hit, stopBetween} from "./breaks.js";
+import {isPhone} from "./sizes.js";
 import {byId, current, state} from "./state.js";
 import {frame, render} from "./view.js";
 import {number} from "./words.js";
@@ -8,9 +9,11 @@ import {number} from "./words.js";
 // Steps a second on each layer, the least and the most.
 const RANGES = {machine: [.4, 25], quadruple: [.5, 60], module: [.7, 120], element: [1, 6000]};
 const MOST_PIECES = 24, MOST_FRAMES = 4000, MOST_GAP = 100, SLOW = 6;
-const PLAY = '<svg viewBox="0 0 16 16"><path d="M4 2.500 12.500 8 4 13.500z"/></svg>';
-const PLAY_BACK = '<svg viewBox="0 0 16 16"><path d="M12 2.500 3.500 8l8.500 5.500z"/></svg>';
-const PAUSE = '<svg viewBox="0 0 16 16"><path d="M5 3v10M11 3v10" stroke-width="3"/></svg>';
+// Where less motion is asked for, a picture stands so long while it plays.
+const CALM_GAP = 400, isCalm = matchMedia("(prefers-reduced-motion: reduce)");
+const PLAY = '<svg viewBox="0 0 16 16" aria-hidden="true"><path d="M4 2.500 12.500 8 4 13.500z"/></svg>';
+const PLAY_BACK = '<svg viewBox="0 0 16 16" aria-hidden="true"><path d="M12 2.500 3.500 8l8.500 5.500z"/></svg>';
+const PAUSE = '<svg viewBox="0 0 16 16" aria-hidden="true"><path d="M5 3v10M11 3v10" stroke-width="3"/></svg>';
 
 // How long each step and each frame took, for the checks.
 export const timings = [];
@@ -22,7 +25,7 @@ function speed() {
 }
 export function speedWords() {
   const it = speed();
-  return `${number(it < 10 ? Math.round(it * 10) / 10 : Math.round(it))} a second`;
+  return `${number(it < 10 ? Math.round(it * 10) / 10 : Math.round(it))}${isPhone() ? "/s" : " a second"}`;
 }
 
 let wanted = null, isLoading = false;
@@ -102,7 +105,11 @@ export function showButtons() {
 function tick(now) {
   const {run} = current, direction = state.playing;
   if (!direction || !run) return;
-  const spent = Math.min(MOST_GAP, now - pace.then), rate = speed(), began = performance.now();
+  if (isCalm.matches && now - pace.then < CALM_GAP) {
+    requestAnimationFrame(tick);
+    return;
+  }
+  const spent = Math.min(isCalm.matches ? 2 * CALM_GAP : MOST_GAP, now - pace.then), rate = speed(), began = performance.now();
   pace.then = now;
   pace.owed += spent / 1000 * rate;
   let {e, isWaiting} = state.layer === "element" ? elementsOn(run, direction) : stopsOn(run, direction);

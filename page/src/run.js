@@ -1,66 +1,33 @@
-// One run of a machine at all layers, held as the program's answers: the moments (one `session` with a breakpoint at each
-// state of Bennett's machine), the circuit (`compile`), and the places of the signal, fetched ahead in pieces (`session`
-// with many lines `step 1`). It computes no step: where a bar lies follows from the places that were answered, since an
-// element's bar lies along the line by which the signal last came in.
-import {answer, STATUS} from "./answer.js";
+// One run of a machine at all layers, held as the program's answers: its moments, the circuit (`compile`), and the places
+// of the signal, fetched ahead in pieces (`session` with many lines `step 1`). It computes no step: where a bar lies
+// follows from the places that were answered, since an element's bar lies along the line by which the signal last came in.
+import {answer} from "./answer.js";
+import {Moments} from "./moments.js";
 import {rulesOf, statesOf, lettersOf} from "./table.js";
-import {GREATEST, readBars, readCircuit, readPlace, readPlaces, readRun, readView} from "./texts.js";
+import {GREATEST, readBars, readCircuit, readPlace, readPlaces, readRun} from "./texts.js";
 
-export const LEAST_CHUNK = 16384, MOST_CHUNK = 131072, MOST_MOMENTS = 4000, MOST_KEPT = 300;
-export class Refused extends Error {
-  constructor(reply) {
-    super(reply.text.trim());
-    this.reply = reply;
-  }
-}
+const LEAST_CHUNK = 16384, MOST_CHUNK = 131072, MOST_KEPT = 300;
 
-// How many steps a machine is run by itself, and how many are shown of one that runs on.
-const MOST_OWN_STEPS = 100000, SHOWN_STEPS = 40;
-
-// How the machine runs by itself, and a window in which Bennett's machine has room for it. Where it halts or is stuck,
-// the history and the output tape are as long as `machine` says, and `run =W auto` finds how far tape 1 reaches. Where it
-// runs on, so many steps are shown.
-export async function findWindow(table, word, given = null) {
-  const own = await answer(["machine", "=" + word, MOST_OWN_STEPS], table);
-  if (![STATUS.done, STATUS.stuck, STATUS.inside].includes(own.status)) throw new Refused(own);
-  const words = own.text.split(/\s+/), outcome = words[0], steps = Number(outcome === "stuck" ? words[3] : words[1]);
-  const output = /^output =(.*)$/m.exec(own.text)?.[1] ?? null;
-  const itself = {outcome, steps, output, state: words[1], letter: words[2]};
-  if (given) return {own: itself, window: given};
-  if (outcome === "running") {
-    return {own: itself, window: [SHOWN_STEPS, Math.max(word.length, SHOWN_STEPS), SHOWN_STEPS, 1]};
-  }
-  const found = await answer(["run", "=" + word, "auto"], table), line = /^window (\d+) (\d+) /.exec(found.text);
-  if (!line) throw new Refused(found);
-  return {own: itself, window: [Number(line[1]), Number(line[2]), Math.max(1, steps), (output ?? "").length + 1]};
-}
-
-// The same window with tape 1 as short as the heads of a run in it need it.
-export function narrowed(window, run, word) {
-  const heads = run.moments.map(it => it.tapes[0].head).filter(it => it !== null);
-  return [Math.max(0, -Math.min(...heads)), Math.max(word.length, 1, ...heads), window[2], window[3]];
-}
-
-export class Run {
-  constructor(table, word, window) {
-    Object.assign(this, {table, word, window, chunks: new Map(), barsAt: new Map(), listeners: new Set()});
+export class Run extends Moments {
+  // A table, a word, and what `findRun` found of them.
+  constructor(table, word, {window, text}) {
+    super();
+    Object.assign(this, {table, word, window, outcome: readRun(text), chunks: new Map(), barsAt: new Map()});
     this.rules = rulesOf(table);
     this.states = statesOf(this.rules);
     this.letters = lettersOf(this.rules);
     this.words = ["=" + word, ...window.map(String)];
   }
-  session(script, how = {}) {
-    const table = this.table.endsWith("\n") ? this.table : this.table + "\n";
-    return answer(["session", ...this.words], `${table}%\n${script}`, how);
-  }
+  // The input of `session` with a script.
+  inputOf(script) { return `${this.table.endsWith("\n") ? this.table : this.table + "\n"}%\n${script}`; }
+  session(script, how = {}) { return answer(["session", ...this.words], this.inputOf(script), how); }
 
+  // Fetches the circuit and the moments; how the run ended is known from the answer that found its window.
   async open() {
-    const ran = await answer(["run", ...this.words], this.table);
-    if (![STATUS.done, STATUS.stuck, STATUS.window].includes(ran.status)) throw new Refused(ran);
-    this.outcome = readRun(ran.text);
     this.end = this.outcome.steps;
     const [bennett, compiled] = await Promise.all([answer(["bennett"], this.table), answer(["compile", ...this.words], this.table)]);
-    this.names = [...new Set(bennett.text.split("\n").filter(Boolean).flatMap(line => [line.split(",")[0], line.split(",")[7]]))];
+    this.quadruples = bennett.text.split("\n").filter(Boolean).map(line => line.split(","));
+    this.names = [...new Set(this.quadruples.flatMap(row => [row[0], row[7]]))];
     this.compiled = compiled.text;
     this.circuit = readCircuit(compiled.text);
     // To build the circuit costs time in each call: the larger it is, the longer the pieces.
@@ -105,55 +72,6 @@ export class Run {
     return row < bank.rows ? row : -1;
   }
   symbolOf(tape, number) { return tape === 2 ? (number === 0 ? "_" : String(number)) : this.letters[number] ?? "?"; }
-
-  async findMoments() {
-    const [, , n, r3] = this.window;
-    const most = Math.min(MOST_MOMENTS, this.outcome.quadruples !== null ? this.outcome.quadruples + 1 : 4 * n + 4 * r3 + 12);
-    const script = this.names.map((name, k) => `break s${k} state ${name}\n`).join("") + `go ${GREATEST}\nview\n`.repeat(most);
-    const lines = (await this.session(script)).text.split("\n").slice(this.names.length), moments = [];
-    for (let at = 0; at + 7 < lines.length; at += 8) {
-      const view = readView(lines, at + 1);
-      const last = moments.at(-1);
-      const isSame = last?.name === view.name && last.step === view.step && JSON.stringify(last.tapes) === JSON.stringify(view.tapes);
-      if (view.hasLeft && isSame) {
-        last.leaves = view;
-        break;
-      }
-      moments.push(view);
-      if (view.hasLeft) break;
-    }
-    this.moments = moments;
-    this.first = moments[0].steps;
-    this.starts = moments.map((it, q) => q === 0 ? 0 : it.steps);
-    this.isCut = !moments.at(-1).hasLeft && !moments.at(-1).leaves;
-    this.stops = {quadruple: [...this.starts], machine: []};
-    if (this.stops.quadruple.at(-1) !== this.end && !this.isCut) this.stops.quadruple.push(this.end);
-    let before = null;
-    moments.forEach((it, q) => {
-      if (it.state === null && !it.hasLeft) return;
-      const key = `${it.stage === "copy" ? "copy" : it.stage} ${it.state} ${it.step}`;
-      if (key !== before) this.stops.machine.push(this.starts[q]);
-      before = key;
-    });
-    if (this.stops.machine.at(-1) !== this.end && !this.isCut) this.stops.machine.push(this.end);
-  }
-  momentIndex(e) {
-    let low = 0, high = this.starts.length;
-    while (high - low > 1) {
-      const middle = (low + high) >> 1;
-      if (this.starts[middle] <= e) low = middle; else high = middle;
-    }
-    return low;
-  }
-  // A place on the time line, in moments, with the share of the way to the next one; and back.
-  timeOf(e) {
-    const q = this.momentIndex(e), from = this.starts[q], to = this.starts[q + 1] ?? this.end;
-    return q + (to > from ? Math.min(1, (e - from) / (to - from)) : 0);
-  }
-  stepAt(time) {
-    const q = Math.max(0, Math.min(this.starts.length - 1, Math.floor(time))), from = this.starts[q], to = this.starts[q + 1] ?? this.end;
-    return Math.round(from + (to - from) * Math.min(1, Math.max(0, time - q)));
-  }
 
   // ---- the places of the signal, in pieces
 
@@ -343,20 +261,5 @@ export class Run {
       if (step !== null && (best === null || direction * (step - best) < 0)) { best = step; hit = it; }
     }
     return {step: best ?? (direction > 0 ? this.end : 0), hit};
-  }
-  cellAt(q, tape, cell) { const it = this.moments[q].tapes[tape - 1]; return it.symbols[cell - it.first]; }
-  cellChange(tape, cell, e, direction) {
-    const from = this.momentIndex(e);
-    const isChange = q => this.cellAt(q, tape, cell) !== this.cellAt(q - 1, tape, cell);
-    if (direction > 0) {
-      for (let q = from + 1; q < this.moments.length; q++) if (isChange(q)) return this.starts[q];
-    } else {
-      for (let q = this.starts[from] < e ? from : from - 1; q > 0; q--) if (isChange(q)) return this.starts[q];
-    }
-    return null;
-  }
-  firstWritten(tape, cell) {
-    for (let q = 1; q < this.moments.length; q++) if (this.cellAt(q, tape, cell) !== this.cellAt(q - 1, tape, cell)) return q;
-    return null;
   }
 }

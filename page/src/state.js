@@ -3,6 +3,7 @@ export const LAYERS = ["machine", "quadruple", "module", "element"];
 export const state = {
   text: "", names: {}, asStandard: false, blank: null, word: "", window: null, example: null,
   e: 0, layer: "quadruple", playing: 0, speed: 40, breaks: [], cell: null, zoom: null, editions: 0,
+  middle: "moves",
 };
 // `run` has the answers of one run; `found` what the machine does by itself, and the window; `machine` the table that runs.
 export const current = {run: null, found: null, machine: null};
@@ -27,6 +28,8 @@ export function toast(words) {
 }
 export function dialog(html) {
   byId("dialogbody").innerHTML = html;
+  const head = byId("dialogbody").querySelector("h2");
+  if (head) head.id = "dialoghead";
   byId("dialog").showModal();
 }
 

@@ -1,6 +1,7 @@
 // A tape: its cells, the head, what was just written, and the cells that are picked.
 import {escaped, minus} from "./state.js";
 import {n1, svg} from "./svg.js";
+import {symbolWord} from "./table.js";
 import {TAPES} from "./words.js";
 
 const TAPE_LEFT = 12, TAPE_TOP = 12;
@@ -34,8 +35,13 @@ export function tapePicture(tape, {width, size = 34, before = null, picked = [],
   }
   if (part.from > 0) body += `<text class="quiet" x="0" y="${base}">…</text>`;
   if (part.to < tape.symbols.length) body += `<text class="quiet" x="${x(part.to) + 2}" y="${base}">…</text>`;
-  const label = `role="img" aria-label="${escaped(TAPES[tape.tape] ?? "")} tape"`;
+  const label = `role="img" aria-label="${escaped(tapeWordsOf(tape))}"`;
   return svg(width, TAPE_TOP + size + (isNumbered ? 16 : 3), body, `t${tape.tape}`, label);
+}
+// A tape as it is heard: its symbols from its first cell on, and its head.
+function tapeWordsOf({tape, first, head, symbols}) {
+  const heard = symbols.map(symbolWord).join(" "), at = head === null ? "no head" : `head at cell ${head}`;
+  return `${TAPES[tape]} tape from cell ${first}: ${heard}; ${at}`;
 }
 function cellPicture({tape, cell, symbol, isNew, x, wide, size, isNumbered}) {
   const isBlank = symbol === "_", kind = isNew ? "new" : isBlank ? "" : "full";

@@ -4,6 +4,7 @@ import {renderCell} from "./cell.js";
 import {markLine} from "./editor.js";
 import {renderTime} from "./film.js";
 import {renderMoves} from "./moves.js";
+import {renderQuadruples} from "./quadruples.js";
 import {diagramPicture} from "./diagram_picture.js";
 import {heightOf, isPhone, put, widthOf} from "./sizes.js";
 import {byId, current, editorLine, escaped, nameOf, state} from "./state.js";
@@ -25,8 +26,11 @@ export function render(isLive = !state.playing) {
   if (!current.run) return;
   const f = frame(), rule = ruleAt(current.run, f.q, nameOf), {stage} = f.moment;
   byId("machine").className = "panel " + stage;
-  for (const it of byId("stages").children) it.classList.toggle("now", it.dataset.stage === stage);
-  const tag = rule.rule ? `<span class="tagno">rule ${rule.rule}${rule.isBack ? ", undone" : ""}</span>` : "";
+  for (const it of byId("stages").children) {
+    it.classList.toggle("now", it.dataset.stage === stage);
+    it.setAttribute("aria-current", it.dataset.stage === stage ? "step" : "false");
+  }
+  const tag = rule.rule ? `<span class="tagno">rule ${rule.rule}${rule.isBack ? ", undone" : ""}</span> ` : "";
   put("rule", `<p class="head">${tag}${escaped(rule.head)}</p><p class="more">${escaped(rule.more)}</p>`);
   renderTapes(f);
   renderCell();
@@ -34,6 +38,7 @@ export function render(isLive = !state.playing) {
   renderItself(f, rule);
   renderBank(f);
   renderMoves(f);
+  renderQuadruples(f);
   renderTime(f);
   if (isLive) say(f);
 }
@@ -65,7 +70,7 @@ function renderItself({moment}, rule) {
   const words = isOver ? "<b>By itself</b> it has halted; it can't go back."
     : `<b>By itself</b>, step ${moment.step}: in <b>${escaped(nameOf(ownState))}</b>`;
   const tape = tapePicture({...shown.tapes[0], tape: 1}, {width: widthOf("own"), size: 24, isNumbered: false});
-  put("own", `<p>${words}</p><div style="opacity:${isOver ? .55 : 1}">${tape}</div>`);
+  put("own", `<p>${words}</p><div class="${isOver ? "over" : ""}">${tape}</div>`);
   const high = heightOf("diagram"), stops = new Set(state.breaks.filter(it => it.kind === "state").map(it => it.state));
   byId("diagrambox").classList.toggle("low", high < LEAST_DIAGRAM);
   put("diagram", high < LEAST_DIAGRAM ? "" : diagramPicture(run.rules, {

@@ -1,0 +1,147 @@
+"""The workshop of the page: elements, a mirror, two boards, erasing and a floor plan, with what the program says."""
+import json
+
+from counting import text_of
+from shown import PAGE
+from workbench_text import read_configuration
+
+# Opens a page of the workshop, puts texts into its fields, and waits until the program has answered.
+FILLED = """(async () => {
+  bench.openWorkshop(%s);
+  const fields = %s, rest = ms => new Promise(done => setTimeout(done, ms));
+  for (const [id, text] of fields) {
+    const it = document.getElementById(id);
+    it.value = text;
+    it.dispatchEvent(new Event("input"));
+  }
+  await rest(400);
+  await bench.inTurn(() => {});
+})()"""
+PRESSED = """(async () => {
+  for (let k = 0; k < %d; k++) {
+    document.getElementById(%s).click();
+    await bench.inTurn(() => {});
+  }
+})()"""
+# The bars as they are drawn, in the order of the elements.
+DRAWN = """(id => [...document.querySelectorAll(`#${id} .bar`)].map(it =>
+  it.getAttribute("transform").includes("rotate(90)") ? "V" : "H").join(""))(%s)"""
+
+
+def fill(page, key, **fields):
+    page.wait(FILLED % (json.dumps(key), json.dumps([[name.replace("_", "-"), text] for name, text in fields.items()])))
+
+
+def press(page, name, times=1):
+    page.wait(PRESSED % (times, json.dumps(name)))
+
+
+def drawn(page, name):
+    return page.ask(DRAWN % json.dumps(name))
+
+
+def said(page, name):
+    return page.ask(f"document.getElementById({json.dumps(name)}).textContent")
+
+
+def bars(text):
+    return "".join(read_configuration(text).bars)
+
+
+def check_elements(page, program, count):
+    for name, steps in (("eight-rows.txt", 8), ("two-columns.txt", 5), ("undo.txt", 0)):
+        given = text_of("examples", name)
+        fill(page, "elements", e_text=given)
+        for k in range(steps + 1):
+            right = program.text(["step", str(k)], given)
+            count.hold(page.ask("bench.pageOf('elements').stepper().text") == right
+                       and drawn(page, "e-picture") == bars(right),
+                       f"elements, {name}, step {k}: the bars {drawn(page, 'e-picture')} aren't the program's")
+            if k < steps:
+                press(page, "e-forth")
+
+
+def check_mirror(page, program, count):
+    """Each step of the mirror takes one of the circuit back."""
+    for name, steps in (("undo.txt", 0), ("two-columns.txt", 8), ("eight-rows.txt", 8)):
+        given = text_of("examples", name)
+        fill(page, "mirror", m_text=given)
+        press(page, "m-forth", steps)
+        here = program.text(["step", str(steps)], given)
+        mirror = program.text(["mirror"], here)
+        made = int(here.splitlines()[4].split()[1])
+        for k in range(1, made + 1):
+            press(page, "m-mforth")
+            right, back = program.text(["step", str(k)], mirror), program.text(["back", str(k)], here)
+            seen = drawn(page, "m-mirror")
+            count.hold(seen == bars(right) == bars(back) and drawn(page, "m-circuit") == bars(here),
+                       f"mirror of {name}, step {k}: the bars {seen}, and not {bars(right)}")
+            count.hold("bars stand as the circuit's stood" in said(page, "m-said"),
+                       f"mirror of {name}, step {k}: {said(page, 'm-said')}")
+        count.hold("All is undone" in said(page, "m-said"), f"mirror of {name}: {said(page, 'm-said')}")
+
+
+def check_farm(page, program, count):
+    """Boards after each event, and back by the schedule that undoes."""
+    *boards, schedule = text_of("examples", "two-boards.txt").split("%\n")
+    fill(page, "farm", f_0=boards[0], f_1=boards[1], f_schedule=schedule)
+    events = [line.split()[:2] for line in schedule.splitlines() for _ in range(int(line.split()[2]))]
+    for k in range(len(events) + 1):
+        front = "".join(f"{sign} {board} 1\n" for sign, board in events[:k])
+        right = program.text(["farm"], "".join(f"{it}%\n" for it in boards) + front).split("%\n")
+        shown = [drawn(page, "f-room0"), drawn(page, "f-room1")]
+        count.hold(shown == [bars(it) for it in right[:2]],
+                   f"two boards, event {k}: the bars {shown} aren't the program's")
+        if k < len(events):
+            press(page, "f-forth")
+    undoing = page.ask("[...document.querySelectorAll('#f-undoing code')].map(it => it.textContent)")
+    whole = program.text(["farm"], text_of("examples", "two-boards.txt"))
+    count.hold(undoing == whole.split("%\n")[-1].splitlines(), f"two boards: the undoing schedule is {undoing}")
+    press(page, "f-undo")
+    press(page, "f-line", len(undoing))
+    count.hold("byte for byte" in said(page, "f-said")
+               and [drawn(page, "f-room0"), drawn(page, "f-room1")] == [bars(it) for it in boards],
+               f"two boards, undone: {said(page, 'f-said')}")
+    fill(page, "farm", f_schedule="+ 3 1\n")
+    count.hold("no such board" in said(page, "f-fault"), f"a schedule of a third board: {said(page, 'f-fault')!r}")
+
+
+def check_erase(page, program, count):
+    """Nothing left but the output; and a second machine that takes nothing back."""
+    for name, word in (("not-twice.txt", "1101"), ("not-twice.txt", ""), ("least-twice.txt", ""),
+                       ("not-increment.txt", "101")):
+        first, second = text_of("examples", name).split("%\n")
+        fill(page, "erase", x_first=first, x_second=second, x_word=word)
+        right = program.text(["erase", "=" + word, "1000000"], text_of("examples", name)).split()
+        rows = page.ask("[...document.querySelectorAll('#x-table code')].map(it => it.textContent + '\\n').join('')")
+        count.hold(rows == program.text(["erase"], text_of("examples", name)),
+                   f"erase, {name}: the quadruples aren't the program's")
+        cells = page.ask("[...document.querySelectorAll('#x-ends tbody tr:last-child td')].map(it => "
+                         "it.textContent.replace('blank', ''))")
+        if right[0] == "halted":
+            told = [right[2].partition("=")[2] if len(right) > 2 else "", right[-1].partition("=")[2],
+                    f"{int(right[1]):,} quadruple steps"]
+            count.hold(cells == told, f"erase, {name}, {word!r}: {cells}, and not {told}")
+        else:
+            count.hold(cells[2].startswith("stuck in " + right[1]),
+                       f"erase, {name}, {word!r}: {cells}, and not {right}")
+
+
+def check_plan(page, program, count):
+    for given in (text_of("examples", "two-elements.txt"), text_of("examples", "two-columns.txt"),
+                  text_of("examples", "eight-rows.txt")):
+        fill(page, "plan", l_text=given)
+        right = program.text(["plan"], given).splitlines()
+        wires = [f"wire {a} {b} track {track}" for a, b, track in
+                 (it.split() for it in page.ask("[...document.querySelectorAll('#l-picture [data-wire]')].map(it => "
+                                                "it.dataset.wire)"))]
+        count.hold(wires == right[4:] and wires, f"the floor plan draws {wires[:3]}, and the program says {right[4:7]}")
+        count.hold(said(page, "l-said").startswith(f"{right[1].split()[1]} wires on {right[2].split()[1]} tracks"),
+                   f"the floor plan says {said(page, 'l-said')}")
+
+
+def check_workshop(page, program, count):
+    page.visit(f"file://{PAGE}#m=least")
+    for check in (check_elements, check_mirror, check_farm, check_erase, check_plan):
+        check(page, program, count)
+    count.hold(not page.faults(), f"the workshop: {page.faults()}")

@@ -1,0 +1,113 @@
+// What is seen, in words: for each panel what it shows, and what stands in it at this step. All of it is looked up in
+// the program's answers.
+import {byId, current, dialog, escaped, nameOf, state} from "./state.js";
+import {symbolWord} from "./table.js";
+import {frame} from "./view.js";
+import {bankName, exitWords, number, ruleAt, TAPES} from "./words.js";
+
+const PANELS = {
+  machine: {title: "The machine", words: [
+    "The table has a rule a line: in this state, on this symbol, write that, move, and go on in that state. + is " +
+      "right, − is left, 0 is stay, _ is the blank.",
+    "Below it stands what the program says of the table; then the word on the tape; then the machine by itself, " +
+      "which forgets as it goes; and its states as a picture. The rule at work is marked in the table and in the " +
+        "picture. A click on a state stops there.",
+  ]},
+  tapes: {title: "Bennett's reversible machine", words: [
+    "The same machine, made so that no step forgets. It has three tapes: the work tape is the machine's own; the " +
+      "history notes the number of each rule; the output tape gets the copy.",
+    "First it computes and keeps the history, then it copies the output, then it takes every step back and empties " +
+      "the history. A triangle marks each head, a darker cell what was just written. Below stand the moves of the " +
+        "circuit for one quadruple, with what each costs, or the table of all quadruples.",
+  ]},
+  circuit: {title: "The circuit", words: [
+    "The whole machine as one circuit of rotary elements with one signal. Above is the map: the control, and a " +
+      "module for each cell of each tape. The red one has the signal. A colour is a tape's everywhere.",
+    "Below is that module as its bank of elements: boxes with a bar. The column on amber is the module's state. " +
+      "Along a bar the signal goes straight on; across it, it turns right and turns the bar. The red line is its way.",
+  ]},
+  time: {title: "The time line", words: [
+    "The whole run as one picture. Time goes to the right; each band is a tape and each row in it a cell. The hill " +
+      "is the history: it grows, stands while the output is copied, and is taken back.",
+    "The red line is now. The strip below has the moves of the quadruple at work, as wide as they cost. The four " +
+      "buttons say what a step is; the arrow keys make one, on or back.",
+  ]},
+};
+const PAGES_ABOUT = {
+  elements: ["Any circuit, element by element. Type moves, and the program makes a bank of them; or a configuration " +
+    "text.", "The red ring is the signal; the red line is the wire that it is on, the broken ones are its way. An " +
+      "element that has just turned is tinted; a column on amber is marked."],
+  mirror: ["At the left a circuit, at the right its mirror: each wire turned round, east and west exchanged.",
+    "The mirror is made of the circuit as it stands. Each step of the mirror takes back one of the circuit's, and " +
+      "the line below says whether the bars agree."],
+  farm: ["Two circuits that have nothing to do with one another, and a list of events on them: + 1 5 is five steps " +
+    "on of board 1, - 2 1 is one back of board 2.",
+      "At the right below stands what takes back all that was done so far. It can be gone on with, and the first " +
+        "boards come back byte for byte."],
+  erase: ["Bennett's machine leaves its input beside the output. Where a second machine leads from the output back " +
+    "to the input, both together leave the output alone.",
+      "The table at the right is the machine that does so; the two lines above say what each of the two leaves."],
+  plan: ["The elements stand in one line. Each wire goes up to its track, along it, and down again.",
+    "Two wires share a track where they cover no place both. The broken line marks the place that most wires cover: " +
+      "so many tracks are needed, and no more are used."],
+};
+
+export function openAbout(panel) {
+  const {title, words} = PANELS[panel], now = current.run ? nowWords(panel) : ["Nothing runs yet."];
+  dialog(`<h2>${title}</h2>${words.map(it => `<p>${it}</p>`).join("")}<h3>At this
+      step</h3>${now.map(it => `<p>${escaped(it)}</p>`).join("")}`);
+}
+export function openAboutPage({key, title}) {
+  const seen = [...document.querySelectorAll(`#page-${key} .e-place, #page-${key} .e-said`)].map(it =>
+    it.textContent).filter(Boolean);
+  const now = seen.length ? `<h3>Now</h3>${seen.map(it => `<p>${escaped(it)}</p>`).join("")}` : "";
+  dialog(`<h2>${title}</h2>${PAGES_ABOUT[key].map(it => `<p>${it}</p>`).join("")}${now}`);
+}
+
+// What stands in a panel now.
+function nowWords(panel) {
+  return {machine: machineWords, tapes: tapeWords, circuit: circuitWords, time: timeWords}[panel](frame());
+}
+function machineWords({moment, q}) {
+  const {run, found} = current, {own} = found, rule = ruleAt(run, q, nameOf), word = run.word || "the empty word";
+  const end = {
+    halted: `halts after ${number(own.steps)} steps with ${own.output || "no letter"}`, running: "runs on",
+    stuck: `is stuck in ${nameOf(own.state)} on ${symbolWord(own.letter)} after ${number(own.steps)} steps`,
+  }[own.outcome];
+  const said = byId("verdict").querySelector("span")?.textContent ?? "";
+  return [`${said}. On ${word} the machine ${end}.`, moment.stage === "compute" ? `Step ${moment.step}. ${rule.head}`
+    : "By itself it has halted."];
+}
+function tapeWords({moment, q}) {
+  const rule = ruleAt(current.run, q, nameOf);
+  const tapes = moment.tapes.map((tape, k) => {
+    const symbols = tape.symbols.map(symbolWord).join(" "), head = tape.head === null ? "no head is seen"
+      : `the head is at cell ${tape.head}`;
+    return `The ${TAPES[k + 1]} tape from cell ${tape.first} on: ${symbols}; ${head}.`;
+  });
+  return [`Stage: ${moment.stage}. Quadruple ${q} of ${current.run.moments.length - 1}, from state ${moment.name}.`,
+    `${rule.head} ${rule.more}`, ...tapes];
+}
+function circuitWords({e, at, bank, move}) {
+  const {run} = current, cells = run.window,
+    count = `${number(run.circuit.count)} elements in ${number(run.banks.length)} modules.`;
+  const window = `The work tape has ${cells[0] + cells[1] + 1} cells, the history ${cells[2] + 1}, `
+    + `the output tape ${cells[3] + 1}.`;
+  if (!at) return [count, window];
+  const where = at.hasLeft ? exitWords(run.outcome.exit, nameOf)
+    : `The signal is in ${bankName(bank)}, at element ${number(at.place >> 2)}.`;
+  const far = move.from !== null && move.to !== null && !at.hasLeft
+    ? ` It is step ${number(e - move.from)} of ${number(move.to - move.from)} of this move.` : "";
+  return [count, window, where + far];
+}
+function timeWords({e, q}) {
+  const {run} = current, stages = ["compute", "copy", "retrace"].map(stage => {
+    const places = run.moments.flatMap((it, k) => it.stage === stage ? [k] : []);
+    return places.length ? `${stage} from quadruple ${places[0]} to ${places.at(-1)}` : "";
+  });
+  const count = `${number(run.moments.length - 1)} quadruples and ${number(run.end)} element steps`;
+  return [`The run has ${count}: ${stages.filter(Boolean).join(", ")}.`,
+          `Now: quadruple ${number(q)}, element step ${number(e)}. A step is a ${state.layer === "element" ? "step " +
+            "of the signal" : state.layer === "module" ? "move of a module"
+              : {machine: "machine step", quadruple: "quadruple"}[state.layer]}.`];
+}

@@ -1,0 +1,74 @@
+// The workshop: a dialog with pages of one kind, each with something of its own to type, to step and to look at. A page
+// says how it is made, and what is done as it comes and goes.
+import {openAboutPage} from "./about.js";
+import {elementsPage} from "./elements.js";
+import {erasePage} from "./erase.js";
+import {farmPage} from "./farm.js";
+import {mirrorPage} from "./mirror.js";
+import {planPage} from "./plan.js";
+import {openSaid} from "./said.js";
+import {markTab, takeTabs} from "./tabs.js";
+
+const PAGES = [elementsPage, mirrorPage, farmPage, erasePage, planPage];
+const workshop = {box: null, page: null, made: new Set()};
+const pageBox = page => workshop.box.querySelector(`#page-${page.key}`);
+const pageTab = page => workshop.box.querySelector(`#tab-${page.key}`);
+
+function makeWorkshop() {
+  workshop.box = Object.assign(document.createElement("dialog"), {id: "workshop"});
+  workshop.box.setAttribute("aria-label", "Workshop");
+  const tabs = PAGES.map(it =>
+    `<button role="tab" id="tab-${it.key}" data-page="${it.key}" aria-controls="page-${it.key}" aria-selected="false"
+        tabindex="-1">${it.title}</button>`);
+  const boxes = PAGES.map(it =>
+    `<div role="tabpanel" id="page-${it.key}" class="e-body" aria-labelledby="tab-${it.key}" hidden></div>`);
+  workshop.box.innerHTML = `<div class="e-head"><h2>Workshop</h2><div role="tablist"
+      aria-label="Pages of the workshop">${tabs.join("")}</div>
+    <span class="mini"><button id="e-texts" aria-label="what the program said of this page">Texts</button><button
+    id="e-about-page" aria-label="this page, in words">?</button></span>
+    <button id="e-close" class="plain" aria-label="close the workshop">×</button></div><div
+    id="e-sheet"></div>${boxes.join("")}`;
+  document.body.append(workshop.box);
+  takeTabs(workshop.box.querySelector("[role=tablist]"),
+    it => choosePage(PAGES.find(page => page.key === it.dataset.page)));
+  workshop.box.querySelector("#e-close").onclick = () => workshop.box.close();
+  workshop.box.querySelector("#e-texts").onclick = () => openSaid(workshop.page.title.toLowerCase(),
+    workshop.page.calls());
+  workshop.box.querySelector("#e-about-page").onclick = () => openAboutPage(workshop.page);
+  workshop.box.addEventListener("keydown", onWorkshopKey);
+  workshop.box.addEventListener("close", () => {
+    workshop.page.close();
+    const sheet = workshop.box.querySelector("#sheet");
+    if (sheet) document.getElementById("sheetplace").append(sheet);
+  });
+}
+function onWorkshopKey(event) {
+  if (event.target.matches("textarea,input,select,[role=tab]") || event.ctrlKey || event.metaKey
+    || event.altKey) return;
+  if (event.key === " " && event.target.matches("button")) return;
+  const act = workshop.page.keys[event.key];
+  if (!act) return;
+  event.preventDefault();
+  act();
+}
+function choosePage(page) {
+  workshop.page?.close();
+  workshop.page = page;
+  for (const it of PAGES) pageBox(it).hidden = it !== page;
+  markTab(workshop.box, pageTab(page));
+  if (workshop.made.has(page)) {
+    page.open();
+    return;
+  }
+  workshop.made.add(page);
+  page.make(pageBox(page));
+}
+
+// Opens the workshop at a page, or where it was left.
+export function openWorkshop(key = workshop.page?.key ?? PAGES[0].key) {
+  if (!workshop.box) makeWorkshop();
+  if (!workshop.box.open) workshop.box.showModal();
+  choosePage(PAGES.find(it => it.key === key));
+}
+export const workshopBox = () => workshop.box;
+export const pageOf = key => PAGES.find(it => it.key === key);
