@@ -13,7 +13,7 @@ shuffled and the board of an increment: in version 1 of as many elements as --el
 as many. What the program and the readers write is compared with the text, byte for byte; then they run in turn, so
 that other work on the machine slows all of them, and what they write goes nowhere. Seconds are of the processor, user
 and system, the medians of --runs runs. A ratio is that of two medians; behind it stand the least and the greatest one
-of a turn. The peak of memory is what the process had itself, least of all runs; none below some 10 MB can be seen.
+of a turn. The peak of memory is what the process had itself, least of all runs; none below some 15 MB can be seen.
 
 Of steps, the program's seconds are those of `step E` or `back E` less those of `step 0` in the same turn. Of texts a
 ratio above 1 means that the program is slower, of steps that it is faster. The tables at the end are in Markdown, as
@@ -48,18 +48,9 @@ def options_of():
     parser.add_argument("--elements", type=int, default=RING, metavar="N", help="of version 1 (1,048,576)")
     parser.add_argument("--steps", type=int, default=400_000_000, metavar="N", help="of one run (400,000,000)")
     parser.add_argument("--count", action="store_true", help="count instructions too, by perf or by valgrind")
+    measuring.add_texts(parser)
     parser.add_argument("--only", choices=("texts", "steps"), help="one of both parts alone")
     return parser.parse_args()
-
-
-def texts(program, elements, folder):
-    """The texts that are read and written: pairs of a name and a file, each made when it is asked for."""
-    path = os.path.join(folder, "text")
-    for version in (1, 2):
-        for name, is_shuffled in (("ring in order", False), ("ring shuffled", True)):
-            count = elements if version == 1 else 4 * elements
-            yield f"{name}, version {version}", measuring.write_ring(path, count, is_shuffled, version)
-    yield "compiled board, version 2", measuring.write_board(path, program, 4 * elements, folder)
 
 
 def compare_once(command, source, folder):
@@ -116,7 +107,7 @@ def text_rows(options, program, folder):
     readers = {name: [measuring.compiled("reader", name, folder)] for name in measuring.compilers()}
     commands = {"program": [*program, "step", "0"], **readers}
     rows, counts = [], []
-    for name, source in texts(program, options.elements, folder):
+    for name, source in measuring.texts(program, options.elements, folder, options.texts):
         elements = measuring.elements_of(source)
         for command in commands.values():
             compare_once(command, source, folder)

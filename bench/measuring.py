@@ -39,7 +39,7 @@ def program_of(options):
 
 def run_once(command, source, sink=os.devnull, wanted=0):
     """One run from a file to a file: seconds of the processor, and the peak of memory in bytes. The process that
-    starts it and asks for both holds nothing but Python itself, some 10 MB; no peak is below that."""
+    starts it and asks for both holds nothing but Python itself, some 15 MB; no peak is below that."""
     launcher = [sys.executable, "-c", LAUNCH]
     with open(source, "rb") as given, open(sink, "wb") as taken:
         ran = subprocess.run([*launcher, *command], stdin=given, stdout=taken, stderr=subprocess.PIPE)
@@ -91,6 +91,27 @@ def write_board(path, program, elements, folder):
     table = write(os.path.join(folder, "increment"), increments(1))
     run_once([*program, "compile", *board_words(elements)], table, path)
     return path
+
+
+def add_texts(parser):
+    """The option that says which texts are measured."""
+    parser.add_argument("--texts", default="", metavar="WORDS", help="only those whose names have these words,"
+                        " as 'in order' or 'version 1'; their names are in the tables' first column")
+
+
+def texts(program, elements, folder, words):
+    """The texts whose names have these words: pairs of a name and a file, each made when it is asked for."""
+    path, four = os.path.join(folder, "text"), 4 * elements
+    makers = {
+        "ring in order, version 1": lambda: write_ring(path, elements, False, 1),
+        "ring shuffled, version 1": lambda: write_ring(path, elements, True, 1),
+        "ring in order, version 2": lambda: write_ring(path, four, False, 2),
+        "ring shuffled, version 2": lambda: write_ring(path, four, True, 2),
+        "compiled board, version 2": lambda: write_board(path, program, four, folder),
+    }
+    for name, make in makers.items():
+        if words in name:
+            yield name, make()
 
 
 def elements_of(path):
