@@ -1,0 +1,232 @@
+#!/usr/bin/env python3
+"""Times the program beside C: texts read and written beside bench/reader.c, steps beside bench/loop.c. It proves
+nothing and is no part of rt ci.
+
+    bench/compare.py                                  by the proved program, crates/bn_main/out/bn_main
+    bench/compare.py --program 'node bin/hithwelor' --elements 10000 --steps 20000000
+                                                      by any command line, on smaller circuits and shorter runs
+    bench/compare.py --count --elements 100000        instructions too, which is slow without perf's counters
+    bench/compare.py --only texts                     or --only steps
+
+Both C programs are compiled by gcc and by clang, -O2, where they are installed. The texts are rings in order and
+shuffled and the board of an increment: in version 1 of as many elements as --elements says, in version 2 of four times
+as many. What the program and the readers write is compared with the text, byte for byte; then they run in turn, so
+that other work on the machine slows all of them, and what they write goes nowhere. Seconds are of the processor, user
+and system, the medians of --runs runs. A ratio is that of two medians; behind it stand the least and the greatest one
+of a turn. The peak of memory is what the process had itself, least of all runs; none below some 15 MB can be seen.
+
+Of steps, the program's seconds are those of `step E` or `back E` less those of `step 0` in the same turn. Of texts a
+ratio above 1 means that the program is slower, of steps that it is faster. The tables at the end are in Markdown, as
+they stand in docs/BENCHMARKS.md.
+"""
+import argparse
+import filecmp
+import os
+import re
+import shlex
+import shutil
+import statistics
+import subprocess
+import sys
+import tempfile
+
+sys.dont_write_bytecode = True
+from bench import RING
+import measuring
+
+# On a shuffled ring that is too great for the caches a step waits for memory, and a twentieth takes as long.
+SHUFFLED_SHARE, GREAT = 20, RING // 4
+# Less time than this says nothing.
+LEAST_SECONDS = 0.02
+COUNTED_STEPS = 1_000_000
+
+
+def options_of():
+    parser = argparse.ArgumentParser(description=__doc__, formatter_class=argparse.RawDescriptionHelpFormatter)
+    measuring.add_program(parser)
+    parser.add_argument("--runs", type=int, default=5, metavar="N", help="how often each is run (5)")
+    parser.add_argument("--elements", type=int, default=RING, metavar="N", help="of version 1 (1,048,576)")
+    parser.add_argument("--steps", type=int, default=400_000_000, metavar="N", help="of one run (400,000,000)")
+    parser.add_argument("--count", action="store_true", help="count instructions too, by perf or by valgrind")
+    measuring.add_texts(parser)
+    parser.add_argument("--only", choices=("texts", "steps"), help="one of both parts alone")
+    return parser.parse_args()
+
+
+def compare_once(command, source, folder):
+    """Holds that a command writes what it reads."""
+    sink = os.path.join(folder, "written")
+    measuring.run_once(command, source, sink)
+    if not filecmp.cmp(source, sink, shallow=False):
+        sys.exit(f"{shlex.join(command)}: it writes another text than it reads")
+    os.remove(sink)
+
+
+def can_perf_count():
+    """Whether perf counts instructions on this machine."""
+    if not shutil.which("perf"):
+        return False
+    ran = subprocess.run(["perf", "stat", "-x,", "-e", "instructions:u", "true"], capture_output=True, text=True)
+    return ran.stderr[:1].isdigit()
+
+
+def instructions(command, source, folder):
+    """How many instructions a command takes, by perf's counters, else by valgrind."""
+    said = os.path.join(folder, "counted")
+    if can_perf_count():
+        counter = ["perf", "stat", "-x,", "-e", "instructions:u", "-o", said]
+    else:
+        counter = ["valgrind", "--tool=cachegrind", "--cache-sim=no", "--cachegrind-out-file=/dev/null",
+                   f"--log-file={said}"]
+    with open(source, "rb") as given:
+        subprocess.run([*counter, *command], stdin=given, stdout=subprocess.DEVNULL, check=True)
+    with open(said, encoding="utf-8") as file:
+        found = re.search(r"I +refs: +([\d,]+)|^(\d+),", file.read(), re.MULTILINE)
+    if not found:
+        sys.exit(f"{shlex.join(counter)} gave no count")
+    return int((found[1] or found[2]).replace(",", ""))
+
+
+def ratio(over, under):
+    """The ratio of two series' medians, and the least and the greatest of the single ones."""
+    single = sorted(one / other for one, other in zip(over, under))
+    return f"{statistics.median(over) / statistics.median(under):.2f} ({single[0]:.2f} to {single[-1]:.2f})"
+
+
+def in_turn(commands, source, runs):
+    """The runs of each command, in turn."""
+    found = {name: [] for name in commands}
+    for _ in range(runs):
+        for name, command in commands.items():
+            found[name].append(measuring.run_once(command, source))
+    return found
+
+
+def text_rows(options, program, folder):
+    """Of each text a row of seconds and memory, and a row of instructions."""
+    readers = {name: [measuring.compiled("reader", name, folder)] for name in measuring.compilers()}
+    commands = {"program": [*program, "step", "0"], **readers}
+    rows, counts = [], []
+    for name, source in measuring.texts(program, options.elements, folder, options.texts):
+        elements = measuring.elements_of(source)
+        for command in commands.values():
+            compare_once(command, source, folder)
+        found = in_turn(commands, source, options.runs)
+        seconds = {who: [run.processor for run in series] for who, series in found.items()}
+        row = [name, f"{elements:,}", f"{statistics.median(seconds['program']):.3f}"]
+        for reader in readers:
+            row += [f"{statistics.median(seconds[reader]):.3f}", ratio(seconds["program"], seconds[reader])]
+        row += [f"{min(run.memory for run in found[who]) / elements:.1f}" for who in ("program", next(iter(readers)))]
+        rows.append(row)
+        print(" | ".join(row), flush=True)
+        if options.count:
+            counted = [instructions(command, source, folder) / elements for command in commands.values()]
+            more = [f"{part:.0f} ({counted[0] / part:.2f})" for part in counted[1:]]
+            counts.append([name, f"{elements:,}", f"{counted[0]:.0f}", *more])
+            print(" | ".join(counts[-1]), flush=True)
+    return readers, rows, counts
+
+
+def text_tables(options, program, folder):
+    """What reading and writing take, in Markdown."""
+    readers, rows, counts = text_rows(options, program, folder)
+    heads = ["`step 0`", "Elements", "Program, s"]
+    for name in readers:
+        heads += [f"C by {name}, s", "Ratio"]
+    told = measuring.table([*heads, "Bytes an element, program", "C"], rows)
+    if counts:
+        heads = ["Instructions an element", "Elements", "Program", *(f"C by {name} (ratio)" for name in readers)]
+        told += "\n\n" + measuring.table(heads, counts)
+    return told
+
+
+def loop_speeds(loop, order, count, steps):
+    """Millions of steps a second of the C loop, both ways."""
+    with open(order, "rb") as given:
+        ran = subprocess.run([loop, str(count), str(steps)], stdin=given, stdout=subprocess.PIPE, check=True)
+    return [float(speed) for speed in ran.stdout.split()]
+
+
+def program_speeds(program, source, moved, steps):
+    """Millions of steps a second of the program, both ways: from one text on, and from what `step` made of it back."""
+    base = measuring.run_once([*program, "step", "0"], source).processor
+    there = measuring.run_once([*program, "step", str(steps)], source).processor - base
+    again = measuring.run_once([*program, "back", str(steps)], moved).processor - base
+    if min(there, again) < LEAST_SECONDS:
+        sys.exit(f"{steps} steps are too few to be timed: say more by --steps")
+    return [steps / there / 1e6, steps / again / 1e6]
+
+
+def step_rows(options, program, folder, name, count, is_shuffled):
+    """Two rows of one circuit: forward and back."""
+    steps = options.steps // SHUFFLED_SHARE if is_shuffled and count >= GREAT else options.steps
+    path = os.path.join(folder, "text")
+    source = measuring.write_ring(path, count, is_shuffled, 1)
+    numbers = b"".join(element.to_bytes(4, "little") for element in measuring.order_of(count, is_shuffled))
+    order, moved = measuring.write(os.path.join(folder, "order"), numbers), os.path.join(folder, "moved")
+    measuring.run_once([*program, "step", str(steps)], source, moved)
+    back = os.path.join(folder, "back")
+    measuring.run_once([*program, "back", str(steps)], moved, back)
+    if not filecmp.cmp(source, back, shallow=False):
+        sys.exit(f"{name}: {steps} steps and as many back give another text")
+    loops = {compiler: measuring.compiled("loop", compiler, folder) for compiler in measuring.compilers()}
+    found = {who: [] for who in ("program", *loops)}
+    for _ in range(options.runs):
+        found["program"].append(program_speeds(program, source, moved, steps))
+        for compiler, loop in loops.items():
+            found[compiler].append(loop_speeds(loop, order, count, steps))
+    for way, words in enumerate(("step", "back")):
+        speeds = {who: [pair[way] for pair in pairs] for who, pairs in found.items()}
+        row = [f"{name}, `{words}`", f"{statistics.median(speeds['program']):.1f}"]
+        for compiler in loops:
+            row += [f"{statistics.median(speeds[compiler]):.1f}", ratio(speeds["program"], speeds[compiler])]
+        print(" | ".join(row), flush=True)
+        yield row
+
+
+def step_counts(program, folder):
+    """The instructions of a step on one element, in Markdown: what runs of no steps take is taken off."""
+    source = measuring.write_ring(os.path.join(folder, "text"), 1, False, 1)
+    order, moved = measuring.write(os.path.join(folder, "order"), bytes(4)), os.path.join(folder, "moved")
+    measuring.run_once([*program, "step", str(COUNTED_STEPS)], source, moved)
+
+    def counted(command, word, given):
+        steps, none = (instructions([*command, word, str(n)], given, folder) for n in (COUNTED_STEPS, 0))
+        return (steps - none) / COUNTED_STEPS
+    row = ["one element", f"{counted(program, 'step', source):.1f}", f"{counted(program, 'back', moved):.1f}"]
+    for compiler in measuring.compilers():
+        row.append(f"{counted([measuring.compiled('loop', compiler, folder)], '1', order) / 2:.1f}")
+    heads = ["Instructions a step", "Program, `step`", "Program, `back`"]
+    return measuring.table([*heads, *(f"C by {name}, both ways" for name in measuring.compilers())], [row])
+
+
+def step_tables(options, program, folder):
+    """What steps take, in Markdown."""
+    rows = []
+    count = options.elements
+    for name, count, is_shuffled in (("one element", 1, False), (f"ring of {count:,} in order", count, False),
+                                     (f"ring of {count:,} shuffled", count, True)):
+        rows += step_rows(options, program, folder, name, count, is_shuffled)
+    heads = ["Million steps a second", "Program"]
+    for name in measuring.compilers():
+        heads += [f"C by {name}", "Ratio"]
+    told = measuring.table(heads, rows)
+    return f"{told}\n\n{step_counts(program, folder)}" if options.count else told
+
+
+def main():
+    options = options_of()
+    program, load = measuring.program_of(options), os.getloadavg()[0]
+    tables = []
+    with tempfile.TemporaryDirectory() as folder:
+        if options.only != "steps":
+            tables.append(text_tables(options, program, folder))
+        if options.only != "texts":
+            tables.append(step_tables(options, program, folder))
+    print(f"\n{measuring.circumstances(load)}; the medians of {options.runs} runs in turn.")
+    for told in tables:
+        print(f"\n{told}")
+
+
+if __name__ == "__main__":
+    main()
