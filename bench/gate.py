@@ -82,14 +82,15 @@ def row(crate, minutes):
 
 
 def table(taken):
-    """The lines of the table, those crates first that took most."""
-    minutes = {crate: {} for crate in os.listdir(CRATES)}
+    """The lines of the table, in the order of the crates."""
+    with open(os.path.join(TOP, "crates.txt"), encoding="utf-8") as file:
+        minutes = {crate: {} for crate in re.findall(r"^(\w+)(?: \w+)?:", file.read(), re.M)}
     for crate, kind, seconds in taken.values():
         if crate in minutes:
             minutes[crate][kind] = minutes[crate].get(kind, 0) + seconds / 60
     lines = ["| Crate | Lines of code | Lines in all | Tests | Edits | Proofs | Tests proved | Edits tried | Minutes |",
              "|---|---|---|---|---|---|---|---|---|"]
-    lines += [row(crate, minutes[crate]) for crate in sorted(minutes, key=lambda it: (-sum(minutes[it].values()), it))]
+    lines += [row(crate, minutes[crate]) for crate in minutes]
     total = sum(sum(each.values()) for each in minutes.values())
     return lines + ["", f"{total:.0f} processor minutes in all."]
 
