@@ -86,7 +86,7 @@ some_cells l (suc (suc (suc zero))) tape = omega arith
 some_cells l (suc (suc (suc (suc t)))) tape = absurd (let high = tape.high in omega arith)
 
 -- and its first one is not the control
-first_low : (l : Limits) (t : ℕ) → IsTape t → 0 < first_cell l t
+pub first_low : (l : Limits) (t : ℕ) → IsTape t → 0 < first_cell l t
 first_low l zero tape = absurd (let low = tape.low in omega arith)
 first_low l (suc zero) tape = omega arith
 first_low l (suc (suc zero)) tape = omega arith

@@ -127,6 +127,9 @@ module _ (n k : Circuit) (modules : AreModules n) (board : IsBoard n k) where
             no_move = none;
             left = ap (λ m. place_after k.wires (exit_after b u q i m)) none ∙ leaves (target k.wires (turning_line b u q i)) refl;
             unmarked = record { bottoms = λ j there. (resting.columns j there).bottom };
+            rests = λ m v p apart is at.
+                let others = stands.rests m v p is at in
+                (others.0, kept n k modules board e m u v p c.states new.states has is apart (λ x beside. moved-beside k b u q i c reversible square bank entering x beside) others.1);
             mark = after (record { bottoms = λ j there. (resting.columns j there).bottom });
           },
         )

@@ -27,7 +27,7 @@ use Rattle.bn_board.proofs.LetterLemmas.{letters_are, some_letters}
 use Rattle.bn_board.proofs.TabledLemmas.{machine, has_cell, cell_base, whole, counted}
 use Rattle.bn_board.proofs.AgreedLemmas.{net_test, moment_state, modules, between, amid, loose, which, tells, quiet, end, cell_exit, loose_exit, some_states}
 use Rattle.bn_board.proofs.StartingLemmas.{starts, heads}
-use Rattle.bn_board.proofs.SpellingLemmas.{spells}
+use Rattle.bn_board.proofs.SpellingLemmas.{spells, spells_loose}
 
 -- what is read off the board of a machine's network
 pub record Readings (m : Quadruples) (l : Limits) (word : List ℕ) (names : List ControlState) (n : Circuit) (b : Layout) (test : Situation
@@ -53,6 +53,8 @@ pub record Readings (m : Quadruples) (l : Limits) (word : List ℕ) (names : Lis
       → d.place ≡ Left (column_at 0 (lines_at b) q + i) west
   pub spells_as : (s : Situation) (d : Config) (c : Configuration ℕ) → StandsFor n s d → ShowsTapes m l s.states c
       → spelled_by b d.states ≡ spelled_config l c
+  pub spells_at_loose : (s : Situation) (d : Config) (i : ℕ) (c : Configuration ℕ) → IsLoose n s d → s.place ≡ Enter 0 i
+      → ShowsTapes m l s.states c → spelled_by b d.states ≡ spelled_config l c
 
 module _ (p : Program) (l : Limits) (word : List ℕ) (names : List ControlState) (n : Circuit) where
   -- the readings, from what is known of the machine, its network and its layout
@@ -88,6 +90,7 @@ module _ (p : Program) (l : Limits) (word : List ℕ) (names : List ControlState
           cell_is = cell_exit m.rules m.states p.symbols history p.symbols l names n b.firsts b.awaited network numbering kept quad entries some;
           loose_is = loose_exit m.rules m.states p.symbols history p.symbols l names n b.firsts b.awaited network numbering kept quad entries some;
           spells_as = λ s d c stands. spells m.rules m.states p.symbols history p.symbols l names n b.firsts b.awaited network s d stands c;
+          spells_at_loose = λ s d i c at place. spells_loose m.rules m.states p.symbols history p.symbols l names n b.firsts b.awaited network s d i at place c;
         },
       )
 
@@ -128,6 +131,7 @@ flat-BoardReads uniform entries p f flat accepted =
         cell = read.1.cell_is;
         loose = read.1.loose_is;
         spells = read.1.spells_as;
+        spells_loose = read.1.spells_at_loose;
       },
     )
 

@@ -1,5 +1,5 @@
 -- What a board's cells spell is what its network's cells show.
-use Rattle.std.specs.Prelude.{◌≡◌, ℕ, ◌+◌, ◌-◌, ◌*◌, ◌<◌, ◌==◌, ℤ, pos, negsuc, ◌-ℤ◌, Bool, true, false, List, ◌∷◌, map, position, Option, Some, slice_get, if◌then◌else◌, refl}
+use Rattle.std.specs.Prelude.{◌≡◌, ◌≢◌, ℕ, ◌+◌, ◌-◌, ◌*◌, ◌<◌, ◌==◌, ℤ, pos, negsuc, ◌-ℤ◌, Bool, true, false, List, ◌∷◌, map, position, Option, Some, slice_get, if◌then◌else◌, refl}
 use Rattle.std.specs.List.{range_with_len}
 use Rattle.std.specs.Option.{option_map}
 use Rattle.std.specs.Ordering.{int_eq}
@@ -9,6 +9,8 @@ use Rattle.std.proofs.lemmas.Int.{ints}
 use Rattle.std.proofs.lemmas.Option.{get_or_from_slice_get}
 use Rattle.bn_circuits.specs.Circuits.{Circuit}
 use Rattle.bn_circuits.specs.declared.config.Config.{Config}
+use Rattle.bn_circuits.specs.declared.place.Place.TheVariants.{Enter}
+use Rattle.bn_element.specs.Tables.{Table}
 use Rattle.bn_column.specs.Columns.{bar}
 use Rattle.bn_machine.specs.Tape.{Tape, cell}
 use Rattle.bn_machine.specs.Window.{IsBetween}
@@ -19,8 +21,9 @@ use Rattle.bn_circuits.specs.Situations.{Situation}
 use Rattle.bn_network.specs.Cells.{Plain, Head, cell_table, state_number, cell_line_count}
 use Rattle.bn_network.specs.Controls.{ControlState, symbol_count}
 use Rattle.bn_network.specs.Networks.{IsNetwork, IsTape, ShowsTape, ShowsTapes, cells_in, first_cell, left_of, cell_of}
-use Rattle.bn_board.specs.Boards.{StandsFor}
+use Rattle.bn_board.specs.Boards.{StandsFor, IsLoose, base}
 use Rattle.bn_board.specs.Layouts.{Layout, cell_element, is_marked_at, cell_state_at, symbol_by, has_head, cells_shown, head_shown, spelled_tape, spelled_by, config_tape, spelled_config}
+use Rattle.bn_board.proofs.AgreedLemmas.{first_low}
 use Rattle.bn_board.proofs.FirstLemmas.{position_at, below, not_below, bar_zero}
 use Rattle.bn_board.proofs.TabledLemmas.{machine, layout, has_cell, cell_base}
 
@@ -93,7 +96,10 @@ module _ (rules : List (Rule ℕ)) (states x y z : ℕ) (l : Limits) (names : Li
   abbrev b : Layout
   b = layout rules states x y z l names n firsts awaited
 
-  module _ (network : IsNetwork m l names n) (s : Situation) (d : Config) (stands : StandsFor n s d) where
+  -- where all banks but the control's rest in their modules' states
+  module _ (network : IsNetwork m l names n) (s : Situation) (d : Config)
+      (rests : (e : ℕ) (u : Table) (q : ℕ) → 0 < e → slice_get n.tables e ≡ Some u → slice_get s.states e ≡ Some q
+      → (q < u.states) × IsResting d.states (base n.tables e) u.states u.inputs (Some q)) where
     module _ (t right : ℕ) (tape : IsTape (suc t)) (room : cells_in l (suc t) ≡ left_of l (suc t) + right + 1) (c : Tape) (shows : ShowsTape s.states (first_cell l (suc t)) (symbol_count m (suc t)) (left_of l (suc t)) right c) where
       abbrev left : ℕ
       left = left_of l (suc t)
@@ -109,8 +115,9 @@ module _ (rules : List (Rule ℕ)) (states x y z : ℕ) (l : Limits) (names : Li
           let has = has_cell rules states x y z l names n firsts awaited network (suc t) j tape low in
           let place = cell_base rules states x y z l names n firsts awaited network (suc t) j tape low in
           let state = shows.cells j (omega arith) in
-          let rests = stands.rests (first_cell l (suc t) + j) (cell_table symbols) (state_number symbols (cell_of c (pos j -ℤ pos left))) has state in
-          state_marked d.states (cell_element b (suc t) j) (cell_line_count symbols) (2 * symbols) (state_number symbols (cell_of c (pos j -ℤ pos left))) rests.0 (subst (λ e. IsResting d.states e (2 * symbols) (cell_line_count symbols) (Some (state_number symbols (cell_of c (pos j -ℤ pos left))))) place rests.1)
+          let some = first_low l (suc t) tape in
+          let here = rests (first_cell l (suc t) + j) (cell_table symbols) (state_number symbols (cell_of c (pos j -ℤ pos left))) (omega (arith, some)) has state in
+          state_marked d.states (cell_element b (suc t) j) (cell_line_count symbols) (2 * symbols) (state_number symbols (cell_of c (pos j -ℤ pos left))) here.0 (subst (λ e. IsResting d.states e (2 * symbols) (cell_line_count symbols) (Some (state_number symbols (cell_of c (pos j -ℤ pos left))))) place here.1)
 
       cells_same : cells_shown b d.states (suc t) ≡ map (λ j. Some (cell c (pos j -ℤ pos left))) (range_with_len 0 (cells_in l (suc t)))
       cells_same =
@@ -143,9 +150,26 @@ module _ (rules : List (Rule ℕ)) (states x y z : ℕ) (l : Limits) (names : Li
       tape_same = λ i. record { first = pos 0 -ℤ pos left; head = head_same i; cells = cells_same i }
 
     -- all three tapes
-    pub spells : (c : Configuration ℕ) → ShowsTapes m l s.states c → spelled_by b d.states ≡ spelled_config l c
-    spells c shows =
+    spells_by : (c : Configuration ℕ) → ShowsTapes m l s.states c → spelled_by b d.states ≡ spelled_config l c
+    spells_by c shows =
         let one = tape_same 0 l.right (record { low = omega arith; high = omega arith }) refl c.one shows.one in
         let two = tape_same 1 l.steps (record { low = omega arith; high = omega arith }) (omega arith) c.two shows.two in
         let three = tape_same 2 l.output (record { low = omega arith; high = omega arith }) (omega arith) c.three shows.three in
         λ i. record { one = one i; two = two i; three = three i }
+
+  -- of a board that is between two modules
+  pub spells : IsNetwork m l names n → (s : Situation) (d : Config) → StandsFor n s d → (c : Configuration ℕ)
+      → ShowsTapes m l s.states c → spelled_by b d.states ≡ spelled_config l c
+  spells network s d stands c shows = spells_by network s d (λ e u q some has at. stands.rests e u q has at) c shows
+
+  -- of one whose signal has left by a loose line of the control
+  pub spells_loose : IsNetwork m l names n → (s : Situation) (d : Config) (i : ℕ) → IsLoose n s d → s.place ≡ Enter 0 i
+      → (c : Configuration ℕ) → ShowsTapes m l s.states c → spelled_by b d.states ≡ spelled_config l c
+  spells_loose network s d i loose place c shows =
+      spells_by network s d (λ e u q some has at. loose.rests e u q (apart e some) has at) c shows
+    where
+      first : loose.at_module ≡ 0
+      first = let both : Enter loose.at_module loose.line ≡ Enter 0 i = sym loose.enters ∙ place in cc
+
+      apart : (e : ℕ) → 0 < e → e ≢ loose.at_module
+      apart e some same = let one = first in omega arith

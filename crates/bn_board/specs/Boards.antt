@@ -1,6 +1,6 @@
 -- The flat board of any circuit of modules (this project's own profile): each module as its bank of columns of rotary
 -- elements, one bank after another. It knows nothing of tapes, cells or controls.
-use Rattle.std.specs.Prelude.{◌≡◌, ◌↔◌, ℕ, zero, suc, ◌+◌, ◌*◌, ◌<◌, List, [], ◌∷◌, ◌++◌, length, replicate, Option}
+use Rattle.std.specs.Prelude.{◌≡◌, ◌≢◌, ◌↔◌, ℕ, zero, suc, ◌+◌, ◌*◌, ◌<◌, List, [], ◌∷◌, ◌++◌, length, replicate, Option}
 use Rattle.std.specs.Prelude.{Some, None, slice_get, slice_set, ◌⊎◌}
 use Rattle.bn_element.specs.Tables.{Table}
 use Rattle.bn_circuits.specs.Circuits.{Circuit, target, IsCircuit, IsPlace}
@@ -90,8 +90,8 @@ pub record IsAmid (n : Circuit) (s t : Situation) (d : Config) : Type 0 where
       × AreMarked d.states (base n.tables m) u.states u.inputs q
       × (((q ≡ slice_get s.states m) ⊎ (q ≡ slice_get t.states m)) ⊎ (q ≡ None))
 
--- where the module that is entered has no move, the signal leaves by a loose line; the marks of each bank are those in
--- s, or none
+-- where the module that is entered has no move, the signal leaves by a loose line; its bank has no mark, and every other
+-- one rests in its module's state
 pub record IsLoose (n : Circuit) (s : Situation) (d : Config) : Type 0 where
   pub at_module : ℕ
   pub line : ℕ
@@ -103,5 +103,8 @@ pub record IsLoose (n : Circuit) (s : Situation) (d : Config) : Type 0 where
   pub no_move : table.go state line ≡ None
   pub left : d.place ≡ Left (turning_line (base n.tables at_module) table state line).element west
   pub unmarked : AreMarked d.states (base n.tables at_module) table.states table.inputs None
+  pub rests : (m : ℕ) (u : Table) (q : ℕ) → m ≢ at_module → slice_get n.tables m ≡ Some u
+      → slice_get s.states m ≡ Some q
+      → (q < u.states) × IsResting d.states (base n.tables m) u.states u.inputs (Some q)
   pub mark : (m : ℕ) (u : Table) → slice_get n.tables m ≡ Some u → (q : Option ℕ)
       × AreMarked d.states (base n.tables m) u.states u.inputs q × ((q ≡ slice_get s.states m) ⊎ (q ≡ None))

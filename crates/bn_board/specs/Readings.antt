@@ -42,3 +42,6 @@ pub record BoardReads (f : Flat) (test : Situation → Bool) : Type 0 where
       → slice_get s.states 0 ≡ Some q → d.place ≡ Left (column_at 0 (lines_at f.layout) q + i) west
   pub spells : (s : Situation) (d : Config) (c : Configuration ℕ) → StandsFor f.network s d
       → ShowsTapes (machine_of f) f.limits s.states c → spelled_by f.layout d.states ≡ spelled_config f.limits c
+  pub spells_loose : (s : Situation) (d : Config) (i : ℕ) (c : Configuration ℕ) → IsLoose f.network s d
+      → s.place ≡ Enter 0 i → ShowsTapes (machine_of f) f.limits s.states c
+      → spelled_by f.layout d.states ≡ spelled_config f.limits c

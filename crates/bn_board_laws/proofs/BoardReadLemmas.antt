@@ -66,6 +66,7 @@ boards-read_alike p word l f is may =
         cell = read.1.cell;
         loose = read.1.loose;
         spells = read.1.spells;
+        spells_loose = read.1.spells_loose;
       },
     )
 

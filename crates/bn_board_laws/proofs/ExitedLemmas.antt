@@ -10,10 +10,10 @@ use Rattle.bn_circuits.proofs.RunLemmas.{Reaches-run}
 use Rattle.bn_circuits.specs.declared.place.Place.TheVariants.{Enter, Left}
 use Rattle.bn_circuits.specs.declared.config.Config.{Config}
 use Rattle.bn_element.specs.Rotary.{west}
-use Rattle.bn_machine.specs.Tape.{scanned}
+use Rattle.bn_machine.specs.Tape.{scanned, write}
 use Rattle.bn_machine.specs.Machine.{Program}
 use Rattle.bn_machine.specs.Outcome as outcome
-use Rattle.bn_machine.specs.Outcome.{Outcome}
+use Rattle.bn_machine.specs.Outcome.{HasOutcome, Limits, Outcome}
 use Rattle.bn_machine.specs.declared.quint.Side.TheVariants as side
 use Rattle.bn_quad.specs.Quadruples.{Configuration, QuadruplesRunTo as QuadGoes}
 use Rattle.bn_bennett_laws.specs.Stages.{rooms_of}
@@ -32,14 +32,15 @@ use Rattle.bn_circuits.specs.Counting.{tally, one_if}
 use Rattle.bn_network.specs.Cells.{line_number}
 use Rattle.bn_network.specs.Controls.{End, symbol_count, lines_before}
 use Rattle.bn_network.specs.Networks.{cells_in, first_cell, IsControlAt, ShowsTapes}
-use Rattle.bn_network_laws.specs.Ends.{EndsBy, by_end, by_stop, by_right, by_left, IsStoppedAt, tape_of}
+use Rattle.bn_network_laws.specs.Ends.{EndsBy, by_end, by_stop, by_right, by_left, IsStoppedAt, tape_of, taken_from}
 use Rattle.bn_network_laws.specs.NetworkLaws.{FirstMoment, NextMoment, LastMoment}
 use Rattle.bn_board.specs.Boards.{StandsFor, IsLoose}
-use Rattle.bn_board.specs.Layouts.{IsExit, named, ends, stuck, right, left, cell_output, is_moment, symbol_count_at, spelled_by, spelled_config, lines_at}
+use Rattle.bn_board.specs.Layouts.{IsExit, named, ends, stuck, right, left, cell_output, is_moment, symbol_count_at, spelled_by, spelled_config, config_tape, lines_at}
 use Rattle.bn_board.specs.Flats.{Flat, machine_of, IsFlatOf, IsAccepted, situation_at_start, flat_start}
 use Rattle.bn_board.proofs.AgreedLemmas.{some_cells}
 use Rattle.bn_board.specs.Costs.{bound_of}
-use Rattle.bn_board_laws.specs.Headline.{IsExitFor, EndsWith, RunsToExit, SpellsRestored}
+use Rattle.bn_board_laws.specs.Headline.{IsExitFor, EndsWith, RunsToExit, SpellsRestored, SpellsStuck}
+use Rattle.bn_board_laws.proofs.StuckLemmas.{HoldsStuck, holds_stuck}
 use Rattle.bn_board.specs.Readings.{elements_in, BoardReads}
 use Rattle.bn_board_laws.specs.Journeys.{Strides, NetworkComes, NetworkEndsAs}
 use Rattle.bn_board_laws.proofs.JourneysLemmas.{BoardComes}
@@ -91,6 +92,7 @@ module _ (p : Program) (f : Flat) (test : Situation
   abbrev Fits : ℕ → ℕ → Outcome → Configuration ℕ → Reason → Type 0
   Fits i n (outcome.Halted y) d Finished = (d ≡ ending_of f.translation f.word y) × (n ≡ 4 * i + 4 * length y + 5)
   Fits i n (outcome.Stuck j c) d Stopped = (name_of f.translation d.state ≡ Compute j) × (scanned d.one ≡ c) × HasNoFirstRead (machine_of f).rules d
+      × HoldsStuck p f.word i j c d
   Fits i n (outcome.Outside u v) d (Leaving t s) = (t ≡ u) × (s ≡ v)
   Fits i n o d e = ⊥
 
@@ -119,8 +121,8 @@ module _ (p : Program) (f : Flat) (test : Situation
           let there = reads.end s x stands.0 place in
           record { exit_is = exit.End; is = refl; has = named (ends there); element = _; line = _; left_by = there }
       by_reason Finished s x (by_end place control shows) (inr loose) = absurd (let both : Left 0 0 ≡ Enter loose.at_module loose.line = sym place ∙ loose.enters in cc)
-      by_reason Stopped s x (by_stop t stop place control low) (inl stands) = absurd (stands.1 _ _ place)
-      by_reason Stopped s x (by_stop t stop place control low) (inr loose) =
+      by_reason Stopped s x (by_stop t stop place control low shows) (inl stands) = absurd (stands.1 _ _ place)
+      by_reason Stopped s x (by_stop t stop place control low shows) (inr loose) =
           let there = reads.loose s x _ control.number loose place control.is in
           let kept = (flat.is_layout.awaiting control.number d.state t).1 (control.named, stop.entry) in
           let letters_low : scanned (tape_of d t) < symbol_count_at f.layout t = subst (λ z. scanned (tape_of d t) < z) (sym (reads.letters_are t)) low in
@@ -180,11 +182,39 @@ module _ (p : Program) (f : Flat) (test : Situation
         let at = stands.rests m u _ has (slice_get-get_or s.states m 0 low) in (_, at.0, at.1);
   }
 
+  -- the board of a machine that is stuck
+  spells_stuck : (states : List ℕ) (i j c : ℕ) (d : Configuration ℕ) → HoldsStuck p f.word i j c d
+      → spelled_by f.layout states ≡ spelled_config f.limits (taken_from d 1) → SpellsStuck p f states i j c
+  spells_stuck states i j c d holds spelled = record {
+    moment = holds.moment;
+    numbers = holds.numbers;
+    follows = holds.follows;
+    counted = holds.counted;
+    state_is = holds.state_is;
+    symbol_is = holds.symbol_is;
+    spells = spelled ∙ (λ k. record {
+      one = config_tape f.limits 1 (write (holds.one k) 0);
+      two = config_tape f.limits 2 (holds.two k);
+      three = config_tape f.limits 3 (holds.three k);
+    });
+  }
+
   ends_with : (i n : ℕ) (o : Outcome) (d : Configuration ℕ) (e : Reason) (b : BoardComes f n d e) (x : Config) → x ≡ b.at_end
-      → x.steps ≡ run_cost f.network (b.moves + 1) (situation_at_start f) → Fits i n o d e → EndsWith f x i o
+      → x.steps ≡ run_cost f.network (b.moves + 1) (situation_at_start f) → Fits i n o d e → EndsWith p f x i o
   ends_with i n (outcome.Halted y) d Stopped b x is steps fits = absurd fits
   ends_with i n (outcome.Halted y) d (Leaving t s) b x is steps fits = absurd fits
-  ends_with i n (outcome.Stuck j c) d e b x is steps fits = tt
+  ends_with i n (outcome.Stuck j c) d Finished b x is steps fits = absurd fits
+  ends_with i n (outcome.Stuck j c) d (Leaving t s) b x is steps fits = absurd fits
+  ends_with i n (outcome.Stuck j c) d Stopped b x is steps fits = by_stop_of b.last b.at_end b.ends b.stands refl
+    where
+      by_stop_of : (s : Situation) (z : Config) → EndsBy (machine_of f) f.limits f.names s d Stopped
+          → (StandsFor f.network s z × ((i j : ℕ) → s.place ≢ Enter i j)) ⊎ IsLoose f.network s z → z ≡ b.at_end → SpellsStuck p f x.states i j c
+      by_stop_of s z (by_stop t stop place control low shows) (inl stands) same = absurd (stands.1 _ _ place)
+      by_stop_of s z (by_stop t stop place control low shows) (inr loose) same =
+          let one : t ≡ 1 = one_tape (machine_of f) d t fits.2 stop in
+          let first : ShowsTapes (machine_of f) f.limits s.states (taken_from d 1) = subst (λ v. ShowsTapes (machine_of f) f.limits s.states (taken_from d v)) one shows in
+          let spelled = reads.spells_loose s z _ (taken_from d 1) loose place first in
+          subst (λ (w : Config). SpellsStuck p f w.states i j c) (same ∙ sym is) (spells_stuck z.states i j c d fits.3 spelled)
   ends_with i n (outcome.Outside u v) d e b x is steps fits = tt
   ends_with i n (outcome.Halted y) d Finished b x is steps fits =
       let quiet : is_moment f.layout (flat_start f) ≡ false = reads.agree.between (situation_at_start f) (flat_start f) reads.starts ∙ reads.quiet in
@@ -225,10 +255,17 @@ module _ (p : Program) (f : Flat) (test : Situation
       let covers = few_steps n few in
       with_board i n o d e (boards-come p f.word f.limits f test flat reads.modules reads.starts reads.agree n d e comes (le_trans covers (le_of_lt in_time))) covers fits
 
-  by_outcome : TranslationsStand → (i : ℕ) (o : Outcome) → NetworkEndsAs f test i o → RunsToExit p f i o
-  by_outcome stand i (outcome.Halted y) h = runs_to stand i (4 * i + 4 * length y + 5) (outcome.Halted y) (ending_of f.translation f.word y) Finished h (refl, refl)
-  by_outcome stand i (outcome.Stuck j c) h = runs_to stand i (2 * i) (outcome.Stuck j c) h.0 Stopped h.1 (h.2, h.3, h.4)
-  by_outcome stand i (outcome.Outside t s) h = runs_to stand i h.0 (outcome.Outside t s) h.1 (Leaving t s) h.2 (refl, refl)
+  by_outcome : TranslationsStand → (i : ℕ) (o : Outcome) → HasOutcome p f.word f.limits i o → NetworkEndsAs f test i o → RunsToExit p f i o
+  by_outcome stand i (outcome.Halted y) own h = runs_to stand i (4 * i + 4 * length y + 5) (outcome.Halted y) (ending_of f.translation f.word y) Finished h (refl, refl)
+  by_outcome stand i (outcome.Stuck j c) own h =
+      let ran = quad_run f test (2 * i) h.1.first h.1.moment (beginning_of f.translation f.word) h.0 h.1.strides in
+      let stands = (stand p f.translation f.word accepted.standard flat.translation accepted.letters).0 (rooms_of f.limits) (2 * i) h.0 ran in
+      runs_to stand i (2 * i) (outcome.Stuck j c) h.0 Stopped h.1 (h.2, h.3, h.4, holds_stuck p f.translation f.word f.limits i j c h.0 own h.2 h.3 stands)
+  by_outcome stand i (outcome.Outside t s) own h = runs_to stand i h.0 (outcome.Outside t s) h.1 (Leaving t s) h.2 (refl, refl)
+
+-- an outcome from the board's own word and in its own limits
+own_outcome : (p : Program) (word : List ℕ) (l : Limits) (f : Flat) → IsFlatOf p word l f → (i : ℕ) (o : Outcome) → HasOutcome p word l i o → HasOutcome p f.word f.limits i o
+own_outcome p word l f flat i o h = subst (λ w. HasOutcome p w f.limits i o) (sym flat.word_is) (subst (λ x. HasOutcome p word x i o) (sym flat.limits_are) h)
 
 pub boards-run : TranslationsEndAlike → TranslationsAreUniform → TranslationsStand → FirstMoment → NextMoment → LastMoment → BoardsRead → BoardsRunToTheirExit
 boards-run alike uniform stand first next last read p word l f flat accepted i o outcome =
@@ -237,4 +274,4 @@ boards-run alike uniform stand first next last read p word l f flat accepted i o
     let flat_own : IsFlatOf p f.word f.limits f = subst (λ w. IsFlatOf p w f.limits f) word_is (subst (λ x. IsFlatOf p word x f) limits_are flat) in
     let accepted_own : IsAccepted p f.word f.limits f = subst (λ w. IsAccepted p w f.limits f) word_is (subst (λ x. IsAccepted p word x f) limits_are accepted) in
     let test = read p word l f flat accepted in
-    by_outcome p f test.0 flat_own accepted_own test.1 stand i o (networks-end alike uniform first next last p word l f test.0 flat accepted test.1.tells i o outcome)
+    by_outcome p f test.0 flat_own accepted_own test.1 stand i o (own_outcome p word l f flat i o outcome) (networks-end alike uniform first next last p word l f test.0 flat accepted test.1.tells i o outcome)

@@ -20,13 +20,12 @@ use Rattle.bn_network.specs.Moments.{IsMomentOf, head_cell}
 use Rattle.bn_network.proofs.ExistingLemmas.{have-entries}
 use Rattle.bn_network_laws.specs.Commands.{does_read, head_of}
 use Rattle.bn_network_laws.proofs.CommandLemmas.{commands-walk}
-use Rattle.bn_network_laws.specs.Ends.{tape_of, IsStoppedAt}
+use Rattle.bn_network_laws.specs.Ends.{tape_of, put_tape, IsStoppedAt}
 use Rattle.bn_network_laws.proofs.ShownLemmas.{shown_at, shown_with}
 use Rattle.bn_network_laws.proofs.PlaceLemmas.{after_control, command_place, cells_calm}
 use Rattle.bn_network_laws.proofs.ChainLemmas.{control_turns}
 use Rattle.bn_network_laws.proofs.OrderLemmas.{occurs_entry, occurs_reads}
 use Rattle.bn_network_laws.proofs.RangeLemmas.{rule_range}
-use Rattle.bn_network_laws.proofs.ShownLemmas.{with_tape}
 use Rattle.bn_board_laws.specs.NetworkMoments.{IsUniformNetwork, NetworksStopAtFirstReads}
 use Rattle.bn_board_laws.proofs.NetworkMomentLemmas.{networks-moments}
 
@@ -92,7 +91,7 @@ module _ (m : Quadruples) (l : Limits) (names : List ControlState) (k : Circuit)
       λ ended n r rest stands from split.
       let f = (have-entries m is.machine is.uniform).some r.to (rule_range m is.machine n r stands).to in
       let goes = reads_on n r stands f.0 f.1 [] rest (t, scanned (tape_of c t)) split (ap (λ a. Reads a []) (sym from)) refl refl in
-      let turned = control_turns costs-bounded m l names k is.numbering is.network test done.last (Reads c.state []) answer _ (with_tape c t (write (tape_of c t) 0)) still done.place shows goes
+      let turned = control_turns costs-bounded m l names k is.numbering is.network test done.last (Reads c.state []) answer _ (put_tape c t (write (tape_of c t) 0)) still done.place shows goes
       (occurs_reads m n r stands f.0 (occurs_entry m r.to f.0 f.1) rest ((t, scanned (tape_of c t)) ∷ []) split) in
       ended turned.1.path.0 turned.1.path.1 in (
         done.last,

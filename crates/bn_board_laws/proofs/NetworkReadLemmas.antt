@@ -14,7 +14,7 @@ use Rattle.bn_board.specs.Layouts.{Layout, IsLayout, symbol_count_at}
 use Rattle.bn_board.proofs.TabledLemmas.{machine, has_cell, cell_base, whole, counted}
 use Rattle.bn_board.proofs.AgreedLemmas.{net_test, moment_state, modules, between, amid, loose, which, tells, quiet, end, cell_exit, loose_exit, some_states}
 use Rattle.bn_board.proofs.StartingLemmas.{starts, heads}
-use Rattle.bn_board.proofs.SpellingLemmas.{spells}
+use Rattle.bn_board.proofs.SpellingLemmas.{spells, spells_loose}
 use Rattle.bn_board_laws.specs.NetworkReads.{NetworkReads}
 use Rattle.bn_board_laws.specs.NetworkMoments.{NetworksAreRead}
 
@@ -61,6 +61,7 @@ module _ (l : Limits) (word : List ℕ) (names : List ControlState) (n : Circuit
           cell = cell_exit rules states x y z l names n firsts awaited network numbering kept quad entries some;
           loose = loose_exit rules states x y z l names n firsts awaited network numbering kept quad entries some;
           spells = λ s d c stands. spells rules states x y z l names n firsts awaited network s d stands c;
+          spells_loose = λ s d i c at place. spells_loose rules states x y z l names n firsts awaited network s d i at place c;
         },
       )
 

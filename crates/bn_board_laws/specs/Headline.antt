@@ -6,10 +6,14 @@ use Rattle.bn_lists.specs.Runs.{Reaches}
 use Rattle.bn_circuits.specs.Circuits.{clock, Goes, IsStuck}
 use Rattle.bn_circuits.specs.Stepping.{run}
 use Rattle.bn_circuits.specs.declared.config.Config.{Config}
-use Rattle.bn_machine.specs.Machine.{Program}
+use Rattle.bn_machine.specs.Machine.{Moment, Program, start}
+use Rattle.bn_machine.specs.Run.{Follows}
+use Rattle.bn_machine.specs.Tape.{blank_tape, scanned, write}
+use Rattle.bn_machine.specs.Window.{anywhere}
 use Rattle.bn_machine.specs.Outcome as outcome
 use Rattle.bn_machine.specs.Outcome.{Outcome}
 use Rattle.bn_quad.specs.Quadruples.{Configuration}
+use Rattle.bn_bennett_laws.specs.Stages.{history}
 use Rattle.bn_bennett_laws.specs.declared.name.Name.TheVariants.{Compute}
 use Rattle.bn_bennett.specs.Translation.{name_of}
 use Rattle.bn_bennett.specs.Runs.{ending_of}
@@ -18,7 +22,7 @@ use Rattle.bn_board.specs.declared.exit.Exit.{Exit}
 use Rattle.bn_board.specs.declared.exit.Exit.TheVariants as exit
 use Rattle.bn_network.specs.Controls.{End}
 use Rattle.bn_board.specs.Boards.{base}
-use Rattle.bn_board.specs.Layouts.{IsExit, moments, spelled_by, spelled_config}
+use Rattle.bn_board.specs.Layouts.{IsExit, config_tape, moments, spelled_by, spelled_config}
 use Rattle.bn_board.specs.Flats.{Flat, flat_start}
 use Rattle.bn_board.specs.Costs.{HasCost, bound_of}
 
@@ -41,11 +45,27 @@ pub record SpellsRestored (f : Flat) (states : List ℕ) (y : List ℕ) : Type 0
   pub rows : (m : ℕ) (u : Table) → slice_get f.network.tables m ≡ Some u → (q : ℕ)
       × (q < u.states) × IsResting states (base f.network.tables m) u.states u.inputs (Some q)
 
+-- Where the machine is stuck after i steps, in this state at this symbol: its tape at that moment on tape 1, but for the
+-- scanned symbol, which has been taken off it; the numbers of the quintuples of its steps on tape 2; tape 3 blank.
+pub record SpellsStuck (p : Program) (f : Flat) (states : List ℕ) (i state symbol : ℕ) : Type 0 where
+  pub moment : Moment
+  pub numbers : List ℕ
+  pub follows : Follows anywhere p numbers (start p f.word) moment
+  pub counted : length numbers ≡ i
+  pub state_is : moment.state ≡ state
+  pub symbol_is : scanned moment.tape ≡ symbol
+  pub spells : spelled_by f.layout states ≡ record {
+    one = config_tape f.limits 1 (write moment.tape 0);
+    two = config_tape f.limits 2 (history numbers);
+    three = config_tape f.limits 3 blank_tape;
+  }
+
 -- what is said at an end
-abbrev pub EndsWith : Flat → Config → ℕ → Outcome → Type 0
-EndsWith f d i (outcome.Halted y) = SpellsRestored f d.states y
+abbrev pub EndsWith : Program → Flat → Config → ℕ → Outcome → Type 0
+EndsWith p f d i (outcome.Halted y) = SpellsRestored f d.states y
     × (moments f.layout f.circuit d.steps (flat_start f) ≡ 4 * i + 4 * length y + 6)
-EndsWith f d i _ = Unit {0}
+EndsWith p f d i (outcome.Stuck state symbol) = SpellsStuck p f d.states i state symbol
+EndsWith p f d i (outcome.Outside tape side) = Unit {0}
 
 -- The board of a machine whose bounded run comes out so after i steps: in exactly its cost, which is within the bound,
 -- the signal comes to its exit, by which the outcome is named.
@@ -59,4 +79,4 @@ pub record RunsToExit (p : Program) (f : Flat) (i : ℕ) (o : Outcome) : Type 0 
   pub exit : Exit
   pub is_exit : IsExit f.layout (run f.circuit (flat_start f) cost).place exit
   pub for_outcome : IsExitFor f o exit
-  pub with_tapes : EndsWith f (run f.circuit (flat_start f) cost) i o
+  pub with_tapes : EndsWith p f (run f.circuit (flat_start f) cost) i o

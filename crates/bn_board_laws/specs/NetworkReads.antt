@@ -45,3 +45,5 @@ pub record NetworkReads (m : Quadruples) (l : Limits) (word : List ℕ) (names :
       → slice_get s.states 0 ≡ Some q → d.place ≡ Left (column_at 0 (lines_at b) q + i) west
   pub spells : (s : Situation) (d : Config) (c : Configuration ℕ) → StandsFor n s d → ShowsTapes m l s.states c
       → spelled_by b d.states ≡ spelled_config l c
+  pub spells_loose : (s : Situation) (d : Config) (i : ℕ) (c : Configuration ℕ) → IsLoose n s d → s.place ≡ Enter 0 i
+      → ShowsTapes m l s.states c → spelled_by b d.states ≡ spelled_config l c

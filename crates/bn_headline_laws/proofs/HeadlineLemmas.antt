@@ -1,5 +1,5 @@
 -- The headline by the machine alone, from the reply to a run.
-use Rattle.std.specs.Prelude.{refl, ◌≡◌, ℕ, ◌+◌, ◌-◌, ◌*◌, ◌<◌, ◌≤◌, pos, ◌-ℤ◌, List, [], ◌∷◌, ◌++◌, length, map, replicate, slice_get, Option, Some, None, Bool, true, false, slice_index, decimal}
+use Rattle.std.specs.Prelude.{refl, ◌≡◌, ℕ, ◌+◌, ◌-◌, ◌*◌, ◌<◌, ◌≤◌, pos, ◌+ℤ◌, ◌-ℤ◌, List, [], ◌∷◌, ◌++◌, length, map, replicate, slice_get, Option, Some, None, Bool, true, false, reverse, slice_index, decimal}
 use Rattle.std.specs.List.{range_with_len}
 use Rattle.std.specs.Option.{option_map_or}
 use Rattle.std.proofs.Common.{zero, suc, arith, zero-add, ap, subst, ◌∙◌, sym}
@@ -8,10 +8,11 @@ use Rattle.std.specs.Prelude.{ℤ, nat_lt, position, if◌then◌else◌}
 use Rattle.std.specs.Option.{option_map}
 use Rattle.std.proofs.lemmas.Bool.{ltb-true}
 use Rattle.std.proofs.lemmas.Int.{ints}
+use Rattle.std.proofs.lemmas.List.{length-reverse}
 use Rattle.std.proofs.lemmas.List.FromFn.{length-map-range_with_len, length-range_with_len}
 use Rattle.std.proofs.lemmas.List.Quantifiers.{position-Some}
 use Rattle.std.proofs.lemmas.Option.{slice_get-map}
-use Rattle.bn_machine.specs.Window.{IsBetween}
+use Rattle.bn_machine.specs.Window.{IsBetween, anywhere}
 use Rattle.bn_network.specs.Cells.{cell_line_count}
 use Rattle.bn_realise.specs.Banks.{bottom_at}
 use Rattle.bn_bennett_laws.specs.List.{symbols_of}
@@ -27,7 +28,11 @@ use Rattle.bn_circuits.specs.Counting.{one_if, tally}
 use Rattle.bn_circuits.specs.declared.config.Config.{Config}
 use Rattle.bn_circuits.proofs.RunLemmas.{Reaches-run}
 use Rattle.bn_circuits.proofs.RunPartLemmas.{runs_split, steps_of_run}
-use Rattle.bn_machine.specs.Tape.{cell, word_tape, blank_tape}
+use Rattle.bn_machine.specs.Tape.{cell, word_tape, blank_tape, write}
+use Rattle.bn_machine.specs.Machine.{start}
+use Rattle.bn_machine.specs.Run.{Follows}
+use Rattle.bn_bennett_laws.specs.Stages.{history}
+use Rattle.bn_board.specs.declared.spelled.Spelled.{Spelled}
 use Rattle.bn_machine.specs.Outcome as outcome
 use Rattle.bn_machine.specs.Outcome.{Limits, Outcome, HasOutcome}
 use Rattle.bn_net.specs.declared.net.TheConstants.{MOST_ELEMENTS}
@@ -41,7 +46,7 @@ use Rattle.bn_board.specs.declared.exit.Exit.TheVariants as exit
 use Rattle.bn_board.specs.Layouts.{Layout, IsLayout, config_tape, elements_of, is_moment, spelled_tape, cell_element, cell_state_at, cells_shown, has_head, head_shown, is_marked_at, symbol_count_at, symbol_by}
 use Rattle.bn_board.specs.Flats.{IsFlatOf, Flat, flat_start}
 use Rattle.bn_board.specs.Costs.{HasCost, bound_of}
-use Rattle.bn_board_laws.specs.Headline.{RunsToExit}
+use Rattle.bn_board_laws.specs.Headline.{RunsToExit, SpellsStuck}
 use Rattle.bn_board_laws.specs.HeadlineLaws.{CostsAreOne}
 use Rattle.bn_reply.specs.declared.status.Status.{Status}
 use Rattle.bn_reply.specs.declared.status.Status.TheVariants as statuses
@@ -60,14 +65,14 @@ use Rattle.bn_reply_boards_laws.specs.Laws.{AnswersTellHeadline, BoardsAreCounte
 use Rattle.bn_reply_boards_laws.proofs.OutputLemmas.{halted_fits}
 use Rattle.bn_reply_boards_laws.proofs.WindowLemmas.{standard_machine}
 use Rattle.bn_headline_laws.specs.Elements.{elements, most_steps}
-use Rattle.bn_headline_laws.specs.MachineHeadline.{AreLastLines, AreTapes, IsOwnRun, MachineHeadline, MachineHeadlineWithin, Spans, TellsExit, TellsInside, TellsExitWithin, TookAnswer, least_steps, word_cells}
+use Rattle.bn_headline_laws.specs.MachineHeadline.{AreLastLines, AreTapes, IsOwnRun, MachineHeadline, MachineHeadlineWithin, Spans, TellsExit, TellsInside, TellsExitWithin, TookAnswer, least_steps, word_cells, tape_cells, AreStuckTapes}
 use Rattle.bn_headline_laws.specs.Laws.{ElementsAreCounted, RepliesTellMachine}
 use Rattle.bn_headline_laws.proofs.CellLemmas.{cells-word}
 
 -- ---- tapes
 
 -- what the cells spell of a word on a tape
-one_cells : (l : Limits) (symbols : List ℕ) → length symbols ≤ l.right → config_tape l 1 (word_tape symbols) ≡ word_cells l.left l.right symbols
+one_cells : (l : Limits) (symbols : List ℕ) → length symbols ≤ l.right → config_tape l 1 (word_tape symbols) ≡ word_cells l.left l.right symbols 0
 one_cells l symbols fits = λ i. record {
   first = pos 0 -ℤ pos l.left;
   head = Some (pos 0);
@@ -75,23 +80,49 @@ one_cells l symbols fits = λ i. record {
 }
 
 right_cells : (right : ℕ) (word : List ℕ) → length word ≤ right →
-    map (λ j. Some (cell (word_tape word) (pos j -ℤ pos 0))) (range_with_len 0 (right + 1)) ≡ (word_cells 0 right word).cells
+    map (λ j. Some (cell (word_tape word) (pos j -ℤ pos 0))) (range_with_len 0 (right + 1)) ≡ (word_cells 0 right word 0).cells
 right_cells right word fits =
     let same : right + 1 ≡ 0 + right + 1 = omega arith in
     ap (λ n. map (λ j. Some (cell (word_tape word) (pos j -ℤ pos 0))) (range_with_len 0 n)) same ∙ cells-word 0 right word fits
 
-two_cells : (l : Limits) → config_tape l 2 blank_tape ≡ word_cells 0 l.steps []
+two_cells : (l : Limits) → config_tape l 2 blank_tape ≡ word_cells 0 l.steps [] 0
 two_cells l = λ i. record {
   first = pos 0 -ℤ pos 0;
   head = Some (pos 0);
   cells = right_cells l.steps [] (omega arith) i;
 }
 
-three_cells : (l : Limits) (y : List ℕ) → length y ≤ l.output → config_tape l 3 (word_tape y) ≡ word_cells 0 l.output y
+three_cells : (l : Limits) (y : List ℕ) → length y ≤ l.output → config_tape l 3 (word_tape y) ≡ word_cells 0 l.output y 0
 three_cells l y fits = λ i. record {
   first = pos 0 -ℤ pos 0;
   head = Some (pos 0);
   cells = right_cells l.output y fits i;
+}
+
+-- the numbers of the quintuples that have been applied, the last first
+history_cells : (l : Limits) (numbers : List ℕ) (i : ℕ) → length numbers ≡ i → i ≤ l.steps → config_tape l 2 (history numbers) ≡ word_cells 0 l.steps (reverse numbers) i
+history_cells l numbers i count few =
+    let same = length-reverse numbers in
+    let head : pos 0 +ℤ pos (length numbers) ≡ pos i = omega (arith, ints, count) in
+    λ k. record {
+      first = pos 0 -ℤ pos 0;
+      head = Some (head k);
+      cells = right_cells l.steps (reverse numbers) (omega (arith, same, count, few)) k;
+    }
+
+-- the tapes of a machine that is stuck
+stuck_tapes : (t : Named) (l : Limits) (symbols : List ℕ) (f : Flat) (states : List ℕ) (i state symbol : ℕ) → f.limits ≡ l → f.word ≡ symbols → i ≤ l.steps
+    → SpellsStuck t.machine f states i state symbol → AreStuckTapes t l symbols i (shown_lines t f states)
+stuck_tapes t l symbols f states i state symbol limits word few stuck = record {
+  moment = stuck.moment;
+  numbers = stuck.numbers;
+  run = subst (λ w. Follows anywhere t.machine stuck.numbers (start t.machine w) stuck.moment) word stuck.follows;
+  steps = stuck.counted;
+  text_is =
+      let one : config_tape f.limits 1 (write stuck.moment.tape 0) ≡ tape_cells l.left l.right (write stuck.moment.tape 0) = ap (λ (m : Limits). config_tape m 1 (write stuck.moment.tape 0)) limits in
+      let two : config_tape f.limits 2 (history stuck.numbers) ≡ word_cells 0 l.steps (reverse stuck.numbers) i = ap (λ (m : Limits). config_tape m 2 (history stuck.numbers)) limits ∙ history_cells l stuck.numbers i stuck.counted few in
+      let three : config_tape f.limits 3 blank_tape ≡ word_cells 0 l.output [] 0 = ap (λ (m : Limits). config_tape m 3 blank_tape) limits ∙ three_cells l [] (omega arith) in
+      ap (λ (s : Spelled). tape_lines t s.one s.two s.three) stuck.spells ∙ (λ k. tape_lines t (one k) (two k) (three k));
 }
 
 -- a symbol by a cell's state is one of the tape's
@@ -286,25 +317,28 @@ module _ (machines : TablesAreMachines) (elements_are : ElementsAreCounted) (cou
           by (outcome.Outside n s) ran = omega arith
 
       -- the last lines
-      last_lines : (cost : ℕ) → AreLastLines t l symbols i o (outcome_rest t l symbols f cost i o)
-      last_lines cost = by o own.outcome
+      last_lines : (cost : ℕ) → HasCost f cost → RunsToExit t.machine f i o → AreLastLines t l symbols i o (outcome_rest t l symbols f cost i o)
+      last_lines cost has ran = by o own.outcome ran
         where
-          by : (x : Outcome) → HasOutcome t.machine symbols l i x → AreLastLines t l symbols i x (outcome_rest t l symbols f cost i x)
-          by (outcome.Halted y) h =
+          by : (x : Outcome) → HasOutcome t.machine symbols l i x → RunsToExit t.machine f i x → AreLastLines t l symbols i x (outcome_rest t l symbols f cost i x)
+          by (outcome.Halted y) h ran =
               let fits = halted_fits t.machine symbols l i y h in
               let one = one_cells l symbols own.fits in
               let two = two_cells l in
               let three = three_cells l y fits.0 in
               λ j. quadruple_line (4 * i + 4 * length y + 5) ++ (tape_lines t (one j) (two j) (three j) ++ output_line t y)
-          by (outcome.Stuck a c) h = shown_tapes t symbols l f (board_after f cost).states comes.flat
-          by (outcome.Outside n s) h = shown_tapes t symbols l f (board_after f cost).states comes.flat
+          by (outcome.Stuck a c) h ran =
+              let same : ran.cost ≡ cost = one_cost f ran.cost cost ran.has_cost has in
+              let shown = subst (λ n. SpellsStuck t.machine f (run f.circuit (flat_start f) n).states i a c) same ran.with_tapes in
+              stuck_tapes t l symbols f (board_after f cost).states i a c comes.flat.limits_are comes.flat.word_is h.in_time shown
+          by (outcome.Outside n s) h ran = shown_tapes t symbols l f (board_after f cost).states comes.flat
 
       -- what tells the outcome tells the exit
-      pub exit_told : (status : Status) (text : List ℕ) → (tells : TellsOutcome t l symbols f i o status text) →
+      pub exit_told : (status : Status) (text : List ℕ) → RunsToExit t.machine f i o → (tells : TellsOutcome t l symbols f i o status text) →
           TellsExit t l symbols i o tells.cost status text
-      exit_told status text tells = record {
+      exit_told status text ran tells = record {
         last = outcome_rest t l symbols f tells.cost i o;
-        last_lines = last_lines tells.cost;
+        last_lines = last_lines tells.cost tells.has_cost ran;
         text_is = tells.text_is ∙ (λ j. elements_line (size_is j) ++ (outcome_line t o ++ (steps_line tells.cost ++ outcome_rest t l symbols f tells.cost i o)));
         status_is = tells.status_is;
       }
@@ -335,7 +369,7 @@ module _ (machines : TablesAreMachines) (elements_are : ElementsAreCounted) (cou
         ended = λ high.
             let out = tells.ended high in
             let same : out.cost ≡ tells.cost = one_cost f out.cost tells.cost out.has_cost tells.has_cost in
-            subst (λ n. TellsExit t l symbols i o n status text) same (exit_told status text out);
+            subst (λ n. TellsExit t l symbols i o n status text) same (exit_told status text ran out);
         inside = λ low. inside_told e status text ran tells low;
       }
 
@@ -376,7 +410,7 @@ module _ (machines : TablesAreMachines) (elements_are : ElementsAreCounted) (cou
                   above = least bytes word l t symbols i o own f given.comes tells.cost tells.has_cost (given.runs f given.comes);
                   below = subst (λ m. tells.cost ≤ m) (bound_is bytes word l t symbols i o own f given.comes) tells.bounded;
                   text = given.text;
-                  told = exit_told bytes word l t symbols i o own f given.comes status given.text tells;
+                  told = exit_told bytes word l t symbols i o own f given.comes status given.text (given.runs f given.comes) tells;
                   grows = given.grows;
                 };
           }

@@ -160,7 +160,7 @@ pub named-ends : NamedStopsAreEnds
 named-ends m l word names a is s b c stop = ends_there m l word names a is s b c stop
 
 pub stops-named : StopsAreNamed
-stops-named m l word names a machine is s c ended (by_stop t stop place waits low) = (t, stop, named m l word names a is machine s c t ended stop place waits low)
+stops-named m l word names a machine is s c ended (by_stop t stop place waits low shows) = (t, stop, named m l word names a is machine s c t ended stop place waits low)
 
 -- ---- the whole run
 

@@ -25,8 +25,8 @@ use Rattle.bn_network_laws.specs.Commands.{Does, does_read, does_write, does_rig
 use Rattle.bn_network_laws.proofs.PathLemmas.{stays, steps, travels_join}
 use Rattle.bn_network_laws.proofs.PlaceLemmas.{after_control, command_place, cells_calm, taken_calm, middle_calm}
 use Rattle.bn_network.proofs.OrderLemmas.{IsMiddle}
-use Rattle.bn_network_laws.specs.Ends.{tape_of}
-use Rattle.bn_network_laws.proofs.ShownLemmas.{with_tape, shown_at, shown_with, shown_beside}
+use Rattle.bn_network_laws.specs.Ends.{tape_of, put_tape}
+use Rattle.bn_network_laws.proofs.ShownLemmas.{shown_at, shown_with, shown_beside}
 
 -- a command that the control awaits the answer of, in this state
 pub record Stop : Type 0 where
@@ -54,7 +54,7 @@ AreStops m e (x ∷ xs) = ControlGoes m x.state (to_tape x.tape x.answer) (lead 
 abbrev pub AllDo : Quadruples → Limits → List Stop → Configuration ℕ → Configuration ℕ → ℕ → Type 0
 AllDo m l [] c d n = (c ≡ d) × (n ≡ 0)
 AllDo m l (x ∷ xs) c d n = (after : Tape) × (i : ℕ) × (j : ℕ) × IsTape x.tape × Does m l x.tape (tape_of c x.tape) x.command x.answer after i
-    × (n ≡ (i + 1) + j) × AllDo m l xs (with_tape c x.tape after) d j
+    × (n ≡ (i + 1) + j) × AllDo m l xs (put_tape c x.tape after) d j
 
 -- the control has sent this command, and the cells show these tapes
 pub record Stands (m : Quadruples) (l : Limits) (names : List ControlState) (k : Circuit) (s : Situation) (e : ControlMove) (c : Configuration ℕ) : Type 0 where
@@ -148,7 +148,7 @@ module _ (costs : CostsAreBounded) (m : Quadruples) (l : Limits) (names : List C
     pub stop : (s : Situation) (x : Stop) (e : ControlMove) (c : Configuration ℕ) (after : Tape) (i : ℕ) → IsTape x.tape
         → Does m l x.tape (tape_of c x.tape) x.command x.answer after i
         → ControlGoes m x.state (to_tape x.tape x.answer) e → Occurs m e.0 → Stands m l names k s (x.state, to_tape x.tape x.command) c
-        → (t : Situation) × Travels k test (i + 1) (8 * elements_by m l (length names)) s t × Stands m l names k t e (with_tape c x.tape after)
+        → (t : Situation) × Travels k test (i + 1) (8 * elements_by m l (length names)) s t × Stands m l names k t e (put_tape c x.tape after)
     stop s x e c after i is does goes occurs at =
         let line = is_command m l x.tape (tape_of c x.tape) x.command x.answer after i does in
         let start : s.place ≡ Enter (first_cell l x.tape) (line_number (symbol_count m x.tape) x.command) = at.place ∙ command_place m l names k net x.tape x.command is line.0 line.1 in
@@ -156,7 +156,7 @@ module _ (costs : CostsAreBounded) (m : Quadruples) (l : Limits) (names : List C
         let low = after_control l x.tape is in
         let waits : IsControlAt names done.last.states x.state = record { number = at.waits.number; is = done.others 0 (inl low) ∙ at.waits.is; named = at.waits.named } in
         let shows = shown_with m l s.states done.last.states c x.tape after is at.shows done.shows done.others in
-        let turned = control_turns done.last x.state (to_tape x.tape x.answer) e (with_tape c x.tape after) waits done.place shows goes occurs in
+        let turned = control_turns done.last x.state (to_tape x.tape x.answer) e (put_tape c x.tape after) waits done.place shows goes occurs in
         let quiet = taken_calm m l names k net test tells done.last (in_number m (to_tape x.tape x.answer)) done.place in (
           turned.0,
           travels_join k test (i + 1) i 1 (8 * elements_by m l (length names)) (8 * tape_elements m l x.tape) (4 * bank_size (length names) (control_lines m)) s done.last turned.0 refl (few_elements m l (length names) x.tape is) (λ some more. quiet)
@@ -188,10 +188,10 @@ module _ (costs : CostsAreBounded) (m : Quadruples) (l : Limits) (names : List C
         (s, subst (λ i. Travels k test i (0 * (8 * elements_by m l (length names))) s s) (sym obey.1) (stays k test s (0 * (8 * elements_by m l (length names)))), subst (λ x. Stands m l names k s e x) obey.0 at)
     chain (x ∷ xs) e c d n s are obey at =
         let one = stop s x (lead e xs) c obey.0 obey.1 obey.3 obey.4 are.0 are.1 at in
-        let rest = chain xs e (with_tape c x.tape obey.0) d obey.2 one.0 are.3 obey.6 one.2 in (
+        let rest = chain xs e (put_tape c x.tape obey.0) d obey.2 one.0 are.3 obey.6 one.2 in (
           rest.0,
           travels_join k test n (obey.1 + 1) obey.2 (suc (length xs) * (8 * elements_by m l (length names))) (8 * elements_by m l (length names)) (length xs * (8 * elements_by m l (length names))) s one.0 rest.0 obey.5 (counts (length xs) (8 * elements_by m l (length names)))
-              (λ some more. later_calm one.0 e xs (with_tape c x.tape obey.0) d obey.2 more are.2 obey.6 one.2) one.1 rest.1,
+              (λ some more. later_calm one.0 e xs (put_tape c x.tape obey.0) d obey.2 more are.2 obey.6 one.2) one.1 rest.1,
           rest.2,
         )
       where

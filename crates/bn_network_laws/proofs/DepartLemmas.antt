@@ -14,8 +14,7 @@ use Rattle.bn_network.specs.Controls.{ControlMove, Reads, Shifts, Tape as to_tap
 use Rattle.bn_network.specs.Networks.{IsTape, left_of}
 use Rattle.bn_network_laws.specs.Commands.{right_of, way_to}
 use Rattle.bn_network.proofs.OrderLemmas.{IsMiddle}
-use Rattle.bn_network_laws.specs.Ends.{tape_of}
-use Rattle.bn_network_laws.proofs.ShownLemmas.{with_tape}
+use Rattle.bn_network_laws.specs.Ends.{tape_of, put_tape}
 use Rattle.bn_network_laws.proofs.ChainLemmas.{Stop, lead, AreStops, AllDo}
 use Rattle.bn_network_laws.proofs.StopLemmas.{stop_at, write_stops, shift_stops, read_stops, stops_of}
 use Rattle.bn_network_laws.proofs.ObeyLemmas.{read_by, shift_by, Fits, obey_shift, obey_reads, after_reads}
@@ -144,7 +143,7 @@ module _ (m : Quadruples) (l : Limits) (n : ℕ) (r : Rule ℕ) (c : Configurati
       → IsBeyond 0 l.steps to (moved c.two.head (way_to to)) → Departs 2
   departs_two a b d fits is beyond =
       let w = after_reads m l n r c in
-      let w1 : Configuration ℕ = with_tape w 1 (shift_by r.one w.one) in
+      let w1 : Configuration ℕ = put_tape w 1 (shift_by r.one w.one) in
       record {
         before = shifts 1 (r.one ∷ []);
         tail = shifts 3 (r.three ∷ []);
@@ -160,8 +159,8 @@ module _ (m : Quadruples) (l : Limits) (n : ℕ) (r : Rule ℕ) (c : Configurati
       → Fits l 2 r.two (read_by r.two c.two) → r.three ≡ Move (way_to to) → IsBeyond 0 l.output to (moved c.three.head (way_to to)) → Departs 3
   departs_three a b d first second is beyond =
       let w = after_reads m l n r c in
-      let w1 : Configuration ℕ = with_tape w 1 (shift_by r.one w.one) in
-      let w2 : Configuration ℕ = with_tape w1 2 (shift_by r.two w.two) in
+      let w1 : Configuration ℕ = put_tape w 1 (shift_by r.one w.one) in
+      let w2 : Configuration ℕ = put_tape w1 2 (shift_by r.two w.two) in
       record {
         before = shifts 1 (r.one ∷ r.two ∷ []);
         tail = shifts 4 [];

@@ -31,7 +31,7 @@ use Rattle.bn_network_laws.specs.Ends.{tape_of, IsStoppedAt, EndsBy, by_end, by_
 use Rattle.bn_network_laws.specs.NetworkLaws.{LastMoment}
 use Rattle.bn_network_laws.specs.Commands.{Commands, does_read, loose_place, head_of, tape_elements}
 use Rattle.bn_rsm.proofs.RunCostLemmas.{one_cost, cost-joins, left_cost}
-use Rattle.bn_network_laws.proofs.ShownLemmas.{shown_at}
+use Rattle.bn_network_laws.proofs.ShownLemmas.{shown_at, shown_with}
 use Rattle.bn_network_laws.proofs.PathLemmas.{stays, travels_join}
 use Rattle.bn_network_laws.proofs.PlaceLemmas.{after_control, outside_place, command_place, cells_calm, taken_calm, left_calm, middle_calm}
 use Rattle.bn_network_laws.proofs.ChainLemmas.{Stop, lead, AreStops, Stands, chain, part, few_elements, shift_command, shift_is_line}
@@ -143,7 +143,7 @@ module _ (costs : CostsAreBounded) (commands : Commands) (has : StatesHaveEntrie
           record { path = done.path; cost = within (run_cost k (2 * head_of l t (tape_of c t) + 1) s) (tape_elements m l t) (bank_size (length names) (control_lines m)) (elements_by m l (length names)) some few },
           total (run_cost k (2 * head_of l t (tape_of c t) + 1 + 1) s) (run_cost k (2 * head_of l t (tape_of c t) + 1) s) (run_cost k 1 done.last) (step_cost k done.last) (tape_elements m l t) (bank_size (length names) (control_lines m)) (elements_by m l (length names)) whole one some last few,
           none,
-          by_stop t stop done.place still symbol,
+          by_stop t stop done.place still symbol (shown_with m l s.states done.last.states c t (write (tape_of c t) 0) is now.shows done.shows done.others),
           inr (taken_calm m l names k net test tells done.last (in_number m answer_line) done.place),
         )
       where

@@ -12,8 +12,8 @@ use Rattle.bn_network.specs.Controls.{symbol_count, reads, shifts, rising, reads
 use Rattle.bn_network.specs.Networks.{IsTape, left_of}
 use Rattle.bn_network.specs.Moments.{deed_moves, shift_moves, quad_moves}
 use Rattle.bn_network_laws.specs.Commands.{does_read, does_write, does_right, does_left, head_of, right_of}
-use Rattle.bn_network_laws.specs.Ends.{tape_of}
-use Rattle.bn_network_laws.proofs.ShownLemmas.{with_tape, same_tape}
+use Rattle.bn_network_laws.specs.Ends.{tape_of, put_tape}
+use Rattle.bn_network_laws.proofs.ShownLemmas.{same_tape}
 use Rattle.bn_network_laws.proofs.ChainLemmas.{Stop, AllDo}
 use Rattle.bn_network_laws.proofs.StopLemmas.{write_stops, shift_stops, read_stops, stops_of}
 
@@ -72,13 +72,13 @@ MayWrite m t (Move s) x = ⊤
 
 module _ (m : Quadruples) (l : Limits) where
   -- no stop at an unread tape: all stays
-  unmoved : (xs : List Stop) (c f : Configuration ℕ) (t j n : ℕ) → n ≡ j → AllDo m l xs (with_tape c t (tape_of c t)) f j → AllDo m l xs c f n
+  unmoved : (xs : List Stop) (c f : Configuration ℕ) (t j n : ℕ) → n ≡ j → AllDo m l xs (put_tape c t (tape_of c t)) f j → AllDo m l xs c f n
   unmoved xs c f t j n count obey = subst (λ i. AllDo m l xs c f i) (sym count) (subst (λ (x : Configuration ℕ). AllDo m l xs x f j) (same_tape c t) obey)
 
   -- one deed's reading, and then the rest
   pub obey_read : (a : ℕ) (before : List (ℕ × ℕ)) (after : List Stop) (d : Deed) (ds : List Deed) (t : ℕ) (c f : Configuration ℕ) (j : ℕ) → IsTape t
       → DeedApplies d (tape_of c t)
-      → ((b : List (ℕ × ℕ)) → AllDo m l (read_stops a b (reads (suc t) ds) after) (with_tape c t (read_by d (tape_of c t))) f j)
+      → ((b : List (ℕ × ℕ)) → AllDo m l (read_stops a b (reads (suc t) ds) after) (put_tape c t (read_by d (tape_of c t))) f j)
       → AllDo m l (read_stops a before (reads t (d ∷ ds)) after) c f (read_moves (head_of l t (tape_of c t)) d + j)
   obey_read a before after (Rewrite read written) ds t c f j is admits rest =
       (write (tape_of c t) 0, 2 * head_of l t (tape_of c t) + 1, j, is, does_read refl (ap Answer (sym admits)) refl refl, omega arith, rest (before ++ ((t, read) ∷ [])))
@@ -86,7 +86,7 @@ module _ (m : Quadruples) (l : Limits) where
 
   -- one deed's shift
   pub obey_shift : (n : ℕ) (after : List Stop) (d : Deed) (ds : List Deed) (t : ℕ) (c f : Configuration ℕ) (j : ℕ) → IsTape t → Fits l t d (tape_of c t)
-      → AllDo m l (shift_stops n (shifts (suc t) ds) after) (with_tape c t (shift_by d (tape_of c t))) f j
+      → AllDo m l (shift_stops n (shifts (suc t) ds) after) (put_tape c t (shift_by d (tape_of c t))) f j
       → AllDo m l (shift_stops n (shifts t (d ∷ ds)) after) c f (turn_moves (head_of l t (tape_of c t)) d + j)
   obey_shift n after (Rewrite read written) ds t c f j is fits rest = unmoved (shift_stops n (shifts (suc t) ds) after) c f t j (0 + j) (omega arith) rest
   obey_shift n after (Move way.Left) ds t c f j is fits rest =
@@ -97,7 +97,7 @@ module _ (m : Quadruples) (l : Limits) where
 
   -- one deed's writing
   pub obey_write : (a : ℕ) (d : Deed) (ws : List (ℕ × ℕ)) (t : ℕ) (c f : Configuration ℕ) (j : ℕ) → IsTape t → MayWrite m t d (tape_of c t)
-      → AllDo m l (write_stops a ws) (with_tape c t (write_by d (tape_of c t))) f j
+      → AllDo m l (write_stops a ws) (put_tape c t (write_by d (tape_of c t))) f j
       → AllDo m l (write_stops a (write_at t d ++ ws)) c f (read_moves (head_of l t (tape_of c t)) d + j)
   obey_write a (Rewrite read written) ws t c f j is may rest =
       (write (tape_of c t) written, 2 * head_of l t (tape_of c t) + 1, j, is, does_write written may.0 may.1 refl refl refl refl, omega arith, rest)
@@ -161,8 +161,8 @@ module _ (m : Quadruples) (l : Limits) (n : ℕ) (r : Rule ℕ) where
       let three = tape_is 3 (omega arith) (omega arith) in
       let two = tape_is 2 (omega arith) (omega arith) in
       let one = tape_is 1 (omega arith) (omega arith) in
-      let c3 : Configuration ℕ = with_tape c 3 (write_by r.three c.three) in
-      let c2 : Configuration ℕ = with_tape c3 2 (write_by r.two c.two) in
+      let c3 : Configuration ℕ = put_tape c 3 (write_by r.three c.three) in
+      let c2 : Configuration ℕ = put_tape c3 2 (write_by r.two c.two) in
       let first = obey_write m l r.to r.one [] 1 c2 f 0 one a (refl, refl) in
       let second = obey_write m l r.to r.two (write_at 1 r.one ++ []) 2 c3 f (read_moves (head_of l 1 c.one) r.one + 0) two b first in
       let third = obey_write m l r.to r.three (write_at 2 r.two ++ (write_at 1 r.one ++ [])) 3 c f (read_moves (head_of l 2 c.two) r.two + (read_moves (head_of l 1 c.one) r.one + 0)) three d second in
@@ -176,8 +176,8 @@ module _ (m : Quadruples) (l : Limits) (n : ℕ) (r : Rule ℕ) where
       let three = tape_is 3 (omega arith) (omega arith) in
       let two = tape_is 2 (omega arith) (omega arith) in
       let one = tape_is 1 (omega arith) (omega arith) in
-      let c1 : Configuration ℕ = with_tape c 1 (shift_by r.one c.one) in
-      let c2 : Configuration ℕ = with_tape c1 2 (shift_by r.two c.two) in
+      let c1 : Configuration ℕ = put_tape c 1 (shift_by r.one c.one) in
+      let c2 : Configuration ℕ = put_tape c1 2 (shift_by r.two c.two) in
       let third = obey_shift m l n after r.three [] 3 c2 f j three d rest in
       let second = obey_shift m l n after r.two (r.three ∷ []) 2 c1 f (turn_moves (head_of l 3 c.three) r.three + j) two b third in
       obey_shift m l n after r.one (r.two ∷ r.three ∷ []) 1 c f (turn_moves (head_of l 2 c.two) r.two + (turn_moves (head_of l 3 c.three) r.three + j)) one a second
@@ -189,8 +189,8 @@ module _ (m : Quadruples) (l : Limits) (n : ℕ) (r : Rule ℕ) where
       let three = tape_is 3 (omega arith) (omega arith) in
       let two = tape_is 2 (omega arith) (omega arith) in
       let one = tape_is 1 (omega arith) (omega arith) in
-      let c1 : Configuration ℕ = with_tape c 1 (read_by r.one c.one) in
-      let c2 : Configuration ℕ = with_tape c1 2 (read_by r.two c.two) in
+      let c1 : Configuration ℕ = put_tape c 1 (read_by r.one c.one) in
+      let c2 : Configuration ℕ = put_tape c1 2 (read_by r.two c.two) in
       obey_read m l r.from [] after r.one (r.two ∷ r.three ∷ []) 1 c f (read_moves (head_of l 2 c.two) r.two + (read_moves (head_of l 3 c.three) r.three + j)) one a
       (λ before. obey_read m l r.from before after r.two (r.three ∷ []) 2 c1 f (read_moves (head_of l 3 c.three) r.three + j) two b
       (λ before. obey_read m l r.from before after r.three [] 3 c2 f j three d (λ before. rest)))

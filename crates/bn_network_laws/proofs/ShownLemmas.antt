@@ -7,17 +7,10 @@ use Rattle.bn_quad.specs.Quadruples.{Configuration, Quadruples}
 use Rattle.bn_network.specs.Controls.{symbol_count}
 use Rattle.bn_network.specs.Networks.{ShowsTape, ShowsTapes, IsTape, first_cell, cells_in}
 use Rattle.bn_network_laws.specs.Commands.{ShowsAt}
-use Rattle.bn_network_laws.specs.Ends.{tape_of}
-
--- the configuration with another tape there
-abbrev pub with_tape : Configuration ℕ → ℕ → Tape → Configuration ℕ
-with_tape c zero x = c
-with_tape c (suc zero) x = record { state = c.state; one = x; two = c.two; three = c.three }
-with_tape c (suc (suc zero)) x = record { state = c.state; one = c.one; two = x; three = c.three }
-with_tape c (suc (suc (suc t))) x = record { state = c.state; one = c.one; two = c.two; three = x }
+use Rattle.bn_network_laws.specs.Ends.{tape_of, put_tape}
 
 -- the tape that is there changes nothing
-pub same_tape : (c : Configuration ℕ) (t : ℕ) → with_tape c t (tape_of c t) ≡ c
+pub same_tape : (c : Configuration ℕ) (t : ℕ) → put_tape c t (tape_of c t) ≡ c
 same_tape c zero = refl
 same_tape c (suc zero) = refl
 same_tape c (suc (suc zero)) = refl
@@ -54,7 +47,7 @@ shown_beside m l states new c shows same = record {
 -- one tape anew, all else as before
 pub shown_with : (m : Quadruples) (l : Limits) (states new : List ℕ) (c : Configuration ℕ) (t : ℕ) (x : Tape) → IsTape t → ShowsTapes m l states c
     → ShowsAt m l t new x
-    → ((e : ℕ) → (e < first_cell l t) ⊎ (first_cell l t + cells_in l t ≤ e) → slice_get new e ≡ slice_get states e) → ShowsTapes m l new (with_tape c t x)
+    → ((e : ℕ) → (e < first_cell l t) ⊎ (first_cell l t + cells_in l t ≤ e) → slice_get new e ≡ slice_get states e) → ShowsTapes m l new (put_tape c t x)
 shown_with m l states new c zero x is shows here others = absurd (let low = is.low in omega arith)
 shown_with m l states new c (suc zero) x is shows here others = record {
   one = here;

@@ -1,7 +1,7 @@
 -- How a run of the network ends, for each reason for which the machine of quadruples goes on no more.
 use Rattle.std.specs.Prelude.{◌≡◌, ℕ, zero, suc, ◌+◌, ◌-◌, ◌<◌, List, [], ◌∷◌, Some}
 use Rattle.bn_circuits.specs.declared.place.Place.TheVariants.{Enter, Left}
-use Rattle.bn_machine.specs.Tape.{Tape, scanned}
+use Rattle.bn_machine.specs.Tape.{Tape, scanned, write}
 use Rattle.bn_machine.specs.Outcome.{Limits}
 use Rattle.bn_machine.specs.declared.quint.Side.TheVariants as side
 use Rattle.bn_lists.specs.Lists.{nth}
@@ -20,6 +20,17 @@ tape_of c (suc zero) = c.one
 tape_of c (suc (suc zero)) = c.two
 tape_of c (suc (suc (suc t))) = c.three
 
+-- the configuration with this tape in place of that one
+abbrev pub put_tape : Configuration ℕ → ℕ → Tape → Configuration ℕ
+put_tape c zero x = c
+put_tape c (suc zero) x = record { state = c.state; one = x; two = c.two; three = c.three }
+put_tape c (suc (suc zero)) x = record { state = c.state; one = c.one; two = x; three = c.three }
+put_tape c (suc (suc (suc t))) x = record { state = c.state; one = c.one; two = c.two; three = x }
+
+-- the configuration from which a tape's scanned symbol has been taken
+abbrev pub taken_from : Configuration ℕ → ℕ → Configuration ℕ
+taken_from c t = put_tape c t (write (tape_of c t) 0)
+
 -- The machine is stuck at its first read: the first command of the state reads tape t, and no quadruple that leaves the
 -- state reads there first what stands there. Nothing is said of a stop at a later read.
 pub record IsStoppedAt (m : Quadruples) (c : Configuration ℕ) (t : ℕ) : Type 0 where
@@ -29,14 +40,15 @@ pub record IsStoppedAt (m : Quadruples) (c : Configuration ℕ) (t : ℕ) : Type
       → reads_of r ≡ (t, scanned (tape_of c t)) ∷ rest → ⊥
 
 -- how the network's run ends: by the control's line to the outside, with the tapes shown; at the control, with an
--- answer to its first read for which it has no move; by the last or by the first cell of a tape
+-- answer to its first read for which it has no move, and the tapes shown but for the symbol that was read; by the last or
+-- by the first cell of a tape
 pub data EndsBy (m : Quadruples) (l : Limits) (names : List ControlState) (s : Situation) (c : Configuration ℕ) : Exit
     → Type 0 where
   by_end : s.place ≡ Left 0 0 → IsControlAt names s.states End → ShowsTapes m l s.states c
       → EndsBy m l names s c Finished
   by_stop : (t : ℕ) → IsStoppedAt m c t → s.place ≡ Enter 0 (in_number m (to_tape t (Answer (scanned (tape_of c t)))))
       → IsControlAt names s.states (Reads c.state []) → scanned (tape_of c t) < symbol_count m t
-      → EndsBy m l names s c Stopped
+      → ShowsTapes m l s.states (taken_from c t) → EndsBy m l names s c Stopped
   by_right : (t : ℕ) → IsTape t
       → s.place ≡ Left (first_cell l t + (cells_in l t - 1)) (line_number (symbol_count m t) TakeRight)
       → EndsBy m l names s c (Leaving t side.Right)

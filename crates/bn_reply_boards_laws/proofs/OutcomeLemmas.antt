@@ -69,7 +69,7 @@ ran_exit p f i o ran n low =
 
 module _ (t : Named) (p : Program) (symbols : List ℕ) (l : Limits) (f : Flat) (flat : IsFlatOf p symbols l f) where
   -- at the end: what the restored tapes show, and the number of moments less one
-  end_told : (i : ℕ) (y : List ℕ) (cost k : ℕ) (d : Config) → EndsWith f d i (outcome.Halted y) → HasOutcome p symbols l i (outcome.Halted y) →
+  end_told : (i : ℕ) (y : List ℕ) (cost k : ℕ) (d : Config) → EndsWith p f d i (outcome.Halted y) → HasOutcome p symbols l i (outcome.Halted y) →
       k ≡ moments f.layout f.circuit d.steps (flat_start f) → rest_text t f d (k - 1) exit.End ≡ outcome_rest t l symbols f cost i (outcome.Halted y)
   end_told i y cost k d shown comes count =
       let spells = shown.0.spells in
@@ -88,7 +88,7 @@ module _ (t : Named) (p : Program) (symbols : List ℕ) (l : Limits) (f : Flat) 
       one_less : (a b : ℕ) → a ≡ b + 6 → a - 1 ≡ b + 5
       one_less a b e = omega arith
 
-  rest_told : (i : ℕ) (o : Outcome) (cost k : ℕ) (d : Config) (e : Exit) → d ≡ board_after f cost → IsExitFor f o e → EndsWith f d i o → HasOutcome p symbols l i o →
+  rest_told : (i : ℕ) (o : Outcome) (cost k : ℕ) (d : Config) (e : Exit) → d ≡ board_after f cost → IsExitFor f o e → EndsWith p f d i o → HasOutcome p symbols l i o →
       k ≡ moments f.layout f.circuit d.steps (flat_start f) → rest_text t f d (k - 1) e ≡ outcome_rest t l symbols f cost i o
   rest_told i (outcome.Halted y) cost k d e is for shown comes count = ap (rest_text t f d (k - 1)) for ∙ end_told i y cost k d shown comes count
   rest_told i (outcome.Stuck j c) cost k d e is for shown comes count = ap (rest_text t f d (k - 1)) for.2 ∙ ap (λ (x : Config). shown_lines t f x.states) is
@@ -108,7 +108,7 @@ runs-tell_outcomes machines exits boards counts bytes letters l t symbols f stat
     let for_exit : IsExitFor f o tells.exit = subst (IsExitFor f o) (sym one) ran.for_outcome in
     let steps : d.steps ≡ ran.cost = ap (λ (x : Config). x.steps) there ∙ steps_of_run f.circuit ran.cost (flat_start f) (board_after f ran.cost) ran.run_to
     ∙ zero-add ran.cost in
-    let shown : EndsWith f d i o = subst (λ (x : Config). EndsWith f x i o) (sym there) ran.with_tapes in
+    let shown : EndsWith p f d i o = subst (λ (x : Config). EndsWith p f x i o) (sym there) ran.with_tapes in
     let count = counts_once (HasMoment f) (d.steps + 1) tells.moments (moments f.layout f.circuit d.steps (flat_start f)) tells.counted
     (counts t.machine symbols l f flat accepted (bound_of f.layout)).0 in
     let rest = rest_told t t.machine symbols l f flat i o ran.cost tells.moments d tells.exit there for_exit shown outcome count in
