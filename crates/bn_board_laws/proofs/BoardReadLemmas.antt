@@ -20,7 +20,7 @@ use Rattle.bn_board.proofs.LetterLemmas.{some_symbols, tape_letters}
 use Rattle.bn_board.proofs.ReadingLemmas.{own_flat, own_accepted}
 use Rattle.bn_board_laws.proofs.ClosedLemmas.{uniform}
 use Rattle.bn_board_laws.specs.NetworkMoments.{IsUniformNetwork, StartsSpellWords, machine_start}
-use Rattle.bn_board_laws.proofs.NetworkStartLemmas.{start_shown}
+use Rattle.bn_network_laws.proofs.FirstLemmas.{start_shown}
 use Rattle.bn_board_laws.proofs.NetworkReadLemmas.{networks-read}
 
 -- each tape of a translation has a symbol

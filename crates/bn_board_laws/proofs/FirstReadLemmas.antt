@@ -26,57 +26,15 @@ use Rattle.bn_network_laws.proofs.PlaceLemmas.{after_control, command_place, cel
 use Rattle.bn_network_laws.proofs.ChainLemmas.{control_turns}
 use Rattle.bn_network_laws.proofs.OrderLemmas.{occurs_entry, occurs_reads}
 use Rattle.bn_network_laws.proofs.RangeLemmas.{rule_range}
+use Rattle.bn_network_laws.proofs.LastLemmas.{answer_line, stuck}
 use Rattle.bn_board_laws.specs.NetworkMoments.{IsUniformNetwork, NetworksStopAtFirstReads}
 use Rattle.bn_board_laws.proofs.NetworkMomentLemmas.{networks-moments}
 
 module _ (m : Quadruples) (l : Limits) (names : List ControlState) (k : Circuit) (is : IsUniformNetwork m l names k) (s : Situation) (c : Configuration ℕ) (t : ℕ)
     (now : IsMomentOf m l names k s c) (tape : IsTape t) (entry : IsEntry m c.state (Reads c.state [], to_tape t Read)) where
-  abbrev answer : ControlLine
-  answer = to_tape t (Answer (scanned (tape_of c t)))
-
-  -- ---- where the machine is stuck (private in bn_network_laws/proofs/LastLemmas: to be made pub there)
-
-  -- a quadruple of this state reads this tape first
-  reads_here : (n : ℕ) (r : Rule ℕ) (p : ℕ × ℕ) (rest : List (ℕ × ℕ)) → nth m.rules n ≡ Some r → r.from ≡ c.state → reads_of r ≡ p ∷ rest → p.0 ≡ t
-  reads_here n r p rest stands from split =
-      let first : IsFirstOf n r (reads_of r) (shifts_of r) (to_read r.from [] p) = subst (λ rs. IsFirstOf n r rs (shifts_of r) (to_read r.from [] p)) (sym split) refl in
-      let same : to_read r.from [] p ≡ (Reads c.state [], to_tape t Read) = (have-entries m is.machine is.uniform).one c.state (to_read r.from [] p) (Reads c.state [], to_tape t Read) (leaves n r stands from first) entry in
-      let lines : to_tape p.0 Read ≡ to_tape t Read = ap (λ (v : ControlMove). v.1) same in
-      cc
-
-  -- the control has no move for the answer
-  no_move : IsStoppedAt m c t → (i : ControlLine) (e : ControlMove) → ControlGoes m (Reads c.state []) i e → in_number m i ≡ in_number m answer → ⊥
-  no_move stop i e (begins isq isi entry) number = cc
-  no_move stop i e (reads_on n r stands f entry (b ∷ before) rest p split isq isi ism) number = cc
-  no_move stop i e (reads_on n r stands f entry [] rest p split isq isi ism) number =
-      let from : r.from ≡ c.state = cc in
-      let tape : p.0 ≡ t = reads_here n r p rest stands from split in
-      let there : i ≡ to_tape t (Answer p.1) = isi ∙ ap (λ v. to_tape v (Answer p.1)) tape in
-      let numbers : in_number m (to_tape t (Answer p.1)) ≡ in_number m answer = sym (ap (in_number m) there) ∙ number in
-      let symbol : p.1 ≡ scanned (tape_of c t) = omega arith in
-      let pair : p ≡ (t, scanned (tape_of c t)) = λ j. (tape j, symbol j) in
-      stop.none n r rest stands from (split ∙ ap (λ (v : ℕ × ℕ). v ∷ rest) pair)
-  no_move stop i e (shifts_on n r stands f entry before rest p split isq isi ism) number = cc
-  no_move stop i e (writes_on n r stands f entry before rest p split isq isi ism) number = cc
-
-  -- so no move of the network leads on
-  stuck : IsStoppedAt m c t → (u : Situation) → IsControlAt names u.states (Reads c.state []) → u.place ≡ Enter 0 (in_number m answer) → IsAtEnd k u
-  stuck stop u still here v g =
-      let same : Enter 0 (in_number m answer) ≡ Enter g.element g.input = sym here ∙ g.enters in
-      let element : g.element ≡ 0 = cc in
-      let input : g.input ≡ in_number m answer = cc in
-      let numbers : Some g.before ≡ Some still.number = sym g.has_state ∙ ap (slice_get u.states) element ∙ still.is in
-      let number : g.before ≡ still.number = cc in
-      let there : go_of k.tables 0 g.before g.input ≡ Some (g.after, g.output) = ap (λ e. go_of k.tables e g.before g.input) (sym element) ∙ g.moves in
-      let move : is.network.control.go g.before g.input ≡ Some (g.after, g.output) = rw is.network.tables at there in
-      let goes = (is.network.is_control.goes g.before g.input g.after g.output).0 move in
-      let states : Some goes.state ≡ Some (Reads c.state []) = sym goes.from ∙ ap (slice_get names) number ∙ still.named in
-      let state : goes.state ≡ Reads c.state [] = cc in
-      no_move stop goes.line goes.move (subst (λ q. ControlGoes m q goes.line goes.move) state goes.goes) (goes.enters ∙ input)
-
   -- ---- the way to the answer
 
-  stops_there : (u : Situation) × Reaches (Turns k) (2 * head_cell (left_of l t) (tape_of c t) + 1) s u × (u.place ≡ Enter 0 (in_number m answer))
+  stops_there : (u : Situation) × Reaches (Turns k) (2 * head_cell (left_of l t) (tape_of c t) + 1) s u × (u.place ≡ Enter 0 (in_number m (answer_line c t)))
       × IsControlAt names u.states (Reads c.state []) × (IsAtEnd k u ↔ IsStoppedAt m c t)
   stops_there =
       let told = networks-moments m l names k is in
@@ -91,14 +49,14 @@ module _ (m : Quadruples) (l : Limits) (names : List ControlState) (k : Circuit)
       λ ended n r rest stands from split.
       let f = (have-entries m is.machine is.uniform).some r.to (rule_range m is.machine n r stands).to in
       let goes = reads_on n r stands f.0 f.1 [] rest (t, scanned (tape_of c t)) split (ap (λ a. Reads a []) (sym from)) refl refl in
-      let turned = control_turns costs-bounded m l names k is.numbering is.network test done.last (Reads c.state []) answer _ (put_tape c t (write (tape_of c t) 0)) still done.place shows goes
+      let turned = control_turns costs-bounded m l names k is.numbering is.network test done.last (Reads c.state []) (answer_line c t) _ (put_tape c t (write (tape_of c t) 0)) still done.place shows goes
       (occurs_reads m n r stands f.0 (occurs_entry m r.to f.0 f.1) rest ((t, scanned (tape_of c t)) ∷ []) split) in
       ended turned.1.path.0 turned.1.path.1 in (
         done.last,
         passes_run (Turns k) (λ x. not (test x)) (2 * head_of l t (tape_of c t) + 1) s done.last done.path,
         done.place,
         still,
-        (λ ended. record { tape = tape; entry = entry; none = goes_on ended }, λ stop. stuck stop done.last still done.place),
+        (λ ended. record { tape = tape; entry = entry; none = goes_on ended }, λ stop. stuck have-entries m l names k is.machine is.uniform is.network c t stop done.last still done.place),
       )
 
 pub networks-stop : NetworksStopAtFirstReads

@@ -19,7 +19,6 @@ pub mod WholeLemmas
 pub mod ClosedLemmas
 pub mod OutcomeLemmas
 pub mod NetworkReadLemmas
-pub mod NetworkStartLemmas
 pub mod FirstReadLemmas
 pub mod NetworkMomentLemmas
 pub mod BoardReadLemmas

@@ -192,16 +192,15 @@ module _ (b : Layout) (l : Limits) (states : List ℕ) (tape left right symbols 
 shown_tapes : (t : Named) (symbols : List ℕ) (l : Limits) (f : Flat) (states : List ℕ) → IsFlatOf t.machine symbols l f → AreTapes t l (shown_lines t f states)
 shown_tapes t symbols l f states flat =
     let same = flat.is_layout.limits in
-    let letters : f.layout.symbols ≡ symbols_of t.machine = flat.is_layout.symbols ∙ flat.translation.symbols in
-    record {
-      one = spelled_tape f.layout states 1;
-      two = spelled_tape f.layout states 2;
-      three = spelled_tape f.layout states 3;
-      work = spans f.layout l states 1 l.left l.right t.machine.symbols same (λ _. l.left) (λ _. l.left + l.right + 1) (λ i. slice_index (letters i) 0);
-      history = spans f.layout l states 2 0 l.steps (length t.machine.quints + 1) same (λ _. 0) (omega arith) (λ i. slice_index (letters i) 1);
-      output = spans f.layout l states 3 0 l.output t.machine.symbols same (λ _. 0) (omega arith) (λ i. slice_index (letters i) 2);
-      text_is = λ _. shown_lines t f states;
-    }
+    let letters : f.layout.symbols ≡ symbols_of t.machine = flat.is_layout.symbols ∙ flat.translation.symbols in (
+      spelled_tape f.layout states 1,
+      spelled_tape f.layout states 2,
+      spelled_tape f.layout states 3,
+      spans f.layout l states 1 l.left l.right t.machine.symbols same (λ _. l.left) (λ _. l.left + l.right + 1) (λ i. slice_index (letters i) 0),
+      spans f.layout l states 2 0 l.steps (length t.machine.quints + 1) same (λ _. 0) (omega arith) (λ i. slice_index (letters i) 1),
+      spans f.layout l states 3 0 l.output t.machine.symbols same (λ _. 0) (omega arith) (λ i. slice_index (letters i) 2),
+      λ _. shown_lines t f states,
+    )
 
 -- ---- numbers
 

@@ -25,7 +25,7 @@ use Rattle.bn_network.specs.Controls.{ControlState, Reads, Tape as to_tape, symb
 use Rattle.bn_network.specs.Networks.{IsControlAt, IsTape, network_start}
 use Rattle.bn_network_laws.specs.Ends.{by_stop, IsStoppedAt, tape_of}
 use Rattle.bn_network_laws.proofs.FirstLemmas.{first-moment}
-use Rattle.bn_network_laws.proofs.LastLemmas.{last-moment, one_tape}
+use Rattle.bn_network_laws.proofs.LastLemmas.{last-moment, letters_are, line_in_range, one_tape}
 use Rattle.bn_network_laws.proofs.NextLemmas.{next-moment}
 use Rattle.bn_network_laws.proofs.CommandLemmas.{commands-walk}
 use Rattle.bn_network.proofs.ExistingLemmas.{have-entries}
@@ -37,38 +37,11 @@ use Rattle.bn_board_laws.specs.Journeys.{Strides, NetworkComes, NetworkEndsAs}
 use Rattle.bn_board_laws.proofs.JourneyedLemmas.{networks-end}
 use Rattle.bn_assembly.specs.Assembled.{Assembled, IsAssembled, network_of}
 use Rattle.bn_assembly.specs.Modules.{module_table}
-use Rattle.bn_board_laws.proofs.ClosedLemmas.{uniform}
+use Rattle.bn_board_laws.proofs.ClosedLemmas.{alike, uniform}
 use Rattle.bn_board_laws.specs.NetworkMoments.{IsUniformNetwork}
 use Rattle.bn_headline_laws.specs.StuckLaws.{IsNamedStop, StopsAreNamed, NamedStopsAreEnds, StuckRunsAreNamed}
 use Rattle.bn_board_laws.proofs.BoardReadLemmas.{has_letters, word_low}
 use Rattle.bn_board_laws.proofs.NetworkReadLemmas.{networks-read}
-
--- ---- the control's input lines (private in bn_network_laws/proofs/LastLemmas: to be made pub there)
-
-line_in_range : (zs : List ℕ) (t x : ℕ) → length zs ≡ 3 → IsTape t → x < slice_index zs (t - 1) → lines_before zs (t - 1) + x < lines_before zs 3
-line_in_range zs zero x size is low = absurd (let some = is.low in omega arith)
-line_in_range zs (suc (suc (suc (suc t)))) x size is low = absurd (let few = is.high in omega arith)
-line_in_range [] (suc t) x size is low = absurd (omega arith)
-line_in_range (a ∷ []) (suc t) x size is low = absurd (omega arith)
-line_in_range (a ∷ b ∷ []) (suc t) x size is low = absurd (omega arith)
-line_in_range (a ∷ b ∷ c ∷ zs) (suc zero) x size is low =
-    let e : lines_before (a ∷ b ∷ c ∷ zs) 3 ≡ a + 3 + (b + 3 + (c + 3 + lines_before zs 0)) = refl in
-    let f : slice_index (a ∷ b ∷ c ∷ zs) 0 ≡ a = refl in omega arith
-line_in_range (a ∷ b ∷ c ∷ zs) (suc (suc zero)) x size is low =
-    let e : lines_before (a ∷ b ∷ c ∷ zs) 3 ≡ a + 3 + (b + 3 + (c + 3 + lines_before zs 0)) = refl in
-    let f : slice_index (a ∷ b ∷ c ∷ zs) 1 ≡ b = refl in
-    let g : lines_before (a ∷ b ∷ c ∷ zs) 1 ≡ a + 3 + 1 = refl in omega arith
-line_in_range (a ∷ b ∷ c ∷ zs) (suc (suc (suc zero))) x size is low =
-    let e : lines_before (a ∷ b ∷ c ∷ zs) 3 ≡ a + 3 + (b + 3 + (c + 3 + lines_before zs 0)) = refl in
-    let f : slice_index (a ∷ b ∷ c ∷ zs) 2 ≡ c = refl in
-    let g : lines_before (a ∷ b ∷ c ∷ zs) 2 ≡ a + 3 + (b + 3 + 1) = refl in omega arith
-
-letters_are : (m : Quadruples) (t x : ℕ) → IsTape t → x < symbol_count m t → x < slice_index m.symbols (t - 1)
-letters_are m zero x is low = absurd (let some = is.low in omega arith)
-letters_are m (suc zero) x is low = low
-letters_are m (suc (suc zero)) x is low = low
-letters_are m (suc (suc (suc zero))) x is low = low
-letters_are m (suc (suc (suc (suc t)))) x is low = absurd (let few = is.high in omega arith)
 
 -- ---- of which pairs it is said
 
@@ -164,10 +137,6 @@ stops-named m l word names a machine is s c ended (by_stop t stop place waits lo
 
 -- ---- the whole run
 
--- (private in bn_reply_boards_laws/proofs/ClosedLemmas, as `alike`: to be made pub there)
-translations_alike : TranslationsEndAlike
-translations_alike p t word standard h symbol_count = ends_alike p t h standard numbers_pass_tests numbers_run_alike word bounded_runs_agree symbol_count
-
 -- strides over moments are a run of the network
 strides_run : (f : Flat) (test : Situation → Bool) (n : ℕ) (x y : Situation × Configuration ℕ) → Reaches (Strides f test) n x y
     → (k : ℕ) × Reaches (Turns f.network) k x.0 y.0
@@ -199,7 +168,7 @@ stuck-runs p l word t names a may is_t is i j c out =
     let few = is.few in
     let accepted : IsAccepted p word l f = record { standard = may.standard; letters = may.letters; nonblank = may.nonblank; fits = may.fits; small = (may.small.left, may.small.right, may.small.steps, may.small.output); few = omega arith } in
     let ended : NetworkEndsAs f read.0 i (outcome.Stuck j c) =
-    networks-end translations_alike uniform (first-moment costs-bounded have-entries) (next-moment costs-bounded (commands-walk costs-bounded) have-entries) (last-moment costs-bounded (commands-walk costs-bounded) have-entries)
+    networks-end alike uniform (first-moment costs-bounded have-entries) (next-moment costs-bounded (commands-walk costs-bounded) have-entries) (last-moment costs-bounded (commands-walk costs-bounded) have-entries)
     p word l f read.0 flat accepted read.1.tells i (outcome.Stuck j c) out in
     let comes = ended.1 in
     let run = comes_run f read.0 (2 * i) ended.0 Stopped comes in

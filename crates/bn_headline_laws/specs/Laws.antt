@@ -10,7 +10,7 @@ use Rattle.bn_reply_boards_laws.specs.Headline.{IsGiven, run_words}
 use Rattle.bn_reply_boards_laws.specs.RunText.{steps_line}
 use Rattle.bn_reply.specs.declared.limits.TheConstants.{MOST_INPUT_BYTES}
 use Rattle.bn_reply_boards_laws.specs.Windows.{ComesTo}
-use Rattle.bn_machine.specs.Outcome.{Limits, Outcome, Halted}
+use Rattle.bn_machine.specs.Outcome.{Limits, Outcome, Halted, Outside, Stuck}
 use Rattle.bn_net.specs.declared.net.TheConstants.{MOST_ELEMENTS}
 use Rattle.bn_gen.specs.Increments.{IsRoundCount, incrementer}
 use Rattle.bn_gen.specs.Text.{increments_table, increments_text}
@@ -66,10 +66,11 @@ pub record DifferInSteps (text other : List ℕ) : Type 0 where
   pub two : other ≡ front ++ (steps_line second ++ behind)
 
 -- Two answers of which the headline holds, to the same words and bytes from the same sink on, have one status; and
--- where the machine halts they have one text, or two that differ in the number of element steps alone.
+-- where the machine halts or is stuck they have one text, or two that differ in the number of element steps alone.
 abbrev pub AgreeAs : Outcome → List ℕ → List ℕ → Type 0
 AgreeAs (Halted y) text other = (text ≡ other) ⊎ DifferInSteps text other
-AgreeAs _ text other = Unit {0}
+AgreeAs (Stuck state symbol) text other = (text ≡ other) ⊎ DifferInSteps text other
+AgreeAs (Outside tape side) text other = Unit {0}
 
 abbrev pub HeadlinesAgree : Type 0
 HeadlinesAgree =

@@ -36,21 +36,19 @@ pub record IsOwnRun (bytes word : List ℕ) (l : Limits) (t : Named) (symbols : 
 
 -- ---- what is printed
 
+-- A tape from -left on, with the head at this position and these cells.
+abbrev pub tape_from : ℕ → ℤ → List (Option ℕ) → SpelledTape
+tape_from left head cells = record { first = pos 0 -ℤ pos left; head = Some head; cells = cells }
+
 -- A tape from -left to right with this word from cell 1 on, blanks elsewhere, and the head at this cell.
 abbrev pub word_cells : ℕ → ℕ → List ℕ → ℕ → SpelledTape
-word_cells left right word head = record {
-  first = pos 0 -ℤ pos left;
-  head = Some (pos head);
-  cells = map Some (replicate (left + 1) 0 ++ (word ++ replicate (right - length word) 0));
-}
+word_cells left right word head = tape_from left (pos head)
+    (map Some (replicate (left + 1) 0 ++ (word ++ replicate (right - length word) 0)))
 
 -- The cells of this tape from -left to right, and its head.
 abbrev pub tape_cells : ℕ → ℕ → Tape → SpelledTape
-tape_cells left right tape = record {
-  first = pos 0 -ℤ pos left;
-  head = Some tape.head;
-  cells = map (λ j. Some (cell tape (pos j -ℤ pos left))) (range_with_len 0 (left + right + 1));
-}
+tape_cells left right tape = tape_from left tape.head
+    (map (λ j. Some (cell tape (pos j -ℤ pos left))) (range_with_len 0 (left + right + 1)))
 
 -- A tape from -left to right: its head, where a cell shows it, is there, and each symbol that a cell shows is one of so
 -- many.
@@ -62,14 +60,10 @@ pub record Spans (left right symbols : ℕ) (tape : SpelledTape) : Type 0 where
 
 -- Three lines, one for each tape of the window, and nothing else; the symbols of the history are the blank and one for
 -- each quintuple.
-pub record AreTapes (t : Named) (l : Limits) (text : List ℕ) : Type 0 where
-  pub one : SpelledTape
-  pub two : SpelledTape
-  pub three : SpelledTape
-  pub work : Spans l.left l.right t.machine.symbols one
-  pub history : Spans 0 l.steps (length t.machine.quints + 1) two
-  pub output : Spans 0 l.output t.machine.symbols three
-  pub text_is : text ≡ tape_lines t one two three
+abbrev pub AreTapes : Named → Limits → List ℕ → Type 0
+AreTapes t l text = (one : SpelledTape) × (two : SpelledTape) × (three : SpelledTape)
+    × Spans l.left l.right t.machine.symbols one × Spans 0 l.steps (length t.machine.quints + 1) two
+    × Spans 0 l.output t.machine.symbols three × (text ≡ tape_lines t one two three)
 
 -- The tapes where the machine is stuck after i steps: its own tape then, but for the scanned symbol, which has been read
 -- off it; the numbers of the quintuples of its steps, in their order, with the head at the last one; a blank output.

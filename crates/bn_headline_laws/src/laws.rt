@@ -38,8 +38,8 @@ pub fn boards_return()
     ensures { BoardsReturn }
 {}
 
-/// Two answers of which the headline holds differ at most in the number of element steps, where the machine halts; and
-/// they have one status.
+/// Two answers of which the headline holds differ at most in the number of element steps, where the machine halts or is
+/// stuck; and they have one status.
 pub fn headlines_agree()
     ensures { HeadlinesAgree }
 {}

@@ -124,7 +124,7 @@ is_tape : (t : ℕ) → 0 < t → t ≤ 3 → IsTape t
 is_tape t low high = record { low = low; high = high }
 
 -- at the start the cells show the word and two blank tapes
-start_shown : (m : Quadruples) (l : Limits) (word : List ℕ) → HasLetters m → All (λ x. x < symbol_count m 1) word → length word ≤ l.right
+pub start_shown : (m : Quadruples) (l : Limits) (word : List ℕ) → HasLetters m → All (λ x. x < symbol_count m 1) word → length word ≤ l.right
     → ShowsTapes m l (network_start m l word).states (record { state = initial_of m.rules; one = word_tape word; two = blank_tape; three = blank_tape })
 start_shown m l word has all fits =
     let a = start_cells (symbol_count m 1) l.left word l.right in

@@ -48,7 +48,7 @@ left_ends k s e o here t g = none g.element g.input (sym here ∙ g.enters)
     none f i h = cc
 
 -- the control's input lines: the answers of each tape
-line_in_range : (zs : List ℕ) (t x : ℕ) → length zs ≡ 3 → IsTape t → x < slice_index zs (t - 1) → lines_before zs (t - 1) + x < lines_before zs 3
+pub line_in_range : (zs : List ℕ) (t x : ℕ) → length zs ≡ 3 → IsTape t → x < slice_index zs (t - 1) → lines_before zs (t - 1) + x < lines_before zs 3
 line_in_range zs zero x size is low = absurd (let some = is.low in omega arith)
 line_in_range zs (suc (suc (suc (suc t)))) x size is low = absurd (let few = is.high in omega arith)
 line_in_range [] (suc t) x size is low = absurd (omega arith)
@@ -67,12 +67,58 @@ line_in_range (a ∷ b ∷ c ∷ zs) (suc (suc (suc zero))) x size is low =
     let g : lines_before (a ∷ b ∷ c ∷ zs) 2 ≡ a + 3 + (b + 3 + 1) = refl in omega arith
 
 -- the symbols of a tape, by its number
-letters_are : (m : Quadruples) (t x : ℕ) → IsTape t → x < symbol_count m t → x < slice_index m.symbols (t - 1)
+pub letters_are : (m : Quadruples) (t x : ℕ) → IsTape t → x < symbol_count m t → x < slice_index m.symbols (t - 1)
 letters_are m zero x is low = absurd (let some = is.low in omega arith)
 letters_are m (suc zero) x is low = low
 letters_are m (suc (suc zero)) x is low = low
 letters_are m (suc (suc (suc zero))) x is low = low
 letters_are m (suc (suc (suc (suc t)))) x is low = absurd (let few = is.high in omega arith)
+
+-- ---- where no quadruple reads first what stands on the tape of the first read
+
+-- the control's line of the answer that is awaited
+abbrev pub answer_line : Configuration ℕ → ℕ → ControlLine
+answer_line c t = to_tape t (Answer (scanned (tape_of c t)))
+
+module _ (has : StatesHaveEntries) (m : Quadruples) (l : Limits) (names : List ControlState) (k : Circuit) (machine : IsQuadMachine m) (uniform : IsUniformMachine m)
+    (net : IsNetwork m l names k) (c : Configuration ℕ) (t : ℕ) (stop : IsStoppedAt m c t) where
+  -- a quadruple of this state reads this tape first
+  reads_here : (n : ℕ) (r : Rule ℕ) (p : ℕ × ℕ) (rest : List (ℕ × ℕ)) → nth m.rules n ≡ Some r → r.from ≡ c.state → reads_of r ≡ p ∷ rest → p.0 ≡ t
+  reads_here n r p rest stands from split =
+      let first : IsFirstOf n r (reads_of r) (shifts_of r) (to_read r.from [] p) = subst (λ rs. IsFirstOf n r rs (shifts_of r) (to_read r.from [] p)) (sym split) refl in
+      let same : to_read r.from [] p ≡ (Reads c.state [], to_tape t Read) = (has m machine uniform).one c.state (to_read r.from [] p) (Reads c.state [], to_tape t Read) (leaves n r stands from first) stop.entry in
+      let lines : to_tape p.0 Read ≡ to_tape t Read = ap (λ (v : ControlMove). v.1) same in
+      cc
+
+  -- the control has no move for the answer
+  no_move : (i : ControlLine) (e : ControlMove) → ControlGoes m (Reads c.state []) i e → in_number m i ≡ in_number m (answer_line c t) → ⊥
+  no_move i e (begins isq isi entry) number = cc
+  no_move i e (reads_on n r stands f entry (b ∷ before) rest p split isq isi ism) number = cc
+  no_move i e (reads_on n r stands f entry [] rest p split isq isi ism) number =
+      let from : r.from ≡ c.state = cc in
+      let tape : p.0 ≡ t = reads_here n r p rest stands from split in
+      let there : i ≡ to_tape t (Answer p.1) = isi ∙ ap (λ v. to_tape v (Answer p.1)) tape in
+      let numbers : in_number m (to_tape t (Answer p.1)) ≡ in_number m (answer_line c t) = sym (ap (in_number m) there) ∙ number in
+      let symbol : p.1 ≡ scanned (tape_of c t) = omega arith in
+      let pair : p ≡ (t, scanned (tape_of c t)) = λ j. (tape j, symbol j) in
+      stop.none n r rest stands from (split ∙ ap (λ (v : ℕ × ℕ). v ∷ rest) pair)
+  no_move i e (shifts_on n r stands f entry before rest p split isq isi ism) number = cc
+  no_move i e (writes_on n r stands f entry before rest p split isq isi ism) number = cc
+
+  -- so no move of the network leads on
+  pub stuck : (u : Situation) → IsControlAt names u.states (Reads c.state []) → u.place ≡ Enter 0 (in_number m (answer_line c t)) → IsAtEnd k u
+  stuck u still here v g =
+      let same : Enter 0 (in_number m (answer_line c t)) ≡ Enter g.element g.input = sym here ∙ g.enters in
+      let element : g.element ≡ 0 = cc in
+      let input : g.input ≡ in_number m (answer_line c t) = cc in
+      let numbers : Some g.before ≡ Some still.number = sym g.has_state ∙ ap (slice_get u.states) element ∙ still.is in
+      let number : g.before ≡ still.number = cc in
+      let there : go_of k.tables 0 g.before g.input ≡ Some (g.after, g.output) = ap (λ e. go_of k.tables e g.before g.input) (sym element) ∙ g.moves in
+      let move : net.control.go g.before g.input ≡ Some (g.after, g.output) = rw net.tables at there in
+      let goes = (net.is_control.goes g.before g.input g.after g.output).0 move in
+      let states : Some goes.state ≡ Some (Reads c.state []) = sym goes.from ∙ ap (slice_get names) number ∙ still.named in
+      let state : goes.state ≡ Reads c.state [] = cc in
+      no_move goes.line goes.move (subst (λ q. ControlGoes m q goes.line goes.move) state goes.goes) (goes.enters ∙ input)
 
 module _ (costs : CostsAreBounded) (commands : Commands) (has : StatesHaveEntries) (m : Quadruples) (l : Limits) (names : List ControlState) (k : Circuit) (test : Situation → Bool)
     (machine : IsQuadMachine m) (uniform : IsUniformMachine m) (numbering : IsNumbering m names) (net : IsNetwork m l names k) (tells : TellsMoments m names k test)
@@ -96,32 +142,6 @@ module _ (costs : CostsAreBounded) (commands : Commands) (has : StatesHaveEntrie
   -- ---- where no quadruple reads first what stands on the tape of the first read
 
   module _ (t : ℕ) (stop : IsStoppedAt m c t) where
-    abbrev answer_line : ControlLine
-    answer_line = to_tape t (Answer (scanned (tape_of c t)))
-
-    -- a quadruple of this state reads this tape first
-    reads_here : (n : ℕ) (r : Rule ℕ) (p : ℕ × ℕ) (rest : List (ℕ × ℕ)) → nth m.rules n ≡ Some r → r.from ≡ c.state → reads_of r ≡ p ∷ rest → p.0 ≡ t
-    reads_here n r p rest stands from split =
-        let first : IsFirstOf n r (reads_of r) (shifts_of r) (to_read r.from [] p) = subst (λ rs. IsFirstOf n r rs (shifts_of r) (to_read r.from [] p)) (sym split) refl in
-        let same : to_read r.from [] p ≡ (Reads c.state [], to_tape t Read) = (has m machine uniform).one c.state (to_read r.from [] p) (Reads c.state [], to_tape t Read) (leaves n r stands from first) stop.entry in
-        let lines : to_tape p.0 Read ≡ to_tape t Read = ap (λ (v : ControlMove). v.1) same in
-        cc
-
-    -- the control has no move for the answer
-    no_move : (i : ControlLine) (e : ControlMove) → ControlGoes m (Reads c.state []) i e → in_number m i ≡ in_number m answer_line → ⊥
-    no_move i e (begins isq isi entry) number = cc
-    no_move i e (reads_on n r stands f entry (b ∷ before) rest p split isq isi ism) number = cc
-    no_move i e (reads_on n r stands f entry [] rest p split isq isi ism) number =
-        let from : r.from ≡ c.state = cc in
-        let tape : p.0 ≡ t = reads_here n r p rest stands from split in
-        let there : i ≡ to_tape t (Answer p.1) = isi ∙ ap (λ v. to_tape v (Answer p.1)) tape in
-        let numbers : in_number m (to_tape t (Answer p.1)) ≡ in_number m answer_line = sym (ap (in_number m) there) ∙ number in
-        let symbol : p.1 ≡ scanned (tape_of c t) = omega arith in
-        let pair : p ≡ (t, scanned (tape_of c t)) = λ j. (tape j, symbol j) in
-        stop.none n r rest stands from (split ∙ ap (λ (v : ℕ × ℕ). v ∷ rest) pair)
-    no_move i e (shifts_on n r stands f entry before rest p split isq isi ism) number = cc
-    no_move i e (writes_on n r stands f entry before rest p split isq isi ism) number = cc
-
     -- the answer comes, and the control has no move
     ended_stuck : Ended Stopped
     ended_stuck =
@@ -131,7 +151,7 @@ module _ (costs : CostsAreBounded) (commands : Commands) (has : StatesHaveEntrie
         let start : s.place ≡ Enter (first_cell l t) (line_number (symbol_count m t) Read) = now.place ∙ ap (λ (v : ControlMove). place_after k.wires (line_at 0 (out_number m v.1))) first ∙ command_place m l names k net t Read is tt tt in
         let done = (commands m l names k test t s (tape_of c t) net is (cells_calm m l names k net test tells t is) (shown_at m l s.states c t is now.shows)).0 Read (Answer (scanned (tape_of c t))) (write (tape_of c t) 0) (2 * head_of l t (tape_of c t) + 1) (does_read refl refl refl refl) start in
         let still : IsControlAt names done.last.states (Reads c.state []) = record { number = waits.number; is = done.others 0 (inl (after_control l t is)) ∙ waits.is; named = waits.named } in
-        let none : IsAtEnd k done.last = stuck done.last still done.place in
+        let none : IsAtEnd k done.last = stuck has m l names k machine uniform net c t stop done.last still done.place in
         let symbol : scanned (tape_of c t) < symbol_count m t = (shown_at m l s.states c t is now.shows).symbols (tape_of c t).head in
         let last = loose done.last still done.place symbol in
         let whole = cost-joins k (2 * head_of l t (tape_of c t) + 1) 1 s done.last (passes_run (Turns k) (λ x. not (test x)) (2 * head_of l t (tape_of c t) + 1) s done.last done.path) in
@@ -144,7 +164,7 @@ module _ (costs : CostsAreBounded) (commands : Commands) (has : StatesHaveEntrie
           total (run_cost k (2 * head_of l t (tape_of c t) + 1 + 1) s) (run_cost k (2 * head_of l t (tape_of c t) + 1) s) (run_cost k 1 done.last) (step_cost k done.last) (tape_elements m l t) (bank_size (length names) (control_lines m)) (elements_by m l (length names)) whole one some last few,
           none,
           by_stop t stop done.place still symbol (shown_with m l s.states done.last.states c t (write (tape_of c t) 0) is now.shows done.shows done.others),
-          inr (taken_calm m l names k net test tells done.last (in_number m answer_line) done.place),
+          inr (taken_calm m l names k net test tells done.last (in_number m (answer_line c t)) done.place),
         )
       where
         within : (r a b e : ℕ) → r ≤ 8 * a → 8 * a + 4 * b ≤ 8 * e → r ≤ 48 * e
@@ -153,27 +173,13 @@ module _ (costs : CostsAreBounded) (commands : Commands) (has : StatesHaveEntrie
         total : (w r o z a b e : ℕ) → w ≡ r + o → o ≡ z → r ≤ 8 * a → z ≤ 4 * b → 8 * a + 4 * b ≤ 8 * e → w ≤ 48 * e
         total w r o z a b e sum one first second few = omega arith
 
-        stuck : (u : Situation) → IsControlAt names u.states (Reads c.state []) → u.place ≡ Enter 0 (in_number m answer_line) → IsAtEnd k u
-        stuck u still here v g =
-            let same : Enter 0 (in_number m answer_line) ≡ Enter g.element g.input = sym here ∙ g.enters in
-            let element : g.element ≡ 0 = cc in
-            let input : g.input ≡ in_number m answer_line = cc in
-            let numbers : Some g.before ≡ Some still.number = sym g.has_state ∙ ap (slice_get u.states) element ∙ still.is in
-            let number : g.before ≡ still.number = cc in
-            let there : go_of k.tables 0 g.before g.input ≡ Some (g.after, g.output) = ap (λ e. go_of k.tables e g.before g.input) (sym element) ∙ g.moves in
-            let move : net.control.go g.before g.input ≡ Some (g.after, g.output) = rw net.tables at there in
-            let goes = (net.is_control.goes g.before g.input g.after g.output).0 move in
-            let states : Some goes.state ≡ Some (Reads c.state []) = sym goes.from ∙ ap (slice_get names) number ∙ still.named in
-            let state : goes.state ≡ Reads c.state [] = cc in
-            no_move goes.line goes.move (subst (λ q. ControlGoes m q goes.line goes.move) state goes.goes) (goes.enters ∙ input)
-
-        loose : (u : Situation) → IsControlAt names u.states (Reads c.state []) → u.place ≡ Enter 0 (in_number m answer_line)
+        loose : (u : Situation) → IsControlAt names u.states (Reads c.state []) → u.place ≡ Enter 0 (in_number m (answer_line c t))
             → scanned (tape_of c t) < symbol_count m t → step_cost k u ≤ 4 * bank_size (length names) (control_lines m)
         loose u still here symbol =
-            let there : step_cost k u ≡ table_cost net.control still.number (in_number m answer_line) = ap (entry_cost k u.states) here ∙ rw (net.tables, still.is) refl in
+            let there : step_cost k u ≡ table_cost net.control still.number (in_number m (answer_line c t)) = ap (entry_cost k u.states) here ∙ rw (net.tables, still.is) refl in
             let low = slice_get_within names still.number (Reads c.state []) still.named in
-            let in_range : in_number m answer_line < control_lines m = line_in_range m.symbols t (scanned (tape_of c t)) machine.tapes stop.tape (letters_are m t (scanned (tape_of c t)) stop.tape symbol) in
-            let small = bound net.control.states net.control.inputs still.number (in_number m answer_line) (net.control.go still.number (in_number m answer_line)) refl net.is_control.states net.is_control.inputs low in_range in
+            let in_range : in_number m (answer_line c t) < control_lines m = line_in_range m.symbols t (scanned (tape_of c t)) machine.tapes stop.tape (letters_are m t (scanned (tape_of c t)) stop.tape symbol) in
+            let small = bound net.control.states net.control.inputs still.number (in_number m (answer_line c t)) (net.control.go still.number (in_number m (answer_line c t))) refl net.is_control.states net.is_control.inputs low in_range in
             omega arith
           where
             bound : (states inputs n i : ℕ) (o : Option (ℕ × ℕ)) → net.control.go n i ≡ o → states ≡ length names → inputs ≡ control_lines m

@@ -1,5 +1,4 @@
--- A view, a session and `step` of one number of steps show one place. (After bn_reply_views/proofs/SteppedLemmas, whose `runs_as` and
--- `rest_of` are private, and bn_reply_views/proofs/SessionSettledLemmas, whose `states_apart` is: to be made pub there.)
+-- A view, a session and `step` of one number of steps show one place.
 use Rattle.std.specs.Prelude.{◌≡◌, ℕ, ◌≤◌, bytes_eq, List, [], ◌∷◌, ◌++◌, replicate, Option, Some, None, refl}
 use Rattle.std.proofs.Common.{sym, ap, subst, ◌∙◌}
 use Rattle.std.proofs.lemmas.List.{append-nil}
@@ -56,6 +55,8 @@ use Rattle.bn_reply_boards_laws.specs.Windows.{AreSmall, ComesTo, WindowReplies}
 use Rattle.bn_reply_boards_laws.specs.Headline.{IsGiven}
 use Rattle.bn_reply_boards_laws.proofs.WindowLemmas.{given_accepted}
 use Rattle.bn_reply_views.specs.ViewText.{view_text}
+use Rattle.bn_reply_views.proofs.SessionSettledLemmas.{states_apart}
+use Rattle.bn_reply_views.proofs.SteppedLemmas.{rest_of, runs_as}
 use Rattle.bn_reply_views.proofs.ViewClosedLemmas.{one}
 use Rattle.bn_reply_views.proofs.ViewSettledLemmas.{text_same, turned, view_there}
 use Rattle.bn_board_laws.proofs.ClosedLemmas.{flats_one}
@@ -72,51 +73,7 @@ use Rattle.bn_reply_views.specs.Showing.{TellsLayers}
 use Rattle.bn_reply_views.specs.SessionReply.{SessionReplies, TellsSession, cut, faulty, played, state_names_of, uncut}
 use Rattle.bn_reply_views.specs.PlaceLaws.{PlacesAreOneInAll, SessionsShowViews}
 
--- ---- one circuit
-
-one_option : (x y : Option Line) → ((l : Line) → x ≡ Some l → y ≡ Some l) → ((l : Line) → y ≡ Some l → x ≡ Some l) → x ≡ y
-one_option None None forth back = refl
-one_option None (Some l) forth back = back l refl
-one_option (Some l) y forth back = sym (forth l refl)
-
--- a spelled board runs as the board does
-module _ (p : Program) (symbols : List ℕ) (l : Limits) (f : Flat) (flat : IsFlatOf p symbols l f) (s : Spelling) (is : IsFlatSpelling f s) (circuit : IsCircuit (circuit_of s)) where
-  alike : AreAlike (circuit_of s) f.circuit
-  alike = record {
-    tables = ap (λ n. replicate n rotary) is.elements ∙ sym flat.is_board.tables;
-    targets = targets;
-    sources = λ to. one_option (source s.wires to) (source f.circuit.wires to)
-        (λ from h. (flat.is_board.circuit.one_to_one from to).0 (sym (targets from) ∙ (circuit.one_to_one from to).1 h))
-        (λ from h. (circuit.one_to_one from to).0 (targets from ∙ (flat.is_board.circuit.one_to_one from to).1 h));
-  }
-    where
-      targets : (from : Line) → target s.wires from ≡ target f.circuit.wires from
-      targets = target_of f p symbols l flat s is
-
-  runs_as : (n : ℕ) → run (circuit_of s) s.config n ≡ board_after f n
-  runs_as n = run-alike (circuit_of s) f.circuit alike s.config n ∙ ap (λ c. run f.circuit c n) is.config
-
--- ---- the law
-
--- the lines of a view behind the first
-abbrev rest_of : Named → Flat → Layers → List ℕ
-rest_of t f v =
-    module_line t f v.place v.exit v.module ++ (state_line (name_of f.translation v.state)
-    ++ (tape_lines t v.tapes.one v.tapes.two v.tapes.three ++ machine_line t v.stage v.machine v.machine_step))
-
 -- ---- the script of one step
-
--- the printed names of a translation's states are apart
-states_apart : (bytes word : List ℕ) (l : Limits) (t : Named) (symbols : List ℕ) (f : Flat) → ReadsStandard bytes t → ComesTo t.machine l symbols f → AreApart (state_names_of t f)
-states_apart bytes word l t symbols f reads comes =
-    let read = reads_table bytes t reads.reads in
-    let machine = tables_machines t read in
-    let table = is_table t f.translation machine.0 read machine.1 list_has_names list_is_in_range list_has_length comes.flat.translation in
-    let first = table.spelled.states_by_first in
-    record {
-      same = λ name m n here there.
-          one_number bytes_eq bytes_eq-Decides (state_names_of t f) m n name (subst (λ (xs : List (List ℕ)). ApartBy bytes_eq bytes_eq-Decides xs) (sym first) (apart-firsts bytes_eq bytes_eq-Decides _)) here there;
-    }
 
 -- its text asks for one step
 one_step : (names : List (List ℕ)) (script : List ℕ) (steps : ℕ) → script ≡ script_text (Step steps ∷ []) → steps ≤ greatest → IsScript names script (commands.Step steps ∷ [])
@@ -245,14 +202,14 @@ module _ (table script word : List ℕ) (l : Limits) (steps : ℕ) (text stepped
       → answered ≡ place_line c None
   by_step answered silent is_script g comes (faulty n e is k status_is quiet) = absurd (cc)
   by_step answered silent is_script g comes (played xs end is plays status_is quiet) =
-      let same = scripts-one (state_names_of t g) script xs (commands.Step steps ∷ []) (states_apart table word l t h.symbols g h.reads comes) is (one_step (state_names_of t g) script steps is_script low) in
+      let same = scripts-one (state_names_of t g) script xs (commands.Step steps ∷ []) (states_apart tables_machines table t h.symbols l g h.reads comes) is (one_step (state_names_of t g) script steps is_script low) in
       one_place t g steps xs end answered same plays ∙ ap (λ (x : Config). place_line x None) (sym (same_place g comes))
 
   by_step_and_view : (answered seen : List ℕ) (silent : List Place) → AreSmall l → script ≡ script_text (Step steps ∷ View ∷ []) → Viewed seen → (g : Flat) → ComesTo t.machine l h.symbols g
       → TellsSession script t g Done answered silent → answered ≡ place_line c None ++ seen
   by_step_and_view answered seen silent small is_script v g comes (faulty n e is k status_is quiet) = absurd (cc)
   by_step_and_view answered seen silent small is_script v g comes (played xs end is plays status_is quiet) =
-      let same = scripts-one (state_names_of t g) script xs (commands.Step steps ∷ commands.View ∷ []) (states_apart table word l t h.symbols g h.reads comes) is (step_and_view (state_names_of t g) script steps is_script low) in
+      let same = scripts-one (state_names_of t g) script xs (commands.Step steps ∷ commands.View ∷ []) (states_apart tables_machines table t h.symbols l g h.reads comes) is (step_and_view (state_names_of t g) script steps is_script low) in
       let both = place_and_layers t g steps xs end answered same plays in
       let shown = same_text small g comes both.0 seen both.1 v in
       both.2 ∙ (λ i. place_line (sym (same_place g comes) i) None ++ shown i)

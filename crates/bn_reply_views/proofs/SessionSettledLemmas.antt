@@ -29,6 +29,7 @@ use Rattle.bn_reply.specs.Codes.{IsReplyStatus}
 use Rattle.bn_reply.specs.declared.status.Status.{Status}
 use Rattle.bn_reply.specs.declared.status.Status.TheVariants as statuses
 use Rattle.bn_reply.proofs.SettledLemmas.{agree}
+use Rattle.bn_reply.specs.TableReply.{ReadsStandard}
 use Rattle.bn_reply.proofs.TableLemmas.{reads_table}
 use Rattle.bn_reply_boards_laws.specs.Headline.{IsGiven}
 use Rattle.bn_reply_boards_laws.specs.Laws.{BoardsAreCounted}
@@ -56,10 +57,10 @@ use Rattle.bn_reply_views.proofs.AlikeLemmas.{plays_alike}
 use Rattle.bn_cut.proofs.CutOrNot.{cut_or_not}
 
 -- the printed names of a translation's states are apart
-states_apart : TablesAreMachines → (bytes word : List ℕ) (l : Limits) (t : Named) (symbols : List ℕ) (f : Flat) → IsGiven bytes word l t symbols →
+pub states_apart : TablesAreMachines → (bytes : List ℕ) (t : Named) (symbols : List ℕ) (l : Limits) (f : Flat) → ReadsStandard bytes t →
     ComesTo t.machine l symbols f → AreApart (state_names_of t f)
-states_apart machines bytes word l t symbols f given comes =
-    let read = reads_table bytes t given.reads.reads in
+states_apart machines bytes t symbols l f reads comes =
+    let read = reads_table bytes t reads.reads in
     let machine = machines t read in
     let table = is_table t f.translation machine.0 read machine.1 list_has_names list_is_in_range list_has_length comes.flat.translation in
     let first = table.spelled.states_by_first in
@@ -171,7 +172,7 @@ module _ (machines : TablesAreMachines) (flats : FlatsAreThere) (ones : FlatsAre
           let same = same_boards machines ones table word l t symbols f g is h k in
           let limits : f.limits ≡ g.limits = h.flat.limits_are ∙ sym k.flat.limits_are in
           one_told g t.machine symbols l k.flat (given_accepted machines table word l t symbols g is k) views_one views_some t script
-          (states_apart machines table word l t symbols g is k) s u a b x y (told_there f g same limits t t.machine symbols l k.flat script s a x tells) other
+          (states_apart machines table t symbols l g is.reads k) s u a b x y (told_there f g same limits t t.machine symbols l k.flat script s a x tells) other
 
   pub session_settled : SessionIsSettled
   session_settled word l bytes small = record { some = some; one = one; status = status }

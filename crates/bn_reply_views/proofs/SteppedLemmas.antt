@@ -59,13 +59,13 @@ module _ (p : Program) (symbols : List ℕ) (l : Limits) (f : Flat) (flat : IsFl
       targets : (from : Line) → target s.wires from ≡ target f.circuit.wires from
       targets = target_of f p symbols l flat s is
 
-  runs_as : (n : ℕ) → run (circuit_of s) s.config n ≡ board_after f n
+  pub runs_as : (n : ℕ) → run (circuit_of s) s.config n ≡ board_after f n
   runs_as n = run-alike (circuit_of s) f.circuit alike s.config n ∙ ap (λ c. run f.circuit c n) is.config
 
 -- ---- the law
 
 -- the lines of a view behind the first
-abbrev rest_of : Named → Flat → Layers → List ℕ
+abbrev pub rest_of : Named → Flat → Layers → List ℕ
 rest_of t f v =
     module_line t f v.place v.exit v.module ++ (state_line (name_of f.translation v.state)
     ++ (tape_lines t v.tapes.one v.tapes.two v.tapes.three ++ machine_line t v.stage v.machine v.machine_step))
