@@ -2,7 +2,6 @@
 //! them.
 #![tactic(auto)]
 
-mod cursor;
 mod event;
 mod farm;
 mod farm_refusal;
@@ -12,6 +11,7 @@ mod read;
 mod reading;
 mod refusal;
 mod schedule;
+mod take_order;
 mod write;
 
 pub use bn_lists::NoMemory;

@@ -4,10 +4,11 @@ ghost use Rattle.std.specs.Prelude.{◌≡◌, ◌+◌, IfOk, IfErr};
 ghost use Rattle.bn_farm.specs.FarmTexts.{IsSchedule};
 ghost use Rattle.bn_farm.specs.Refused.{IsScheduleRefusal};
 
-use crate::cursor::Cursor;
 use crate::event::Event;
 use crate::refusal::ScheduleRefusal;
 use crate::schedule::Schedule;
+use crate::take_order::take_order;
+use bn_netlist_lines::Cursor;
 use std::alloc::Global;
 
 /// Reads the schedule of a farm of so many boards. A refusal names the first line with a fault, counted from 1, and its
@@ -24,7 +25,7 @@ pub(crate) fn read_schedule(
     let mut events = Vec::new(alloc);
     while !cursor.is_at_end() {
         let line = events.len() as u64 + 1;
-        let Some(order) = cursor.order() else {
+        let Some(order) = take_order(&mut cursor) else {
             return Err(ScheduleRefusal::Form { line });
         };
         if order.number == 0 || order.number > u64::from(boards) {

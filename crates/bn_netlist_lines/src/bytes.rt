@@ -8,9 +8,9 @@ use bn_base::read_u64;
 use bn_element::{EAST, HORIZONTAL, NORTH, SOUTH, VERTICAL, WEST};
 use std::marker::Model;
 
-/// A place in a line. Callers see it as the bytes that are left.
+/// A place in a text, read from left to right. Callers see it as the bytes that are left.
 #[derive(Drop)]
-pub(crate) struct Cursor<'a> {
+pub struct Cursor<'a> {
     rest: &'a [u8],
 }
 
@@ -23,15 +23,15 @@ impl<'a> Model for Cursor<'a> {
 }
 
 impl<'a> Cursor<'a> {
-    /// The beginning of a line.
-    pub(crate) fn new(line: &[u8]) -> Cursor<'_>
-        ensures { result ≡ line.now }
+    /// The beginning of these bytes.
+    pub fn new(bytes: &[u8]) -> Cursor<'_>
+        ensures { result ≡ bytes.now }
     {
-        Cursor { rest: line }
+        Cursor { rest: bytes }
     }
 
     /// Whether nothing is left.
-    pub(crate) fn is_at_end(&self) -> bool
+    pub fn is_at_end(&self) -> bool
         ensures { result ≡ (length self.now == 0) }
     {
         self.rest.is_empty()
@@ -39,7 +39,7 @@ impl<'a> Cursor<'a> {
 
     /// Passes over this word. Where it doesn't stand here, nothing is passed over.
     #[tactic(auto, using(crate::proofs::WordLemmas::words))]
-    pub(crate) fn word(&mut self, word: &[u8]) -> Option<()>
+    pub fn word(&mut self, word: &[u8]) -> Option<()>
         ensures taken { MatchOption result
             (word_taken word.now self.old ≡ None)
             (λ _. word_taken word.now self.old ≡ Some self.new) }
@@ -52,10 +52,11 @@ impl<'a> Cursor<'a> {
         Some(())
     }
 
-    /// A number.
+    /// A number in decimal digits, at most 2^62. Where none stands here, nothing is passed over.
     #[tactic(auto, unfolding(bn_netlist_laws::specs::Reading::number_taken))]
-    pub(crate) fn number(&mut self) -> Option<u64>
-        ensures { Takes result self.new (number_taken self.old) }
+    pub fn number(&mut self) -> Option<u64>
+        ensures taken { Takes result self.new (number_taken self.old) }
+        ensures kept { IfNone result (self.new ≡ self.old) }
     {
         let Ok((value, behind)) = read_u64(self.rest, 0) else {
             return None;

@@ -17,6 +17,7 @@ mod spelled_out;
 mod stage;
 mod take_line;
 
+pub use bytes::Cursor;
 pub use column::column_rows;
 pub use draft::Draft;
 pub use entries::Entries;
