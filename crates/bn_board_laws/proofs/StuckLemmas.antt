@@ -41,7 +41,7 @@ record IsStuckAfter (p : Program) (word : List ℕ) (l : Limits) (i state symbol
 no_copy : (l : Limits) (o : Outcome) (state symbol : ℕ) (h : ℤ) (y : List ℕ) → Copies l h y o → o ≡ outcome.Stuck state symbol → ⊥
 no_copy l o state symbol h y (copied room is) e = let both : outcome.Halted y ≡ outcome.Stuck state symbol = sym is ∙ e in cc
 no_copy l o state symbol h y (work_short j first short is) e = let both : outcome.Outside _ _ ≡ outcome.Stuck state symbol = sym is ∙ e in cc
-no_copy l o state symbol h y (output_short j first within short is) e = let both : outcome.Outside _ _ ≡ outcome.Stuck state symbol = sym is ∙ e in cc
+no_copy l o state symbol h y (output_short j first near short is) e = let both : outcome.Outside _ _ ≡ outcome.Stuck state symbol = sym is ∙ e in cc
 
 stuck_after : (p : Program) (word : List ℕ) (l : Limits) (i state symbol : ℕ) → HasOutcome p word l i (outcome.Stuck state symbol) → IsStuckAfter p word l i state symbol
 stuck_after p word l i state symbol h = by_end h.ends
@@ -103,9 +103,9 @@ module _ (p : Program) (t : Translation) (word : List ℕ) (l : Limits) (i state
   pub holds_stuck : Stands p word x → HoldsStuck p word i state symbol d
   holds_stuck (computes c ns follows is) = holds c ns follows (ap (λ (v : Configuration Name). v.state) (sym is)) (ap (λ (v : Configuration Name). v.one) is) (ap (λ (v : Configuration Name). v.two) is) (ap (λ (v : Configuration Name). v.three) is)
   holds_stuck (computes_within c e ns m by follows is) = other_name _ (ap (λ (v : Configuration Name). v.state) (sym is)) (λ s h. cc)
-  holds_stuck (goes_right c ns y k halts low is) = other_name _ (ap (λ (v : Configuration Name). v.state) (sym is)) (λ s h. cc)
-  holds_stuck (copies_letter c ns y k halts low is) = other_name _ (ap (λ (v : Configuration Name). v.state) (sym is)) (λ s h. cc)
-  holds_stuck (goes_left c ns y k halts low is) = other_name _ (ap (λ (v : Configuration Name). v.state) (sym is)) (λ s h. cc)
-  holds_stuck (passes_letter c ns y k halts low is) = other_name _ (ap (λ (v : Configuration Name). v.state) (sym is)) (λ s h. cc)
-  holds_stuck (retraces h c hs ns y halts follows is) = other_name _ (ap (λ (v : Configuration Name). v.state) (sym is)) (λ s e. cc)
-  holds_stuck (retraces_within h c e hs ns y m by halts follows is) = other_name _ (ap (λ (v : Configuration Name). v.state) (sym is)) (λ s z. cc)
+  holds_stuck (goes_right c ns y k over low is) = other_name _ (ap (λ (v : Configuration Name). v.state) (sym is)) (λ s h. cc)
+  holds_stuck (copies_letter c ns y k over low is) = other_name _ (ap (λ (v : Configuration Name). v.state) (sym is)) (λ s h. cc)
+  holds_stuck (goes_left c ns y k over low is) = other_name _ (ap (λ (v : Configuration Name). v.state) (sym is)) (λ s h. cc)
+  holds_stuck (passes_letter c ns y k over low is) = other_name _ (ap (λ (v : Configuration Name). v.state) (sym is)) (λ s h. cc)
+  holds_stuck (retraces h c hs ns y over follows is) = other_name _ (ap (λ (v : Configuration Name). v.state) (sym is)) (λ s e. cc)
+  holds_stuck (retraces_within h c e hs ns y m by over follows is) = other_name _ (ap (λ (v : Configuration Name). v.state) (sym is)) (λ s z. cc)

@@ -54,7 +54,7 @@ generated-tells machines elements_are counted ones one_cost given k status text 
       told = record {
         ran = tells.ran;
         text_is = tells.text_is;
-        tells = headline.exit_told machines elements_are counted ones one_cost bytes number l t (binary 11) i o own f flat.1 status tells.ran told;
+        tells = headline.exit_told machines elements_are counted ones one_cost bytes number l t (binary 11) i o own f flat.1 status tells.ran (tells.runs count i o on f flat.1) told;
       };
       grows = grows;
     }

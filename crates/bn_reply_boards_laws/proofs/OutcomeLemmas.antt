@@ -108,7 +108,7 @@ runs-tell_outcomes machines exits boards counts bytes letters l t symbols f stat
     let for_exit : IsExitFor f o tells.exit = subst (IsExitFor f o) (sym one) ran.for_outcome in
     let steps : d.steps ≡ ran.cost = ap (λ (x : Config). x.steps) there ∙ steps_of_run f.circuit ran.cost (flat_start f) (board_after f ran.cost) ran.run_to
     ∙ zero-add ran.cost in
-    let shown : EndsWith p f d i o = subst (λ (x : Config). EndsWith p f x i o) (sym there) ran.with_tapes in
+    let shown : EndsWith t.machine f d i o = subst (λ (x : Config). EndsWith t.machine f x i o) (sym there) ran.with_tapes in
     let count = counts_once (HasMoment f) (d.steps + 1) tells.moments (moments f.layout f.circuit d.steps (flat_start f)) tells.counted
     (counts t.machine symbols l f flat accepted (bound_of f.layout)).0 in
     let rest = rest_told t t.machine symbols l f flat i o ran.cost tells.moments d tells.exit there for_exit shown outcome count in
