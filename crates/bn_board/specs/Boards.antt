@@ -90,8 +90,8 @@ pub record IsAmid (n : Circuit) (s t : Situation) (d : Config) : Type 0 where
       × AreMarked d.states (base n.tables m) u.states u.inputs q
       × (((q ≡ slice_get s.states m) ⊎ (q ≡ slice_get t.states m)) ⊎ (q ≡ None))
 
--- where the module that is entered has no move, the signal leaves by a loose line; its bank has no mark, and every other
--- one rests in its module's state
+-- where the module that is entered has no move, the signal leaves by a loose line; its bank has no mark, and every
+-- other one rests in its module's state
 pub record IsLoose (n : Circuit) (s : Situation) (d : Config) : Type 0 where
   pub at_module : ℕ
   pub line : ℕ

@@ -45,8 +45,8 @@ pub record SpellsRestored (f : Flat) (states : List ℕ) (y : List ℕ) : Type 0
   pub rows : (m : ℕ) (u : Table) → slice_get f.network.tables m ≡ Some u → (q : ℕ)
       × (q < u.states) × IsResting states (base f.network.tables m) u.states u.inputs (Some q)
 
--- Where the machine is stuck after i steps, in this state at this symbol: its tape at that moment on tape 1, but for the
--- scanned symbol, which has been taken off it; the numbers of the quintuples of its steps on tape 2; tape 3 blank.
+-- Where the machine is stuck after i steps, in this state at this symbol: its tape at that moment on tape 1, but for
+-- the scanned symbol, which has been taken off it; the numbers of the quintuples of its steps on tape 2; tape 3 blank.
 pub record SpellsStuck (p : Program) (f : Flat) (states : List ℕ) (i state symbol : ℕ) : Type 0 where
   pub moment : Moment
   pub numbers : List ℕ

@@ -65,8 +65,9 @@ AreTapes t l text = (one : SpelledTape) × (two : SpelledTape) × (three : Spell
     × Spans l.left l.right t.machine.symbols one × Spans 0 l.steps (length t.machine.quints + 1) two
     × Spans 0 l.output t.machine.symbols three × (text ≡ tape_lines t one two three)
 
--- The tapes where the machine is stuck after i steps: its own tape then, but for the scanned symbol, which has been read
--- off it; the numbers of the quintuples of its steps, in their order, with the head at the last one; a blank output.
+-- The tapes where the machine is stuck after i steps: its own tape then, but for the scanned symbol, which has been
+-- read off it; the numbers of the quintuples of its steps, in their order, with the head at the last one; a blank
+-- output.
 pub record AreStuckTapes (t : Named) (l : Limits) (symbols : List ℕ) (i : ℕ) (text : List ℕ) : Type 0 where
   pub moment : Moment
   pub numbers : List ℕ

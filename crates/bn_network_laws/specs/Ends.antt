@@ -40,8 +40,8 @@ pub record IsStoppedAt (m : Quadruples) (c : Configuration ℕ) (t : ℕ) : Type
       → reads_of r ≡ (t, scanned (tape_of c t)) ∷ rest → ⊥
 
 -- how the network's run ends: by the control's line to the outside, with the tapes shown; at the control, with an
--- answer to its first read for which it has no move, and the tapes shown but for the symbol that was read; by the last or
--- by the first cell of a tape
+-- answer to its first read for which it has no move, and the tapes shown but for the symbol that was read; by the last
+-- or by the first cell of a tape
 pub data EndsBy (m : Quadruples) (l : Limits) (names : List ControlState) (s : Situation) (c : Configuration ℕ) : Exit
     → Type 0 where
   by_end : s.place ≡ Left 0 0 → IsControlAt names s.states End → ShowsTapes m l s.states c
