@@ -12,3 +12,4 @@ pub mod StuckLemmas
 pub mod ControlLemmas
 pub mod GeneratedBoardLemmas
 pub mod GeneratedRunLemmas
+pub mod CommandLemmas

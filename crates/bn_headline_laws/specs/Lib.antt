@@ -9,3 +9,5 @@ pub mod StuckLaws
 pub mod ControlLaws
 pub mod GeneratedLaws
 pub mod GeneratedRuns
+pub mod CommandHeadlines
+pub mod CommandLaws
