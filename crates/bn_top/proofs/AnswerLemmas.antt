@@ -2,8 +2,7 @@
 use Rattle.std.specs.Prelude.{◌≡◌, true, false, ℕ, ◌<◌, ◌≤◌, List, [], length, refl, ◌⊎◌}
 use Rattle.std.proofs.Common.{ap, arith, sym, subst, ◌∙◌, inl, inr}
 use Rattle.std.proofs.lemmas.Bool.{cases_Bool, cases_lt, false≢true}
-use Rattle.bn_words.specs.Forms.{reads_input}
-use Rattle.bn_words.specs.Requests.{Request, HasForm}
+use Rattle.bn_words.specs.Requests.{Request, HasForm, reads_input}
 use Rattle.bn_words.proofs.FormLemmas.{one_form}
 use Rattle.bn_reply.specs.Answering.{HasAnswer}
 use Rattle.bn_reply.specs.declared.status.Status.TheVariants.{Usage, Size}
@@ -14,23 +13,23 @@ use Rattle.bn_reply.specs.declared.limits.TheConstants.{MOST_INPUT_BYTES}
 use Rattle.bn_top.specs.Laws.{AnswersAreOne, RequestsAreAnswered}
 use Rattle.bn_top.proofs.Commands.{settled}
 
-by_length : (words : List (List ℕ)) (request : Request) (bytes : List ℕ) → HasForm words request → reads_input request.form ≡ true →
+by_length : (words : List (List ℕ)) (request : Request) (bytes : List ℕ) → HasForm words request → reads_input request ≡ true →
     (MOST_INPUT_BYTES < length bytes) ⊎ (length bytes ≤ MOST_INPUT_BYTES) → HasAnswer (Answers words bytes)
 by_length words request bytes form reads (inl long) = (Size, size_text, [], too_long request form reads long refl refl refl)
 by_length words request bytes form reads (inr short) = let h = (settled words request form bytes).some in (h.0, h.1, h.2, replied request form reads short h.3)
 
 by_reading : (words : List (List ℕ)) (request : Request) (bytes : List ℕ) → HasForm words request →
-    (reads_input request.form ≡ true) ⊎ (reads_input request.form ≡ false) → HasAnswer (Answers words bytes)
+    (reads_input request ≡ true) ⊎ (reads_input request ≡ false) → HasAnswer (Answers words bytes)
 by_reading words request bytes form (inl reads) = by_length words request bytes form reads (cases_lt MOST_INPUT_BYTES (length bytes))
 by_reading words request bytes form (inr nothing) = let h = (settled words request form []).some in (h.0, h.1, h.2, unread request form nothing h.3)
 
 pub requests-are-answered : RequestsAreAnswered
-requests-are-answered words request bytes form = by_reading words request bytes form (cases_Bool (reads_input request.form))
+requests-are-answered words request bytes form = by_reading words request bytes form (cases_Bool (reads_input request))
 
 -- no words ask both for what reads an input and for what reads none
-pub not_both : (words : List (List ℕ)) (c d : Request) → HasForm words c → HasForm words d → reads_input c.form ≡ true → reads_input d.form ≡ false → ⊥
+pub not_both : (words : List (List ℕ)) (c d : Request) → HasForm words c → HasForm words d → reads_input c ≡ true → reads_input d ≡ false → ⊥
 not_both words c d form other reads nothing =
-    let same : reads_input c.form ≡ reads_input d.form = ap (λ (r : Request). reads_input r.form) (one_form words c d form other) in
+    let same : reads_input c ≡ reads_input d = ap (λ (r : Request). reads_input r) (one_form words c d form other) in
     false≢true (sym nothing ∙ sym same ∙ reads)
 
 -- words and bytes have at most one answer

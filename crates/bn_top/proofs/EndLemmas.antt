@@ -4,9 +4,7 @@ use Rattle.std.proofs.Common.{ap, Bool, inl, inr, sym, subst, ◌∙◌}
 use Rattle.bn_circuits.specs.declared.place.Place.{Place}
 use Rattle.bn_io.specs.Faults.{Rose}
 use Rattle.bn_io.specs.Told.{Grows, GrowsByFront}
-use Rattle.bn_words.specs.Forms.{reads_input}
-use Rattle.bn_words.specs.Requests.{Request, HasForm, HasNoForm}
-use Rattle.bn_words.specs.declared.form.Form.{Form}
+use Rattle.bn_words.specs.Requests.{Request, HasForm, HasNoForm, reads_input}
 use Rattle.bn_reply.specs.Codes.{IsAnswer, IsReplyStatus}
 use Rattle.bn_reply.specs.Ends.{Finishes, whole, cut}
 use Rattle.bn_reply.specs.Streams as ends_of
@@ -102,9 +100,9 @@ module _ (words : List (List ℕ)) (request : Request) (form : HasForm words req
   is_complete (ends_of.cut failed rose b) sound = absurd (sound rose)
   is_complete (ends_of.wanting none broken) sound = inr none
 
--- whether what is asked for reads an input, by the test on its form
-pub reads_as : (f g : Form) (tested is : Bool) → f ≡ g → tested ≡ reads_input f → tested ≡ is → reads_input g ≡ is
-reads_as f g tested is same value test = sym (ap reads_input same) ∙ sym value ∙ test
+-- whether what is asked for reads an input, by the test on it
+pub reads_as : (request : Request) (tested is : Bool) → tested ≡ reads_input request → tested ≡ is → reads_input request ≡ is
+reads_as request tested is value test = sym value ∙ test
 
 -- how a reply ends, where a reply to the request is an answer
 module _ (words : List (List ℕ)) (request : Request) (form : HasForm words request) (bytes : List ℕ) (result : Status) (taken took : Option (List ℕ))
@@ -137,11 +135,11 @@ module _ (words : List (List ℕ)) (request : Request) (form : HasForm words req
   wanting_end (ends_of.wanting _ broken) none = broken_as (Replies request bytes) (Answers words bytes) answers taken took told heard broken
 
 -- the words don't ask for what needs no input
-pub needs_input : (words : List (List ℕ)) (request : Request) → HasForm words request → reads_input request.form ≡ true → NeedsNoInput words → ⊥
+pub needs_input : (words : List (List ℕ)) (request : Request) → HasForm words request → reads_input request ≡ true → NeedsNoInput words → ⊥
 needs_input words request form reads h = not_both words request h.request form h.form reads h.unread
 
 -- words that ask for what needs no input
-module _ (words : List (List ℕ)) (request : Request) (form : HasForm words request) (nothing : reads_input request.form ≡ false) (result : Status)
+module _ (words : List (List ℕ)) (request : Request) (form : HasForm words request) (nothing : reads_input request ≡ false) (result : Status)
     (taken took : Option (List ℕ)) (told heard : Option (List Place)) (before now : ℕ)
     (ends : AnswerEnds (Replies request []) result taken took before now told heard) where
   -- whatever bytes there are

@@ -3,7 +3,6 @@ pub mod AnswerLemmas
 pub mod EndLemmas
 pub mod StreamLemmas
 pub mod HeadlineLemmas
-pub mod WindowLemmas
 pub mod ClauseLemmas
 pub mod MachineHeadlineLemmas
 pub mod ClosedLemmas

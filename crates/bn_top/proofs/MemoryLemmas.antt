@@ -12,8 +12,7 @@ use Rattle.bn_reply.specs.declared.status.Status.{Status}
 use Rattle.bn_reply.specs.declared.status.Status.TheVariants.{Usage, Size}
 use Rattle.bn_reply_boards.proofs.ClosedLemmas.{tells}
 use Rattle.bn_headline_laws.proofs.ClosedLemmas.{circuit_told}
-use Rattle.bn_words.specs.Forms.{reads_input}
-use Rattle.bn_words.specs.Requests.{Request, HasForm, HasNoForm}
+use Rattle.bn_words.specs.Requests.{Request, HasForm, HasNoForm, reads_input}
 use Rattle.bn_top.specs.Answers.{Answers, no_form, unread, too_long, replied, Replies, usage_text}
 use Rattle.bn_reply.specs.Streams.{size_text}
 use Rattle.bn_top.specs.Headlines.{IsReplyTo}
@@ -56,7 +55,7 @@ module _ (words : List (List ℕ)) (bytes : List ℕ) (reply : Reply) (told hear
   replied_as P each h = record { places = h.places; right = each reply.status reply.text.items h.places h.right; hears = h.hears }
 
   -- an input that is read, within its limit
-  pub read_reply : (request : Request) → HasForm words request → reads_input request.form ≡ true → length bytes ≤ MOST_INPUT_BYTES →
+  pub read_reply : (request : Request) → HasForm words request → reads_input request ≡ true → length bytes ≤ MOST_INPUT_BYTES →
       IsReplied (Replies request bytes) reply told heard → IsReplyTo words bytes reply told heard
   read_reply request form reads within h =
       let is = reply_answers reply.status ((settled words request form bytes).status reply.status reply.text.items h.places h.right) in
@@ -64,7 +63,7 @@ module _ (words : List (List ℕ)) (bytes : List ℕ) (reply : Reply) (told hear
       (generates_not words request reply.status (Some []) (Some reply.text.items) form reads)
 
   -- words that ask for what needs no input
-  pub unread_reply : (request : Request) → HasForm words request → reads_input request.form ≡ false →
+  pub unread_reply : (request : Request) → HasForm words request → reads_input request ≡ false →
       IsReplied (Replies request []) reply told heard → IsReplyTo words bytes reply told heard
   unread_reply request form nothing h =
       let is = reply_answers reply.status ((settled words request form []).status reply.status reply.text.items h.places h.right) in
@@ -93,7 +92,7 @@ module _ (words : List (List ℕ)) (bytes : List ℕ) (reply : Reply) (told : Op
       told_by words bytes reply told told (line_replied Usage usage_text is text (no_form none refl refl refl))
       (subst IsAnswer (sym is) tt) (generates_nothing words reply.status (Some []) (Some reply.text.items) none)
 
-  pub size_reply : (request : Request) → HasForm words request → reads_input request.form ≡ true → MOST_INPUT_BYTES < length bytes →
+  pub size_reply : (request : Request) → HasForm words request → reads_input request ≡ true → MOST_INPUT_BYTES < length bytes →
       reply.status ≡ Size → reply.text.items ≡ size_text → IsReplyTo words bytes reply told told
   size_reply request form reads long is text =
       told_by words bytes reply told told (line_replied Size size_text is text (too_long request form reads long refl refl refl))
@@ -108,16 +107,16 @@ unfinished_as words bytes P told heard each (told_some s t p front rest right sp
 
 -- what a command reads of an input
 module _ (words : List (List ℕ)) (input bytes : List ℕ) (request : Request) (form : HasForm words request)
-    (is : bytes ≡ (if reads_input request.form then input else [])) where
-  read_whole : reads_input request.form ≡ true → bytes ≡ input
+    (is : bytes ≡ (if reads_input request then input else [])) where
+  read_whole : reads_input request ≡ true → bytes ≡ input
   read_whole reads = is ∙ ap (λ b. if b then input else []) reads
 
-  read_nothing : reads_input request.form ≡ false → bytes ≡ []
+  read_nothing : reads_input request ≡ false → bytes ≡ []
   read_nothing nothing = is ∙ ap (λ b. if b then input else []) nothing
 
   module _ (reply : Reply) (told heard : Option (List Place)) where
     by_reading : length bytes ≤ MOST_INPUT_BYTES → IsReplied (Replies request bytes) reply told heard →
-        (reads_input request.form ≡ true) ⊎ (reads_input request.form ≡ false) → IsReplyTo words input reply told heard
+        (reads_input request ≡ true) ⊎ (reads_input request ≡ false) → IsReplyTo words input reply told heard
     by_reading within h (inl reads) =
         let same = read_whole reads in
         read_reply words input reply told heard request form reads (subst (λ bs. length bs ≤ MOST_INPUT_BYTES) same within)
@@ -127,21 +126,21 @@ module _ (words : List (List ℕ)) (input bytes : List ℕ) (request : Request) 
         (subst (λ bs. IsReplied (Replies request bs) reply told heard) (read_nothing nothing) h)
 
     pub command_reply : length bytes ≤ MOST_INPUT_BYTES → IsReplied (Replies request bytes) reply told heard → IsReplyTo words input reply told heard
-    command_reply within h = by_reading within h (cases_Bool (reads_input request.form))
+    command_reply within h = by_reading within h (cases_Bool (reads_input request))
 
   module _ (reply : Reply) (told : Option (List Place)) where
     long_by_reading : MOST_INPUT_BYTES < length bytes → reply.status ≡ Size → reply.text.items ≡ size_text →
-        (reads_input request.form ≡ true) ⊎ (reads_input request.form ≡ false) → IsReplyTo words input reply told told
+        (reads_input request ≡ true) ⊎ (reads_input request ≡ false) → IsReplyTo words input reply told told
     long_by_reading long status text (inl reads) =
         size_reply words input reply told request form reads (subst (λ bs. MOST_INPUT_BYTES < length bs) (read_whole reads) long) status text
     long_by_reading long status text (inr nothing) =
         let none : MOST_INPUT_BYTES < 0 = subst (λ bs. MOST_INPUT_BYTES < length bs) (read_nothing nothing) long in absurd (omega (arith, none))
 
     pub long_reply : MOST_INPUT_BYTES < length bytes → reply.status ≡ Size → reply.text.items ≡ size_text → IsReplyTo words input reply told told
-    long_reply long status text = long_by_reading long status text (cases_Bool (reads_input request.form))
+    long_reply long status text = long_by_reading long status text (cases_Bool (reads_input request))
 
   unfinished_by : (told heard : Option (List Place)) → length bytes ≤ MOST_INPUT_BYTES → IsUnfinished (Replies request bytes) told heard →
-      (reads_input request.form ≡ true) ⊎ (reads_input request.form ≡ false) → IsUnfinished (Answers words input) told heard
+      (reads_input request ≡ true) ⊎ (reads_input request ≡ false) → IsUnfinished (Answers words input) told heard
   unfinished_by told heard within h (inl reads) =
       let same = read_whole reads in
       let low = subst (λ bs. length bs ≤ MOST_INPUT_BYTES) same within in
@@ -153,7 +152,7 @@ module _ (words : List (List ℕ)) (input bytes : List ℕ) (request : Request) 
 
   pub command_unfinished : (told heard : Option (List Place)) → length bytes ≤ MOST_INPUT_BYTES →
       IsUnfinished (Replies request bytes) told heard → IsUnfinished (Answers words input) told heard
-  command_unfinished told heard within h = unfinished_by told heard within h (cases_Bool (reads_input request.form))
+  command_unfinished told heard within h = unfinished_by told heard within h (cases_Bool (reads_input request))
 
 pub unfinished_line : (words : List (List ℕ)) (bytes : List ℕ) (told : Option (List Place)) → IsUnfinished (Answers words bytes) told told
 unfinished_line words bytes told = untold (hears-nothing told)

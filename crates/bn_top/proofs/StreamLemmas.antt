@@ -5,9 +5,8 @@ use Rattle.bn_circuits.specs.declared.place.Place.{Place}
 use Rattle.bn_io.specs.Faults.{Rose}
 use Rattle.bn_io.specs.Told.{Grows}
 use Rattle.bn_net.specs.Watching.{Hears}
-use Rattle.bn_words.specs.Forms.{reads_input}
-use Rattle.bn_words.specs.Requests.{Request, HasForm, number_at}
-use Rattle.bn_words.specs.declared.form.Form.{Form}
+use Rattle.bn_words.specs.Requests.{Request, HasForm, reads_input, request_of}
+use Rattle.bn_words.specs.declared.request.Request as declared
 use Rattle.bn_reply.specs.Codes.{IsAnswer, IsReplyStatus}
 use Rattle.bn_reply.specs.Ends as written
 use Rattle.bn_reply.specs.Outside.{Outside, GaveAll, GaveMore, IsLater}
@@ -18,7 +17,7 @@ use Rattle.bn_reply.specs.declared.status.Status.{Status}
 use Rattle.bn_reply.specs.declared.status.Status.TheVariants.{Usage, Size, ReadFault, WriteFault, NoMemory}
 use Rattle.bn_reply.proofs.ReplyLemmas.{begun_as, broken_as}
 use Rattle.bn_reply.proofs.StreamLemmas.{at_bytes, at_longer, read_to_end}
-use Rattle.bn_top.specs.Answers.{Answers, Replies, RepliesBy, replied, too_long}
+use Rattle.bn_top.specs.Answers.{Answers, Replies, replied, too_long}
 use Rattle.bn_top.specs.Clauses.{ClausesApart}
 use Rattle.bn_top.specs.Told.{IsAnswered, IsBegun, IsBroken, IsReadFaultCut}
 use Rattle.bn_top.proofs.Commands.{settled}
@@ -27,7 +26,7 @@ use Rattle.bn_top.proofs.EndLemmas.{for_any, needs_input, reply_answers}
 not_more : (limit count : ℕ) → count ≤ limit → limit < count → ⊥
 not_more limit count few more = omega (arith, few, more)
 
-module _ (words : List (List ℕ)) (request : Request) (form : HasForm words request) (reads : reads_input request.form ≡ true) (result : Status)
+module _ (words : List (List ℕ)) (request : Request) (form : HasForm words request) (reads : reads_input request ≡ true) (result : Status)
     (b a : Outside) (later : IsLater b a) where
   abbrev Sized : List ℕ → Type 0
   Sized bytes = result ≡ Size → MOST_INPUT_BYTES < length bytes → GaveMore b.left a.left MOST_INPUT_BYTES
@@ -228,19 +227,11 @@ module _ (words : List (List ℕ)) (request : Request) (form : HasForm words req
   input_clauses Failed gives ends = failed_clauses gives ends.0 ends.1
   input_clauses Unread gives ends = unread_clauses ends
 
-pub stream_clauses : (words : List (List ℕ)) (request : Request) → HasForm words request → reads_input request.form ≡ true → (result : Status) (b a : Outside) →
+pub stream_clauses : (words : List (List ℕ)) (request : Request) → HasForm words request → reads_input request ≡ true → (result : Status) (b a : Outside) →
     StreamEnds (Replies request) result b a → ClausesApart words result b a
 stream_clauses words request form reads result b a h = input_clauses words request form reads result b a h.later h.input h.gives h.ends
 
--- what a command of this form does, as what is asked for
-pub form_stream : (request : Request) (f : Form) → f ≡ request.form → (result : Status) (b a : Outside) → StreamEnds (RepliesBy f request) result b a →
-    StreamEnds (Replies request) result b a
-form_stream request f is result b a h = subst (λ g. StreamEnds (RepliesBy g request) result b a) is h
-
--- and of a form that counts steps
-pub counted_stream : (request : Request) (f : Form) → f ≡ request.form → (counts : ℕ → List ℕ → Status → List ℕ → List Place → Type 0)
-    (n : ℕ) → n ≡ number_at request 0 → RepliesBy f request ≡ counts (number_at request 0) → (result : Status) (b a : Outside) →
-    StreamEnds (counts n) result b a → StreamEnds (Replies request) result b a
-counted_stream request f is counts n n_is same result b a h =
-    let counted = subst (λ m. StreamEnds (counts m) result b a) n_is h in
-    form_stream request f is result b a (subst (λ r. StreamEnds r result b a) (sym same) counted)
+-- what is done for a request is done for what was asked, where it is this request
+pub stream_as : (asked request : declared.Request) → asked ≡ request → (result : Status) (b a : Outside) →
+    StreamEnds (Replies (request_of request)) result b a → StreamEnds (Replies (request_of asked)) result b a
+stream_as asked request is result b a h = subst (λ r. StreamEnds (Replies (request_of r)) result b a) (sym is) h

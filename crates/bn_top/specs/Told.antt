@@ -4,8 +4,7 @@ use Rattle.bn_circuits.specs.declared.place.Place.{Place}
 use Rattle.bn_io.specs.Faults.{Rose}
 use Rattle.bn_io.specs.Told.{Grows, GrowsByFront}
 use Rattle.bn_net.specs.Watching.{Hears}
-use Rattle.bn_words.specs.Forms.{reads_input}
-use Rattle.bn_words.specs.Requests.{HasForm, Request}
+use Rattle.bn_words.specs.Requests.{HasForm, Request, reads_input}
 use Rattle.bn_gen.specs.Increments.{IsRoundCount}
 use Rattle.bn_reply_boards.specs.GenerateLaws.{TellsGenerated}
 use Rattle.bn_reply.specs.Codes.{IsAnswer}
@@ -51,7 +50,7 @@ pub record IsReadFaultCut (before now : ℕ) (taken took : Option (List ℕ))
 pub record NeedsNoInput (words : List (List ℕ)) : Type 0 where
   pub request : Request
   pub form : HasForm words request
-  pub unread : reads_input request.form ≡ false
+  pub unread : reads_input request ≡ false
 
 -- how such an answer ends: it is that to no bytes at all
 pub record EndsWithoutInput (words : List (List ℕ)) (result : Status) (taken took : Option (List ℕ))

@@ -5,16 +5,17 @@ ghost use Rattle.std.specs.Prelude.{◌≤◌, length};
 ghost use Rattle.bn_reply.specs.Outside.{outside};
 ghost use Rattle.bn_reply.specs.Streams.{AnswerEnds, StreamEnds};
 ghost use Rattle.bn_reply.specs.declared.limits.TheConstants.{MOST_INPUT_BYTES};
+ghost use Rattle.bn_words.specs.Requests.{IsAllowed, request_of};
 ghost use Rattle.bn_top.specs.Answers.{Replies};
 
-use crate::dispatch::{reply_to, windows_of};
+use crate::dispatch::reply_to;
 use bn_io::{ReadRefusal, Sink, Source, read_all};
 use bn_net::Watch;
 use bn_reply::{MOST_INPUT_BYTES, Status, give_reply, tell_long_input, tell_read_fault};
 use bn_reply_boards::give_compile;
 use bn_reply_circuits::{back_stream, give_realise, migrate_stream, plan_stream, step_stream};
 use bn_reply_mirror::mirror_stream;
-use bn_words::{Form, Request};
+use bn_words::Request;
 use std::alloc::Global;
 
 // Answers a request on the input that the source gives: in pieces, where the command takes it so, else whole.
@@ -25,16 +26,17 @@ pub(crate) fn answer_input<S: Source, K: Sink, W: Watch>(
     sink: &mut K,
     watch: &mut W,
 ) -> Status
-    ensures { StreamEnds (Replies request.now) result
+    requires { IsAllowed (request_of request.now) }
+    ensures { StreamEnds (Replies (request_of request.now)) result
         (outside (S.left source.old) (K.taken sink.old) (W.told watch.old) (S.faults source.old) (K.faults sink.old))
         (outside (S.left source.new) (K.taken sink.new) (W.told watch.new) (S.faults source.new) (K.faults sink.new)) }
 {
-    match request.form() {
-        Form::Step => step_stream(alloc, request.number(0), source, sink, watch),
-        Form::Back => back_stream(alloc, request.number(0), source, sink, watch),
-        Form::Plan => plan_stream(alloc, source, sink),
-        Form::Migrate => migrate_stream(alloc, source, sink),
-        Form::Mirror => mirror_stream(alloc, source, sink),
+    match *request {
+        Request::Step { most_steps } => step_stream(alloc, most_steps, source, sink, watch),
+        Request::Back { most_steps } => back_stream(alloc, most_steps, source, sink, watch),
+        Request::Plan => plan_stream(alloc, source, sink),
+        Request::Migrate => migrate_stream(alloc, source, sink),
+        Request::Mirror => mirror_stream(alloc, source, sink),
         _ => answer_whole(alloc, request, source, sink, watch),
     }
 }
@@ -47,7 +49,8 @@ fn answer_whole<S: Source, K: Sink, W: Watch>(
     sink: &mut K,
     watch: &mut W,
 ) -> Status
-    ensures { StreamEnds (Replies request.now) result
+    requires { IsAllowed (request_of request.now) }
+    ensures { StreamEnds (Replies (request_of request.now)) result
         (outside (S.left source.old) (K.taken sink.old) (W.told watch.old) (S.faults source.old) (K.faults sink.old))
         (outside (S.left source.new) (K.taken sink.new) (W.told watch.new) (S.faults source.new) (K.faults sink.new)) }
 {
@@ -67,20 +70,15 @@ pub(crate) fn answer<K: Sink, W: Watch>(
     sink: &mut K,
     watch: &mut W,
 ) -> Status
-    requires { length bytes.now ≤ MOST_INPUT_BYTES }
-    ensures ends { AnswerEnds (Replies request.now bytes.now) result (K.taken sink.old) (K.taken sink.new)
+    requires allowed { IsAllowed (request_of request.now) }
+    requires short { length bytes.now ≤ MOST_INPUT_BYTES }
+    ensures ends { AnswerEnds (Replies (request_of request.now) bytes.now) result (K.taken sink.old) (K.taken sink.new)
         (K.faults sink.old) (K.faults sink.new) (W.told watch.old) (W.told watch.new) }
     ensures later { K.faults sink.old ≤ K.faults sink.new }
 {
-    match request.form() {
-        Form::Realise => give_realise(
-            alloc,
-            request.number(0) as u32,
-            request.number(1) as u32,
-            bytes,
-            sink,
-        ),
-        Form::Compile => give_compile(alloc, request.letters(0), &windows_of(request), bytes, sink),
+    match *request {
+        Request::Realise { state, line } => give_realise(alloc, state, line, bytes, sink),
+        Request::Compile { word, window } => give_compile(alloc, word, &window, bytes, sink),
         _ => give_reply(sink, reply_to(alloc, request, bytes, watch)),
     }
 }

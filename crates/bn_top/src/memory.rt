@@ -3,7 +3,7 @@
 ghost use Rattle.std.specs.Prelude.{◌≡◌, [], map, if◌then◌else◌, IfOk, OnErr};
 ghost use Rattle.std.specs.String.{string_bytes};
 ghost use Rattle.bn_reply.specs.Replying.{IsUnfinished};
-ghost use Rattle.bn_words.specs.Forms.{reads_input};
+ghost use Rattle.bn_words.specs.Requests.{reads_input, request_of};
 ghost use Rattle.bn_reply.specs.Streams.{size_text};
 ghost use Rattle.bn_top.specs.Answers.{Answers, usage_text};
 ghost use Rattle.bn_top.specs.Headlines.{IsReplyTo};
@@ -44,9 +44,9 @@ pub fn reply_in_memory<W: Watch>(
 
 // What the command of a request reads of an input: all of it, or nothing.
 fn bytes_read<'a>(request: &Request<'_>, input: &'a [u8]) -> &'a [u8]
-    ensures { result.now ≡ (if reads_input request.now.form then input.now else []) }
+    ensures { result.now ≡ (if reads_input (request_of request.now) then input.now else []) }
 {
-    if request.form().reads_input() {
+    if request.reads_input() {
         input
     } else {
         b""

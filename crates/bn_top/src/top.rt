@@ -88,7 +88,7 @@ pub(crate) fn answer_words<S: Source, K: Sink, W: Watch>(
     let Some(request) = read_words(words.as_slice()) else {
         return finish(sink, b"usage\n", Status::Usage);
     };
-    if !request.form().reads_input() {
+    if !request.reads_input() {
         return answer(alloc, &request, b"", sink, watch);
     }
     answer_input(alloc, &request, source, sink, watch)

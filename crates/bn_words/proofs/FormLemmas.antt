@@ -1,180 +1,119 @@
--- Words have at most one form: the table's rows differ, two by two.
-use Rattle.std.specs.Prelude.{◌≡◌, ◌≢◌, ℕ, ◌+◌, ◌<◌, ◌≤◌, List, [], ◌∷◌, length, Bool, true, false, ◌||◌, ◌&&◌, not, Option, Some, None, slice_get, map}
-use Rattle.std.specs.Prelude.{if◌then◌else◌, refl, ◌⊎◌}
-use Rattle.std.proofs.Common.{zero, suc, eqb, arith, sym, ap, subst, ◌∙◌, inl, inr}
-use Rattle.std.proofs.lemmas.Bool.{cases_lt, and_parts, eq-eqb}
-use Rattle.std.proofs.lemmas.Option.{slice_get-map, slice_get_within}
-use Rattle.bn_words.specs.Arguments.{AreArguments, HaveNoArguments}
-use Rattle.bn_words.specs.Forms.{Row, row_of}
-use Rattle.bn_words.specs.Requests.{Request, HasForm, HasNoForm}
-use Rattle.bn_words.specs.declared.form.Form.{Form}
-use Rattle.bn_words.specs.declared.form.TheConstants.Form.{ALL}
-use Rattle.bn_words.specs.declared.form.Form.TheVariants.{Step}
-use Rattle.bn_words.proofs.ArgumentLemmas.{arguments_once, either, lists_differ, not_both_lists}
+-- Words have at most one form: by how many they are and what the first one names they are a case's, and what this case says is read off them.
+use Rattle.std.specs.Prelude.{◌≡◌, ℕ, ◌≤◌, List, [], ◌∷◌, Option, Some, None, Result, Ok, Err, codes, decimal, if◌then◌else◌, refl}
+use Rattle.std.specs.Str.{bytes_eq}
+use Rattle.std.proofs.Common.{arith, sym, ap, ◌∙◌}
+use Rattle.bn_base.specs.Number.{greatest, read_number}
+use Rattle.bn_base.specs.declared.numbers.Digits.{Digits}
+use Rattle.bn_machine.specs.Outcome.{Limits}
+use Rattle.bn_assembly.specs.Assembled.{AreSmall}
+use Rattle.bn_words.specs.Requests.{HasForm, IsAllowed, Request, words_of}
+use Rattle.bn_words.specs.Requests.{Step, Back, Check, Machine, Reversible, Bennett, Realise, Standard, Compile, Run, RunAuto, View, Session}
+use Rattle.bn_words.specs.Requests.{Plan, Migrate, Mirror, Farm, Generate, Erase, EraseRun}
+use Rattle.bn_words.proofs.Numbers.{read-whole}
 
--- ---- two rows
+-- ---- what one word would say
 
-abbrev names_differ : List ℕ → List ℕ → Bool
-names_differ [] [] = false
-names_differ [] (b ∷ bs) = true
-names_differ (a ∷ xs) [] = true
-names_differ (a ∷ xs) (b ∷ ys) = not (eqb a b) || names_differ xs ys
+abbrev number_read : Result (ℕ × ℕ) Digits → ℕ
+number_read (Ok p) = p.0
+number_read (Err fault) = 0
 
-itself : (name : List ℕ) → names_differ name name ≡ true → ⊥
-itself [] e = cc
-itself (a ∷ name) e = itself name (subst (λ b. (not b || names_differ name name) ≡ true) (eq-eqb a a refl) e)
+abbrev pub value : List ℕ → ℕ
+value word = number_read (read_number word 0)
 
--- the names differ, or what stands behind them
-abbrev rows_differ : Row → Row → Bool
-rows_differ r s = names_differ r.name s.name || lists_differ r.kinds s.kinds
+value_again : (n : ℕ) → n ≤ greatest → value (decimal n) ≡ n
+value_again n low = ap number_read (read-whole n low)
 
--- the words of a row, and of another
-record AreOf (r : Row) (words : List (List ℕ)) : Type 0 where
-  behind : List (List ℕ)
-  words_are : words ≡ r.name ∷ behind
+abbrev letters : List ℕ → List ℕ
+letters [] = []
+letters (b ∷ word) = word
 
-not_both_rows : (r s : Row) → rows_differ r s ≡ true → (words : List (List ℕ)) (a b : Request) → row_of a.form ≡ r → row_of b.form ≡ s → HasForm words a →
-    HasForm words b → ⊥
-not_both_rows r s e words a b first second h k =
-    let one : (row_of a.form).name ∷ h.behind ≡ (row_of b.form).name ∷ k.behind = sym h.words_are ∙ k.words_are in
-    let names : (row_of a.form).name ≡ (row_of b.form).name = cc in
-    let behind : h.behind ≡ k.behind = cc in
-    elim (either (names_differ r.name s.name) (lists_differ r.kinds s.kinds) e) [
-      | inl apart ↦
-          let same : r.name ≡ s.name = ap (λ (x : Row). x.name) (sym first) ∙ names ∙ ap (λ (x : Row). x.name) second in
-          itself s.name (subst (λ name. names_differ name s.name ≡ true) same apart)
-      | inr apart ↦
-          let left = subst (λ (x : Row). AreArguments x.kinds h.behind a.arguments) first h.arguments in
-          let right = subst (λ (x : Row). AreArguments x.kinds k.behind b.arguments) second k.arguments in
-          not_both_lists r.kinds s.kinds apart k.behind a.arguments b.arguments (subst (λ ws. AreArguments r.kinds ws a.arguments) behind left) right
-    ]
+abbrev limits : List ℕ → List ℕ → List ℕ → List ℕ → Limits
+limits a b c d = record { left = value a; right = value b; steps = value c; output = value d }
 
--- ---- all rows
+limits_again : (l : Limits) → AreSmall l → limits (decimal l.left) (decimal l.right) (decimal l.steps) (decimal l.output) ≡ l
+limits_again l small =
+    let left = value_again l.left (omega (arith, small.left)) in
+    let right = value_again l.right (omega (arith, small.right)) in
+    let steps = value_again l.steps (omega (arith, small.steps)) in
+    let output = value_again l.output (omega (arith, small.output)) in
+    λ t. record { left = left t; right = right t; steps = steps t; output = output t }
 
-abbrev differs_from_all : Row → List Row → Bool
-differs_from_all r [] = true
-differs_from_all r (s ∷ rows) = rows_differ r s && differs_from_all r rows
+-- ---- the only request that words may ask for
 
-abbrev all_differ : List Row → Bool
-all_differ [] = true
-all_differ (r ∷ rows) = differs_from_all r rows && all_differ rows
+abbrev alone : List ℕ → Option Request
+alone name =
+    if bytes_eq name (codes "check") then Some Check
+    else if bytes_eq name (codes "reversible") then Some Reversible
+    else if bytes_eq name (codes "bennett") then Some Bennett
+    else if bytes_eq name (codes "standard") then Some Standard
+    else if bytes_eq name (codes "plan") then Some Plan
+    else if bytes_eq name (codes "migrate") then Some Migrate
+    else if bytes_eq name (codes "mirror") then Some Mirror
+    else if bytes_eq name (codes "farm") then Some Farm
+    else if bytes_eq name (codes "erase") then Some Erase
+    else None
 
-from_each : (r : Row) (rows : List Row) → differs_from_all r rows ≡ true → (j : ℕ) (s : Row) → slice_get rows j ≡ Some s → rows_differ r s ≡ true
-from_each r [] e j s there = cc
-from_each r (q ∷ rows) e zero s there =
-    let same : q ≡ s = cc in
-    subst (λ x. rows_differ r x ≡ true) same (and_parts (rows_differ r q) (differs_from_all r rows) e).0
-from_each r (q ∷ rows) e (suc j) s there = from_each r rows (and_parts (rows_differ r q) (differs_from_all r rows) e).1 j s there
+abbrev with_number : List ℕ → List ℕ → Option Request
+with_number name a =
+    if bytes_eq name (codes "step") then Some (Step (value a))
+    else if bytes_eq name (codes "back") then Some (Back (value a))
+    else Some (Generate (value a))
 
-two_differ : (rows : List Row) → all_differ rows ≡ true → (i j : ℕ) (r s : Row) → i < j → slice_get rows i ≡ Some r → slice_get rows j ≡ Some s →
-    rows_differ r s ≡ true
-two_differ [] e i j r s less here there = cc
-two_differ (q ∷ rows) e i zero r s less here there = absurd (omega arith)
-two_differ (q ∷ rows) e zero (suc j) r s less here there =
-    let same : q ≡ r = cc in
-    subst (λ x. rows_differ x s ≡ true) same (from_each q rows (and_parts (differs_from_all q rows) (all_differ rows) e).0 j s there)
-two_differ (q ∷ rows) e (suc i) (suc j) r s less here there =
-    two_differ rows (and_parts (differs_from_all q rows) (all_differ rows) e).1 i j r s (omega arith) here there
+abbrev with_pair : List ℕ → List ℕ → List ℕ → Option Request
+with_pair name a b =
+    if bytes_eq name (codes "realise") then Some (Realise (value a) (value b))
+    else if bytes_eq name (codes "run") then Some (RunAuto (letters a))
+    else if bytes_eq name (codes "machine") then Some (Machine (letters a) (value b))
+    else Some (EraseRun (letters a) (value b))
 
--- ---- the table
+abbrev with_window : List ℕ → List ℕ → Limits → Option Request
+with_window name a l =
+    if bytes_eq name (codes "compile") then Some (Compile (letters a) l)
+    else if bytes_eq name (codes "run") then Some (Run (letters a) l None)
+    else Some (Session (letters a) l)
 
--- all forms, in the table's order
-abbrev pub forms : List Form
-forms = ALL
+abbrev with_window_and_steps : List ℕ → List ℕ → Limits → List ℕ → Option Request
+with_window_and_steps name a l e =
+    if bytes_eq name (codes "run") then Some (Run (letters a) l (Some (value e)))
+    else Some (View (letters a) l (value e))
 
-table_differs : all_differ (map row_of forms) ≡ true
-table_differs = refl
+abbrev pub only : List (List ℕ) → Option Request
+only (name ∷ []) = alone name
+only (name ∷ a ∷ []) = with_number name a
+only (name ∷ a ∷ b ∷ []) = with_pair name a b
+only (name ∷ a ∷ b ∷ c ∷ d ∷ e ∷ []) = with_window name a (limits b c d e)
+only (name ∷ a ∷ b ∷ c ∷ d ∷ e ∷ f ∷ []) = with_window_and_steps name a (limits b c d e) f
+only _ = None
 
--- how many rows stand before one that doesn't differ
-abbrev rows_before : Row → List Row → ℕ
-rows_before r [] = 0
-rows_before r (s ∷ rows) = if rows_differ r s then suc (rows_before r rows) else 0
+-- it is that of its own words
+again : (r : Request) → IsAllowed r → only (words_of r) ≡ Some r
+again (Step e) h = ap (λ n. Some (Step n)) (value_again e h)
+again (Back e) h = ap (λ n. Some (Back n)) (value_again e h)
+again (Machine w n) h = ap (λ m. Some (Machine w m)) (value_again n (omega (arith, h)))
+again (Realise q i) h =
+    let state = value_again q (omega (arith, h.0.1)) in
+    let line = value_again i (omega (arith, h.1.1)) in
+    λ t. Some (Realise (state t) (line t))
+again (Compile w l) h = ap (λ m. Some (Compile w m)) (limits_again l h)
+again (Run w l None) h = ap (λ m. Some (Run w m None)) (limits_again l h.0)
+again (Run w l (Some e)) h =
+    let window = limits_again l h.0 in
+    let steps = value_again e h.1 in
+    λ t. Some (Run w (window t) (Some (steps t)))
+again (View w l e) h =
+    let window = limits_again l h.0 in
+    let steps = value_again e h.1 in
+    λ t. Some (View w (window t) (steps t))
+again (Session w l) h = ap (λ m. Some (Session w m)) (limits_again l h)
+again (Generate k) h = ap (λ n. Some (Generate n)) (value_again k (omega (arith, h.few)))
+again (EraseRun w n) h = ap (λ m. Some (EraseRun w m)) (value_again n (omega (arith, h)))
+again r h = refl
 
--- the form's place in the table, case by case
-pub place_of : (f : Form) → (i : ℕ) × (slice_get forms i ≡ Some f)
-place_of Step = (rows_before (row_of Step) (map row_of forms), refl)
-place_of f = (rows_before (row_of f) (map row_of forms), refl)
-
-row_at : (i : ℕ) (f : Form) → slice_get forms i ≡ Some f → slice_get (map row_of forms) i ≡ Some (row_of f)
-row_at i f e = slice_get-map row_of forms i ∙ ap (λ (o : Option Form). elim o [ None ↦ None | Some g ↦ Some (row_of g) ]) e
-
-apart : (words : List (List ℕ)) (a b : Request) (i j : ℕ) → slice_get forms i ≡ Some a.form → slice_get forms j ≡ Some b.form → i < j → HasForm words a →
-    HasForm words b → ⊥
-apart words a b i j here there less h k =
-    not_both_rows (row_of a.form) (row_of b.form) (two_differ (map row_of forms) table_differs i j (row_of a.form) (row_of b.form) less (row_at i a.form here)
-    (row_at j b.form there)) words a b refl refl h k
-
-one_row : (words : List (List ℕ)) (a b : Request) → HasForm words a → HasForm words b → a.form ≡ b.form
-one_row words a b h k = by_order (place_of a.form) (place_of b.form)
-  where
-    by_order : ((i : ℕ) × (slice_get forms i ≡ Some a.form)) → ((j : ℕ) × (slice_get forms j ≡ Some b.form)) → a.form ≡ b.form
-    by_order (i, here) (j, there) = by_cases i j here there (cases_lt i j) (cases_lt j i)
-      where
-        by_cases : (i j : ℕ) → slice_get forms i ≡ Some a.form → slice_get forms j ≡ Some b.form → (i < j) ⊎ (j ≤ i) → (j < i) ⊎ (i ≤ j) → a.form ≡ b.form
-        by_cases i j here there (inl less) k' = absurd (apart words a b i j here there less h k)
-        by_cases i j here there (inr _) (inl less) = absurd (apart words b a j i there here less k h)
-        by_cases i j here there (inr more) (inr also) =
-            let same : i ≡ j = omega arith in
-            let one : slice_get forms j ≡ Some a.form = subst (λ n. slice_get forms n ≡ Some a.form) same here in
-            cc
+pub only_form : (words : List (List ℕ)) (r : Request) → HasForm words r → only words ≡ Some r
+only_form words r h = ap only h.words_are ∙ again r h.allowed
 
 -- words have at most one reading
 pub one_form : (words : List (List ℕ)) (a b : Request) → HasForm words a → HasForm words b → a ≡ b
 one_form words a b h k =
-    let forms_are : a.form ≡ b.form = one_row words a b h k in
-    let one : (row_of a.form).name ∷ h.behind ≡ (row_of b.form).name ∷ k.behind = sym h.words_are ∙ k.words_are in
-    let behind : h.behind ≡ k.behind = cc in
-    let left = subst (λ f. AreArguments (row_of f).kinds h.behind a.arguments) forms_are h.arguments in
-    let arguments = arguments_once (row_of b.form).kinds k.behind a.arguments b.arguments
-    (subst (λ ws. AreArguments (row_of b.form).kinds ws a.arguments) behind left) k.arguments in
-    λ t. record { form = forms_are t; arguments = arguments t }
-
--- no form has more words behind its name than this
-pub few_kinds : (f : Form) → length (row_of f).kinds ≤ 6
-few_kinds Step = omega arith
-few_kinds f = omega arith
-
--- the first n forms of the table have none of the words
-unfoldable pub NoneBefore : List (List ℕ) → ℕ → Type 0
-NoneBefore words n = (k : ℕ) → k < n → (request : Request) → slice_get forms k ≡ Some request.form → HasForm words request → ⊥
-
-pub none_at_first : (words : List (List ℕ)) → NoneBefore words 0
-unfolding NoneBefore
-none_at_first words k low = absurd (omega arith)
-
--- a form whose name it isn't, or whose kinds they aren't
-pub not_of_form : (words : List (List ℕ)) (name : List ℕ) (behind : List (List ℕ)) (f : Form) → words ≡ name ∷ behind →
-    ((row_of f).name ≢ name) ⊎ HaveNoArguments (row_of f).kinds behind → (request : Request) → request.form ≡ f → HasForm words request → ⊥
-not_of_form words name behind f words_are why request of h = by_cause why
-  where
-    one : (row_of request.form).name ∷ h.behind ≡ name ∷ behind
-    one = sym h.words_are ∙ words_are
-
-    by_cause : ((row_of f).name ≢ name) ⊎ HaveNoArguments (row_of f).kinds behind → ⊥
-    by_cause (inl other) =
-        let names : (row_of request.form).name ≡ name = let e = one in cc in
-        other (ap (λ g. (row_of g).name) (sym of) ∙ names)
-    by_cause (inr none) =
-        let rest : h.behind ≡ behind = let e = one in cc in
-        none request.arguments (subst (λ ws. AreArguments (row_of f).kinds ws request.arguments) rest
-        (subst (λ g. AreArguments (row_of g).kinds h.behind request.arguments) of h.arguments))
-
-pub none_more : (words : List (List ℕ)) (n : ℕ) (f : Form) → NoneBefore words n → slice_get forms n ≡ Some f →
-    ((request : Request) → request.form ≡ f → HasForm words request → ⊥) → NoneBefore words (n + 1)
-unfolding NoneBefore
-none_more words n f before here none k low request there h = by_order (cases_lt k n)
-  where
-    by_order : (k < n) ⊎ (n ≤ k) → ⊥
-    by_order (inl less) = before k less request there h
-    by_order (inr more) =
-        let same : k ≡ n = omega arith in
-        let also : slice_get forms n ≡ Some request.form = subst (λ i. slice_get forms i ≡ Some request.form) same there in
-        let one : request.form ≡ f = cc in
-        none request one h
-
-pub none_at_all : (words : List (List ℕ)) (n : ℕ) → length forms ≤ n → NoneBefore words n → HasNoForm words
-unfolding NoneBefore
-none_at_all words n all before request h =
-    let place = place_of request.form in
-    let inside = slice_get_within forms place.0 request.form place.1 in
-    before place.0 (omega arith) request place.1 h
+    let one : Some a ≡ Some b = sym (only_form words a h) ∙ only_form words b k in
+    cc

@@ -1,4 +1,4 @@
 pub mod Numbers
-pub mod ArgumentLemmas
 pub mod FormLemmas
 pub mod DecideLemmas
+pub mod NoFormLemmas

@@ -4,7 +4,7 @@ use Rattle.std.proofs.Common.{arith, sym, ap, subst, ◌∙◌, append-nil}
 use Rattle.bn_base.specs.Number.{read_number, greatest}
 use Rattle.bn_base.proofs.NumberLemmas.{read_number-again}
 use Rattle.bn_base.specs.declared.numbers.Digits.{Digits}
-use Rattle.bn_words.specs.Arguments.{IsNoNumber}
+use Rattle.bn_words.specs.Words.{IsNoNumber}
 
 pub read-whole : (n : ℕ) → n ≤ greatest → read_number (decimal n) 0 ≡ Ok (n, length (decimal n))
 read-whole n bound =

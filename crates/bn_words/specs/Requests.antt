@@ -1,64 +1,129 @@
--- What a command line asks for, and its words (this project's own profile).
-use Rattle.std.specs.Prelude.{◌≡◌, ℕ, ◌≤◌, List, [], ◌∷◌, Option, Some, slice_get}
-use Rattle.bn_words.specs.Arguments.{Argument, Number, Word, Fixed, AreArguments}
-use Rattle.bn_words.specs.Forms.{row_of}
-use Rattle.bn_words.specs.declared.form.Form.{Form}
-use Rattle.bn_words.specs.declared.kind.Kind.{Kind}
-use Rattle.bn_words.specs.declared.kind.Kind.TheVariants.{Count, Ordinal, Letters, Auto}
+-- What a command line asks for, and the words that ask for it (this project's own profile).
+use Rattle.std.specs.Prelude.{◌≡◌, ℕ, ◌≤◌, Bool, true, false, List, [], ◌∷◌, Option, Some, None, IfSome, codes, decimal}
+use Rattle.bn_base.specs.Number.{greatest}
+use Rattle.bn_base.specs.declared.limits.TheConstants.{MOST_COUNT}
+use Rattle.bn_machine.specs.Outcome.{Limits}
+use Rattle.bn_gen.specs.Increments.{IsRoundCount}
+use Rattle.bn_assembly.specs.Assembled.{AreSmall, limits_of}
+use Rattle.bn_words.specs.declared.request.Request as declared
+use Rattle.bn_words.specs.declared.request.Request.TheVariants as variants
 
--- a form, and what the words behind the name say
-pub record Request : Type 0 where
-  pub form : Form
-  pub arguments : List Argument
+-- What is asked for, a case a form: numbers, the letters of a word, the limits of a window, and a greatest number of
+-- steps where there may be none.
+pub data Request : Type 0 where
+  Step : ℕ → Request
+  Back : ℕ → Request
+  Check : Request
+  Machine : List ℕ → ℕ → Request
+  Reversible : Request
+  Bennett : Request
+  Realise : ℕ → ℕ → Request
+  Standard : Request
+  Compile : List ℕ → Limits → Request
+  Run : List ℕ → Limits → Option ℕ → Request
+  RunAuto : List ℕ → Request
+  View : List ℕ → Limits → ℕ → Request
+  Session : List ℕ → Limits → Request
+  Plan : Request
+  Migrate : Request
+  Mirror : Request
+  Farm : Request
+  Generate : ℕ → Request
+  Erase : Request
+  EraseRun : List ℕ → ℕ → Request
 
--- the words are a name and words behind it of the row's kinds, and say this
+-- ---- its words
+
+-- a word behind the byte `=`, the four limits of a window in decimal digits, and what stands behind them
+abbrev pub window_words : List ℕ → Limits → List (List ℕ) → List (List ℕ)
+window_words word l rest =
+    (61 ∷ word) ∷ decimal l.left ∷ decimal l.right ∷ decimal l.steps ∷ decimal l.output ∷ rest
+
+-- the word of a greatest number of steps, or no word
+abbrev pub steps_words : Option ℕ → List (List ℕ)
+steps_words None = []
+steps_words (Some e) = decimal e ∷ []
+
+-- the words that ask for it: the command's name, and behind it letters behind the byte `=`, numbers in decimal digits,
+-- or the word `auto`
+abbrev pub words_of : Request → List (List ℕ)
+words_of (Step e) = codes "step" ∷ decimal e ∷ []
+words_of (Back e) = codes "back" ∷ decimal e ∷ []
+words_of Check = codes "check" ∷ []
+words_of (Machine word n) = codes "machine" ∷ (61 ∷ word) ∷ decimal n ∷ []
+words_of Reversible = codes "reversible" ∷ []
+words_of Bennett = codes "bennett" ∷ []
+words_of (Realise q i) = codes "realise" ∷ decimal q ∷ decimal i ∷ []
+words_of Standard = codes "standard" ∷ []
+words_of (Compile word l) = codes "compile" ∷ window_words word l []
+words_of (Run word l given) = codes "run" ∷ window_words word l (steps_words given)
+words_of (RunAuto word) = codes "run" ∷ (61 ∷ word) ∷ codes "auto" ∷ []
+words_of (View word l e) = codes "view" ∷ window_words word l (decimal e ∷ [])
+words_of (Session word l) = codes "session" ∷ window_words word l []
+words_of Plan = codes "plan" ∷ []
+words_of Migrate = codes "migrate" ∷ []
+words_of Mirror = codes "mirror" ∷ []
+words_of Farm = codes "farm" ∷ []
+words_of (Generate k) = codes "generate" ∷ decimal k ∷ []
+words_of Erase = codes "erase" ∷ []
+words_of (EraseRun word n) = codes "erase" ∷ (61 ∷ word) ∷ decimal n ∷ []
+
+-- ---- its limits
+
+-- a number from 1 to the greatest count
+abbrev pub IsOrdinal : ℕ → Type 0
+IsOrdinal n = (1 ≤ n) × (n ≤ MOST_COUNT)
+
+-- each of its numbers is within its limit: a circuit's steps are at most 2^62, what is counted of a machine at most the
+-- greatest count, and there are from 1 to 4 increments
+abbrev pub IsAllowed : Request → Type 0
+IsAllowed (Step e) = e ≤ greatest
+IsAllowed (Back e) = e ≤ greatest
+IsAllowed (Machine word n) = n ≤ MOST_COUNT
+IsAllowed (Realise q i) = IsOrdinal q × IsOrdinal i
+IsAllowed (Compile word l) = AreSmall l
+IsAllowed (Run word l given) = AreSmall l × IfSome given (λ e. e ≤ greatest)
+IsAllowed (View word l e) = AreSmall l × (e ≤ greatest)
+IsAllowed (Session word l) = AreSmall l
+IsAllowed (Generate k) = IsRoundCount k
+IsAllowed (EraseRun word n) = n ≤ MOST_COUNT
+IsAllowed _ = Unit {0}
+
+-- ---- words and requests
+
+-- the words ask for this: they are its words, and it is allowed
 pub record HasForm (words : List (List ℕ)) (request : Request) : Type 0 where
-  pub behind : List (List ℕ)
-  pub words_are : words ≡ (row_of request.form).name ∷ behind
-  pub arguments : AreArguments (row_of request.form).kinds behind request.arguments
-
--- of this form, with what these words behind the name say
-pub record IsOfForm (form : Form) (behind : List (List ℕ)) (request : Request) : Type 0 where
-  pub form_is : request.form ≡ form
-  pub arguments : AreArguments (row_of form).kinds behind request.arguments
+  pub words_are : words ≡ words_of request
+  pub allowed : IsAllowed request
 
 -- the words ask for nothing
 abbrev pub HasNoForm : List (List ℕ) → Type 0
 HasNoForm words = (request : Request) → HasForm words request → ⊥
 
--- the argument at a place, counted from 0: its number, or its letters
-abbrev pub argument_number : Option Argument → ℕ
-argument_number (Some (Number n)) = n
-argument_number _ = 0
+-- whether the command reads an input
+abbrev pub reads_input : Request → Bool
+reads_input (Generate k) = false
+reads_input _ = true
 
-abbrev pub argument_letters : Option Argument → List ℕ
-argument_letters (Some (Word letters)) = letters
-argument_letters _ = []
-
-abbrev pub number_at : Request → ℕ → ℕ
-number_at request place = argument_number (slice_get request.arguments place)
-
-abbrev pub letters_at : Request → ℕ → List ℕ
-letters_at request place = argument_letters (slice_get request.arguments place)
-
--- what is said is in the limits of the row
-abbrev pub IsWithin : Kind → Argument → Type 0
-IsWithin (Count most) (Number n) = n ≤ most
-IsWithin (Ordinal most) (Number n) = (1 ≤ n) × (n ≤ most)
-IsWithin Letters (Word letters) = Unit {0}
-IsWithin Auto Fixed = Unit {0}
-IsWithin _ _ = ⊥
-
-abbrev pub AreWithin : List Kind → List Argument → Type 0
-AreWithin [] [] = Unit {0}
-AreWithin (kind ∷ kinds) (argument ∷ arguments) = IsWithin kind argument × AreWithin kinds arguments
-AreWithin _ _ = ⊥
-
-abbrev pub IsRequest : Request → Type 0
-IsRequest request = AreWithin (row_of request.form).kinds request.arguments
-
--- a number is wanted there
-abbrev pub IsNumeric : Option Kind → Type 0
-IsNumeric (Some (Count most)) = Unit {0}
-IsNumeric (Some (Ordinal most)) = Unit {0}
-IsNumeric _ = ⊥
+-- what the program's request asks for
+abbrev pub request_of : declared.Request → Request
+request_of (variants.Step e) = Step e
+request_of (variants.Back e) = Back e
+request_of variants.Check = Check
+request_of (variants.Machine word n) = Machine word.now n
+request_of variants.Reversible = Reversible
+request_of variants.Bennett = Bennett
+request_of (variants.Realise q i) = Realise q i
+request_of variants.Standard = Standard
+request_of (variants.Compile word window) = Compile word.now (limits_of window)
+request_of (variants.Run word window given) = Run word.now (limits_of window) given
+request_of (variants.RunAuto word) = RunAuto word.now
+request_of (variants.View word window e) = View word.now (limits_of window) e
+request_of (variants.Session word window) = Session word.now (limits_of window)
+request_of variants.Plan = Plan
+request_of variants.Migrate = Migrate
+request_of variants.Mirror = Mirror
+request_of variants.Farm = Farm
+request_of (variants.Generate k) = Generate k
+request_of variants.Erase = Erase
+request_of (variants.EraseRun word n) = EraseRun word.now n

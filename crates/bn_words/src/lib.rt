@@ -1,13 +1,11 @@
-//! The words of a command line: a table of the forms that they may have, and the one reader over it.
+//! The words of a command line: what they ask for, and the one reader.
 #![tactic(auto)]
 
-mod form;
-mod kind;
 mod laws;
+mod read;
 mod request;
-mod value;
+mod word;
 
-pub use form::Form;
-pub use kind::Kind;
 pub use laws::{words_have_a_form_or_none, words_have_one_reading};
-pub use request::{Request, read_words};
+pub use read::read_words;
+pub use request::Request;

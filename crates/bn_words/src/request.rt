@@ -1,111 +1,112 @@
 //! What a command line asks for.
 
-ghost use Rattle.std.specs.Prelude.{map, MatchOption};
-ghost use Rattle.std.specs.String.{string_bytes};
-ghost use Rattle.bn_words.specs.Arguments.{HaveNoArguments};
-ghost use Rattle.bn_words.specs.Forms.{row_of};
-ghost use Rattle.bn_words.specs.Requests.{HasForm, HasNoForm, IsOfForm};
+ghost use Rattle.std.specs.Prelude.{◌≡◌};
+ghost use Rattle.bn_words.specs.Requests.{reads_input, request_of};
 
-use crate::form::Form;
-use crate::kind::Kind;
-use crate::value::Value;
-use std::marker::Model;
+use bn_assembly::Windows;
 
-/// The greatest number of words behind a command's name.
-const MOST_WORDS: usize = 6;
-
-/// A form of the table, and what the words behind the name say. Callers see the two.
-#[derive(Drop)]
-pub struct Request<'a> {
-    form: Form,
-    values: [Value<'a>; MOST_WORDS],
-}
-
-impl<'a> Model for Request<'a> {
-    ghost use Rattle.std.specs.Prelude.{map, take, length};
-    ghost use Rattle.bn_words.specs.Arguments.{argument_of};
-    ghost use Rattle.bn_words.specs.Forms.{row_of};
-    ghost use Rattle.bn_words.specs.Requests.{Request, IsRequest};
-
-    ghost Value = { Request };
-
-    ghost view = { λ r. record {
-      form = r.form;
-      arguments = map argument_of
-          (take (length (row_of r.form).kinds) r.values);
-    } };
-
-    ghost invariant = { λ r. IsRequest (record {
-      form = r.form;
-      arguments = map argument_of
-          (take (length (row_of r.form).kinds) r.values);
-    }) };
+/// What the words of a command line ask for, a variant a form. A word W stands behind the byte `=`, and a window is four
+/// words l1 r1 n r3: tape 1 reaches from -l1 to r1, the history holds n steps, and the output tape reaches from 0 to r3.
+#[derive(Clone, Copy, Debug)]
+pub enum Request<'a> {
+    /// `step E`: at most E steps of a circuit.
+    Step {
+        /// The greatest number of steps.
+        most_steps: u64,
+    },
+    /// `back E`: at most E steps back.
+    Back {
+        /// The greatest number of steps.
+        most_steps: u64,
+    },
+    /// `check`: the verdict on standard form.
+    Check,
+    /// `machine =W n`: a machine's own run from the word W, of at most n steps.
+    Machine {
+        /// The letters of the word.
+        word: &'a [u8],
+        /// The greatest number of steps.
+        most_steps: u32,
+    },
+    /// `reversible`: the two verdicts on quadruples.
+    Reversible,
+    /// `bennett`: the table of Bennett's reversible machine.
+    Bennett,
+    /// `realise Q I`: the text of a bank in state Q with the signal at line I.
+    Realise {
+        /// The state, counted from 1.
+        state: u32,
+        /// The line, counted from 1.
+        line: u32,
+    },
+    /// `standard`: a machine that starts on the first letter, brought into standard form.
+    Standard,
+    /// `compile =W l1 r1 n r3`: the text of the board of a machine and the word W in a window.
+    Compile {
+        /// The letters of the word.
+        word: &'a [u8],
+        /// The window.
+        window: Windows,
+    },
+    /// `run =W l1 r1 n r3` and `run =W l1 r1 n r3 E`: the run of that board up to its exit, or of at most E steps.
+    Run {
+        /// The letters of the word.
+        word: &'a [u8],
+        /// The window.
+        window: Windows,
+        /// The greatest number of steps, where there is one.
+        most_steps: Option<u64>,
+    },
+    /// `run =W auto`: the run of that board in a window that the program finds.
+    RunAuto {
+        /// The letters of the word.
+        word: &'a [u8],
+    },
+    /// `view =W l1 r1 n r3 E`: every layer of that board after at most E steps.
+    View {
+        /// The letters of the word.
+        word: &'a [u8],
+        /// The window.
+        window: Windows,
+        /// The greatest number of steps.
+        most_steps: u64,
+    },
+    /// `session =W l1 r1 n r3`: a script, behind the table and a line `%`, played on that board.
+    Session {
+        /// The letters of the word.
+        word: &'a [u8],
+        /// The window.
+        window: Windows,
+    },
+    /// `plan`: the floor plan of a circuit, with the least number of tracks.
+    Plan,
+    /// `migrate`: a configuration text in version 2.
+    Migrate,
+    /// `mirror`: a circuit whose steps are the steps back of the first.
+    Mirror,
+    /// `farm`: several circuits under a schedule, and the schedule that undoes it.
+    Farm,
+    /// `generate k`: the run of the machine of k increments. It reads no input.
+    Generate {
+        /// The number of increments.
+        increments: u32,
+    },
+    /// `erase`: the machine of two tables that leaves only its output.
+    Erase,
+    /// `erase =W n`: the run of that machine from the word W, of at most n steps.
+    EraseRun {
+        /// The letters of the word.
+        word: &'a [u8],
+        /// The greatest number of steps.
+        most_steps: u32,
+    },
 }
 
 impl<'a> Request<'a> {
-    ghost use Rattle.std.specs.Prelude.{◌≡◌, ◌<◌, slice_get, Some};
-    ghost use Rattle.bn_words.specs.Forms.{row_of};
-    ghost use Rattle.bn_words.specs.Requests.{IsNumeric, IsRequest, letters_at, number_at};
-
-    /// The form.
-    pub fn form(&self) -> Form
-        ensures value { result ≡ self.now.form }
-        ensures within { IsRequest self.now }
+    /// Whether the command reads an input.
+    pub fn reads_input(&self) -> bool
+        ensures { result ≡ reads_input (request_of self.now) }
     {
-        self.form
+        !matches!(self, Request::Generate { .. })
     }
-
-    /// The number that stands at a place behind the name, counted from 0.
-    pub fn number(&self, place: usize) -> u64
-        requires { IsNumeric (slice_get (row_of self.now.form).kinds place) }
-        ensures { result ≡ number_at self.now place }
-    {
-        match self.values[place] {
-            Value::Number(number) => number,
-            Value::Letters(_) | Value::Fixed => unreachable!(),
-        }
-    }
-
-    /// The letters that stand at a place behind the name, counted from 0.
-    pub fn letters(&self, place: usize) -> &'a [u8]
-        requires { slice_get (row_of self.now.form).kinds place ≡ Some Kind.Letters }
-        ensures { result.now ≡ letters_at self.now place }
-    {
-        match self.values[place] {
-            Value::Letters(letters) => letters,
-            Value::Number(_) | Value::Fixed => unreachable!(),
-        }
-    }
-}
-
-/// What the words of a command line ask for, by the table of forms; `None` exactly where they have none of
-/// the forms.
-pub fn read_words(words: &[String]) -> Option<Request<'_>>
-    ensures { MatchOption result (HasNoForm (map string_bytes words.now)) (HasForm (map string_bytes words.now)) }
-{
-    let (name, behind) = words.split_first()?;
-    for form in Form::ALL {
-        if form.row().name == name.as_str() {
-            if let Some(request) = request_of(form, behind) {
-                return Some(request);
-            }
-        }
-    }
-    None
-}
-
-// What the words behind the name of a form say, `None` exactly where they aren't of its kinds.
-fn request_of(form: Form, words: &[String]) -> Option<Request<'_>>
-    ensures { MatchOption result (HaveNoArguments (row_of form).kinds (map string_bytes words.now))
-        (IsOfForm form (map string_bytes words.now)) }
-{
-    let kinds = form.row().kinds;
-    if words.len() != kinds.len() {
-        return None;
-    }
-    let mut values = [Value::Number(0); MOST_WORDS];
-    for (place, kind) in kinds.iter().enumerate() {
-        values[place] = kind.value_of(words[place].as_str())?;
-    }
-    Some(Request { form, values })
 }

@@ -1,5 +1,6 @@
 use Rattle.std.proofs.Common.{◌≡◌, ◌<◌, ◌≤◌, map, length, Global, arith}
 use Rattle.std.specs.String.{string_bytes}
+use Rattle.bn_words.specs.Requests.{request_of}
 use Rattle.bn_reply.specs.Replying.{IsReplied, IsUnfinished}
 use Rattle.bn_reply.specs.declared.limits.TheConstants.{MOST_INPUT_BYTES}
 use Rattle.bn_reply.specs.declared.status.Status.TheVariants.{Usage, Size}
@@ -29,7 +30,7 @@ returns-then-count-gt-MOST_INPUT_BYTES-clause-replied g c =
     let bytes = c.bytes_read-bytes.result.now in
     let long : MOST_INPUT_BYTES < length bytes = omega (arith, c.if-count-gt-MOST_INPUT_BYTES.true) in
     for_both c.too_long.result (λ r. r.status ≡ Size) (λ r. r.text.items ≡ size_text) (λ r. IsReplyTo words c.args.input.now r told told)
-    (λ r is text. long_reply words c.args.input.now bytes c.in-Some.request c.in-Some.ensures c.bytes_read-bytes.ensures r told long is text)
+    (λ r is text. long_reply words c.args.input.now bytes (request_of c.in-Some.request) c.in-Some.ensures c.bytes_read-bytes.ensures r told long is text)
     c.too_long.ensures.status c.too_long.ensures.text
 
 pub returns-then-count-gt-MOST_INPUT_BYTES-clause-no_memory : goal.returns-then-count-gt-MOST_INPUT_BYTES-clause-no_memory
@@ -45,8 +46,8 @@ returns-clause-replied g c =
     let heard = g.W.Watch.told c.reply_to.new.watch in
     let bytes = c.bytes_read-bytes.result.now in
     let within : length bytes ≤ MOST_INPUT_BYTES = omega (arith, c.if-count-gt-MOST_INPUT_BYTES.false) in
-    for_reply c.reply_to.result (λ r. IsReplied (Replies c.in-Some.request bytes) r told heard) (λ r. IsReplyTo words c.args.input.now r told heard)
-    (λ r h. command_reply words c.args.input.now bytes c.in-Some.request c.in-Some.ensures c.bytes_read-bytes.ensures r told heard within h)
+    for_reply c.reply_to.result (λ r. IsReplied (Replies (request_of c.in-Some.request) bytes) r told heard) (λ r. IsReplyTo words c.args.input.now r told heard)
+    (λ r h. command_reply words c.args.input.now bytes (request_of c.in-Some.request) c.in-Some.ensures c.bytes_read-bytes.ensures r told heard within h)
     c.reply_to.ensures.replied
 
 pub returns-clause-no_memory : goal.returns-clause-no_memory
@@ -56,6 +57,6 @@ returns-clause-no_memory g c =
     let heard = g.W.Watch.told c.reply_to.new.watch in
     let bytes = c.bytes_read-bytes.result.now in
     let within : length bytes ≤ MOST_INPUT_BYTES = omega (arith, c.if-count-gt-MOST_INPUT_BYTES.false) in
-    for_none c.reply_to.result (IsUnfinished (Replies c.in-Some.request bytes) told heard) (IsUnfinished (Answers words c.args.input.now) told heard)
-    (λ h. command_unfinished words c.args.input.now bytes c.in-Some.request c.in-Some.ensures c.bytes_read-bytes.ensures told heard within h)
+    for_none c.reply_to.result (IsUnfinished (Replies (request_of c.in-Some.request) bytes) told heard) (IsUnfinished (Answers words c.args.input.now) told heard)
+    (λ h. command_unfinished words c.args.input.now bytes (request_of c.in-Some.request) c.in-Some.ensures c.bytes_read-bytes.ensures told heard within h)
     c.reply_to.ensures.interrupted

@@ -1,7 +1,7 @@
 use Rattle.std.proofs.Common.{length, ap, sym, ◌∙◌}
 use Rattle.bn_base.specs.Number.{read_number}
 use Rattle.bn_words.proofs.Numbers.{no_number, same_end}
-use Rattle.bn_words.proofs.kind.number_of.Goals as goal
+use Rattle.bn_words.proofs.word.number_of.Goals as goal
 
 pub returns-else-end-word : goal.returns-else-end-word
 returns-else-end-word c =

@@ -1,0 +1,101 @@
+-- Where words ask for nothing: what the reader tests of them, and the words that it takes of a slice.
+use Rattle.std.specs.Prelude.{◌≡◌, ◌≢◌, ℕ, ◌<◌, ◌≤◌, List, [], ◌∷◌, length, map, Option, Some, None, codes, decimal, ◌⊎◌}
+use Rattle.std.proofs.Common.{get_or, arith, inl, inr, sym, ap, subst, ◌∙◌}
+use Rattle.std.proofs.lemmas.List.{length-map}
+use Rattle.bn_base.specs.Number.{greatest}
+use Rattle.bn_base.specs.declared.limits.TheConstants.{MOST_COUNT}
+use Rattle.bn_base.proofs.NumberLemmas.{decimal-once}
+use Rattle.bn_gen.specs.declared.machine.TheConstants.{MOST_INCREMENTS}
+use Rattle.bn_machine.specs.Outcome.{Limits}
+use Rattle.bn_words.specs.Requests.{HasForm, HasNoForm, Request}
+use Rattle.bn_words.specs.Requests.{Step, Back, Check, Machine, Reversible, Bennett, Realise, Standard, Compile, Run, RunAuto, View, Session}
+use Rattle.bn_words.specs.Requests.{Plan, Migrate, Mirror, Farm, Generate, Erase, EraseRun}
+use Rattle.bn_words.specs.Words.{IsCount, IsNoCount, IsNumber}
+use Rattle.bn_words.proofs.FormLemmas.{only_form, value}
+
+-- ---- one word
+
+number_once : (word : List ℕ) (m n : ℕ) → IsNumber word m → IsNumber word n → m ≡ n
+number_once word m n a b = decimal-once m n a.bound b.bound (sym a.spelled ∙ b.spelled)
+
+-- a number that is out of the limit is no count
+pub no_count : (word : List ℕ) (n : ℕ) → IsNumber word n → MOST_COUNT < n → IsNoCount word
+no_count word n is over m h =
+    let low : m ≤ greatest = omega (arith, h.bound) in
+    let same = number_once word m n (record { spelled = h.spelled; bound = low }) is in
+    absurd (omega (arith, same, over, h.bound))
+
+-- a number of increments that is out of the limits
+pub no_increments : (name word : List ℕ) (n : ℕ) → name ≡ codes "generate" → IsNumber word n → (n < 1) ⊎ (MOST_INCREMENTS < n) →
+    HasNoForm (name ∷ word ∷ [])
+no_increments name word n is number out (Generate k) h =
+    let low : k ≤ greatest = omega (arith, h.allowed.few) in
+    let same : k ≡ n = number_once word k n (record { spelled = let words = h.words_are in cc; bound = low }) number in
+    beyond k same h.allowed.some h.allowed.few out
+  where
+    beyond : (m : ℕ) → m ≡ n → 1 ≤ m → m ≤ MOST_INCREMENTS → (n < 1) ⊎ (MOST_INCREMENTS < n) → ⊥
+    beyond m e some few (inl under) = omega (arith, e, some, under)
+    beyond m e some few (inr over) = omega (arith, e, few, over)
+no_increments name word n is number out r h = let words = h.words_are in cc
+
+-- ---- a name and two words
+
+count_once : (word : List ℕ) (m n : ℕ) → IsCount word m → IsCount word n → m ≡ n
+count_once word m n a b =
+    let few : m ≤ greatest = omega (arith, a.bound) in
+    let low : n ≤ greatest = omega (arith, b.bound) in
+    decimal-once m n few low (sym a.spelled ∙ b.spelled)
+
+-- a state or a line that is 0
+pub no_ordinals : (name first second : List ℕ) (q i : ℕ) → name ≡ codes "realise" → IsCount first q → IsCount second i → (q < 1) ⊎ (i < 1) →
+    HasNoForm (name ∷ first ∷ second ∷ [])
+no_ordinals name first second q i is state line out request h =
+    let asked = subst (λ n. HasForm (n ∷ first ∷ second ∷ []) request) is h in
+    let one : Some (Realise (value first) (value second)) ≡ Some request = only_form (codes "realise" ∷ first ∷ second ∷ []) request asked in
+    let request_is : request ≡ Realise (value first) (value second) = cc in
+    within (value first) (value second) (subst (λ r. HasForm (name ∷ first ∷ second ∷ []) r) request_is h)
+  where
+    under : (m n : ℕ) → m ≡ q → n ≡ i → 1 ≤ m → 1 ≤ n → (q < 1) ⊎ (i < 1) → ⊥
+    under m n e f some least (inl low) = omega (arith, e, some, low)
+    under m n e f some least (inr low) = omega (arith, f, least, low)
+
+    within : (p j : ℕ) → HasForm (name ∷ first ∷ second ∷ []) (Realise p j) → ⊥
+    within p j k =
+        let p_is = count_once first p q (record { spelled = let words = k.words_are in cc; bound = k.allowed.0.1 }) state in
+        let j_is = count_once second j i (record { spelled = let words = k.words_are in cc; bound = k.allowed.1.1 }) line in
+        under p j p_is j_is k.allowed.0.0 k.allowed.1.0 out
+
+-- ---- the words of a slice
+
+no_length : (words : List (List ℕ)) → length words ≢ 1 → length words ≢ 2 → length words ≢ 3 → length words ≢ 6 → length words ≢ 7 → HasNoForm words
+no_length words a b c d e (Step n) h = b (ap length h.words_are)
+no_length words a b c d e (Back n) h = b (ap length h.words_are)
+no_length words a b c d e (Machine w n) h = c (ap length h.words_are)
+no_length words a b c d e (Realise q i) h = c (ap length h.words_are)
+no_length words a b c d e (Compile w l) h = d (ap length h.words_are)
+no_length words a b c d e (Run w l None) h = d (ap length h.words_are)
+no_length words a b c d e (Run w l (Some n)) h = e (ap length h.words_are)
+no_length words a b c d e (RunAuto w) h = c (ap length h.words_are)
+no_length words a b c d e (View w l n) h = e (ap length h.words_are)
+no_length words a b c d e (Session w l) h = d (ap length h.words_are)
+no_length words a b c d e (Generate k) h = b (ap length h.words_are)
+no_length words a b c d e (EraseRun w n) h = c (ap length h.words_are)
+no_length words a b c d e r h = a (ap length h.words_are)
+
+module _ {S : Type 0} (text : S → List ℕ) where
+  -- another number of words
+  pub other_length : (ws : List S) → length ws ≢ 1 → length ws ≢ 2 → length ws ≢ 3 → length ws ≢ 6 → length ws ≢ 7 → HasNoForm (map text ws)
+  other_length ws a b c d e =
+      let all : length (map text ws) ≡ length ws = simp length-map in
+      no_length (map text ws) (λ n. a (sym all ∙ n)) (λ n. b (sym all ∙ n)) (λ n. c (sym all ∙ n)) (λ n. d (sym all ∙ n)) (λ n. e (sym all ∙ n))
+
+  pub six_texts : (ws : List S) (a b c d e f : S) → length ws ≡ 6 → a ≡ get_or ws 0 a → b ≡ get_or ws 1 b → c ≡ get_or ws 2 c →
+      d ≡ get_or ws 3 d → e ≡ get_or ws 4 e → f ≡ get_or ws 5 f → map text ws ≡ text a ∷ text b ∷ text c ∷ text d ∷ text e ∷ text f ∷ []
+  six_texts (u ∷ v ∷ w ∷ x ∷ y ∷ z ∷ []) a b c d e f n p q r s t o = cc
+  six_texts ws a b c d e f n p q r s t o = absurd (omega (arith, n))
+
+  pub seven_texts : (ws : List S) (a b c d e f g : S) → length ws ≡ 7 → a ≡ get_or ws 0 a → b ≡ get_or ws 1 b → c ≡ get_or ws 2 c →
+      d ≡ get_or ws 3 d → e ≡ get_or ws 4 e → f ≡ get_or ws 5 f → g ≡ get_or ws 6 g →
+      map text ws ≡ text a ∷ text b ∷ text c ∷ text d ∷ text e ∷ text f ∷ text g ∷ []
+  seven_texts (h ∷ u ∷ v ∷ w ∷ x ∷ y ∷ z ∷ []) a b c d e f g n p q r s t o i = cc
+  seven_texts ws a b c d e f g n p q r s t o i = absurd (omega (arith, n))

@@ -1,0 +1,38 @@
+use Rattle.std.proofs.Common.{◌≡◌, ◌<◌, ◌≤◌, ◌∷◌, [], map, length, get_or, arith, sym, subst, Global, List, ℕ}
+use Rattle.std.specs.String.{string_bytes}
+use Rattle.std.proofs.lemmas.Bool.Decides.{nat_tests}
+use Rattle.bn_words.specs.Words.{AreRead}
+use Rattle.bn_words.proofs.NoFormLemmas.{other_length, six_texts, seven_texts}
+use Rattle.bn_words.proofs.read.read_words.Goals as goal
+use Rattle.bn_words.proofs.read.read_words.Goals.{in_default-via-then-words-lt1, in_default-via-else-words-lt1+else-words-lt2+else-words-lt3+else-words-lt4+then-words-lt6, in_default-via-else-words-lt1+else-words-lt2+else-words-lt3+else-words-lt4+else-words-lt6+else-words-lt7+else-words-lt8}
+
+pub returns-in-len6 : goal.returns-in-len6
+returns-in-len6 c =
+    let n : length c.args.words.now ≡ 6 = omega (arith, c.in-len6.len_at_least, c.in-len6.len_below) in
+    let texts = six_texts (string_bytes {Z = Global}) c.args.words.now c.name-item-then-words-lt7.result c.word-item.result c.left-item.result
+    c.right-item.result c.steps-item.result c.output-item.result n c.name-item-then-words-lt7.is c.word-item.is c.left-item.is
+    c.right-item.is c.steps-item.is c.output-item.is in
+    subst (λ ws. AreRead ws c.read_window.result) (let t = texts in cc) c.read_window.ensures
+
+pub returns-in-len7 : goal.returns-in-len7
+returns-in-len7 c =
+    let n : length c.args.words.now ≡ 7 = omega (arith, c.in-len7.len_at_least, c.in-len7.len_below) in
+    let texts = seven_texts (string_bytes {Z = Global}) c.args.words.now c.name-item-then-words-lt8.result c.word-item-then-words-lt8.result
+    c.left-item-then-words-lt8.result c.right-item-then-words-lt8.result c.steps-item-then-words-lt8.result c.output-item-then-words-lt8.result
+    c.most_steps-item.result n c.name-item-then-words-lt8.is c.word-item-then-words-lt8.is c.left-item-then-words-lt8.is
+    c.right-item-then-words-lt8.is c.steps-item-then-words-lt8.is c.output-item-then-words-lt8.is c.most_steps-item.is in
+    subst (λ ws. AreRead ws c.read_window_and_steps.result) (let t = texts in cc) c.read_window_and_steps.ensures
+
+pub returns-in_default : goal.returns-in_default
+returns-in_default c = elim c.in_default.branch [
+  | in_default-via-then-words-lt1 w ↦
+      let none : length c.args.words.now < 1 = grind (arith, nat_tests) in
+      other_length (string_bytes {Z = Global}) c.args.words.now (omega arith) (omega arith) (omega arith) (omega arith) (omega arith)
+  | in_default-via-else-words-lt1+else-words-lt2+else-words-lt3+else-words-lt4+then-words-lt6 w ↦
+      let some : 4 ≤ length c.args.words.now = grind (arith, nat_tests) in
+      let few : length c.args.words.now < 6 = grind (arith, nat_tests) in
+      other_length (string_bytes {Z = Global}) c.args.words.now (omega arith) (omega arith) (omega arith) (omega arith) (omega arith)
+  | in_default-via-else-words-lt1+else-words-lt2+else-words-lt3+else-words-lt4+else-words-lt6+else-words-lt7+else-words-lt8 w ↦
+      let many : 8 ≤ length c.args.words.now = grind (arith, nat_tests) in
+      other_length (string_bytes {Z = Global}) c.args.words.now (omega arith) (omega arith) (omega arith) (omega arith) (omega arith)
+]

@@ -1,0 +1,47 @@
+-- What one word behind a command's name may be, and what is read of words.
+use Rattle.std.specs.Prelude.{◌≡◌, ℕ, ◌≤◌, List, [], ◌∷◌, Option, MatchOption, decimal}
+use Rattle.bn_base.specs.Number.{greatest}
+use Rattle.bn_base.specs.declared.limits.TheConstants.{MOST_COUNT}
+use Rattle.bn_machine.specs.Outcome.{Limits}
+use Rattle.bn_assembly.specs.Assembled.{AreSmall}
+use Rattle.bn_words.specs.Requests.{HasForm, HasNoForm, request_of}
+use Rattle.bn_words.specs.declared.request.Request as declared
+
+-- the word is the decimal text of this number, which is at most 2^62
+pub record IsNumber (word : List ℕ) (number : ℕ) : Type 0 where
+  pub spelled : word ≡ decimal number
+  pub bound : number ≤ greatest
+
+-- the word is none
+abbrev pub IsNoNumber : List ℕ → Type 0
+IsNoNumber word = (number : ℕ) → IsNumber word number → ⊥
+
+-- the word is the decimal text of this number, which is at most the greatest count
+pub record IsCount (word : List ℕ) (number : ℕ) : Type 0 where
+  pub spelled : word ≡ decimal number
+  pub bound : number ≤ MOST_COUNT
+
+-- the word is none
+abbrev pub IsNoCount : List ℕ → Type 0
+IsNoCount word = (number : ℕ) → IsCount word number → ⊥
+
+-- the word is these letters behind the byte `=`
+abbrev pub IsWord : List ℕ → List ℕ → Type 0
+IsWord word letters = word ≡ 61 ∷ letters
+
+-- the word doesn't begin with this byte
+abbrev pub IsNoWord : List ℕ → Type 0
+IsNoWord word = (letters : List ℕ) → IsWord word letters → ⊥
+
+-- the four words are the limits of a window, each at most the greatest count
+pub record AreLimits (words : List (List ℕ)) (l : Limits) : Type 0 where
+  pub spelled : words ≡ decimal l.left ∷ decimal l.right ∷ decimal l.steps ∷ decimal l.output ∷ []
+  pub small : AreSmall l
+
+-- the words are none
+abbrev pub AreNoLimits : List (List ℕ) → Type 0
+AreNoLimits words = (l : Limits) → AreLimits words l → ⊥
+
+-- what is read of words: what they ask for, or nothing where they ask for nothing
+abbrev pub AreRead : List (List ℕ) → Option declared.Request → Type 0
+AreRead words result = MatchOption result (HasNoForm words) (λ request. HasForm words (request_of request))

@@ -1,0 +1,182 @@
+//! The one reader of a command line: how many words there are and what the first one names tell the forms apart.
+
+ghost use Rattle.std.specs.Prelude.{◌≢◌, ◌∷◌, [], codes, map, MatchOption};
+ghost use Rattle.std.specs.String.{string_bytes};
+ghost use Rattle.bn_words.specs.Requests.{HasForm, HasNoForm, request_of};
+ghost use Rattle.bn_words.specs.Words.{AreRead};
+
+use crate::request::Request;
+use crate::word::{count_of, letters_of, number_of, window_of};
+use bn_gen::MOST_INCREMENTS;
+
+/// What the words of a command line ask for; `None` exactly where no request that is allowed has these words.
+pub fn read_words(words: &[String]) -> Option<Request<'_>>
+    ensures { MatchOption result (HasNoForm (map string_bytes words.now))
+        (λ request. HasForm (map string_bytes words.now) (request_of request)) }
+{
+    match words {
+        [name] => read_name(name.as_str()),
+        [name, number] => read_number(name.as_str(), number.as_str()),
+        [name, first, second] => read_pair(name.as_str(), first.as_str(), second.as_str()),
+        [name, word, left, right, steps, output] => read_window(
+            name.as_str(),
+            word.as_str(),
+            left.as_str(),
+            right.as_str(),
+            steps.as_str(),
+            output.as_str(),
+        ),
+        [name, word, left, right, steps, output, most_steps] => read_window_and_steps(
+            name.as_str(),
+            word.as_str(),
+            left.as_str(),
+            right.as_str(),
+            steps.as_str(),
+            output.as_str(),
+            most_steps.as_str(),
+        ),
+        _ => None,
+    }
+}
+
+// The forms of a name alone.
+fn read_name(name: &str) -> Option<Request<'_>>
+    ensures { AreRead (name.now ∷ []) result }
+{
+    match name {
+        "check" => Some(Request::Check),
+        "reversible" => Some(Request::Reversible),
+        "bennett" => Some(Request::Bennett),
+        "standard" => Some(Request::Standard),
+        "plan" => Some(Request::Plan),
+        "migrate" => Some(Request::Migrate),
+        "mirror" => Some(Request::Mirror),
+        "farm" => Some(Request::Farm),
+        "erase" => Some(Request::Erase),
+        _ => None,
+    }
+}
+
+// The forms of a name and a number.
+fn read_number<'a>(name: &str, number: &'a str) -> Option<Request<'a>>
+    ensures { AreRead (name.now ∷ number.now ∷ []) result }
+{
+    let number = number_of(number)?;
+    match name {
+        "step" => Some(Request::Step { most_steps: number }),
+        "back" => Some(Request::Back { most_steps: number }),
+        "generate" => {
+            if number < 1 || number > MOST_INCREMENTS as u64 {
+                return None;
+            }
+            Some(Request::Generate {
+                increments: number as u32,
+            })
+        }
+        _ => None,
+    }
+}
+
+// The forms of a name and two words.
+fn read_pair<'a>(name: &str, first: &'a str, second: &str) -> Option<Request<'a>>
+    ensures { AreRead (name.now ∷ first.now ∷ second.now ∷ []) result }
+{
+    match name {
+        "realise" => read_realise(first, second),
+        "run" => read_auto(first, second),
+        _ => read_word_and_count(name, first, second),
+    }
+}
+
+// The form of `run` with a window that is to be found.
+fn read_auto<'a>(first: &'a str, second: &str) -> Option<Request<'a>>
+    ensures { AreRead (codes "run" ∷ first.now ∷ second.now ∷ []) result }
+{
+    let word = letters_of(first)?;
+    match second {
+        "auto" => Some(Request::RunAuto { word }),
+        _ => None,
+    }
+}
+
+// The forms of a name, a word and a greatest number of steps.
+fn read_word_and_count<'a>(name: &str, first: &'a str, second: &str) -> Option<Request<'a>>
+    requires other { name.now ≢ codes "realise" }
+    requires found { name.now ≢ codes "run" }
+    ensures { AreRead (name.now ∷ first.now ∷ second.now ∷ []) result }
+{
+    let word = letters_of(first)?;
+    let most_steps = count_of(second)?;
+    match name {
+        "machine" => Some(Request::Machine { word, most_steps }),
+        "erase" => Some(Request::EraseRun { word, most_steps }),
+        _ => None,
+    }
+}
+
+// The form of `realise`.
+fn read_realise<'a>(first: &'a str, second: &str) -> Option<Request<'a>>
+    ensures { AreRead (codes "realise" ∷ first.now ∷ second.now ∷ []) result }
+{
+    let state = count_of(first)?;
+    let line = count_of(second)?;
+    if state < 1 || line < 1 {
+        return None;
+    }
+    Some(Request::Realise { state, line })
+}
+
+// The forms of a name, a word and a window.
+fn read_window<'a>(
+    name: &str,
+    word: &'a str,
+    left: &str,
+    right: &str,
+    steps: &str,
+    output: &str,
+) -> Option<Request<'a>>
+    ensures { AreRead (name.now ∷ word.now ∷ left.now ∷ right.now ∷ steps.now ∷ output.now ∷ []) result }
+{
+    let word = letters_of(word)?;
+    let window = window_of(left, right, steps, output)?;
+    match name {
+        "compile" => Some(Request::Compile { word, window }),
+        "run" => Some(Request::Run {
+            word,
+            window,
+            most_steps: None,
+        }),
+        "session" => Some(Request::Session { word, window }),
+        _ => None,
+    }
+}
+
+// The forms of a name, a word, a window and a number.
+fn read_window_and_steps<'a>(
+    name: &str,
+    word: &'a str,
+    left: &str,
+    right: &str,
+    steps: &str,
+    output: &str,
+    most_steps: &str,
+) -> Option<Request<'a>>
+    ensures { AreRead (name.now ∷ word.now ∷ left.now ∷ right.now ∷ steps.now ∷ output.now ∷ most_steps.now ∷ []) result }
+{
+    let word = letters_of(word)?;
+    let window = window_of(left, right, steps, output)?;
+    let most_steps = number_of(most_steps)?;
+    match name {
+        "run" => Some(Request::Run {
+            word,
+            window,
+            most_steps: Some(most_steps),
+        }),
+        "view" => Some(Request::View {
+            word,
+            window,
+            most_steps,
+        }),
+        _ => None,
+    }
+}

@@ -1,0 +1,62 @@
+//! What one word behind a command's name says.
+
+ghost use Rattle.std.specs.Prelude.{◌∷◌, [], MatchOption};
+ghost use Rattle.bn_assembly.specs.Assembled.{limits_of};
+ghost use Rattle.bn_words.specs.Words.{AreLimits, AreNoLimits, IsCount, IsNoCount, IsNoNumber, IsNoWord, IsNumber, IsWord};
+
+use bn_assembly::Windows;
+use bn_base::{MOST_COUNT, read_u64};
+
+// The number that fills a word, `None` exactly where none of at most 2^62 does.
+pub(crate) fn number_of(word: &str) -> Option<u64>
+    ensures { MatchOption result (IsNoNumber word.now) (IsNumber word.now) }
+{
+    match read_u64(word.as_bytes(), 0) {
+        Ok((number, end)) => {
+            if end == word.len() {
+                Some(number)
+            } else {
+                None
+            }
+        }
+        Err(_) => None,
+    }
+}
+
+// The number that fills a word, `None` exactly where none of at most the greatest count does.
+pub(crate) fn count_of(word: &str) -> Option<u32>
+    ensures { MatchOption result (IsNoCount word.now) (IsCount word.now) }
+{
+    let number = number_of(word)?;
+    if number > MOST_COUNT {
+        return None;
+    }
+    Some(number as u32)
+}
+
+// The letters behind the byte `=`, `None` exactly where the word doesn't begin with it.
+pub(crate) fn letters_of(word: &str) -> Option<&[u8]>
+    ensures { MatchOption result (IsNoWord word.now) (λ letters. IsWord word.now letters.now) }
+{
+    match word.as_bytes() {
+        [b'=', letters @ ..] => Some(letters),
+        _ => None,
+    }
+}
+
+// The window of four limits, `None` exactly where one of them is no count.
+pub(crate) fn window_of(left: &str, right: &str, steps: &str, output: &str) -> Option<Windows>
+    ensures { MatchOption result (AreNoLimits (left.now ∷ right.now ∷ steps.now ∷ output.now ∷ []))
+        (λ window. AreLimits (left.now ∷ right.now ∷ steps.now ∷ output.now ∷ []) (limits_of window)) }
+{
+    let left1 = count_of(left)?;
+    let right1 = count_of(right)?;
+    let right2 = count_of(steps)?;
+    let right3 = count_of(output)?;
+    Some(Windows {
+        left1,
+        right1,
+        right2,
+        right3,
+    })
+}
