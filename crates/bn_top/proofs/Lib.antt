@@ -9,3 +9,4 @@ pub mod ClosedLemmas
 pub mod FoundLemmas
 pub mod MemoryLemmas
 pub mod GivenLemmas
+pub mod CommandClauseLemmas

@@ -6,3 +6,4 @@ pub mod Clauses
 pub mod HeadlineLaws
 pub mod FoundLaws
 pub mod Headlines
+pub mod CommandLaws

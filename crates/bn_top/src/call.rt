@@ -5,6 +5,7 @@ ghost use Rattle.std.specs.String.{string_bytes};
 ghost use Rattle.bn_reply.specs.Codes.{IsAnswer};
 ghost use Rattle.bn_headline_laws.specs.MachineHeadline.{MachineHeadline, MachineHeadlineWithin};
 ghost use Rattle.bn_headline_laws.specs.CircuitHeadline.{CircuitHeadline};
+ghost use Rattle.bn_headline_laws.specs.CommandHeadlines.{BackCommand, BennettCommand, MachineCommand, StepCommand};
 ghost use Rattle.bn_headline_laws.specs.Generated.{GeneratedHeadline};
 ghost use Rattle.bn_windows_laws.specs.FoundHeadline.{TellsFoundWindow};
 ghost use Rattle.bn_reply.specs.Outside.{outside};
@@ -51,6 +52,21 @@ pub fn workbench<S: Source, K: Sink, W: Watch>(
     // The headline of `generate`, whatever the source tells.
     ensures generated { IsAnswer result →
         GeneratedHeadline (map string_bytes words.now.items) result (K.taken sink.old) (K.taken sink.new) }
+
+    // What `machine` and `bennett` print of a table in standard form, and `step` and `back` of a text that spells a
+    // configuration, each in its own terms.
+    ensures machine { IsAnswer result → IfSome (S.left source.old)
+        (λ bytes. MachineCommand (map string_bytes words.now.items) bytes result (K.taken sink.old)
+        (K.taken sink.new)) }
+    ensures bennett { IsAnswer result → IfSome (S.left source.old)
+        (λ bytes. BennettCommand (map string_bytes words.now.items) bytes result (K.taken sink.old)
+        (K.taken sink.new)) }
+    ensures step { IsAnswer result → IfSome (S.left source.old)
+        (λ bytes. StepCommand (map string_bytes words.now.items) bytes result (K.taken sink.old)
+        (K.taken sink.new)) }
+    ensures back { IsAnswer result → IfSome (S.left source.old)
+        (λ bytes. BackCommand (map string_bytes words.now.items) bytes result (K.taken sink.old)
+        (K.taken sink.new)) }
 
     // How the call ends: what the sink took and the watch heard, what was read, and the counts of faults.
     ensures ends { CallEnds (map string_bytes words.now.items) result

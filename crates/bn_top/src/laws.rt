@@ -2,6 +2,7 @@
 //! and bytes.
 
 ghost use Rattle.bn_top.specs.Clauses.{ClausesGiveEnds, EndsGiveClauses};
+ghost use Rattle.bn_top.specs.CommandLaws.{AnswersTellCommands};
 ghost use Rattle.bn_top.specs.HeadlineLaws.{AnswersTellMachine, GeneratedClauseTells};
 ghost use Rattle.bn_top.specs.Laws.{AnswersAreOne, RequestsAreAnswered};
 
@@ -24,6 +25,11 @@ pub fn ends_give_clauses()
 /// The whole answer gives the headline by the machine alone.
 pub fn answers_tell_machine()
     ensures { AnswersTellMachine }
+{}
+
+/// The whole answer tells what `machine`, `bennett`, `step` and `back` print, each in its own terms.
+pub fn answers_tell_commands()
+    ensures { AnswersTellCommands }
 {}
 
 /// What `generate` answers gives its own headline.

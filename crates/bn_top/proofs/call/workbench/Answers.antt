@@ -5,6 +5,9 @@ use Rattle.bn_top.proofs.EndLemmas.{by_told}
 use Rattle.bn_headline_laws.specs.CircuitHeadline.{CircuitHeadline}
 use Rattle.bn_reply.specs.Outside.{outside}
 use Rattle.bn_headline_laws.proofs.ClosedLemmas.{circuit_told}
+use Rattle.bn_headline_laws.specs.CommandHeadlines.{BackCommand, BennettCommand, MachineCommand, StepCommand}
+use Rattle.bn_top.specs.CommandLaws.{TellsCommands}
+use Rattle.bn_top.proofs.CommandClauseLemmas.{answers-tell_commands}
 use Rattle.bn_top.proofs.ClosedLemmas.{ends_given, generated_told, machine_told, window_told}
 use Rattle.bn_top.proofs.call.workbench.Goals as goal
 
@@ -69,3 +72,43 @@ returns-clause-headline_circuit g c = λ is.
     by_told (g.S.Source.left c.args.source.now) (λ bytes. TellsHeadline words bytes c.answer_words.result taken took)
     (λ bytes. CircuitHeadline words bytes c.answer_words.result taken took)
     (λ bytes h. circuit_told words bytes c.answer_words.result taken took h) (c.answer_words.ensures.headline is)
+
+pub returns-clause-machine : goal.returns-clause-machine
+returns-clause-machine g c = λ is.
+    let words = map (string_bytes {Z = Global}) c.args.words.now.items in
+    let left = g.S.Source.left c.args.source.now in
+    let taken = g.K.Sink.taken c.args.sink.now in
+    let took = g.K.Sink.taken c.answer_words.new.sink in
+    by_told left (λ bytes. TellsCommands words bytes c.answer_words.result taken took) (λ bytes. MachineCommand words bytes c.answer_words.result taken took)
+    (λ bytes h. h.machine) (answers-tell_commands words left c.answer_words.result taken took (g.W.Watch.told c.args.watch.now)
+    (g.W.Watch.told c.answer_words.new.watch) c.answer_words.ensures.answered is)
+
+pub returns-clause-bennett : goal.returns-clause-bennett
+returns-clause-bennett g c = λ is.
+    let words = map (string_bytes {Z = Global}) c.args.words.now.items in
+    let left = g.S.Source.left c.args.source.now in
+    let taken = g.K.Sink.taken c.args.sink.now in
+    let took = g.K.Sink.taken c.answer_words.new.sink in
+    by_told left (λ bytes. TellsCommands words bytes c.answer_words.result taken took) (λ bytes. BennettCommand words bytes c.answer_words.result taken took)
+    (λ bytes h. h.bennett) (answers-tell_commands words left c.answer_words.result taken took (g.W.Watch.told c.args.watch.now)
+    (g.W.Watch.told c.answer_words.new.watch) c.answer_words.ensures.answered is)
+
+pub returns-clause-step : goal.returns-clause-step
+returns-clause-step g c = λ is.
+    let words = map (string_bytes {Z = Global}) c.args.words.now.items in
+    let left = g.S.Source.left c.args.source.now in
+    let taken = g.K.Sink.taken c.args.sink.now in
+    let took = g.K.Sink.taken c.answer_words.new.sink in
+    by_told left (λ bytes. TellsCommands words bytes c.answer_words.result taken took) (λ bytes. StepCommand words bytes c.answer_words.result taken took)
+    (λ bytes h. h.step) (answers-tell_commands words left c.answer_words.result taken took (g.W.Watch.told c.args.watch.now)
+    (g.W.Watch.told c.answer_words.new.watch) c.answer_words.ensures.answered is)
+
+pub returns-clause-back : goal.returns-clause-back
+returns-clause-back g c = λ is.
+    let words = map (string_bytes {Z = Global}) c.args.words.now.items in
+    let left = g.S.Source.left c.args.source.now in
+    let taken = g.K.Sink.taken c.args.sink.now in
+    let took = g.K.Sink.taken c.answer_words.new.sink in
+    by_told left (λ bytes. TellsCommands words bytes c.answer_words.result taken took) (λ bytes. BackCommand words bytes c.answer_words.result taken took)
+    (λ bytes h. h.back) (answers-tell_commands words left c.answer_words.result taken took (g.W.Watch.told c.args.watch.now)
+    (g.W.Watch.told c.answer_words.new.watch) c.answer_words.ensures.answered is)

@@ -1,0 +1,23 @@
+-- What the whole answer tells of what further commands print.
+use Rattle.std.specs.Prelude.{ℕ, List, Option, IfSome}
+use Rattle.bn_circuits.specs.declared.place.Place.{Place}
+use Rattle.bn_reply.specs.Codes.{IsAnswer}
+use Rattle.bn_reply.specs.declared.status.Status.{Status}
+use Rattle.bn_headline_laws.specs.CommandHeadlines.{BackCommand, BennettCommand, MachineCommand, StepCommand}
+use Rattle.bn_top.specs.Told.{IsAnswered}
+
+-- the sink took what these commands print, each in its own terms
+pub record TellsCommands (words : List (List ℕ)) (bytes : List ℕ) (status : Status)
+    (taken took : Option (List ℕ)) : Type 0 where
+  pub machine : MachineCommand words bytes status taken took
+  pub bennett : BennettCommand words bytes status taken took
+  pub step : StepCommand words bytes status taken took
+  pub back : BackCommand words bytes status taken took
+
+-- the answer tells it
+abbrev pub AnswersTellCommands : Type 0
+AnswersTellCommands =
+    (words : List (List ℕ)) (left : Option (List ℕ)) (status : Status) (taken took : Option (List ℕ))
+    (told heard : Option (List Place))
+    → (IsAnswer status → IfSome left (λ bytes. IsAnswered words bytes status taken took told heard))
+    → IsAnswer status → IfSome left (λ bytes. TellsCommands words bytes status taken took)
