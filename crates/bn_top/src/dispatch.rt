@@ -22,7 +22,6 @@ use bn_words::Request;
 use std::alloc::Global;
 
 // The reply to a request. `Commands` says that each command's reply is that to its requests.
-#[tactic(auto, using(crate::proofs::Commands::replies))]
 pub(crate) fn reply_to<W: Watch>(
     alloc: Global,
     request: &Request<'_>,
