@@ -46,11 +46,7 @@ pub fn reply_in_memory<W: Watch>(
 fn bytes_read<'a>(request: &Request<'_>, input: &'a [u8]) -> &'a [u8]
     ensures { result.now ≡ (if reads_input (request_of request.now) then input.now else []) }
 {
-    if request.reads_input() {
-        input
-    } else {
-        b""
-    }
+    if request.reads_input() { input } else { b"" }
 }
 
 // The reply to words that have no form.
