@@ -1,6 +1,6 @@
 -- What each command needs of proofs: the law that it has one answer and only one, and that its reply is the one to the request.
-use Rattle.std.specs.Prelude.{◌≡◌, ℕ, ◌≤◌, List, [], Option, Some, None, Result, slice_get, IfOk, OnErr, refl}
-use Rattle.std.proofs.Common.{sym, subst, ◌∙◌}
+use Rattle.std.specs.Prelude.{◌≡◌, ℕ, List, [], Option, Result, IfOk, OnErr}
+use Rattle.std.proofs.Common.{sym, subst}
 use Rattle.bn_circuits.specs.declared.place.Place.{Place}
 use Rattle.bn_machine.specs.Outcome.{Limits}
 use Rattle.bn_assembly.specs.Assembled as assembled

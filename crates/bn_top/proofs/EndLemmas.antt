@@ -1,6 +1,6 @@
 -- How the top call ends.
 use Rattle.std.specs.Prelude.{◌≡◌, true, false, ℕ, List, [], Option, Some, None, IfSome, refl, ◌⊎◌}
-use Rattle.std.proofs.Common.{ap, Bool, inl, inr, sym, subst, ◌∙◌}
+use Rattle.std.proofs.Common.{Bool, inl, inr, sym, subst, ◌∙◌}
 use Rattle.bn_circuits.specs.declared.place.Place.{Place}
 use Rattle.bn_io.specs.Faults.{Rose}
 use Rattle.bn_io.specs.Told.{Grows, GrowsByFront}

@@ -11,7 +11,7 @@ use Rattle.bn_machine.specs.Outcome.{Limits}
 use Rattle.bn_assembly.specs.Assembled.{AreSmall}
 use Rattle.bn_words.specs.Laws.{WordsHaveAFormOrNone}
 use Rattle.bn_words.specs.Requests.{HasForm, HasNoForm, IsAllowed, IsOrdinal, Request, words_of}
-use Rattle.bn_words.specs.Requests.{Step, Back, Check, Machine, Realise, Compile, Run, View, Session, Generate, EraseRun}
+use Rattle.bn_words.specs.Requests.{Step, Back, Machine, Realise, Compile, Run, View, Session, Generate, EraseRun}
 use Rattle.bn_words.proofs.FormLemmas.{only, only_form}
 
 -- ---- whether words are the same

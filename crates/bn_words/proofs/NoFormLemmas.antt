@@ -1,15 +1,14 @@
 -- Where words ask for nothing: what the reader tests of them, and the words that it takes of a slice.
-use Rattle.std.specs.Prelude.{◌≡◌, ◌≢◌, ℕ, ◌<◌, ◌≤◌, List, [], ◌∷◌, length, map, Option, Some, None, codes, decimal, ◌⊎◌}
+use Rattle.std.specs.Prelude.{◌≡◌, ◌≢◌, ℕ, ◌<◌, ◌≤◌, List, [], ◌∷◌, length, map, Some, None, codes, ◌⊎◌}
 use Rattle.std.proofs.Common.{get_or, arith, inl, inr, sym, ap, subst, ◌∙◌}
 use Rattle.std.proofs.lemmas.List.{length-map}
 use Rattle.bn_base.specs.Number.{greatest}
 use Rattle.bn_base.specs.declared.limits.TheConstants.{MOST_COUNT}
 use Rattle.bn_base.proofs.NumberLemmas.{decimal-once}
 use Rattle.bn_gen.specs.declared.machine.TheConstants.{MOST_INCREMENTS}
-use Rattle.bn_machine.specs.Outcome.{Limits}
-use Rattle.bn_words.specs.Requests.{HasForm, HasNoForm, Request}
-use Rattle.bn_words.specs.Requests.{Step, Back, Check, Machine, Reversible, Bennett, Realise, Standard, Compile, Run, RunAuto, View, Session}
-use Rattle.bn_words.specs.Requests.{Plan, Migrate, Mirror, Farm, Generate, Erase, EraseRun}
+use Rattle.bn_words.specs.Requests.{HasForm, HasNoForm}
+use Rattle.bn_words.specs.Requests.{Step, Back, Machine, Realise, Compile, Run, RunAuto, View, Session}
+use Rattle.bn_words.specs.Requests.{Generate, EraseRun}
 use Rattle.bn_words.specs.Words.{IsCount, IsNoCount, IsNumber}
 use Rattle.bn_words.proofs.FormLemmas.{only_form, value}
 
