@@ -26,13 +26,6 @@ use Rattle.bn_net.specs.declared.net.TheConstants.{MOST_ELEMENTS}
 abbrev pub limits_of : Windows → Limits
 limits_of w = record { left = w.left1; right = w.right1; steps = w.right2; output = w.right3 }
 
--- no side is too long
-pub record AreSmall (l : Limits) : Type 0 where
-  pub left : l.left ≤ MOST_COUNT
-  pub right : l.right ≤ MOST_COUNT
-  pub steps : l.steps ≤ MOST_COUNT
-  pub output : l.output ≤ MOST_COUNT
-
 -- a network in a configuration, and the window for which it was assembled
 pub record Assembled : Type 0 where
   pub net : Parts Module

@@ -5,7 +5,8 @@ ghost use Rattle.bn_quad.specs.Calls.{IsUniformMachine};
 ghost use Rattle.bn_network.specs.Controls.{ControlState, IsNumbering};
 ghost use Rattle.bn_network.specs.Networks.{bank_size, cell_size, elements_by};
 ghost use Rattle.bn_control.specs.Controlled.{IsControlOf, IsWithinLimits};
-ghost use Rattle.bn_assembly.specs.Assembled.{AreSmall, IsAssembled, IsRefusal, IsWordOf, limits_of};
+ghost use Rattle.bn_network.specs.Limits.{AreSmall};
+ghost use Rattle.bn_assembly.specs.Assembled.{IsAssembled, IsRefusal, IsWordOf, limits_of};
 
 use crate::assembly::Assembly;
 use crate::module::Module;

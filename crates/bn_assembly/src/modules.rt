@@ -3,7 +3,8 @@ ghost use Rattle.std.specs.Prelude.{◌≡◌, ℕ, ◌≤◌, [], ◌∷◌, �
 ghost use Rattle.bn_cell.specs.Sizes.{IsCellSize};
 ghost use Rattle.bn_network.specs.Controls.{symbol_count};
 ghost use Rattle.bn_control.specs.Controlled.{IsWithinLimits};
-ghost use Rattle.bn_assembly.specs.Assembled.{AreSmall, limits_of};
+ghost use Rattle.bn_network.specs.Limits.{AreSmall};
+ghost use Rattle.bn_assembly.specs.Assembled.{limits_of};
 ghost use Rattle.bn_assembly.specs.Rows.{IsRow, AreModules};
 
 use crate::module::Module;

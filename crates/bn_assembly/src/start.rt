@@ -3,7 +3,8 @@ ghost use Rattle.std.specs.Prelude.{◌≡◌, ◌+◌, ◌-◌, ◌^◌, ◌<�
 ghost use Rattle.bn_control.specs.Controlled.{IsWithinLimits};
 ghost use Rattle.bn_network.specs.Controls.{symbol_count};
 ghost use Rattle.bn_network.specs.Networks.{network_start, start_cells};
-ghost use Rattle.bn_assembly.specs.Assembled.{AreSmall, IsWordOf, limits_of};
+ghost use Rattle.bn_network.specs.Limits.{AreSmall};
+ghost use Rattle.bn_assembly.specs.Assembled.{IsWordOf, limits_of};
 ghost use Rattle.bn_assembly.specs.Starting.{start_state};
 
 use crate::windows::Windows;

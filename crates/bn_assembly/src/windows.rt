@@ -18,7 +18,8 @@ pub struct Windows {
 impl Windows {
     ghost use Rattle.std.specs.Prelude.{◌≡◌, ◌≤◌};
     ghost use Rattle.bn_network.specs.Networks.{cells_in, first_cell};
-    ghost use Rattle.bn_assembly.specs.Assembled.{AreSmall, limits_of};
+    ghost use Rattle.bn_network.specs.Limits.{AreSmall};
+    ghost use Rattle.bn_assembly.specs.Assembled.{limits_of};
 
     /// How many cells a tape, counted from 1 to 3, has. It takes no memory.
     pub fn cells(&self, tape: u32) -> u32

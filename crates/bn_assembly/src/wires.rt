@@ -3,7 +3,8 @@ ghost use Rattle.std.specs.Prelude.{◌≡◌, ℕ, ◌+◌, ◌-◌, ◌^◌, �
 ghost use Rattle.bn_control.specs.Controlled.{IsWithinLimits};
 ghost use Rattle.bn_network.specs.Controls.{lines_before};
 ghost use Rattle.bn_circuits.specs.Circuits.{line_at};
-ghost use Rattle.bn_assembly.specs.Assembled.{AreSmall, limits_of};
+ghost use Rattle.bn_network.specs.Limits.{AreSmall};
+ghost use Rattle.bn_assembly.specs.Assembled.{limits_of};
 ghost use Rattle.bn_assembly.specs.WireLists.{bundle, joint, joints, tape_wires, wires_of_tape, network_wires};
 
 use crate::windows::Windows;

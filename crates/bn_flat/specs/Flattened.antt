@@ -20,7 +20,8 @@ use Rattle.bn_network.specs.Controls.{ControlState}
 use Rattle.bn_network.specs.Networks.{network_start}
 use Rattle.bn_board.specs.Boards.{IsBoard, board_start}
 use Rattle.bn_board.specs.Layouts.{Layout, IsLayout, lines_at, elements_of}
-use Rattle.bn_assembly.specs.Assembled.{Assembled, AreSmall, IsAssembled, network_of}
+use Rattle.bn_network.specs.Limits.{AreSmall}
+use Rattle.bn_assembly.specs.Assembled.{Assembled, IsAssembled, network_of}
 use Rattle.bn_net.specs.declared.net.TheConstants.{MOST_ELEMENTS}
 
 -- a net, a configuration of it, the line by which the signal enters at the start, the line by which it leaves at the

@@ -58,7 +58,7 @@ module _ (p : Program) (l : Limits) (word : List ℕ) (t : Translation) (a : Ass
     letters = may.letters;
     nonblank = may.nonblank;
     fits = may.fits;
-    small = (may.small.left, may.small.right, may.small.steps, may.small.output);
+    small = may.small;
     few = few;
   }
 

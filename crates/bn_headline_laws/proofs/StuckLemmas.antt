@@ -166,7 +166,7 @@ stuck-runs p l word t names a may is_t is i j c out =
     let flat : IsFlatOf p word l f = record { translation = is_t; word_is = refl; limits_are = refl; numbering = is.is_control.numbering; is_network = is.network; is_board = board.1; is_layout = layout.1 } in
     let whole = read.1.whole in
     let few = is.few in
-    let accepted : IsAccepted p word l f = record { standard = may.standard; letters = may.letters; nonblank = may.nonblank; fits = may.fits; small = (may.small.left, may.small.right, may.small.steps, may.small.output); few = omega arith } in
+    let accepted : IsAccepted p word l f = record { standard = may.standard; letters = may.letters; nonblank = may.nonblank; fits = may.fits; small = may.small; few = omega arith } in
     let ended : NetworkEndsAs f read.0 i (outcome.Stuck j c) =
     networks-end alike uniform (first-moment costs-bounded have-entries) (next-moment costs-bounded (commands-walk costs-bounded) have-entries) (last-moment costs-bounded (commands-walk costs-bounded) have-entries)
     p word l f read.0 flat accepted read.1.tells i (outcome.Stuck j c) out in

@@ -3,3 +3,4 @@ pub mod Cells
 pub mod Controls
 pub mod Networks
 pub mod Moments
+pub mod Limits

@@ -15,7 +15,7 @@ use Rattle.bn_lists.specs.declared.memory.NoMemory.{NoMemory}
 use Rattle.bn_reply.specs.declared.reply.Reply.{Reply}
 use Rattle.bn_reply.specs.declared.status.Status.{Status}
 use Rattle.bn_reply_boards_laws.specs.RunReply.{RunReplies}
-use Rattle.bn_reply_boards_laws.specs.Windows.{AreSmall}
+use Rattle.bn_network.specs.Limits.{AreSmall}
 use Rattle.bn_reply_boards_laws.specs.Headline.{ComesOutOn, IsGiven, TellsOutcome, TookOutcome}
 use Rattle.bn_reply_boards_laws.specs.Laws.{RepliesTellOutcomes}
 use Rattle.bn_reply_boards_laws.proofs.ClosedLemmas.{run_settled}

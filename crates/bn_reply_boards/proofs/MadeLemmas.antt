@@ -24,11 +24,11 @@ use Rattle.bn_reply.specs.declared.status.Status.TheVariants as statuses
 use Rattle.bn_circuits.specs.declared.place.Place.{Place}
 use Rattle.bn_table.specs.Laws.{TablesAreMachines}
 use Rattle.bn_table.specs.Rows.{IsTable}
-use Rattle.bn_assembly.specs.Assembled as assembled
 use Rattle.bn_reply.specs.declared.reply.Reply.{Reply}
 use Rattle.bn_reply.specs.declared.status.Status.{Status}
 use Rattle.bn_reply_boards_laws.specs.Windows as windows
-use Rattle.bn_reply_boards_laws.specs.Windows.{AreSmall, ComesTo, BoardReplies, board}
+use Rattle.bn_network.specs.Limits.{AreSmall}
+use Rattle.bn_reply_boards_laws.specs.Windows.{ComesTo, BoardReplies, board}
 use Rattle.bn_reply_boards_laws.specs.Laws.{BoardsAreSpelled}
 use Rattle.bn_reply_boards_laws.specs.CompileReply.{IsFlatSpelling, TellsStart}
 use Rattle.bn_reply_boards_laws.proofs.SpelledLemmas.{target_of, entered_once, left_once}
@@ -118,14 +118,10 @@ pub refused_board : (tells : Flat → Status → List ℕ → List Place → Typ
 refused_board tells p l symbols reply (long far text status) = windows.long far text status refl
 refused_board tells p l symbols reply (large fits count counts great text status) = windows.large fits count counts great text status refl
 
--- limits that may be asked for, in other words
-pub small_limits : (l : Limits) → assembled.AreSmall l → AreSmall l
-small_limits l small = (small.left, small.right, small.steps, small.output)
-
 module _ (t : Named) (l : Limits) (symbols : List ℕ) (m : Translation) (b : Flattened) (machines : TablesAreMachines) (table : IsTable t) (fit : IsStandard t.machine.quints)
-    (small : assembled.AreSmall l) (known : All (IsLetterSymbol t) symbols) (opened : (f : Flat) × IsMade t.machine l symbols f m b) where
+    (small : AreSmall l) (known : All (IsLetterSymbol t) symbols) (opened : (f : Flat) × IsMade t.machine l symbols f m b) where
   pub accepts : IsAccepted t.machine symbols l opened.0
-  accepts = accepted t symbols l opened.0 (machines t table).0 fit table.symbols known (small_limits l small) opened.1.comes
+  accepts = accepted t symbols l opened.0 (machines t table).0 fit table.symbols known small opened.1.comes
 
   pub admitted : BoardsAreSpelled → IsBoardKept b → Admits Two (spelling_of_board b)
   admitted spelled kept = made-Admits t.machine l symbols opened.0 m b opened.1 kept accepts spelled

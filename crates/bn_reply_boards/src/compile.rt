@@ -2,7 +2,8 @@
 
 ghost use Rattle.std.specs.Prelude.{◌≡◌, ◌≤◌, List, [], All, IfOk, Option};
 ghost use Rattle.bn_circuits.specs.declared.place.Place.{Place};
-ghost use Rattle.bn_assembly.specs.Assembled.{AreSmall, limits_of};
+ghost use Rattle.bn_network.specs.Limits.{AreSmall};
+ghost use Rattle.bn_assembly.specs.Assembled.{limits_of};
 ghost use Rattle.bn_netlist_lines.specs.NetText.{spelling_of};
 ghost use Rattle.bn_reply.specs.Streams.{AnswerEnds};
 ghost use Rattle.bn_reply.specs.Words.{IsLetterSymbol};

@@ -4,7 +4,8 @@ ghost use Rattle.std.specs.Prelude.{◌≡◌, ◌<◌, ◌≤◌, ◌^◌, All,
 ghost use Rattle.bn_machine.specs.Machine.{Program};
 ghost use Rattle.bn_bennett.specs.Translation.{IsTranslation};
 ghost use Rattle.bn_control.specs.Controlled.{IsWithinLimits};
-ghost use Rattle.bn_assembly.specs.Assembled.{AreSmall, IsWordOf, limits_of};
+ghost use Rattle.bn_network.specs.Limits.{AreSmall};
+ghost use Rattle.bn_assembly.specs.Assembled.{IsWordOf, limits_of};
 ghost use Rattle.bn_reply.specs.Words.{IsLetterSymbol};
 ghost use Rattle.bn_reply_boards.specs.Opened.{IsOpenedBoard, IsOpenedWindow, IsTooLarge};
 ghost use Rattle.bn_reply_boards_laws.specs.Windows.{large_line};

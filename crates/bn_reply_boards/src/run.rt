@@ -2,7 +2,8 @@
 
 ghost use Rattle.std.specs.Prelude.{◌≡◌, ℕ, ◌+◌, ◌-◌, All, IfOk, OnErr, is_some};
 ghost use Rattle.bn_circuits.specs.Counting.{one_if};
-ghost use Rattle.bn_assembly.specs.Assembled.{AreSmall, limits_of};
+ghost use Rattle.bn_network.specs.Limits.{AreSmall};
+ghost use Rattle.bn_assembly.specs.Assembled.{limits_of};
 ghost use Rattle.bn_standard.specs.Standard.{IsStandard};
 ghost use Rattle.bn_board.specs.Layouts.{IsExit, symbol_count_at};
 ghost use Rattle.bn_board.specs.Flats.{Flat};

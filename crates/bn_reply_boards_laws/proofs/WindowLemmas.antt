@@ -19,7 +19,8 @@ use Rattle.bn_reply.specs.declared.status.Status.{Status}
 use Rattle.bn_reply.specs.declared.status.Status.TheVariants as statuses
 use Rattle.bn_reply.proofs.SettledLemmas.{agree, standard_settled, word_settled}
 use Rattle.bn_reply.proofs.TableLemmas.{reads_table}
-use Rattle.bn_reply_boards_laws.specs.Windows.{AreSmall, BoardReplies, long, large, board, ComesTo, CountsElements, large_line, WindowReplies}
+use Rattle.bn_network.specs.Limits.{AreSmall}
+use Rattle.bn_reply_boards_laws.specs.Windows.{BoardReplies, long, large, board, ComesTo, CountsElements, large_line, WindowReplies}
 use Rattle.bn_reply.specs.Lines.{long_line}
 use Rattle.bn_reply_boards_laws.specs.Headline.{IsGiven}
 use Rattle.bn_reply_boards_laws.specs.Laws.{BoardsAreCounted, GivenBoardsAreAccepted}

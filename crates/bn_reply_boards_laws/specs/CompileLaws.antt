@@ -15,7 +15,8 @@ use Rattle.bn_board.specs.Flats.{Flat}
 use Rattle.bn_reply_circuits_laws.specs.CircuitReply.{BackReplies, StepReplies}
 use Rattle.bn_reply.specs.declared.status.Status.{Status}
 use Rattle.bn_reply.specs.declared.status.Status.TheVariants.{Done}
-use Rattle.bn_reply_boards_laws.specs.Windows.{AreSmall, ComesTo}
+use Rattle.bn_network.specs.Limits.{AreSmall}
+use Rattle.bn_reply_boards_laws.specs.Windows.{ComesTo}
 use Rattle.bn_reply_boards_laws.specs.CompileReply.{CompileReplies}
 use Rattle.bn_reply_boards_laws.specs.Headline.{IsGiven}
 

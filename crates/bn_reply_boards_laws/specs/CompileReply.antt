@@ -14,7 +14,8 @@ use Rattle.bn_board.specs.Flats.{Flat, flat_start}
 use Rattle.bn_reply.specs.Answering.{IsSettled}
 use Rattle.bn_reply.specs.declared.status.Status.{Status}
 use Rattle.bn_reply.specs.declared.status.Status.TheVariants.{Done}
-use Rattle.bn_reply_boards_laws.specs.Windows.{AreSmall, WindowReplies}
+use Rattle.bn_network.specs.Limits.{AreSmall}
+use Rattle.bn_reply_boards_laws.specs.Windows.{WindowReplies}
 
 -- What is spelled is the board at its start, with the board's own wires and no others; the start is the line that the
 -- signal is about to enter, and the end the one by which it leaves where the machine halts.

@@ -20,7 +20,8 @@ use Rattle.bn_reply.specs.TableReply.{ReadsStandard}
 use Rattle.bn_reply.specs.Words.{IsSpelledBy}
 use Rattle.bn_reply.specs.declared.status.Status.{Status}
 use Rattle.bn_reply.specs.declared.status.Status.TheVariants as statuses
-use Rattle.bn_reply_boards_laws.specs.Windows.{AreSmall, ComesTo, CountsElements}
+use Rattle.bn_network.specs.Limits.{AreSmall}
+use Rattle.bn_reply_boards_laws.specs.Windows.{ComesTo, CountsElements}
 use Rattle.bn_reply_boards_laws.specs.RunText.{elements_line, output_line, quadruple_line, run_text, shown_lines}
 use Rattle.bn_reply_boards_laws.specs.RunText.{steps_line, stuck_line, tape_lines, window_line}
 use Rattle.bn_reply_boards_laws.specs.RunReply.{board_after}

@@ -18,7 +18,8 @@ use Rattle.bn_board.specs.Costs.{HasCost}
 use Rattle.bn_reply.specs.declared.status.Status.{Status}
 use Rattle.bn_reply.specs.declared.status.Status.TheVariants as statuses
 use Rattle.bn_reply_boards_laws.specs.Counts.{Counts}
-use Rattle.bn_reply_boards_laws.specs.Windows.{AreSmall, ComesTo, CountsElements}
+use Rattle.bn_network.specs.Limits.{AreSmall}
+use Rattle.bn_reply_boards_laws.specs.Windows.{ComesTo, CountsElements}
 use Rattle.bn_reply_boards_laws.specs.CompileReply.{IsFlatSpelling}
 use Rattle.bn_reply_boards_laws.specs.RunText.{run_text}
 use Rattle.bn_reply_boards_laws.specs.RunReply.{reached, exit_status, HasMoment, RunReplies, TellsRun, board_after, budget}

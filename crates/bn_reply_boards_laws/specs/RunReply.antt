@@ -17,7 +17,8 @@ use Rattle.bn_reply.specs.declared.status.Status.{Status}
 use Rattle.bn_reply.specs.declared.status.Status.TheVariants as statuses
 use Rattle.bn_reply_boards_laws.specs.Counts.{Counts}
 use Rattle.bn_reply_boards_laws.specs.RunText.{run_text}
-use Rattle.bn_reply_boards_laws.specs.Windows.{AreSmall, WindowReplies}
+use Rattle.bn_network.specs.Limits.{AreSmall}
+use Rattle.bn_reply_boards_laws.specs.Windows.{WindowReplies}
 
 -- the greatest number of steps: the one that is asked for, or else the board's bound
 abbrev pub budget : Flat → Option ℕ → ℕ

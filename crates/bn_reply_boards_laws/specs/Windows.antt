@@ -19,10 +19,6 @@ use Rattle.bn_reply.specs.declared.status.Status.TheVariants as statuses
 use Rattle.bn_base.specs.declared.limits.TheConstants.{MOST_COUNT}
 use Rattle.bn_reply.specs.Lines.{long_line}
 
--- the limits may be asked for: each is at most 2^20
-abbrev pub AreSmall : Limits → Type 0
-AreSmall l = (l.left ≤ MOST_COUNT) × (l.right ≤ MOST_COUNT) × (l.steps ≤ MOST_COUNT) × (l.output ≤ MOST_COUNT)
-
 -- the board of this machine in these limits has so many elements, whatever the word
 pub record CountsElements (p : Program) (l : Limits) (count : ℕ) : Type 0 where
   pub translation : Translation

@@ -51,7 +51,8 @@ use Rattle.bn_reply.specs.TableReply.{ReadsStandard}
 use Rattle.bn_cut.proofs.CutLemmas.{cuts-one}
 use Rattle.bn_board.specs.Flats.{flat_start}
 use Rattle.bn_board.specs.Layouts.{moment_at}
-use Rattle.bn_reply_boards_laws.specs.Windows.{AreSmall, ComesTo, WindowReplies}
+use Rattle.bn_network.specs.Limits.{AreSmall}
+use Rattle.bn_reply_boards_laws.specs.Windows.{ComesTo, WindowReplies}
 use Rattle.bn_reply_boards_laws.specs.Headline.{IsGiven}
 use Rattle.bn_reply_boards_laws.proofs.WindowLemmas.{given_accepted}
 use Rattle.bn_reply_views.specs.ViewText.{view_text}

@@ -34,7 +34,8 @@ use Rattle.bn_reply.proofs.TableLemmas.{reads_table}
 use Rattle.bn_reply_boards_laws.specs.Headline.{IsGiven}
 use Rattle.bn_reply_boards_laws.specs.Laws.{BoardsAreCounted}
 use Rattle.bn_reply_boards_laws.specs.RunReply.{board_after}
-use Rattle.bn_reply_boards_laws.specs.Windows.{AreSmall, ComesTo, WindowReplies}
+use Rattle.bn_network.specs.Limits.{AreSmall}
+use Rattle.bn_reply_boards_laws.specs.Windows.{ComesTo, WindowReplies}
 use Rattle.bn_reply_boards_laws.proofs.TellingLemmas.{after_same, same_boards}
 use Rattle.bn_reply_boards_laws.proofs.WindowLemmas.{given_accepted, window_settled}
 use Rattle.bn_view.specs.Laws.{ViewsAreOne, ViewsAreThere}

@@ -10,7 +10,7 @@ use Rattle.bn_cut.specs.Cuts.{IsCut}
 use Rattle.bn_reply.specs.declared.status.Status.{Status}
 use Rattle.bn_reply.specs.declared.status.Status.TheVariants.{Done}
 use Rattle.bn_reply_boards_laws.specs.CompileReply.{CompileReplies}
-use Rattle.bn_reply_boards_laws.specs.Windows.{AreSmall}
+use Rattle.bn_network.specs.Limits.{AreSmall}
 use Rattle.bn_session.specs.Plays.{place_line}
 use Rattle.bn_session.specs.Sentences.{Step, View, script_text}
 use Rattle.bn_reply_views.specs.ViewReply.{ViewReplies}

@@ -11,7 +11,8 @@ use Rattle.bn_reply.specs.Answering.{IsSettled}
 use Rattle.bn_reply.specs.Lines.{line}
 use Rattle.bn_reply.specs.declared.status.Status.{Status}
 use Rattle.bn_reply.specs.declared.status.Status.TheVariants as statuses
-use Rattle.bn_reply_boards_laws.specs.Windows.{AreSmall, WindowReplies}
+use Rattle.bn_network.specs.Limits.{AreSmall}
+use Rattle.bn_reply_boards_laws.specs.Windows.{WindowReplies}
 use Rattle.bn_cut.specs.Cuts.{IsCut, IsUncut}
 use Rattle.bn_session.specs.Plays.{Plays, Session, session}
 use Rattle.bn_session.specs.Scripts.{ScriptFault, IsFirstScriptFault, IsScript, malformed, no_break, no_state, same_break}

@@ -1,7 +1,8 @@
 //! The command `session`.
 
 ghost use Rattle.std.specs.Prelude.{◌≡◌, ℕ, [], All, List, IfOk};
-ghost use Rattle.bn_assembly.specs.Assembled.{AreSmall, limits_of};
+ghost use Rattle.bn_network.specs.Limits.{AreSmall};
+ghost use Rattle.bn_assembly.specs.Assembled.{limits_of};
 ghost use Rattle.bn_standard.specs.Standard.{IsStandard};
 ghost use Rattle.bn_machine.specs.Outcome.{Limits};
 ghost use Rattle.bn_board.specs.Flats.{Flat, flat_start};

@@ -9,8 +9,7 @@ use Rattle.bn_machine.specs.declared.quint.Side.{Side}
 use Rattle.bn_net.specs.declared.net.TheConstants.{MOST_ELEMENTS}
 use Rattle.bn_table.specs.Rows.{Named}
 use Rattle.bn_board.specs.Boards.{size}
-use Rattle.bn_assembly.specs.Assembled as assembled
-use Rattle.bn_reply_boards_laws.specs.Windows.{AreSmall}
+use Rattle.bn_network.specs.Limits.{AreSmall}
 use Rattle.bn_assembly.specs.Widening.{IsEnd, IsWhole, first_window, number_at}
 use Rattle.bn_windows_laws.specs.Searches.{Widens}
 use Rattle.bn_windows_laws.specs.Laws.{IsOnTheWay}
@@ -28,10 +27,6 @@ use Rattle.bn_reply_windows.specs.Laws.{GoesOn, MayWiden, RoundsBeginSearches, R
 -- the number of each end of a whole window is 1 at least
 number_some : (w : Limits) (tape : ℕ) (side : Side) → IsWhole w → IsEnd tape side → 1 ≤ number_at w tape side
 number_some w tape side whole end = by_end (λ t s. 1 ≤ number_at w t s) whole.left whole.right whole.steps whole.output tape side end
-
--- limits that may be asked for, in other words
-limits_small : (w : Limits) → AreSmall w → assembled.AreSmall w
-limits_small w small = record { left = small.0; right = small.1; steps = small.2; output = small.3 }
 
 module _ (laws : Boards) (bytes letters : List ℕ) (t : Named) (symbols : List ℕ) (given : IsWordGiven bytes letters t symbols) (n : ℕ) (w : Limits)
     (told : List Place) (made : MakeRounds t.machine symbols n (first_window symbols) w told) where
@@ -60,7 +55,7 @@ module _ (laws : Boards) (bytes letters : List ℕ) (t : Named) (symbols : List 
       }
 
   pub goes_on : GoesOn t.machine symbols n w
-  goes_on = record { few = few_rounds; small = limits_small w (on.small given.few); fits = on.fits; wider = wider }
+  goes_on = record { few = few_rounds; small = on.small given.few; fits = on.fits; wider = wider }
 
 pub rounds-go_on : Boards → RoundsGoOn
 rounds-go_on laws bytes letters t symbols given n w told made = goes_on laws bytes letters t symbols given n w told made

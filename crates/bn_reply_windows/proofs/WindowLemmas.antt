@@ -3,6 +3,7 @@ use Rattle.std.specs.Prelude.{◌≡◌, ◌≢◌, ℕ, List, [], ◌++◌, Opt
 use Rattle.std.proofs.Common.{sym, subst, ◌∙◌, append-nil}
 use Rattle.bn_circuits.specs.Stepping.{places}
 use Rattle.bn_circuits.specs.declared.place.Place.{Place}
+use Rattle.bn_network.specs.Limits.{AreSmall}
 use Rattle.bn_machine.specs.Outcome.{Limits}
 use Rattle.bn_machine.specs.declared.quint.Side.{Side}
 use Rattle.bn_net.proofs.WalkLemmas.{hears-nothing}
@@ -14,7 +15,6 @@ use Rattle.bn_board.specs.declared.exit.Exit.TheVariants as exits
 use Rattle.bn_board.specs.Layouts.{IsExit}
 use Rattle.bn_board.specs.Flats.{Flat, IsAccepted, flat_start}
 use Rattle.bn_flat.specs.Flattened.{Flattened}
-use Rattle.bn_assembly.specs.Assembled as assembled
 use Rattle.bn_lists.specs.declared.memory.NoMemory.{NoMemory}
 use Rattle.bn_reply.specs.Replying.{IsUnfinished, told_some, untold}
 use Rattle.bn_reply.specs.declared.reply.Reply.{Reply}
@@ -28,7 +28,6 @@ use Rattle.bn_reply_boards_laws.proofs.RunLemmas.{named_of}
 use Rattle.bn_reply_boards_laws.proofs.WindowLemmas.{given_accepted}
 use Rattle.bn_reply_boards.specs.Opened.{IsLarge}
 use Rattle.bn_reply_boards.specs.Running.{HasRun}
-use Rattle.bn_reply_boards.proofs.MadeLemmas.{small_limits}
 use Rattle.bn_reply_boards.proofs.RunLemmas.{found_tells}
 use Rattle.bn_windows_laws.specs.AutoReply.{EndReplies, found, found_line, large}
 use Rattle.bn_reply_windows.specs.Asked.{IsAsked}
@@ -89,11 +88,11 @@ module _ (t : Named) (f : Flat) (m : Translation) (d : Flattened) (w : Limits) (
 -- ---- the board of a window
 
 -- what is asked comes to a board that may be compiled
-pub asked_accepted : (machines : TablesAreMachines) (t : Named) (symbols : List ℕ) → IsAsked t symbols → (w : Limits) → assembled.AreSmall w → (f : Flat)
+pub asked_accepted : (machines : TablesAreMachines) (t : Named) (symbols : List ℕ) → IsAsked t symbols → (w : Limits) → AreSmall w → (f : Flat)
     → ComesTo t.machine w symbols f → IsAccepted t.machine symbols w f
 asked_accepted machines t symbols asked w small f comes =
     given_accepted machines asked.bytes asked.letters w t symbols f
-    (record { reads = asked.given.reads; spelled = asked.given.spelled; small = small_limits w small }) comes
+    (record { reads = asked.given.reads; spelled = asked.given.spelled; small = small }) comes
 
 module _ (t : Named) (symbols : List ℕ) (w : Limits) where
   -- the answer that it is too large

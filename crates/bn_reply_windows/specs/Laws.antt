@@ -6,7 +6,7 @@ use Rattle.bn_machine.specs.Outcome.{Limits}
 use Rattle.bn_machine.specs.declared.quint.Side.{Side}
 use Rattle.bn_net.specs.declared.net.TheConstants.{MOST_ELEMENTS}
 use Rattle.bn_table.specs.Rows.{Named}
-use Rattle.bn_assembly.specs.Assembled.{AreSmall}
+use Rattle.bn_network.specs.Limits.{AreSmall}
 use Rattle.bn_reply.specs.declared.status.Status.{Status}
 use Rattle.bn_assembly.specs.Widening.{IsEnd, first_window, number_at}
 use Rattle.bn_windows_laws.specs.AutoReply.{MakeRounds, SearchReplies}

@@ -1,7 +1,8 @@
 //! One round of the search for a window.
 
 ghost use Rattle.std.specs.Prelude.{◌≡◌, ◌++◌, ◌≤◌, length, IfOk, None};
-ghost use Rattle.bn_assembly.specs.Assembled.{AreSmall, limits_of};
+ghost use Rattle.bn_network.specs.Limits.{AreSmall};
+ghost use Rattle.bn_assembly.specs.Assembled.{limits_of};
 ghost use Rattle.bn_board.specs.Flats.{Flat};
 ghost use Rattle.bn_board.specs.Layouts.{IsExit, symbol_count_at};
 ghost use Rattle.bn_board.specs.declared.exit.Exit.{Exit};

@@ -3,7 +3,6 @@ use Rattle.std.specs.Prelude.{◌≡◌, ℕ, List, [], Option, Result, IfOk, On
 use Rattle.std.proofs.Common.{sym, subst}
 use Rattle.bn_circuits.specs.declared.place.Place.{Place}
 use Rattle.bn_machine.specs.Outcome.{Limits}
-use Rattle.bn_assembly.specs.Assembled as assembled
 use Rattle.bn_words.specs.Requests.{HasForm, IsAllowed, Request, request_of}
 use Rattle.bn_words.specs.Requests.{Step, Back, Check, Machine, Reversible, Bennett, Realise, Standard, Compile, Run}
 use Rattle.bn_words.specs.Requests.{RunAuto, View, Session, Plan, Migrate, Mirror, Farm, Generate, Erase, EraseRun}
@@ -27,20 +26,13 @@ use Rattle.bn_reply_tables.proofs.BennettLemmas.{bennett_settled}
 use Rattle.bn_reply_tables.proofs.CheckLemmas.{check_settled}
 use Rattle.bn_reply_tables.proofs.MachineLemmas.{machine_settled}
 use Rattle.bn_reply_tables.proofs.ReversibleLemmas.{reversible_settled}
-use Rattle.bn_reply_boards_laws.specs.Windows.{AreSmall}
+use Rattle.bn_network.specs.Limits.{AreSmall}
 use Rattle.bn_reply_boards_laws.proofs.ClosedLemmas.{compile_settled, run_settled}
 use Rattle.bn_reply_views.proofs.SessionClosedLemmas.{session_settled}
 use Rattle.bn_reply_views.proofs.ViewClosedLemmas.{view_settled}
 use Rattle.bn_top.specs.Answers.{Replies}
 
 -- ---- the laws
-
--- the limits of a window that may be asked for, in the words of the replies
-small_limits : (l : Limits) → assembled.AreSmall l → AreSmall l
-small_limits l small = (small.left, small.right, small.steps, small.output)
-
-pub limits_small : (l : Limits) → AreSmall l → assembled.AreSmall l
-limits_small l small = record { left = small.0; right = small.1; steps = small.2; output = small.3 }
 
 settled_by : (request : Request) → IsAllowed request → (bytes : List ℕ) → IsSettled (Replies request bytes)
 settled_by (Step e) allowed = step_settled e
@@ -51,11 +43,11 @@ settled_by Reversible allowed = reversible_settled
 settled_by Bennett allowed = bennett_settled
 settled_by (Realise q i) allowed = λ bytes. realise_settled q i bytes allowed.0.0 allowed.1.0
 settled_by Standard allowed = standard_settled
-settled_by (Compile word l) allowed = λ bytes. compile_settled word l bytes (small_limits l allowed)
-settled_by (Run word l given) allowed = λ bytes. run_settled given word l bytes (small_limits l allowed.0)
+settled_by (Compile word l) allowed = λ bytes. compile_settled word l bytes allowed
+settled_by (Run word l given) allowed = λ bytes. run_settled given word l bytes allowed.0
 settled_by (RunAuto word) allowed = auto_settled word
-settled_by (View word l e) allowed = λ bytes. view_settled e word l bytes (small_limits l allowed.0)
-settled_by (Session word l) allowed = λ bytes. session_settled word l bytes (small_limits l allowed)
+settled_by (View word l e) allowed = λ bytes. view_settled e word l bytes allowed.0
+settled_by (Session word l) allowed = λ bytes. session_settled word l bytes allowed
 settled_by Plan allowed = plan_settled
 settled_by Migrate allowed = migrate_settled
 settled_by Mirror allowed = mirror_settled

@@ -13,19 +13,18 @@ use Rattle.bn_reply.specs.declared.status.Status.{Status}
 use Rattle.bn_reply_boards_laws.specs.Headline.{AsksRun, TellsHeadline}
 use Rattle.bn_reply.specs.declared.limits.TheConstants.{MOST_INPUT_BYTES}
 use Rattle.bn_reply_boards_laws.specs.RunReply.{RunReplies}
-use Rattle.bn_reply_boards_laws.specs.Windows.{AreSmall}
+use Rattle.bn_network.specs.Limits.{AreSmall}
 use Rattle.bn_reply_boards_laws.proofs.ClosedLemmas.{headline_told}
 use Rattle.bn_top.specs.Answers.{Answers, no_form, unread, too_long, replied, Replies}
 use Rattle.bn_top.specs.Told.{IsAnswered, TellsGenerate}
 use Rattle.bn_top.proofs.AnswerLemmas.{not_both}
-use Rattle.bn_top.proofs.Commands.{limits_small}
 use Rattle.bn_top.proofs.EndLemmas.{by_told}
 
 -- words that ask for a run have its form
 asked_form : (words : List (List ℕ)) (letters : List ℕ) (l : Limits) (given : Option ℕ) → AsksRun words letters l given → AreSmall l →
     HasForm words (Run letters l given)
-asked_form words letters l None h small = record { words_are = h; allowed = (limits_small l small, tt) }
-asked_form words letters l (Some e) h small = record { words_are = h.0; allowed = (limits_small l small, h.1) }
+asked_form words letters l None h small = record { words_are = h; allowed = (small, tt) }
+asked_form words letters l (Some e) h small = record { words_are = h.0; allowed = (small, h.1) }
 
 -- whatever run the words ask for, the answer is the reply to it
 pub asked_reply : (words : List (List ℕ)) (bytes : List ℕ) (status : Status) (text : List ℕ) (told : List Place) → Answers words bytes status text told →

@@ -20,7 +20,8 @@ use Rattle.bn_reply.specs.declared.status.Status.{Status}
 use Rattle.bn_reply.specs.declared.status.Status.TheVariants as statuses
 use Rattle.bn_reply.proofs.SettledLemmas.{agree, standard_settled, standard_tells, word_settled, word_tells}
 use Rattle.bn_reply.proofs.TableLemmas.{reads_table}
-use Rattle.bn_reply_boards_laws.specs.Windows.{AreSmall, BoardReplies, board, large as large_board, long as long_word, ComesTo, CountsElements, large_line}
+use Rattle.bn_network.specs.Limits.{AreSmall}
+use Rattle.bn_reply_boards_laws.specs.Windows.{BoardReplies, board, large as large_board, long as long_word, ComesTo, CountsElements, large_line}
 use Rattle.bn_reply.specs.Lines.{long_line}
 use Rattle.bn_reply_boards_laws.specs.RunReply.{RunIsSettled, RunReplies, TellsRun}
 use Rattle.bn_reply_boards_laws.specs.Headline.{outcome_status}

@@ -11,7 +11,8 @@ use Rattle.bn_bennett_laws.specs.Stages.{IsStandardMachine}
 use Rattle.bn_network.specs.Controls.{control_lines, symbol_count}
 use Rattle.bn_network.specs.Networks.{IsTape, bank_size, cell_size, elements_by}
 use Rattle.bn_board.proofs.LetterLemmas.{some_symbols, tape_letters}
-use Rattle.bn_reply_boards_laws.specs.Windows.{AreSmall, CountsElements}
+use Rattle.bn_network.specs.Limits.{AreSmall}
+use Rattle.bn_reply_boards_laws.specs.Windows.{CountsElements}
 use Rattle.bn_reply_boards_laws.specs.Laws.{BoardsAreCounted}
 use Rattle.bn_assembly.specs.Widening.{IsEnd, IsWhole, cells, number_at, widened}
 use Rattle.bn_windows_laws.specs.Searches.{HasBoard}

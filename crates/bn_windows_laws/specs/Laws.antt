@@ -9,7 +9,8 @@ use Rattle.bn_machine.specs.declared.quint.Side.{Side}
 use Rattle.bn_net.specs.declared.net.TheConstants.{MOST_ELEMENTS}
 use Rattle.bn_bennett_laws.specs.Stages.{IsStandardMachine}
 use Rattle.bn_table.specs.Rows.{FitsTable}
-use Rattle.bn_reply_boards_laws.specs.Windows.{AreSmall, CountsElements}
+use Rattle.bn_network.specs.Limits.{AreSmall}
+use Rattle.bn_reply_boards_laws.specs.Windows.{CountsElements}
 use Rattle.bn_assembly.specs.Widening.{IsEnd, IsWhole, cells, first_window, number_at, widened}
 use Rattle.bn_windows_laws.specs.Searches.{Finding, Found, HasBoard, HasFinding, Large, Widens}
 

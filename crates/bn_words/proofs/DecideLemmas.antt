@@ -8,7 +8,7 @@ use Rattle.bn_base.specs.declared.limits.TheConstants.{MOST_COUNT}
 use Rattle.bn_gen.specs.Increments.{IsRoundCount}
 use Rattle.bn_gen.specs.declared.machine.TheConstants.{MOST_INCREMENTS}
 use Rattle.bn_machine.specs.Outcome.{Limits}
-use Rattle.bn_assembly.specs.Assembled.{AreSmall}
+use Rattle.bn_network.specs.Limits.{AreSmall}
 use Rattle.bn_words.specs.Laws.{WordsHaveAFormOrNone}
 use Rattle.bn_words.specs.Requests.{HasForm, HasNoForm, IsAllowed, IsOrdinal, Request, words_of}
 use Rattle.bn_words.specs.Requests.{Step, Back, Machine, Realise, Compile, Run, View, Session, Generate, EraseRun}
@@ -70,7 +70,7 @@ ordinal_or_not n most = both (1 ≤ n) (n ≤ most) (low_or_not 1 n) (low_or_not
 small_or_not : (l : Limits) → OrNot (AreSmall l)
 small_or_not l =
     through ((l.left ≤ MOST_COUNT) × ((l.right ≤ MOST_COUNT) × ((l.steps ≤ MOST_COUNT) × (l.output ≤ MOST_COUNT)))) (AreSmall l)
-    (λ h. record { left = h.0; right = h.1.0; steps = h.1.1.0; output = h.1.1.1 }) (λ s. (s.left, (s.right, (s.steps, s.output))))
+    (λ h. (h.0, h.1.0, h.1.1.0, h.1.1.1)) (λ s. (s.0, (s.1, (s.2, s.3))))
     (both _ _ (low_or_not l.left MOST_COUNT) (both _ _ (low_or_not l.right MOST_COUNT) (both _ _ (low_or_not l.steps MOST_COUNT) (low_or_not l.output MOST_COUNT))))
 
 round_or_not : (k : ℕ) → OrNot (IsRoundCount k)

@@ -5,7 +5,7 @@ use Rattle.std.proofs.Common.{arith, sym, ap, ◌∙◌}
 use Rattle.bn_base.specs.Number.{greatest, read_number}
 use Rattle.bn_base.specs.declared.numbers.Digits.{Digits}
 use Rattle.bn_machine.specs.Outcome.{Limits}
-use Rattle.bn_assembly.specs.Assembled.{AreSmall}
+use Rattle.bn_network.specs.Limits.{AreSmall}
 use Rattle.bn_words.specs.Requests.{HasForm, IsAllowed, Request, words_of}
 use Rattle.bn_words.specs.Requests.{Step, Back, Check, Machine, Reversible, Bennett, Realise, Standard, Compile, Run, RunAuto, View, Session}
 use Rattle.bn_words.specs.Requests.{Plan, Migrate, Mirror, Farm, Generate, Erase, EraseRun}
@@ -32,10 +32,10 @@ limits a b c d = record { left = value a; right = value b; steps = value c; outp
 
 limits_again : (l : Limits) → AreSmall l → limits (decimal l.left) (decimal l.right) (decimal l.steps) (decimal l.output) ≡ l
 limits_again l small =
-    let left = value_again l.left (omega (arith, small.left)) in
-    let right = value_again l.right (omega (arith, small.right)) in
-    let steps = value_again l.steps (omega (arith, small.steps)) in
-    let output = value_again l.output (omega (arith, small.output)) in
+    let left = value_again l.left (omega (arith, small.0)) in
+    let right = value_again l.right (omega (arith, small.1)) in
+    let steps = value_again l.steps (omega (arith, small.2)) in
+    let output = value_again l.output (omega (arith, small.3)) in
     λ t. record { left = left t; right = right t; steps = steps t; output = output t }
 
 -- ---- the only request that words may ask for

@@ -4,7 +4,8 @@ use Rattle.bn_base.specs.Number.{greatest}
 use Rattle.bn_base.specs.declared.limits.TheConstants.{MOST_COUNT}
 use Rattle.bn_machine.specs.Outcome.{Limits}
 use Rattle.bn_gen.specs.Increments.{IsRoundCount}
-use Rattle.bn_assembly.specs.Assembled.{AreSmall, limits_of}
+use Rattle.bn_network.specs.Limits.{AreSmall}
+use Rattle.bn_assembly.specs.Assembled.{limits_of}
 use Rattle.bn_words.specs.declared.request.Request as declared
 use Rattle.bn_words.specs.declared.request.Request.TheVariants as variants
 
