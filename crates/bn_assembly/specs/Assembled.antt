@@ -8,6 +8,7 @@ use Rattle.bn_machine.specs.Outcome.{Limits}
 use Rattle.bn_quad.specs.Quadruples.{Quadruples, IsQuadMachine}
 use Rattle.bn_quad.specs.Calls.{IsUniformMachine}
 use Rattle.bn_network.specs.Controls.{ControlState, IsNumbering, symbol_count}
+use Rattle.bn_network.specs.Limits.{AreSmall}
 use Rattle.bn_network.specs.Networks.{IsNetwork, IsTape, cells_in, first_cell, network_start, elements_by}
 use Rattle.bn_cell.specs.declared.table.CellTable.{CellTable}
 use Rattle.bn_control.specs.Controlled.{Controlled, IsControlOf, IsWithinLimits}
@@ -18,7 +19,6 @@ use Rattle.bn_assembly.specs.declared.module.Module.{Module}
 use Rattle.bn_assembly.specs.declared.module.Module.TheVariants.{Control, Cell}
 use Rattle.bn_assembly.specs.declared.refusal.AssembleRefusal.{AssembleRefusal}
 use Rattle.bn_assembly.specs.declared.refusal.AssembleRefusal.TheVariants.{WordOutside, Elements, NoMemory}
-use Rattle.bn_base.specs.declared.limits.TheConstants.{MOST_COUNT}
 use Rattle.bn_assembly.specs.declared.windows.Windows.{Windows}
 use Rattle.bn_net.specs.declared.net.TheConstants.{MOST_ELEMENTS}
 

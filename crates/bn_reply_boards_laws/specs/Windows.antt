@@ -16,7 +16,6 @@ use Rattle.bn_reply.specs.Lines.{line}
 use Rattle.bn_reply.specs.TableReply.{StandardReplies, WordReplies}
 use Rattle.bn_reply.specs.declared.status.Status.{Status}
 use Rattle.bn_reply.specs.declared.status.Status.TheVariants as statuses
-use Rattle.bn_base.specs.declared.limits.TheConstants.{MOST_COUNT}
 use Rattle.bn_reply.specs.Lines.{long_line}
 
 -- the board of this machine in these limits has so many elements, whatever the word
