@@ -1,10 +1,6 @@
 -- What is read off the board of a machine, from what is read off any network; and the word at the start.
-use Rattle.std.specs.Prelude.{◌≡◌, ℕ, ◌<◌, ◌≤◌, List, All, refl}
-use Rattle.std.proofs.Common.{arith, sym, ap, subst, ◌∙◌}
-use Rattle.bn_circuits.specs.declared.line.Line.{Line}
-use Rattle.bn_circuits.specs.declared.place.Place.TheVariants.{Enter, Left}
-use Rattle.bn_net.specs.RotaryNets.{rotary_circuit}
-use Rattle.bn_net.specs.declared.net.TheConstants.{MOST_ELEMENTS}
+use Rattle.std.specs.Prelude.{◌≡◌, ℕ, ◌<◌, ◌≤◌, List, All}
+use Rattle.std.proofs.Common.{sym, subst, ◌∙◌}
 use Rattle.bn_machine.specs.Machine.{Program, IsMachine}
 use Rattle.bn_machine.specs.Outcome.{Limits}
 use Rattle.bn_bennett_laws.specs.Stages.{IsStandardMachine, IsSpelledBy}
@@ -12,9 +8,8 @@ use Rattle.bn_bennett.specs.Translation.{Translation, IsTranslation}
 use Rattle.bn_network.specs.Controls.{symbol_count}
 use Rattle.bn_network.specs.Networks.{network_start}
 use Rattle.bn_network.specs.Moments.{HasLetters}
-use Rattle.bn_board.specs.Boards.{size, board_start}
-use Rattle.bn_board.specs.Layouts.{IsLayout, spelled_config}
-use Rattle.bn_board.specs.Flats.{Flat, IsFlatOf, IsAccepted, machine_of, flat_start}
+use Rattle.bn_board.specs.Layouts.{spelled_config}
+use Rattle.bn_board.specs.Flats.{Flat, IsFlatOf, machine_of, flat_start}
 use Rattle.bn_board.specs.LayoutLaws.{BoardsRead}
 use Rattle.bn_board.proofs.LetterLemmas.{some_symbols, tape_letters}
 use Rattle.bn_board.proofs.ReadingLemmas.{own_flat, own_accepted}

@@ -1,9 +1,9 @@
 -- At the answer of a first read the network stops exactly where the machine is stuck there.
-use Rattle.std.specs.Prelude.{◌≡◌, ◌↔◌, ℕ, ◌+◌, ◌*◌, Bool, not, List, [], ◌∷◌, Some, slice_get, refl}
-use Rattle.std.proofs.Common.{arith, sym, ap, subst, ◌∙◌, inl}
+use Rattle.std.specs.Prelude.{◌≡◌, ◌↔◌, ℕ, ◌+◌, ◌*◌, Bool, not, List, [], ◌∷◌, Some, refl}
+use Rattle.std.proofs.Common.{sym, ap, subst, ◌∙◌, inl}
 use Rattle.bn_lists.specs.Lists.{nth}
 use Rattle.bn_lists.specs.Runs.{Reaches}
-use Rattle.bn_circuits.specs.Circuits.{Circuit, go_of, place_after}
+use Rattle.bn_circuits.specs.Circuits.{Circuit, place_after}
 use Rattle.bn_circuits.specs.Situations.{Situation, Turns, IsAtEnd}
 use Rattle.bn_circuits.specs.declared.place.Place.TheVariants.{Enter}
 use Rattle.bn_lists.proofs.RunsLemmas.{passes_run}
@@ -13,7 +13,7 @@ use Rattle.bn_quad.specs.Quadruples.{Rule, Quadruples, Configuration}
 use Rattle.bn_rsm.proofs.CostLemmas.{costs-bounded}
 use Rattle.bn_network.specs.declared.cell_line.CellLine.TheVariants.{Read, Answer}
 use Rattle.bn_network.specs.Cells.{line_number}
-use Rattle.bn_network.specs.Controls.{ControlState, ControlMove, ControlLine, ControlGoes, begins, reads_on, shifts_on, writes_on, Reads, Tape as to_tape, IsEntry, leaves, IsFirstOf, symbol_count, in_number, out_number, reads_of, shifts_of, to_read}
+use Rattle.bn_network.specs.Controls.{ControlState, ControlMove, reads_on, Reads, Tape as to_tape, IsEntry, symbol_count, in_number, out_number, reads_of}
 use Rattle.bn_network.specs.Networks.{IsControlAt, IsTape, first_cell, left_of}
 use Rattle.bn_circuits.specs.Circuits.{line_at}
 use Rattle.bn_network.specs.Moments.{IsMomentOf, head_cell}

@@ -7,7 +7,6 @@ use Rattle.bn_circuits.specs.declared.place.Place.{Place}
 use Rattle.bn_circuits.specs.Circuits.{Circuit, IsCircuit, IsConfig}
 use Rattle.bn_circuits.proofs.RunLemmas.{back-IsConfig, run-IsConfig}
 use Rattle.bn_machine.proofs.OutcomeLemmas.{ending_once}
-use Rattle.bn_machine.specs.Run.{Ending}
 use Rattle.bn_netlist_laws.proofs.EntryLemmas.{has-text}
 use Rattle.bn_netlist_laws.proofs.VersionLemmas.{spellings-move}
 use Rattle.bn_netlist_laws.specs.Spelling.{IsTextOf, Spelled, Spelling, circuit_of, moved_to}
@@ -22,7 +21,6 @@ use Rattle.bn_reply_circuits_laws.proofs.SettledLemmas.{circuits_settled}
 use Rattle.bn_reply_circuits_laws.specs.CircuitReply.{CircuitReplies, walked}
 use Rattle.bn_reply_tables.specs.BennettReply.{bennett_text}
 use Rattle.bn_reply_tables.specs.MachineReply.{TellsMachineRun, ending_status, ending_text}
-use Rattle.bn_table.specs.Rows.{Named}
 use Rattle.bn_headline_laws.specs.CommandLaws.{BackRepliesTell, BennettRepliesTell, MachineRepliesTell, StepRepliesTell}
 
 pub machine-tells : MachineRepliesTell

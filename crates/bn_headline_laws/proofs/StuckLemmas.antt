@@ -1,5 +1,5 @@
 -- What the control's `stuck_of` names where an assembled network stops.
-use Rattle.std.specs.Prelude.{◌≡◌, ℕ, ◌+◌, ◌-◌, ◌*◌, ◌<◌, Bool, not, List, [], ◌∷◌, length, Option, Some, None, slice_get, slice_index, slice_set, refl}
+use Rattle.std.specs.Prelude.{◌≡◌, ℕ, ◌+◌, ◌-◌, ◌*◌, ◌<◌, Bool, not, List, [], ◌∷◌, Option, Some, None, slice_get, slice_index, slice_set, refl}
 use Rattle.std.specs.Option.{option_map}
 use Rattle.std.proofs.Common.{zero, suc, arith, sym, ap, subst, ◌∙◌}
 use Rattle.std.proofs.lemmas.Option.{slice_get_within, same_Some, slice_get-map}
@@ -10,19 +10,15 @@ use Rattle.bn_circuits.specs.declared.place.Place.TheVariants.{Enter}
 use Rattle.bn_lists.proofs.RunsLemmas.{passes_run, runs_join}
 use Rattle.bn_machine.specs.Tape.{scanned}
 use Rattle.bn_machine.specs.Outcome as outcome
-use Rattle.bn_machine.specs.Outcome.{Limits, HasOutcome}
+use Rattle.bn_machine.specs.Outcome.{Limits}
 use Rattle.bn_quad.specs.Quadruples.{Configuration, Quadruples, IsQuadMachine}
 use Rattle.bn_rsm.specs.Machines.{machine_table}
 use Rattle.bn_rsm.proofs.CostLemmas.{costs-bounded}
 use Rattle.bn_bennett_laws.specs.Steps.{Stopped, Exit}
-use Rattle.bn_bennett.specs.Laws.{TranslationsEndAlike}
 use Rattle.bn_bennett.specs.Runs.{beginning_of}
-use Rattle.bn_bennett.proofs.Alike.{ends_alike}
-use Rattle.bn_bennett_laws.proofs.Bounded.{bounded_runs_agree}
-use Rattle.bn_bennett_laws.proofs.Numbering.{numbers_pass_tests, numbers_run_alike}
 use Rattle.bn_network.specs.declared.cell_line.CellLine.TheVariants.{Answer}
 use Rattle.bn_network.specs.Controls.{ControlState, Reads, Tape as to_tape, symbol_count, in_number, lines_before}
-use Rattle.bn_network.specs.Networks.{IsControlAt, IsTape, network_start}
+use Rattle.bn_network.specs.Networks.{IsControlAt, network_start}
 use Rattle.bn_network_laws.specs.Ends.{by_stop, IsStoppedAt, tape_of}
 use Rattle.bn_network_laws.proofs.FirstLemmas.{first-moment}
 use Rattle.bn_network_laws.proofs.LastLemmas.{last-moment, letters_are, line_in_range, one_tape}

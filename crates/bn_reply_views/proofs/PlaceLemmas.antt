@@ -1,53 +1,35 @@
 -- A view, a session and `step` of one number of steps show one place.
-use Rattle.std.specs.Prelude.{◌≡◌, ℕ, ◌≤◌, bytes_eq, List, [], ◌∷◌, ◌++◌, replicate, Option, Some, None, refl}
+use Rattle.std.specs.Prelude.{◌≡◌, ℕ, ◌≤◌, List, [], ◌∷◌, ◌++◌, None, refl}
 use Rattle.std.proofs.Common.{sym, ap, subst, ◌∙◌}
 use Rattle.std.proofs.lemmas.List.{append-nil}
-use Rattle.std.proofs.lemmas.Slice.Eq.{bytes_eq-Decides}
 use Rattle.bn_reply_boards_laws.specs.CompileReply.{CompileReplies}
 use Rattle.bn_reply_circuits_laws.specs.CircuitReply.{StepReplies}
 use Rattle.bn_reply.specs.declared.status.Status.{Status}
 use Rattle.bn_reply_views.specs.ViewReply.{ViewReplies}
-use Rattle.bn_circuits.specs.Alike.{AreAlike}
-use Rattle.bn_circuits.specs.Circuits.{IsCircuit, source, target}
 use Rattle.bn_circuits.specs.Stepping.{places, run}
-use Rattle.bn_circuits.specs.declared.line.Line.{Line}
 use Rattle.bn_circuits.specs.declared.config.Config.{Config}
-use Rattle.bn_circuits.proofs.AlikeLemmas.{run-alike}
 use Rattle.bn_circuits.proofs.RunLemmas.{Reaches-IsConfig, run_makes}
-use Rattle.bn_element.specs.Rotary.{rotary}
-use Rattle.bn_machine.specs.Machine.{Program}
 use Rattle.bn_machine.specs.Outcome.{Limits}
 use Rattle.bn_netlist_laws.proofs.EntryLemmas.{has-text}
 use Rattle.bn_netlist_laws.proofs.VersionLemmas.{spellings-move}
 use Rattle.bn_netlist_laws.specs.Spelling.{Spelling, Spelled, circuit_of, moved_to}
 use Rattle.bn_netlist_laws.specs.declared.version.Version.TheVariants.{Two}
 use Rattle.bn_table.specs.Rows.{Named}
-use Rattle.bn_board.specs.Flats.{Flat, IsFlatOf}
+use Rattle.bn_board.specs.Flats.{Flat}
 use Rattle.bn_reply_circuits_laws.specs.CircuitReply.{walked}
 use Rattle.bn_reply.specs.TableReply.{WordReplies}
 use Rattle.bn_reply.specs.declared.status.Status.TheVariants.{Done}
 use Rattle.bn_reply.proofs.SettledLemmas.{standard_tells, word_tells}
 use Rattle.bn_reply.proofs.TableLemmas.{reads_table}
-use Rattle.bn_reply_boards_laws.specs.CompileReply.{IsFlatSpelling}
 use Rattle.bn_reply_boards_laws.specs.RunReply.{board_after}
 use Rattle.bn_reply_boards_laws.specs.Windows.{BoardReplies, board, large, long}
 use Rattle.bn_reply_boards_laws.proofs.CompileLemmas.{IsCompiled, compiled}
-use Rattle.bn_reply_boards_laws.proofs.SpelledLemmas.{target_of}
 use Rattle.bn_reply_boards_laws.proofs.TellingLemmas.{after_same}
 use Rattle.bn_reply_boards_laws.proofs.WindowLemmas.{standard_machine}
 use Rattle.bn_reply_views.specs.ViewReply.{TellsView}
-use Rattle.bn_reply_views.specs.ViewText.{element_line, machine_line, module_line, state_line}
-use Rattle.bn_view.specs.declared.layers.Layers.{Layers}
-use Rattle.bn_bennett.specs.Translation.{name_of}
-use Rattle.bn_reply_boards_laws.specs.RunText.{tape_lines}
-use Rattle.bn_csv.specs.NumberingLaws.{AreApart as ApartBy}
-use Rattle.bn_csv.proofs.NumberingLemmas.{apart-firsts, one_number}
-use Rattle.bn_quad.specs.Names.{AreApart}
+use Rattle.bn_reply_views.specs.ViewText.{element_line}
 use Rattle.bn_table.proofs.MachineLemmas.{tables_machines}
-use Rattle.bn_bennett_laws.proofs.Counts.{list_has_length, list_has_names, list_is_in_range}
-use Rattle.bn_bennett.proofs.Tables.{is_table}
 use Rattle.bn_cut.specs.Cuts.{IsCut}
-use Rattle.bn_reply.specs.TableReply.{ReadsStandard}
 use Rattle.bn_cut.proofs.CutLemmas.{cuts-one}
 use Rattle.bn_board.specs.Flats.{flat_start}
 use Rattle.bn_board.specs.Layouts.{moment_at}

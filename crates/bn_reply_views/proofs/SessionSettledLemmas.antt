@@ -8,7 +8,6 @@ use Rattle.bn_circuits.specs.Circuits.{Goes}
 use Rattle.bn_circuits.proofs.RunLemmas.{Reaches-run}
 use Rattle.bn_circuits.specs.declared.place.Place.{Place}
 use Rattle.bn_circuits.specs.declared.config.Config.{Config}
-use Rattle.bn_csv.specs.Numbering.{firsts}
 use Rattle.bn_csv.specs.NumberingLaws.{AreApart as ApartBy}
 use Rattle.bn_csv.proofs.NumberingLemmas.{apart-firsts, one_number}
 use Rattle.bn_quad.specs.Names.{AreApart}
@@ -40,14 +39,12 @@ use Rattle.bn_reply_boards_laws.proofs.TellingLemmas.{after_same, same_boards}
 use Rattle.bn_reply_boards_laws.proofs.WindowLemmas.{given_accepted, window_settled}
 use Rattle.bn_view.specs.Laws.{ViewsAreOne, ViewsAreThere}
 use Rattle.bn_view.specs.Viewed.{IsViewOf}
-use Rattle.bn_view.specs.declared.layers.Layers.{Layers}
 use Rattle.bn_reply_views.specs.Showing.{TellsLayers}
 use Rattle.bn_reply_views.specs.ViewText.{view_text}
 use Rattle.bn_reply_views.proofs.ViewSettledLemmas.{text_same, turned, view_there}
-use Rattle.bn_session.specs.Breakpoints.{Breakpoint}
 use Rattle.bn_session.specs.Laws.{IsOnRun}
 use Rattle.bn_session.specs.Plays.{Plays, Session, session}
-use Rattle.bn_session.specs.Scripts.{ScriptFault, IsFirstScriptFault, IsScript}
+use Rattle.bn_session.specs.Scripts.{IsFirstScriptFault, IsScript}
 use Rattle.bn_session.specs.declared.command.Command.{Command}
 use Rattle.bn_cut.proofs.CutLemmas.{cuts-never_both, cuts-one}
 use Rattle.bn_session.proofs.OneReading.{faults-one, faulty-none, scripts-one}

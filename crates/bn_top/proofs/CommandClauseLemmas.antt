@@ -1,5 +1,5 @@
 -- What further commands print, each in its own terms, from the whole answer.
-use Rattle.std.specs.Prelude.{◌≡◌, true, ℕ, ◌≤◌, List, length, Option, IfSome, refl}
+use Rattle.std.specs.Prelude.{◌≡◌, true, ℕ, ◌≤◌, List, length, Option, refl}
 use Rattle.std.proofs.Common.{arith, subst}
 use Rattle.bn_circuits.specs.declared.place.Place.{Place}
 use Rattle.bn_io.specs.Told.{Grows}

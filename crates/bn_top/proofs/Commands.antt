@@ -2,7 +2,6 @@
 use Rattle.std.specs.Prelude.{◌≡◌, ℕ, List, [], Option, Result, IfOk, OnErr}
 use Rattle.std.proofs.Common.{sym, subst}
 use Rattle.bn_circuits.specs.declared.place.Place.{Place}
-use Rattle.bn_machine.specs.Outcome.{Limits}
 use Rattle.bn_words.specs.Requests.{HasForm, IsAllowed, Request, request_of}
 use Rattle.bn_words.specs.Requests.{Step, Back, Check, Machine, Reversible, Bennett, Realise, Standard, Compile, Run}
 use Rattle.bn_words.specs.Requests.{RunAuto, View, Session, Plan, Migrate, Mirror, Farm, Generate, Erase, EraseRun}
@@ -26,7 +25,6 @@ use Rattle.bn_reply_tables.proofs.BennettLemmas.{bennett_settled}
 use Rattle.bn_reply_tables.proofs.CheckLemmas.{check_settled}
 use Rattle.bn_reply_tables.proofs.MachineLemmas.{machine_settled}
 use Rattle.bn_reply_tables.proofs.ReversibleLemmas.{reversible_settled}
-use Rattle.bn_network.specs.Limits.{AreSmall}
 use Rattle.bn_reply_boards_laws.proofs.ClosedLemmas.{compile_settled, run_settled}
 use Rattle.bn_reply_views.proofs.SessionClosedLemmas.{session_settled}
 use Rattle.bn_reply_views.proofs.ViewClosedLemmas.{view_settled}
