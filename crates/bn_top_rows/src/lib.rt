@@ -39,6 +39,8 @@ mod sessions;
 #[cfg(test)]
 mod standard;
 #[cfg(test)]
+mod streams;
+#[cfg(test)]
 mod versions;
 #[cfg(test)]
 mod windows;
