@@ -161,7 +161,8 @@ fn read_window_and_steps<'a>(
     output: &str,
     most_steps: &str,
 ) -> Option<Request<'a>>
-    ensures { AreRead (name.now ∷ word.now ∷ left.now ∷ right.now ∷ steps.now ∷ output.now ∷ most_steps.now ∷ []) result }
+    ensures { AreRead (name.now ∷ word.now ∷ left.now ∷ right.now ∷ steps.now ∷ output.now ∷ most_steps.now ∷ [])
+        result }
 {
     let word = letters_of(word)?;
     let window = window_of(left, right, steps, output)?;

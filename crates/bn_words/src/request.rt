@@ -5,8 +5,9 @@ ghost use Rattle.bn_words.specs.Requests.{reads_input, request_of};
 
 use bn_assembly::Windows;
 
-/// What the words of a command line ask for, a variant a form. A word W stands behind the byte `=`, and a window is four
-/// words l1 r1 n r3: tape 1 reaches from -l1 to r1, the history holds n steps, and the output tape reaches from 0 to r3.
+/// What the words of a command line ask for, a variant a form. A word W stands behind the byte `=`, and a window is
+/// four words l1 r1 n r3: tape 1 reaches from -l1 to r1, the history holds n steps, and the output tape reaches from 0
+/// to r3.
 #[derive(Clone, Copy, Debug)]
 pub enum Request<'a> {
     /// `step E`: at most E steps of a circuit.

@@ -2,7 +2,8 @@
 
 ghost use Rattle.std.specs.Prelude.{◌∷◌, [], MatchOption};
 ghost use Rattle.bn_assembly.specs.Assembled.{limits_of};
-ghost use Rattle.bn_words.specs.Words.{AreLimits, AreNoLimits, IsCount, IsNoCount, IsNoNumber, IsNoWord, IsNumber, IsWord};
+ghost use Rattle.bn_words.specs.Words.{AreLimits, AreNoLimits, IsCount, IsNoCount};
+ghost use Rattle.bn_words.specs.Words.{IsNoNumber, IsNoWord, IsNumber, IsWord};
 
 use bn_assembly::Windows;
 use bn_base::{MOST_COUNT, read_u64};
