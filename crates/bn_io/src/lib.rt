@@ -23,4 +23,3 @@ pub use sources::{Source, SourceFailed};
 pub use std_sink::StdSink;
 pub use std_source::StdSource;
 pub use writing::{WriteFault, write_all};
-
