@@ -31,16 +31,6 @@ impl<W: Write> StdSink<W> {
     }
 }
 
-#[cfg(test)]
-impl<W> StdSink<W> {
-    // How many failures it has counted.
-    pub(crate) fn count(&self) -> u64
-        ensures { result ≡ self.now.1 }
-    {
-        self.faults
-    }
-}
-
 impl<W: Write> Sink for StdSink<W> {
     ghost taken = { λ _. None };
 

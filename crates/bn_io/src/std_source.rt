@@ -30,16 +30,6 @@ impl<R: Read> StdSource<R> {
     }
 }
 
-#[cfg(test)]
-impl<R> StdSource<R> {
-    // How many failures it has counted.
-    pub(crate) fn count(&self) -> u64
-        ensures { result ≡ self.now.1 }
-    {
-        self.faults
-    }
-}
-
 impl<R: Read> Source for StdSource<R> {
     ghost left = { λ _. None };
 

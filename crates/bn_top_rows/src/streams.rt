@@ -87,12 +87,9 @@ fn tells_of_a_reader_that_fails_in_the_middle(rt: HostRuntime) -> Result<(), Fai
     let mut source = StdSource::new(&mut reader);
     let mut piece = [0u8; 4];
     assert_eq!(rt; source.take(&mut piece[..]), Ok(2));
-    assert_eq!(rt; source.count(), 0);
     assert_eq!(rt; source.take(&mut piece[..]), Err(SourceFailed));
-    assert_eq!(rt; source.count(), 1);
     assert_eq!(rt; piece, *b"ab\0\0");
     assert_eq!(rt; source.take(&mut piece[..]), Ok(2));
-    assert_eq!(rt; source.count(), 1);
     assert_eq!(rt; piece, *b"cd\0\0");
     assert_eq!(rt; reader.calls, 3);
     assert_eq!(rt; reader.rest, b"e".as_slice());
@@ -108,7 +105,6 @@ fn reads_no_further_where_a_reader_fails(rt: HostRuntime) -> Result<(), Fail> {
     let mut source = StdSource::new(&mut reader);
     let read = read_all(rt.alloc(), &mut source, 100);
     assert!(rt; matches!(read, Err(ReadRefusal::ReadFault)));
-    assert_eq!(rt; source.count(), 1);
     assert_eq!(rt; reader.calls, 2);
     assert_eq!(rt; reader.rest, b"cde".as_slice());
     Ok(())
@@ -122,9 +118,7 @@ fn writes_no_further_where_a_writer_fails(rt: HostRuntime) -> Result<(), Fail> {
     };
     let mut sink = StdSink::new(&mut writer);
     assert_eq!(rt; write_all(&mut sink, b"abcde"), Err(WriteFault));
-    assert_eq!(rt; sink.count(), 1);
     assert_eq!(rt; sink.give(b"fgh"), Ok(2));
-    assert_eq!(rt; sink.count(), 1);
     assert_eq!(rt; writer.calls, 3);
     assert_eq!(rt; writer.taken.as_slice(), b"abfg".as_slice());
     Ok(())
