@@ -17,6 +17,7 @@ import {lineOf} from "./words.js";
 import {openWorkshop, pageOf} from "./workshop.js";
 
 export function start() {
+  byId("tooold").remove();
   document.body.classList.add("empty");
   const options = EXAMPLES.map(it => `<option value="${it.key}">${escaped(it.title)}</option>`);
   byId("examples").innerHTML = options.join("") + '<option value="" hidden>Your own</option>';
