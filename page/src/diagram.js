@@ -135,6 +135,7 @@ function goToRule(label) {
 // A new text: it stands in the editor, and the program judges it. The rows are filled anew when the Tab key has come to
 // its next field.
 function write(text) {
+  if (text === state.text) return;
   keepPast();
   state.text = text;
   state.example = "";
