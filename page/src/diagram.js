@@ -57,7 +57,7 @@ function makeDrawing() {
     part(id).onkeydown = event => { if (event.key === "Enter") part(button).click(); };
   }
   part("d-state").onchange = () => choose(part("d-state").value || null);
-  part("d-kind").onchange = () => { keepPast(); setKind(drawing.chosen, part("d-kind").value); changed(); draw(); };
+  part("d-kind").onchange = () => { keepPast(); setKind(shownName(drawing.chosen), part("d-kind").value); changed(); draw(); };
   const picture = part("d-picture");
   takeDrag(picture, {nameAt: shownName, draw, click: it => { choose(it); focusState(it); }});
   picture.addEventListener("click", event => goToRule(event.target.closest("[data-rule]")));

@@ -132,8 +132,9 @@ async function checkFault(values) {
   const said = rowsOf(await ask(["session", ...HERE], `${HOMING}%\n${script}`)),
     made = /quintuple (\d+) step (\d+)$/.exec(said.at(-1) ?? "");
   const repaired = rules.map((it, k) => k + 1 === rule ? row : it).join("\n") + "\n";
-  const output = /output =(.*)/.exec(await ask(["machine", "=1011", "100"], repaired))?.[1];
-  const isRight = made && Number(made[1]) === rule && isNumber(values.step, Number(made[2])) && output === "1100";
+  const outputOf = async table => /output =(.*)/.exec(await ask(["machine", "=1011", "100"], table))?.[1];
+  const isRepaired = await outputOf(repaired) === await outputOf(exampleTable("increment"));
+  const isRight = made && Number(made[1]) === rule && isNumber(values.step, Number(made[2])) && isRepaired;
   return judged(isRight, "Right. Each step is undone by a step back, so nothing is run again.",
                 "Not yet. Break where cell 1 changes, and run back from the end of the computing.",
                   said.slice(-7).join("\n"));
