@@ -24,7 +24,7 @@ PANELS = {
                   ("button", "stop at a state, a cell or an element"), ("button", "what the program said of the time line"),
                   ("button", "the time line, in words")],
 }
-IN_DIAGRAM = [("dialog", "State diagram"), ("button", "state S"), ("button", "state Halt, where it halts"), ("textbox", "state of the rule in line 1"),
+IN_DIAGRAM = [("dialog", "State diagram"), ("button", "state S"), ("button", "state Halt, where it halts"), ("combobox", "state of the rule in line 1"), ("textbox", "read of the rule in line 1"),
               ("combobox", "move of the rule in line 1"), ("button", "take the rule in line 1 away"), ("combobox", "State"), ("button", "Take back")]
 IN_ANSWERS = [("dialog", "What the machine answers"), ("combobox", "what Halt says"), ("textbox", "Words to try"), ("button", "Try them"),
               ("group", "what the words are answered with")]
@@ -93,9 +93,12 @@ def check_panels(page, count):
     count.hold(table.get("description", {}).get("value", "").strip().startswith(verdict[:40]),
                f"the table is described by {table.get('description')}, and not by {verdict!r}")
     slider = next(it for it in heard.nodes if it["role"]["value"] == "slider" and heard.name(it) == "Time")
-    told = heard.value(slider, "valuetext") or ""
+    told = page.ask("document.getElementById('film').getAttribute('aria-valuetext')")
     q, count_q, stage = page.ask("(run => [run.momentIndex(bench.state.e), run.moments.length - 1, run.moments[run.momentIndex(bench.state.e)].stage])(bench.current.run)")
-    count.hold(told.startswith(f"{stage}, quadruple {q} of {count_q}"), f"the time line is heard as {told!r}")
+    count.hold(told.startswith(f"{stage}, quadruple {q} of {count_q}") and slider["value"]["value"] == 900000,
+               f"the time line is heard as {told!r}, at {slider['value']}")
+    speed = page.ask("[document.getElementById('speed').getAttribute('aria-valuetext'), document.getElementById('speedtext').textContent]")
+    count.hold(speed[0] == speed[1] and speed[0], f"the speed is heard as {speed[0]!r}, and shown as {speed[1]!r}")
     pressed = [heard.name(it) for it in heard.nodes if it["role"]["value"] in ("button", "toggleButton") and heard.value(it, "pressed") == "true"]
     count.hold(len(pressed) == 1 and pressed[0].startswith("Quadruple"), f"pressed are {pressed}")
     current = page.ask("[...document.querySelectorAll('#stages [aria-current=step]')].map(it => it.dataset.stage)")

@@ -59,6 +59,10 @@ LAID = """(() => {
   const over = [];
   for (const [k, a] of texts.entries()) for (const b of texts.slice(0, k)) {
     if (a.it === b.it || Math.min(a.box[2], b.box[2]) - Math.max(a.box[0], b.box[0]) < 1.5 || Math.min(a.box[3], b.box[3]) - Math.max(a.box[1], b.box[1]) < 1.5) continue;
+    const x = (Math.max(a.box[0], b.box[0]) + Math.min(a.box[2], b.box[2])) / 2, y = (Math.max(a.box[1], b.box[1]) + Math.min(a.box[3], b.box[3])) / 2;
+    const stack = document.elementsFromPoint(x, y), low = Math.max(stack.indexOf(a.it), stack.indexOf(b.it));
+    const isHidden = stack.slice(0, low).some(other => !clear(other) && !(other.contains(a.it) && other.contains(b.it)));
+    if (isHidden) continue;
     over.push(`${a.words} (${a.at}) over ${b.words} (${b.at})`);
   }
   free.remove();

@@ -68,14 +68,17 @@ def drawn_table(draw, is_standard):
     return "\n".join((["S,_,_,+," + names[0]] if is_standard else []) + rows + [end, ""])
 
 
-def kind_of(program, typed, is_standard, word):
-    """The kind of a drawn machine on a word, or None where it is of no use."""
+def kind_of(program, typed, is_standard, word, wanted):
+    """The kind of a drawn machine on a word, one of those that are wanted still, or None."""
     status, table = (program.answer(["check"], typed)[0], typed) if is_standard else program.answer(["standard"], typed)
     if status != 0 or program.answer(["check"], typed)[0] == 0 and not is_standard:
         return None
     status, said = program.answer(["machine", "=" + word, "2000"], table)
     if status == 12:
         return "running on"
+    halts = "in standard form" if is_standard else "from the first letter"
+    if not {"stuck"} & wanted if status == 10 else not {halts, "with a window to the left"} & wanted:
+        return None
     steps = int(said.split()[3 if said.startswith("stuck") else 1]) if status in (0, 10) else 0
     if not FEWEST_STEPS <= steps <= MOST_OWN:
         return None
@@ -85,20 +88,21 @@ def kind_of(program, typed, is_standard, word):
         return None
     if status == 10:
         return "stuck"
-    return "with a window to the left" if window != "0" else "in standard form" if is_standard else "from the first letter"
+    return "with a window to the left" if window != "0" and "with a window to the left" in wanted else halts
 
 
 def drawn_machines(program, draw):
     """As many machines of each kind as are wanted, with their links."""
     found = {kind: [] for kind in WANTED}
     for _ in range(MOST_DRAWN):
-        if all(len(found[kind]) == number for kind, number in WANTED.items()):
+        wanted = {kind for kind, number in WANTED.items() if len(found[kind]) < number}
+        if not wanted:
             break
         is_standard = draw.random() < 0.5
         typed, word = drawn_table(draw, is_standard), "".join(draw.choice("01") for _ in range(draw.randint(1, 4)))
         letters = {it for row in typed.split() for it in row.split(",")[1:3]}
-        kind = kind_of(program, typed, is_standard, word) if set(word) <= letters else None
-        if kind and len(found[kind]) < WANTED[kind]:
+        kind = kind_of(program, typed, is_standard, word, wanted) if set(word) <= letters else None
+        if kind in wanted:
             found[kind].append((f"{kind}, drawn", link(t=typed, w=word, **({} if is_standard else {"s": "1"}))))
     return [it for some in found.values() for it in some]
 

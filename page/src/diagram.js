@@ -56,7 +56,7 @@ function makeDrawing() {
   for (const [id, button] of [["d-name", "d-rename"], ["d-other", "d-change"]]) {
     part(id).onkeydown = event => { if (event.key === "Enter") part(button).click(); };
   }
-  part("d-state").onchange = () => choose(part("d-state").value || null);
+  part("d-state").onchange = () => { drawing.chosen = part("d-state").value || null; fillDrawing(); };
   part("d-kind").onchange = () => { keepPast(); setKind(shownName(drawing.chosen), part("d-kind").value); changed(); draw(); };
   const picture = part("d-picture");
   takeDrag(picture, {nameAt: shownName, draw, click: it => { choose(it); focusState(it); }});

@@ -3,7 +3,7 @@
 import {escaped} from "./state.js";
 import {n1, svg} from "./svg.js";
 
-const MOST_STATES = 14, IN_TWO_ROWS = 8, IN_ROWS = 12, SMALL_WIDTH = 480, MOST_NAME = 9, LINE = 11.5, MOST_LABELS = 3;
+const MOST_STATES = 14, IN_TWO_ROWS = 8, IN_ROWS = 12, SMALL_WIDTH = 480, MOST_NAME = 9, LINE = 11.5, MOST_LABELS = 3, MOST_ROW = 230;
 const MOVES = {"+": "R", "-": "L", "0": "N"};
 
 // How the diagram is laid out: which states, how large, where each stands.
@@ -22,7 +22,7 @@ class Layout {
   }
   // Where a state was put, within the picture.
   placed(state, share) {
-    if (!Array.isArray(share) || !share.every(Number.isFinite)) return null;
+    if (!Array.isArray(share) || share.length !== 2 || !share.every(Number.isFinite)) return null;
     const {width, height, R} = this, half = this.half(state) + 2, high = R * .72 + 3;
     const within = (it, edge, size) => Math.max(edge, Math.min(size - edge, it * size));
     return [within(share[0], half, width), within(share[1], high, height), share[1] > .6 ? Math.PI / 2 : -Math.PI / 2];
@@ -37,7 +37,7 @@ class Layout {
     const row = Math.floor(k / across), inRow = Math.min(across, count - row * across), inset = this.isDense ? 32 : 40;
     const number = row % 2 ? inRow - 1 - (k - row * across) : k - row * across, room = this.width - 2 * inset;
     const x = inRow === 1 ? this.width / 2 : inset + room * (inRow < across ? (number + .5) / inRow : number / (inRow - 1));
-    const y = rows === 1 ? this.height / 2 : this.top + (this.height - 2 * this.top) * row / (rows - 1);
+    const high = Math.min(this.height - 2 * this.top, MOST_ROW * (rows - 1)), y = (this.height - high) / 2 + (rows === 1 ? 0 : high * row / (rows - 1));
     return [x, y, row === 0 ? -Math.PI / 2 : row === rows - 1 ? Math.PI / 2 : -Math.PI / 2];
   }
   // Many states stand in a grid, there and back; every other row is set off, so that edges don't go along one line.

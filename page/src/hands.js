@@ -120,6 +120,7 @@ function onTime() {
   on("speed", "input", () => {
     state.speed = Number(byId("speed").value);
     byId("speedtext").textContent = speedWords();
+    byId("speed").setAttribute("aria-valuetext", speedWords());
   });
   on("layers", "click", event => {
     const it = event.target.closest("[data-layer]");

@@ -1,7 +1,7 @@
 // What a machine answers: which of its states accept and which reject, where it comes to rest on a word, and what many
 // words are answered with. Where it comes to rest the program says: `machine` halts in the last rule's state, or is stuck.
 import {isCutOff, STATUS} from "./answer.js";
-import {byId, current, dialog, escaped, nameOf, state} from "./state.js";
+import {byId, current, dialog, escaped, nameOf, state, toast} from "./state.js";
 import {symbolWord} from "./table.js";
 import {ownRun} from "./window.js";
 import {number} from "./words.js";
@@ -51,7 +51,10 @@ function restStates() {
   return [...firsts, ...userStates.filter(it => !firsts.includes(it))].map(shown);
 }
 export function openVerdicts({kept, told}) {
-  if (!current.machine) return;
+  if (!current.machine) {
+    toast("There is no machine yet.");
+    return;
+  }
   const rows = restStates().map(name => `<tr><td>${escaped(name)}</td><td><select data-kind="${escaped(name)}"
     aria-label="what ${escaped(name)} says">${["", "accept", "reject"].map(kind =>
       `<option value="${kind}"${(kindOf(name) ?? "") === kind ? " selected" : ""}>${SAYS[kind] ?? "says nothing"}</option>`).join("")}</select></td></tr>`);
