@@ -82,6 +82,7 @@ def spoken(program, table, words, e):
 def check_panels(page, count):
     page.visit(f"file://{PAGE}#m=increment&e=900000")
     settle(page)
+    page.wait("bench.current.run.ready(bench.state.e).then(() => bench.render(false))")
     page.call("Accessibility.enable")
     heard = Heard(page)
     for name, wanted in PANELS.items():

@@ -109,6 +109,24 @@ def drawn_machines(program, draw):
 
 # ---- looking
 
+class Remembered:
+    """The program, which isn't asked twice for what it has just answered."""
+
+    def __init__(self, program):
+        self.program, self.kept = program, {}
+
+    def answer(self, words, data):
+        key = (tuple(words), data)
+        if key not in self.kept:
+            if len(self.kept) > 8:
+                self.kept.clear()
+            self.kept[key] = self.program.answer(words, data)
+        return self.kept[key]
+
+    def text(self, words, data):
+        return self.answer(words, data)[1]
+
+
 def faults_seen(page, program, table, words, compiled, e):
     """What stands in the page at a step otherwise than the program says."""
     seen = page.ask(SEEN)
@@ -140,6 +158,7 @@ def faults_seen(page, program, table, words, compiled, e):
 
 def look_at(page, program, name, fragment, places, draw, count):
     """So many places of one machine, with what it is."""
+    program = Remembered(program)
     page.visit(f"file://{PAGE}{fragment}")
     page.ask("document.getElementById('tab-table').click(); 0")
     table, words, end, elements, exit_ = page.ask(

@@ -47,7 +47,7 @@ export function takeMachine(example, e = 0) {
 }
 
 // Makes the run of what is typed, at a step that is to be kept.
-export async function rebuild(keep = 0) {
+async function rebuild(keep = 0) {
   const edition = ++state.editions, isOld = () => edition !== state.editions;
   busy("asking the program …");
   state.names = freeNames(state.text, state.names);
