@@ -152,7 +152,7 @@ def check_links(page, count):
     links = {it for name in ("EXERCISES", "TUTORIAL", "GALLERY") for it in
              re.findall(r"page/hithwelor\.html(#[^)`\s]+)\)", text_of("docs", f"{name}.md"))}
     for link in sorted(links):
-        page.visit(f"file://{PAGE}{link}")
+        page.visit(f"file://{PAGE}{link}", *(["Boolean(document.querySelector('#sheet h2')?.textContent)"] if link.startswith("#x=") else []))
         head, e, wanted = page.ask("[document.querySelector('#sheet h2')?.textContent ?? '', bench.state.e, new URLSearchParams(location.hash.slice(1)).get('e') ?? '0']")
         is_there = head.startswith(f"Exercise {link[3:]} ") if link.startswith("#x=") else str(e) == wanted
         count.hold(is_there and not page.faults(), f"the link {link} leads to {head!r}, step {e}, {page.faults()}")
