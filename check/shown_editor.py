@@ -2,9 +2,12 @@
 they were typed, the gutter, and changes that are taken back. What the page says of each is compared with the program.
 """
 import json
+import os
 import random
+import re
 import urllib.parse
 
+from counting import TOP, text_of
 from shown import PAGE
 from shown_places import INCREMENT, SUM, link
 
@@ -288,8 +291,7 @@ def check_changed(page, program, draw, count):
                        f"{name}, {kind}: the text is {shown!r}, not {right!r}; it says {said!r} where the program says {answer!r}")
         for right in texts[-2::-1]:
             page.ask("document.activeElement.blur(); 0")
-            page.call("Input.dispatchKeyEvent", type="rawKeyDown", key="z", code="KeyZ", windowsVirtualKeyCode=90, modifiers=2)
-            page.call("Input.dispatchKeyEvent", type="keyUp", key="z", code="KeyZ", windowsVirtualKeyCode=90, modifiers=2)
+            control_z(page)
             settle(page)
             count.hold(text_shown(page) == right, f"{name}: Ctrl Z leads to {text_shown(page)!r}, and not {right!r}")
         page.ask("document.getElementById('d-close').click(); document.getElementById('redo').click(); 0")
@@ -357,6 +359,46 @@ def check_names_kept(page, program, count):
     count.hold("q-0" not in names, f"a name that was typed is another's spelling: {names}, {given}")
 
 
+def control_z(page, shift=False):
+    for kind in ("rawKeyDown", "keyUp"):
+        page.call("Input.dispatchKeyEvent", type=kind, key="Z" if shift else "z", code="KeyZ", windowsVirtualKeyCode=90, modifiers=10 if shift else 2)
+
+
+def check_typed(page, program, count):
+    """What is typed in the table, or as the word, is taken back by Ctrl Z, and made again with shift."""
+    page.visit(f"file://{PAGE}{link(t=INCREMENT, w='11')}")
+    for field, typed, shown in (("table", "Z", lambda: text_shown(page)), ("word", "0", lambda: page.ask("document.getElementById('word').value"))):
+        before = shown()
+        page.ask(f"(it => {{ it.focus(); it.setSelectionRange(0, 0); }})(document.getElementById('{field}'))")
+        page.call("Input.insertText", text=typed)
+        settle(page, 400)
+        after = shown()
+        control_z(page)
+        settle(page)
+        back = shown()
+        control_z(page, shift=True)
+        settle(page)
+        count.hold(after == typed + before and back == before and shown() == after,
+                   f"typed in {field}: {before[:20]!r}, {after[:20]!r}, taken back {back[:20]!r}, made again {shown()[:20]!r}")
+        control_z(page)
+        settle(page)
+    said, right = page.ask("document.getElementById('outcome').textContent"), program.text(["machine", "=11", "100"], INCREMENT).split()
+    count.hold(said.startswith(f"{right[1]} steps → {right[3][1:]}"), f"what was taken back runs with {said!r}")
+
+
+def check_opened(page, program, count):
+    """A file of JFLAP: its final states accept, and what it answers is what the program says of the table that was made."""
+    page.visit(f"file://{PAGE}#m=least")
+    root = page.call("DOM.getDocument")["root"]["nodeId"]
+    node = page.call("DOM.querySelector", nodeId=root, selector="#file")["nodeId"]
+    page.call("DOM.setFileInputFiles", nodeId=node, files=[os.path.join(TOP, "examples", "swap.jff")])
+    settle(page, 500)
+    text = text_of("examples", "swap.jff")
+    finals = [name for name, body in re.findall(r'<state id="\d+" name="([^"]*)">(.*?)</state>', text, flags=re.S) if "<final/>" in body]
+    accept, table, given = page.ask("[bench.state.accept, bench.current.machine.table, bench.current.machine.given]")
+    count.hold(accept == finals and finals and program.answer(["standard"], given) == (0, table), f"of JFLAP {accept} accept, and final are {finals}")
+
+
 def check_editor(page, program, seed, count):
     draw = random.Random(seed)
     page.visit(f"file://{PAGE}#m=least")
@@ -366,4 +408,6 @@ def check_editor(page, program, seed, count):
     check_readable(page, count)
     check_changed(page, program, draw, count)
     check_names_kept(page, program, count)
+    check_typed(page, program, count)
+    check_opened(page, program, count)
     count.hold(not page.faults(), f"the editor: {page.faults()}")

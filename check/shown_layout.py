@@ -20,6 +20,9 @@ SCENES_LAID = [
     ("in standard form", "#m=complement&ac=[\"Halt\"]", ""), ("thirty states", link(t=many_states(30), w="01"), ""),
     ("a diagram", "#m=increment", "document.getElementById('larger').click(); "
                                   "document.querySelector('#d-picture [data-state=Go]').dispatchEvent(new KeyboardEvent('keydown', {key: 'Enter', bubbles: true}))"),
+    ("a diagram of thirty states", link(t=many_states(30), w="01"),
+     "document.getElementById('larger').click(); document.getElementById('d-state').value = 'State5'; "
+     "document.getElementById('d-state').dispatchEvent(new Event('change'))"),
     ("answers", "#m=increment&ac=[\"Halt\"]&ws=[\"1\",\"10\",\"\",\"2\"]", "document.getElementById('verdicts').click(); document.getElementById('v-try').click()"),
     ("breakpoints", "#m=increment&e=700000", "bench.state.breaks.push({kind: 'state', state: 'Add'}, {kind: 'cell', tape: 1, cell: 2}); bench.render(false); "
                                              "document.getElementById('addstop').click(); document.getElementById('addstate').click()"),

@@ -3,7 +3,7 @@
 import {escaped} from "./state.js";
 import {n1, svg} from "./svg.js";
 
-const MOST_STATES = 14, IN_TWO_ROWS = 8, IN_ROWS = 12, SMALL_WIDTH = 480, MOST_NAME = 9, LINE = 11.5, MOST_LABELS = 3, MOST_ROW = 230;
+const MOST_STATES = 14, IN_TWO_ROWS = 8, IN_ROWS = 12, SMALL_WIDTH = 480, MOST_NAME = 9, LINE = 11.5, MOST_LABELS = 3, LETTER = 6.4, MOST_ROW = 230;
 const MOVES = {"+": "R", "-": "L", "0": "N"};
 
 // How the diagram is laid out: which states, how large, where each stands.
@@ -130,12 +130,22 @@ function arcOf(layout, edge, isNow, hasBack) {
   const away = rim(edge.from, out, 0), reach = rim(edge.to, into, 1.5), ex = p - reach * Math.cos(into), ey = q - reach * Math.sin(into);
   const line = `<path class="edge ${kind}" d="M${n1(x + away * Math.cos(out))},${n1(y + away * Math.sin(out))} Q${n1(mx)},${n1(my)} ${n1(ex)},${n1(ey)}"/>`
     + edgeTip(ex, ey, into, kind);
-  // Not in the middle, so that the labels of two rows, there and back, don't meet.
-  const t = isSteep ? .5 : .4, on = (a, b, c) => (1 - t) * (1 - t) * a + 2 * t * (1 - t) * b + t * t * c;
-  const lx = on(x, mx, p), ly = on(y, my, q);
-  if (!isSteep) return {line, x: lx, y: ly + (my > (y + q) / 2 ? 8 : -11), anchor: "middle", isOne: false};
-  const side = mx > (x + p) / 2 ? 1 : -1, room = side > 0 ? width - lx : lx, isStart = (room > 48 ? side : -side) > 0;
-  return {line, x: lx + (isStart ? 7 : -7), y: ly, anchor: isStart ? "start" : "end", isOne: false};
+  const labelAt = t => {
+    const on = (a, b, c) => (1 - t) * (1 - t) * a + 2 * t * (1 - t) * b + t * t * c, lx = on(x, mx, p), ly = on(y, my, q);
+    if (!isSteep) return {line, x: lx, y: ly + (my > (y + q) / 2 ? 8 : -11), anchor: "middle", isOne: false};
+    const side = mx > (x + p) / 2 ? 1 : -1, room = side > 0 ? width - lx : lx, isStart = (room > 48 ? side : -side) > 0;
+    return {line, x: lx + (isStart ? 7 : -7), y: ly, anchor: isStart ? "start" : "end", isOne: false};
+  };
+  // Not in the middle, so that the labels of two rows, there and back, don't meet; elsewhere, where a state is in the way.
+  const first = isSteep ? .5 : .4, places = [first, .3, .62, .22, .75].map(labelAt);
+  return places.find(it => isFree(layout, edge, it)) ?? places[0];
+}
+// Whether the labels of an edge would lie over no state's box.
+function isFree(layout, edge, {x, y, anchor}) {
+  const shown = edge.labels.slice(0, MOST_LABELS), wide = LETTER * Math.max(...shown.map(it => it.text.length)) + 2, high = LINE * shown.length + 2;
+  const middle = anchor === "middle" ? x : anchor === "start" ? x + wide / 2 : x - wide / 2;
+  return [...layout.places].every(([state, [p, q]]) =>
+    Math.abs(p - middle) >= layout.half(state) + wide / 2 || Math.abs(q - y) >= layout.R * .72 + high / 2);
 }
 
 function labelsOf(layout, edge, {x, y, anchor, isOne}, {rule, chosen}, isNowEdge) {
