@@ -386,6 +386,28 @@ def check_typed(page, program, count):
     count.hold(said.startswith(f"{right[1]} steps → {right[3][1:]}"), f"what was taken back runs with {said!r}")
 
 
+def check_rows(page, count):
+    """A row is filled in by keys alone: what is typed is written as the Tab key goes on, and it goes on to the next field."""
+    page.visit(f"file://{PAGE}{link(t=PARITY, w='1')}")
+    page.ask("document.getElementById('larger').click(); 0")
+    settle(page)
+    page.ask("(it => { it.focus(); it.select(); })(document.querySelector('#d-rules [data-line=\"3\"] [data-field=\"2\"]')); 0")
+    places = []
+    for typed in ("0", "", "Odd2"):
+        if typed:
+            page.ask("document.activeElement.select(); 0")
+            page.call("Input.insertText", text=typed)
+        page.strike("Tab", 9)
+        settle(page)
+        places.append(page.ask("(it => [it.closest('[data-line]')?.dataset.line ?? '', it.dataset.field ?? it.id])(document.activeElement)"))
+    count.hold(text_shown(page) == PARITY.replace("Even,1,1,+,Odd", "Even,1,0,+,Odd2") and places == [["3", "3"], ["3", "4"], ["3", "5"]],
+               f"by keys the text is {text_shown(page)!r}, and Tab goes to {places}")
+    page.strike("Enter", 13, "\r")
+    settle(page)
+    count.hold(text_shown(page) == PARITY.replace("Even,1,1,+,Odd\n", "") and page.ask("document.activeElement.id") == "d-add",
+               f"Enter on × leaves {text_shown(page)!r}, and the focus at {page.ask('document.activeElement.id')}")
+
+
 def check_opened(page, program, count):
     """A file of JFLAP: its final states accept, and what it answers is what the program says of the table that was made."""
     page.visit(f"file://{PAGE}#m=least")
@@ -409,5 +431,6 @@ def check_editor(page, program, seed, count):
     check_changed(page, program, draw, count)
     check_names_kept(page, program, count)
     check_typed(page, program, count)
+    check_rows(page, count)
     check_opened(page, program, count)
     count.hold(not page.faults(), f"the editor: {page.faults()}")

@@ -89,7 +89,7 @@ def check_layout(page, pictures, count):
         for name, fragment, act in SCENES_LAID:
             page.visit(f"file://{PAGE}{fragment}")
             page.ask(f"{{ {act} }}; 0")
-            settle(page, 450)
+            settle(page, 450 if "Event('input')" in act or "v-try" in act or fragment.startswith("#x=") else 80)
             if "e=99999999" in fragment:
                 page.wait("bench.current.run.ready(bench.state.e).then(() => bench.render(false))")
             for shade in ("light", "dark"):

@@ -50,7 +50,7 @@ FIXED = [
     ("its window ends it on the left", link(t=INCREMENT, w="11", win="0 3 9 4")),
 ]
 LARGE = ("about 300,000 elements", link(t=INCREMENT, w="1011", win="2 6 440 6"))
-LARGE_PLACES = 12
+LARGE_PLACES = 8
 
 
 # ---- drawing

@@ -18,7 +18,7 @@ export function fillRules(box, {rules, states, chosen, write}) {
   box.innerHTML = `<datalist id="d-states">${states.map(it => `<option value="${escaped(it)}">`).join("")}</datalist>
     <table class="rules"><thead><tr>${heads}</tr></thead><tbody>${rows.join("")}</tbody></table>${more}`;
   for (const row of box.querySelectorAll("[data-line]")) {
-    const line = Number(row.dataset.line), fields = [...row.querySelectorAll("[data-field]")];
+    const line = Number(row.dataset.line), fields = [...row.querySelectorAll("input,select")];
     for (const it of fields) it.onchange = () => write(withRule(state.text, line, fields.map(field => field.value.trim())));
     row.querySelector("button").onclick = () => {
       write(withoutRule(state.text, line));
@@ -30,11 +30,12 @@ export function fillRules(box, {rules, states, chosen, write}) {
 // The field in which something is typed, and what stands in it where it isn't written yet.
 function fieldAt(it) {
   const line = it?.closest?.("[data-line]")?.dataset.line, field = it?.dataset?.field;
-  return line && field ? {line, field, typed: it.value === it.defaultValue ? null : it.value} : null;
+  const isTyped = it?.matches("input") && it.value !== it.defaultValue;
+  return line && field ? {line, field, typed: isTyped ? it.value : null} : null;
 }
 function comeBack(field, {typed}) {
   if (!field) return;
-  if (typed !== null && field.matches("input")) field.value = typed;
+  if (typed !== null) field.value = typed;
   field.focus();
 }
 function ruleRow(rule) {
@@ -45,5 +46,5 @@ function ruleRow(rule) {
   const options = moves.map(([it, words]) => `<option value="${escaped(it)}"${it === rule.shift ? " selected" : ""}>${escaped(words)}</option>`);
   return `<tr data-line="${rule.line}"><td class="no">${rule.line}</td>${input("state", 0, 6, 'list="d-states"')}${input("read", 1, 1)}${input("write", 2, 1)}`
     + `<td><select data-field="3" ${name("move")}>${options.join("")}</select></td>${input("next", 4, 6, 'list="d-states"')}`
-    + `<td><button class="plain" aria-label="take the rule in line ${rule.line} away">×</button></td></tr>`;
+    + `<td><button class="plain" data-field="5" aria-label="take the rule in line ${rule.line} away">×</button></td></tr>`;
 }
