@@ -221,6 +221,13 @@ def check_readable(page, count):
         count.hold(len(states) == 30 and not crossed and not outside and not small,
                    f"{width} wide: of {len(states)} states {crossed[:3]} lie over one another, {outside[:3]} outside, {small[:3]} are small")
     page.call("Emulation.setDeviceMetricsOverride", width=1680, height=1050, deviceScaleFactor=1, mobile=False)
+    page.visit(f"file://{PAGE}{link(t=many_states(90), w='01')}")
+    page.ask("document.getElementById('larger').click(); 0")
+    choose(page, "State70")
+    states = page.ask(DIAGRAM)["states"]
+    crossed = [(a["name"], b["name"]) for k, a in enumerate(states) for b in states[:k] if overlaps(a["box"], b["box"])]
+    names = {it["name"] for it in states}
+    count.hold(len(states) == 60 and not crossed and {"State70", "State74", "State54"} <= names, f"of ninety states {len(states)} are seen, {crossed[:3]} over one another")
 
 
 def choose(page, state):

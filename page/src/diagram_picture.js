@@ -8,9 +8,9 @@ const MOVES = {"+": "R", "-": "L", "0": "N"};
 
 // How the diagram is laid out: which states, how large, where each stands.
 class Layout {
-  constructor(rules, {width, height, now, name, places = {}, most = MOST_STATES}) {
-    const states = [...new Set(rules.flatMap(it => [it.state, it.next]))];
-    Object.assign(this, {rules, width, height, name, shown: states.length > most ? near(rules, states, now, most) : states, places: new Map()});
+  constructor(rules, {width, height, now, name, chosen, places = {}, most = MOST_STATES}) {
+    const states = [...new Set(rules.flatMap(it => [it.state, it.next]))], middle = chosen ?? now ?? states[0];
+    Object.assign(this, {rules, width, height, name, shown: states.length > most ? near(rules, states, middle, most) : states, places: new Map()});
     const count = this.shown.length;
     this.isSmall = count > IN_TWO_ROWS && width < SMALL_WIDTH;
     this.R = this.isSmall ? 14 : count > MOST_STATES ? 16 : 19;
@@ -64,12 +64,14 @@ class Layout {
     return found;
   }
 }
-function near(rules, states, now, most) {
-  const found = new Set([now ?? states[0]]);
+// The states next to one; where many may be seen, others too.
+function near(rules, states, middle, most) {
+  const found = new Set([middle]);
   for (const it of rules) {
-    if (it.state === now) found.add(it.next);
-    if (it.next === now) found.add(it.state);
+    if (it.state === middle) found.add(it.next);
+    if (it.next === middle) found.add(it.state);
   }
+  for (const it of states) if (most > MOST_STATES && found.size < most) found.add(it);
   return states.filter(it => found.has(it)).slice(0, most);
 }
 
