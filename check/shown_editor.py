@@ -61,7 +61,7 @@ def rest_of(program, table, final, names, word):
     status, said = program.answer(["machine", "=" + word, MOST_OWN_STEPS], table)
     words = said.split()
     if status == 0:
-        return final, words[1], words[2][1:] if len(words) > 2 and words[2].startswith("=") else words[-1].partition("=")[2]
+        return final, words[1], said.partition("output =")[2].strip()
     if status == 10:
         return names(words[1]), words[3], ""
     return None, None, ""
@@ -175,6 +175,13 @@ def check_moved(page, count):
                f"by arrow keys Home goes from {before} to {after}, and {focused} has the focus")
     page.strike("Enter", 13, "\r")
     count.hold(page.ask("document.getElementById('d-state').value") == "Home", "Enter doesn't choose a state")
+    label = page.ask("""(it => { const box = it.getBoundingClientRect(); return [box.left + box.width / 2, box.top + box.height / 2, it.textContent]; })(
+      [...document.querySelectorAll('#d-picture [data-rule="4"]')][0])""")
+    for kind in ("mousePressed", "mouseReleased"):
+        page.call("Input.dispatchMouseEvent", type=kind, x=label[0], y=label[1], button="left", clickCount=1)
+    settle(page)
+    at = page.ask("(it => [it.closest('[data-line]')?.dataset.line, it.dataset.field])(document.activeElement)")
+    count.hold(at == ["4", "1"] and label[2] == "_ L", f"a click on the label {label[2]!r} goes to {at}")
     page.ask("document.getElementById('d-close').click(); document.getElementById('share').click(); 0")
     settle(page)
     address, places = page.ask("location.href"), page.ask("bench.state.places")

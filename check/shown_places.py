@@ -9,16 +9,18 @@ import time
 import urllib.parse
 
 from shown import PAGE
-from shown_runs import RUNS_ON, faults_at
-from workbench_text import read_configuration, read_tape
+from shown_runs import RUNS_ON, SHOWN, bars_of, faults_at
+from workbench_text import read_tape
 
 SEED, PLACES = 46, 500
 # What is drawn: how many machines of each kind, and how large their runs may be, so that many can be looked at.
 WANTED = {"in standard form": 4, "from the first letter": 4, "with a window to the left": 2, "stuck": 2, "running on": 2}
-MOST_DRAWN, MOST_ELEMENTS, MOST_STEPS, FEWEST_STEPS, MOST_OWN = 3000, 60000, 4000000, 4, 60
+MOST_DRAWN, MOST_ELEMENTS, MOST_STEPS, FEWEST_STEPS, MOST_OWN = 3000, 36000, 4000000, 4, 60
 INCREMENT = "S,_,_,+,Go\nGo,0,0,+,Go\nGo,1,1,+,Go\nGo,_,_,-,Add\nAdd,1,0,-,Add\nAdd,0,1,-,Home\nAdd,_,1,-,Home\nHome,0,0,-,Home\nHome,1,1,-,Home\nHome,_,_,0,Halt\n"
 SUM = "q_0,1,1,+,q_0\nq_0,0,1,+,q_1\nq_1,1,1,+,q_1\nq_1,_,_,-,q_2\nq_2,1,_,-,q_3\n"
 SUM_NAMES = '{"q-0":"q_0","q-1":"q_1","q-2":"q_2","q-3":"q_3"}'
+# A place is drawn without what is fetched ahead and beside it, so that many can be looked at.
+PLACED = SHOWN.replace("goTo(e); await run.ready(e);", "bench.state.e = e;")
 # What stands in the page.
 SEEN = """(() => {
   const text = id => document.getElementById(id).textContent, all = it => [...document.querySelectorAll(it)];
@@ -43,14 +45,14 @@ def link(**parts):
 # The machines that are always looked at: what they are, and their links.
 FIXED = [
     ("Add one", link(m="increment")), ("Turn each letter", link(m="complement", w="0110")),
-    ("Palindrome?", link(m="palindrome", w="abba")), ("The least machine", link(m="least")),
+    ("Palindrome?", link(m="palindrome", w="ab")), ("The least machine", link(m="least")),
     ("Add one, faulty", link(m="faulty", w="101")), ("names of a book", link(t=SUM, n=SUM_NAMES, s="1", w="1011")),
     ("running on", RUNS_ON), ("stuck", link(t=INCREMENT.replace("Go,1,1,+,Go\n", ""), w="101")),
     ("its window ends it", link(t=INCREMENT, w="1011", win="0 5 6 5")),
     ("its window ends it on the left", link(t=INCREMENT, w="11", win="0 3 9 4")),
 ]
 LARGE = ("about 300,000 elements", link(t=INCREMENT, w="1011", win="2 6 440 6"))
-LARGE_PLACES = 8
+LARGE_PLACES = 6
 
 
 # ---- drawing
@@ -75,7 +77,8 @@ def kind_of(program, typed, is_standard, word, wanted):
         return None
     status, said = program.answer(["machine", "=" + word, "2000"], table)
     if status == 12:
-        return "running on"
+        elements = int(program.text(["run", "=" + word, "40", "40", "40", "1", "0"], table).split()[1])
+        return "running on" if elements <= MOST_ELEMENTS else None
     halts = "in standard form" if is_standard else "from the first letter"
     if not {"stuck"} & wanted if status == 10 else not {halts, "with a window to the left"} & wanted:
         return None
@@ -150,7 +153,7 @@ def faults_seen(page, program, table, words, compiled, e):
         element = int(re.match(r"element at (\d+)", view[0])[1])
         if seen["now"] not in ([], [element]) or element in seen["elements"] and seen["now"] != [element]:
             faults.append(f"the signal is drawn at {seen['now']}, and not at {element}")
-    bars = read_configuration(program.text(["step", str(e)], compiled)).bars
+    bars = bars_of(program.text(["step", str(e)], compiled))
     if "".join(bars[it] for it in seen["elements"]) != seen["bars"] or not seen["bars"]:
         faults.append(f"the {len(seen['bars'])} bars that are drawn")
     return faults
@@ -165,7 +168,7 @@ def look_at(page, program, name, fragment, places, draw, count):
         "(run => [run.table, run.words, run.end, run.circuit.count, run.outcome.exit])(bench.current.run)")
     compiled = program.text(["compile", *words], table)
     for e in sorted(draw.randrange(end + 1) for _ in range(places)):
-        faults = faults_at(page, program, table, words, compiled, e) + faults_seen(page, program, table, words, compiled, e)
+        faults = faults_at(page, program, table, words, compiled, e, PLACED) + faults_seen(page, program, table, words, compiled, e)
         count.hold(not faults, f"{name}, {fragment[:60]}, step {e} of {end}: the page shows {'; '.join(faults)}")
     count.hold(not page.faults(), f"{name}: {page.faults()}")
     return elements, exit_
