@@ -4,14 +4,14 @@ import {byId, state} from "./state.js";
 
 const IN_PAST = ["text", "names", "accept", "reject", "places", "word", "asStandard", "blank", "window", "example"];
 const MOST_KEPT_BACK = 200, TYPING = 900;
-const past = {behind: [], ahead: [], typed: 0};
+const past = {behind: [], ahead: [], typed: -TYPING};
 
 const copyOf = () => structuredClone(Object.fromEntries(IN_PAST.map(key => [key, state[key]])));
 
 // Keeps what stands there, before it is changed. What is typed without a rest is one change.
 export function keepPast(isTyping = false) {
   const now = performance.now(), goesOn = isTyping && now - past.typed < TYPING;
-  past.typed = isTyping ? now : 0;
+  past.typed = isTyping ? now : -TYPING;
   if (goesOn) return;
   past.behind.push(copyOf());
   if (past.behind.length > MOST_KEPT_BACK) past.behind.shift();
@@ -24,7 +24,7 @@ export function takeBack(direction = -1) {
   if (!from.length) return false;
   to.push(copyOf());
   Object.assign(state, from.pop());
-  past.typed = 0;
+  past.typed = -TYPING;
   showPast();
   return true;
 }
