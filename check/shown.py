@@ -15,6 +15,8 @@ COMMAND = os.path.join(TOP, "bin", "hithwelor")
 
 PAGE = os.path.join(TOP, "page", "hithwelor.html")
 PATIENCE = 60
+# A run is shown, and nothing is waited for.
+RUNS = "typeof bench === 'object' && Boolean(bench.current.run) && !document.getElementById('busy').textContent.includes('…')"
 
 
 class Program:
@@ -40,15 +42,14 @@ class Shown(Browser):
 
     PATIENCE = PATIENCE
 
-    def visit(self, address):
-        """Opens an address, and waits for the run that it shows."""
+    def visit(self, address, ready=RUNS):
+        """Opens an address, and waits for the run that it shows, or for something else."""
         for it in ("about:blank", address):
             self.events.clear()
             self.call("Page.navigate", url=it)
             while not any(event["method"] == "Page.loadEventFired" for event in self.events):
                 self.events.append(self.message())
         until = time.monotonic() + PATIENCE
-        ready = "typeof bench === 'object' && Boolean(bench.current.run) && !document.getElementById('busy').textContent.includes('…')"
         while not self.ask(ready):
             if time.monotonic() > until:
                 raise OSError(f"{address[:80]}: no run is shown; the page says "

@@ -86,6 +86,9 @@ SCENES = [("the start", "#m=least", ""),
           ("stops", "#m=least", "document.getElementById('addstop').click()"), ("exercises", "#m=least",
                                                                                 "document.getElementById('tasks').click()"),
           ("an exercise", "#m=least", "bench.beginTask(6); document.getElementById('taskcheck').click()"),
+          ("a diagram", "#m=complement&ac=[\"Halt\"]", "document.getElementById('larger').click(); document.getElementById('d-state').value = 'Scan'; "
+           "document.getElementById('d-state').dispatchEvent(new Event('change'))"),
+          ("answers", "#m=least&ac=[\"F\"]&ws=[\"\"]", "document.getElementById('verdicts').click(); document.getElementById('v-try').click()"),
           ("elements", "#m=least", "bench.openWorkshop('elements'); document.getElementById('e-forth').click()"),
           ("mirror", "#m=least", "bench.openWorkshop('mirror')"), ("two boards", "#m=least",
                                                                    "bench.openWorkshop('farm'); document.getElementById('f-line').click()"),
@@ -171,7 +174,7 @@ def walk(page, most):
 def check_keyboard(page, count):
     """Tab comes to all that can be used, and marks it; keys alone step, set a breakpoint, run to it, and step in the workshop."""
     for name, fragment, act in SCENES:
-        if name not in ("the start", "stops", "an exercise", "elements", "mirror", "two boards", "erase"):
+        if name not in ("the start", "stops", "a diagram", "answers", "an exercise", "elements", "mirror", "two boards", "erase"):
             continue
         scene(page, fragment, act)
         unmarked = walk(page, 120)

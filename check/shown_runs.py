@@ -1,4 +1,6 @@
 """What the page shows of a run, at drawn steps, with what the program says there."""
+import functools
+
 from shown import PAGE
 from workbench_text import read_configuration, read_tape
 
@@ -37,11 +39,17 @@ def next_quadruple(table, view):
     return []
 
 
-def faults_at(page, program, table, words, compiled, e):
+@functools.lru_cache(maxsize=2)
+def bars_of(text):
+    """The bars of a configuration text, one letter each."""
+    return "".join(read_configuration(text).bars)
+
+
+def faults_at(page, program, table, words, compiled, e, script=SHOWN):
     """What the page shows at a step otherwise than the program says."""
-    shown = page.wait(SHOWN % e)
+    shown = page.wait(script % e)
     view = program.text(["view", *words, str(e)], table).splitlines()
-    bars = "".join(read_configuration(program.text(["step", str(e)], compiled)).bars)
+    bars = bars_of(program.text(["step", str(e)], compiled))
     faults = [f"{shown[name]!r}, and not {line!r}" for name, line in
               (("element", view[0]), ("module", view[1]), ("quadruple", view[2]),
                ("machine", view[6])) if shown[name] != line]

@@ -54,6 +54,19 @@ def undone(program):
     return found
 
 
+def reading(program, table):
+    """Through how many cells the signal goes from step 6540 on, and at which step it comes in at the control."""
+    script = "step 6540\n" + "view\nstep 1\n" * 600
+    lines = program.text(["session", "=", "0", "2", "2", "1"], f"{table}%\n{script}").splitlines()
+    cells = 0
+    for place, module in zip(lines, lines[1:]):
+        if module.startswith("module tape ") and " line " in module:
+            cells += 1
+        if module.startswith("module control line "):
+            return cells, int(place.split()[-1])
+    return None
+
+
 def filled(**fields):
     return {"fields": fields}
 
@@ -72,9 +85,9 @@ def circuit_answers(program):
     bank = program.text(["realise", "2", "2"], text_of("examples", "two-moves.csv"))
     steps = program.text(["step", "1000"], bank).splitlines()[4].split()[1]
     yield 8, filled(steps=steps), filled(steps=str(int(steps) + 2))
-    view = program.text(["view", "=", "0", "2", "2", "1", "6988"], least).splitlines()
-    place = view[0].split()[-1] if view[1].startswith("module control line A") else "?"
-    yield 9, filled(cells="3", steps=place), filled(cells="3", steps="6722")
+    cells, steps = reading(program, least)
+    yield 9, filled(cells=str(cells), steps=str(steps)), filled(cells=str(cells), steps="6722")
+    yield 9, filled(cells=str(cells), steps=str(steps)), filled(cells=str(cells - 1), steps=str(steps))
     yield 12, {}, None
     mirror = program.text(["step", "3"], program.text(["mirror"], text_of("examples", "undo.txt"))).splitlines()
     right = filled(place=mirror[5].split()[1], bars=" ".join(line.split()[2] for line in mirror[6:]))
@@ -105,8 +118,11 @@ def run_answers(program):
     elements = [int(program.text(["run", "=", "0", "2", cells, "1"], least).split()[1]) for cells in ("2", "3")]
     whole = program.text(["run", "=111", "1", "4", "10", "5"], increment).split()[1]
     halted = after(program, ["machine", "=111", "100"], increment, 1)
-    right = filled(steps=halted, i="2", letters="0", can="no")
+    walks = ["".join(f"W{k},_,_,{'+' if k < steps else '0'},W{k + 1}\n" for k in range(1, steps + 1)) for steps in (2, 3, 4)]
+    counts = {re.search(r"quadruple steps (\d+)", program.text(["run", "=", "auto"], table))[1] for table in walks}
+    right = filled(steps=halted, i="2", letters="0", can="yes" if "15" in counts else "no")
     yield 6, right, changed(right, i="1", letters="1")
+    yield 6, right, changed(right, can="yes")
     right = filled(small=str(elements[0]), more=str(elements[1] - elements[0]), most="46591", whole=whole)
     yield 10, right, changed(right, most="46592")
     right = filled(l="1", r="4", n=halted, o="5")
@@ -124,6 +140,22 @@ def run_answers(program):
 def answers(program):
     for some in (circuit_answers, table_answers, run_answers):
         yield from some(program)
+
+
+def check_links(page, count):
+    """The links of the documents into the page: each leads to its exercise, or to a run. A class has one for each exercise."""
+    rows = re.findall(r"^\| \d+ to \d+ \| .* \| ([\d, ]+) \| (.*) \|$", text_of("docs", "EXERCISES.md"), flags=re.M)
+    for numbers, cell in rows:
+        lacking = [it for it in numbers.split(", ") if f"page/hithwelor.html#x={it})" not in cell]
+        count.hold(not lacking, f"docs/EXERCISES.md, a class: no link to {lacking}")
+    count.hold(len(rows) == 7, f"docs/EXERCISES.md: a class of {len(rows)} rows")
+    links = {it for name in ("EXERCISES", "TUTORIAL", "GALLERY") for it in
+             re.findall(r"page/hithwelor\.html(#[^)`\s]+)\)", text_of("docs", f"{name}.md"))}
+    for link in sorted(links):
+        page.visit(f"file://{PAGE}{link}", *(["Boolean(document.querySelector('#sheet h2')?.textContent)"] if link.startswith("#x=") else []))
+        head, e, wanted = page.ask("[document.querySelector('#sheet h2')?.textContent ?? '', bench.state.e, new URLSearchParams(location.hash.slice(1)).get('e') ?? '0']")
+        is_there = head.startswith(f"Exercise {link[3:]} ") if link.startswith("#x=") else str(e) == wanted
+        count.hold(is_there and not page.faults(), f"the link {link} leads to {head!r}, step {e}, {page.faults()}")
 
 
 def check_tasks(page, program, count):
@@ -144,6 +176,7 @@ def check_tasks(page, program, count):
             count.hold(given["kind"] == "fault" and given["words"],
                        f"exercise {number}: the wrong {json.dumps(wrong)[:90]} is said to be {given}")
     count.hold(not page.faults(), f"the exercises: {page.faults()}")
+    check_links(page, count)
     for number in (1, 6, 14):
         page.visit(f"file://{PAGE}#x={number}")
         shown = page.ask("document.querySelector('#sheet h2')?.textContent ?? ''")

@@ -12,6 +12,9 @@ const PANELS = {
     "Below it stands what the program says of the table; then the word on the tape; then the machine by itself, " +
       "which forgets as it goes; and its states as a picture. The rule at work is marked in the table and in the " +
         "picture. A click on a state stops there.",
+    "In large the picture can be changed, and the table with it: ⤢ opens it. Answers says which states accept and " +
+      "which reject, and tries many words. Where a line has two numbers, the second is its rule's, in the colour of " +
+        "the history, which shows it.",
   ]},
   tapes: {title: "Bennett's reversible machine", words: [
     "The same machine, made so that no step forgets. It has three tapes: the work tape is the machine's own; the " +

@@ -5,7 +5,7 @@ import {editorText} from "./editor.js";
 import {EXAMPLES} from "./examples.js";
 import {PICTURES, takeHands, TEXTS} from "./hands.js";
 import {readLink} from "./links.js";
-import {rebuild, takeMachine} from "./machine.js";
+import {takeMachine, typed} from "./machine.js";
 import {composed} from "./picture.js";
 import {frames, goTo, pause, play, showButtons, step, timings} from "./play.js";
 import {beginTask} from "./sheet.js";
@@ -17,6 +17,7 @@ import {lineOf} from "./words.js";
 import {openWorkshop, pageOf} from "./workshop.js";
 
 export function start() {
+  byId("tooold").remove();
   document.body.classList.add("empty");
   const options = EXAMPLES.map(it => `<option value="${it.key}">${escaped(it.title)}</option>`);
   byId("examples").innerHTML = options.join("") + '<option value="" hidden>Your own</option>';
@@ -44,7 +45,7 @@ function begin() {
   byId("about").textContent = EXAMPLES.find(it => it.key === link.example)?.about ?? "A machine from a link.";
   byId("word").value = state.word;
   editorText();
-  rebuild(link.e).catch(console.error);
+  typed(0, link.e);
 }
 
 // For the checks, and for the curious.

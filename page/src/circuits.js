@@ -35,7 +35,8 @@ export const circuitText = (given, state = "1", line = "1") =>
   answer(isConfiguration(given) ? ["step", "0"] : ["realise", state, line], given);
 
 // What the program refused, in words; nothing where it refused nothing.
-export function circuitFault({status, text}) {
+export function circuitFault({status, text, words}) {
+  if (words) return words;
   if (status === STATUS.done) return "";
   const line = /^text: (board \d+ )?line (\d+) (.*)$/.exec(text),
     record = /^text: record (\d+) (?:field (\d) )?(.*)$/.exec(text);

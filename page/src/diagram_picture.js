@@ -1,21 +1,31 @@
-// The state diagram: at most fourteen states, those around the one that is at work where there are more.
+// The state diagram: as many states as are asked for, those around the one that is at work where there are more. A state
+// that was put somewhere stands there; the others stand in rows.
 import {escaped} from "./state.js";
 import {n1, svg} from "./svg.js";
 
-const MOST_STATES = 14, IN_TWO_ROWS = 8, IN_ROWS = 12, SMALL_WIDTH = 480, MOST_NAME = 9, LINE = 11.5, MOST_LABELS = 3;
+const MOST_STATES = 14, IN_TWO_ROWS = 8, IN_ROWS = 12, SMALL_WIDTH = 480, MOST_NAME = 9, LINE = 11.5, MOST_LABELS = 3, LETTER = 6.4, MOST_ROW = 230;
 const MOVES = {"+": "R", "-": "L", "0": "N"};
 
 // How the diagram is laid out: which states, how large, where each stands.
 class Layout {
-  constructor(rules, {width, height, now, name}) {
-    const states = [...new Set(rules.flatMap(it => [it.state, it.next]))];
-    Object.assign(this, {rules, width, height, name, shown: states.length > MOST_STATES ? near(rules, states, now) : states, places: new Map()});
-    this.isSmall = this.shown.length > IN_TWO_ROWS && width < SMALL_WIDTH;
-    this.R = this.isSmall ? 14 : 19;
-    this.isDense = this.isSmall || height < 130;
+  constructor(rules, {width, height, now, name, chosen, places = {}, most = MOST_STATES}) {
+    const states = [...new Set(rules.flatMap(it => [it.state, it.next]))], middle = chosen ?? now ?? states[0];
+    Object.assign(this, {rules, width, height, name, shown: states.length > most ? near(rules, states, middle, most) : states, places: new Map()});
+    const count = this.shown.length;
+    this.isSmall = count > IN_TWO_ROWS && width < SMALL_WIDTH;
+    this.R = this.isSmall ? 14 : count > MOST_STATES ? 16 : 19;
+    this.isDense = this.isSmall || height < 130 || count > MOST_STATES;
     this.loops = new Set(rules.filter(it => it.state === it.next).map(it => it.state));
     this.top = this.R * .72 + (this.shown.some(it => this.loops.has(it)) ? (this.isDense ? 16 : 31) : 14);
-    this.shown.forEach((it, k) => this.places.set(it, this.shown.length <= IN_ROWS ? this.inRows(k) : this.onEllipse(k)));
+    const own = k => count <= IN_ROWS ? this.inRows(k) : count <= MOST_STATES ? this.onEllipse(k) : this.inGrid(k);
+    this.shown.forEach((it, k) => this.places.set(it, this.placed(it, places[name(it)]) ?? own(k)));
+  }
+  // Where a state was put, within the picture.
+  placed(state, share) {
+    if (!Array.isArray(share) || share.length !== 2 || !share.every(Number.isFinite)) return null;
+    const {width, height, R} = this, half = this.half(state) + 2, high = R * .72 + 3;
+    const within = (it, edge, size) => Math.max(edge, Math.min(size - edge, it * size));
+    return [within(share[0], half, width), within(share[1], high, height), share[1] > .6 ? Math.PI / 2 : -Math.PI / 2];
   }
   // Half the width of a state's box.
   half(state) {
@@ -27,8 +37,16 @@ class Layout {
     const row = Math.floor(k / across), inRow = Math.min(across, count - row * across), inset = this.isDense ? 32 : 40;
     const number = row % 2 ? inRow - 1 - (k - row * across) : k - row * across, room = this.width - 2 * inset;
     const x = inRow === 1 ? this.width / 2 : inset + room * (inRow < across ? (number + .5) / inRow : number / (inRow - 1));
-    const y = rows === 1 ? this.height / 2 : this.top + (this.height - 2 * this.top) * row / (rows - 1);
+    const high = Math.min(this.height - 2 * this.top, MOST_ROW * (rows - 1)), y = (this.height - high) / 2 + (rows === 1 ? 0 : high * row / (rows - 1));
     return [x, y, row === 0 ? -Math.PI / 2 : row === rows - 1 ? Math.PI / 2 : -Math.PI / 2];
+  }
+  // Many states stand in a grid, there and back; every other row is set off, so that edges don't go along one line.
+  inGrid(k) {
+    const {width, height} = this, count = this.shown.length, inset = this.isSmall ? 40 : 56;
+    const across = Math.max(2, Math.round(Math.sqrt(count * (width - inset) / height * .62))), rows = Math.ceil(count / across);
+    const row = Math.floor(k / across), number = row % 2 ? across - 1 - (k - row * across) : k - row * across;
+    const room = width - 2 * inset, gap = room / (across - .5), x = inset + gap * (number + (row % 2 ? .5 : 0));
+    return [x, this.top + (height - 2 * this.top) * (rows > 1 ? row / (rows - 1) : .5), row < rows / 2 ? -Math.PI / 2 : Math.PI / 2];
   }
   onEllipse(k) {
     const angle = Math.PI * (1 + 2 * k / this.shown.length), {width, height, R} = this;
@@ -46,26 +64,36 @@ class Layout {
     return found;
   }
 }
-function near(rules, states, now) {
-  const found = new Set([now ?? states[0]]);
+// The states next to one; where many may be seen, others too.
+function near(rules, states, middle, most) {
+  const found = new Set([middle]);
   for (const it of rules) {
-    if (it.state === now) found.add(it.next);
-    if (it.next === now) found.add(it.state);
+    if (it.state === middle) found.add(it.next);
+    if (it.next === middle) found.add(it.state);
   }
-  return states.filter(it => found.has(it)).slice(0, MOST_STATES);
+  for (const it of states) if (most > MOST_STATES && found.size < most) found.add(it);
+  return states.filter(it => found.has(it)).slice(0, most);
 }
 
+// `chosen` is a state whose edges stand out, `mark` gives what stands at a state's name; with `isOpen` each state can be
+// come to by keys and is named for those who hear it.
 export function diagramPicture(rules, how) {
   const layout = new Layout(rules, how), edges = layout.edges(), isNow = edge => edge.labels.some(it => it.rule === how.rule);
   let lines = "", labels = "";
   for (const edge of [...edges.values()].sort((a, b) => isNow(a) - isNow(b))) {
     const drawn = edge.from === edge.to ? loopOf(layout, edge, isNow(edge)) : arcOf(layout, edge, isNow(edge), edges.has(edge.to + "\n" + edge.from));
-    lines += drawn.line;
-    labels += labelsOf(layout, edge, drawn, how.rule, isNow(edge));
+    const isFar = how.chosen && layout.isDense && edge.from !== how.chosen && edge.to !== how.chosen && !isNow(edge);
+    lines += isFar ? `<g class="far">${drawn.line}</g>` : drawn.line;
+    labels += labelsOf(layout, edge, drawn, how, isNow(edge));
   }
-  const nodes = layout.shown.map(it => nodeOf(layout, it, how)).join("");
+  const nodes = layout.shown.map(it => nodeOf(layout, it, how)).join(""), role = how.isOpen ? "group" : "img";
   return svg(how.width, how.height, `<g class="${how.stage}">${lines}${startOf(layout)}${labels}${nodes}</g>`, "diagram",
-             'role="img" aria-label="the state diagram"');
+             `role="${role}" aria-label="${escaped(diagramWords(layout, how))}"`);
+}
+// The diagram as it is heard.
+function diagramWords({rules, name, shown}, {now}) {
+  const count = new Set(rules.flatMap(it => [it.state, it.next])).size, part = shown.length < count ? `, ${shown.length} of them seen` : "";
+  return `the state diagram: ${count} states${part}, ${rules.length} rules${now ? `; at work is ${name(now)}` : ""}`;
 }
 
 function edgeTip(x, y, angle, kind) {
@@ -94,7 +122,7 @@ function loopOf(layout, edge, isNow) {
 // An edge from one state to another, and where its labels stand.
 function arcOf(layout, edge, isNow, hasBack) {
   const {R, width} = layout, [x, y] = layout.places.get(edge.from), [p, q] = layout.places.get(edge.to), kind = isNow ? "now" : "";
-  const dx = p - x, dy = q - y, length = Math.hypot(dx, dy), bow = hasBack ? 18 : length > 150 ? 14 : 8;
+  const dx = p - x, dy = q - y, length = Math.hypot(dx, dy) || 1, bow = hasBack ? 18 : length > 150 ? 14 : 8;
   const isSteep = Math.abs(dy) > .45 * Math.abs(dx), turn = isSteep && !hasBack && ((x + p) / 2 - width / 2) * -dy < 0 ? -1 : 1;
   const mx = (x + p) / 2 - turn * dy / length * bow, my = (y + q) / 2 + turn * dx / length * bow;
   const out = Math.atan2(my - y, mx - x), into = Math.atan2(q - my, p - mx);
@@ -104,29 +132,44 @@ function arcOf(layout, edge, isNow, hasBack) {
   const away = rim(edge.from, out, 0), reach = rim(edge.to, into, 1.5), ex = p - reach * Math.cos(into), ey = q - reach * Math.sin(into);
   const line = `<path class="edge ${kind}" d="M${n1(x + away * Math.cos(out))},${n1(y + away * Math.sin(out))} Q${n1(mx)},${n1(my)} ${n1(ex)},${n1(ey)}"/>`
     + edgeTip(ex, ey, into, kind);
-  // Not in the middle, so that the labels of two rows, there and back, don't meet.
-  const t = isSteep ? .5 : .4, on = (a, b, c) => (1 - t) * (1 - t) * a + 2 * t * (1 - t) * b + t * t * c;
-  const lx = on(x, mx, p), ly = on(y, my, q);
-  if (!isSteep) return {line, x: lx, y: ly + (my > (y + q) / 2 ? 8 : -11), anchor: "middle", isOne: false};
-  const side = mx > (x + p) / 2 ? 1 : -1, room = side > 0 ? width - lx : lx, isStart = (room > 48 ? side : -side) > 0;
-  return {line, x: lx + (isStart ? 7 : -7), y: ly, anchor: isStart ? "start" : "end", isOne: false};
+  const labelAt = t => {
+    const on = (a, b, c) => (1 - t) * (1 - t) * a + 2 * t * (1 - t) * b + t * t * c, lx = on(x, mx, p), ly = on(y, my, q);
+    if (!isSteep) return {line, x: lx, y: ly + (my > (y + q) / 2 ? 8 : -11), anchor: "middle", isOne: false};
+    const side = mx > (x + p) / 2 ? 1 : -1, room = side > 0 ? width - lx : lx, isStart = (room > 48 ? side : -side) > 0;
+    return {line, x: lx + (isStart ? 7 : -7), y: ly, anchor: isStart ? "start" : "end", isOne: false};
+  };
+  // Not in the middle, so that the labels of two rows, there and back, don't meet; elsewhere, where a state is in the way.
+  const first = isSteep ? .5 : .4, places = [first, .3, .62, .22, .75].map(labelAt);
+  return places.find(it => isFree(layout, edge, it)) ?? places[0];
+}
+// Whether the labels of an edge would lie over no state's box.
+function isFree(layout, edge, {x, y, anchor}) {
+  const shown = edge.labels.slice(0, MOST_LABELS), wide = LETTER * Math.max(...shown.map(it => it.text.length)) + 2, high = LINE * shown.length + 2;
+  const middle = anchor === "middle" ? x : anchor === "start" ? x + wide / 2 : x - wide / 2;
+  return [...layout.places].every(([state, [p, q]]) =>
+    Math.abs(p - middle) >= layout.half(state) + wide / 2 || Math.abs(q - y) >= layout.R * .72 + high / 2);
 }
 
-function labelsOf(layout, edge, {x, y, anchor, isOne}, rule, isNowEdge) {
+function labelsOf(layout, edge, {x, y, anchor, isOne}, {rule, chosen}, isNowEdge) {
+  const isChosen = chosen && (edge.from === chosen || edge.to === chosen);
   const shown = edge.labels.slice(0, MOST_LABELS);
   const rows = isOne ? [{text: shown.map(it => it.text).join("  "), isNow: isNowEdge}] : shown.map(it => ({text: it.text, isNow: it.rule === rule}));
   return rows.map(({text, isNow}, k) => {
-    if (layout.isDense && !isNow) return "";
+    if (layout.isDense && !isNow && !isChosen) return "";
     const more = k === rows.length - 1 && edge.labels.length > MOST_LABELS ? " …" : "", at = y + 4 + (k - (rows.length - 1) / 2) * LINE;
-    return `<text class="label${isNow ? " now" : ""}" style="text-anchor:${anchor}" x="${n1(x)}" y="${n1(at)}">${escaped(text)}${more}</text>`;
+    return `<text class="label${isNow ? " now" : ""}" data-rule="${(isOne ? shown[0] : shown[k]).rule}" style="text-anchor:${anchor}" x="${n1(x)}" y="${n1(at)}">${escaped(text)}${more}</text>`;
   }).join("");
 }
-function nodeOf(layout, state, {now, stops}) {
+function nodeOf(layout, state, {now, stops, chosen, isOpen, mark = () => ""}) {
   const {R, name, isDense} = layout, [x, y] = layout.places.get(state), half = layout.half(state), text = name(state), isNow = state === now;
   const isFinal = !layout.rules.some(it => it.state === state), short = text.length > MOST_NAME ? text.slice(0, MOST_NAME - 1) + "…" : text;
   const box = (inset, more) => `x="${n1(x - half + inset)}" y="${n1(y - R * .72 + inset)}" width="${n1(2 * (half - inset))}" height="${n1(R * 1.44 - 2 * inset)}" rx="${n1(R * .72 - inset)}"${more}`;
-  return `<g data-state="${escaped(state)}"><title>${escaped(text)}${isFinal ? ", where it halts" : ""}: click for a breakpoint</title>`
-    + `<rect class="state${isNow ? " now" : ""}${stops.has(state) ? " stop" : ""}" ${box(0, "")}/>`
+  const sign = mark(text), answers = {"✓": ", accepts", "✗": ", rejects"}[sign] ?? "", halts = isFinal ? ", where it halts" : "";
+  const heard = isOpen ? ` tabindex="0" role="button" aria-pressed="${state === chosen}" aria-label="state ${escaped(text)}${halts}${answers}"` : "";
+  const does = isOpen ? "choose it; drag it, or move it by arrow keys" : "click for a breakpoint; drag it";
+  return `<g data-state="${escaped(state)}"${heard}><title>${escaped(text)}${halts}${answers}: ${does}</title>`
+    + `<rect class="state${isNow ? " now" : ""}${stops.has(state) ? " stop" : ""}${state === chosen ? " chosen" : ""}" ${box(0, "")}/>`
     + (isFinal ? `<rect class="state" ${box(3, ' style="fill:none"')}/>` : "")
-    + `<text text-anchor="middle" ${isDense ? 'style="font-size:10.5px"' : ""} x="${n1(x)}" y="${n1(y + 4)}" ${isNow ? 'font-weight="700"' : ""}>${escaped(short)}</text></g>`;
+    + `<text text-anchor="middle" ${isDense ? 'style="font-size:10.5px"' : ""} x="${n1(x)}" y="${n1(y + 4)}" ${isNow ? 'font-weight="700"' : ""}>${escaped(short)}</text>`
+    + (sign ? `<text class="sign ${sign === "✓" ? "accepts" : "rejects"}" text-anchor="middle" x="${n1(x + half - 1)}" y="${n1(y - R * .72 + 4)}">${sign}</text>` : "") + "</g>";
 }

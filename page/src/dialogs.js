@@ -1,9 +1,6 @@
-// The dialogs: the window by hand, the diagram in large, keys and colours.
+// Two dialogs: the window by hand; keys and colours.
 import {typed} from "./machine.js";
-import {diagramPicture} from "./diagram_picture.js";
-import {byId, current, dialog, nameOf, state} from "./state.js";
-import {frame} from "./view.js";
-import {ruleAt} from "./words.js";
+import {byId, current, dialog, state} from "./state.js";
 
 const MOST_CELLS = 1048576;
 const ENDS = ["work tape, to the left", "work tape, to the right", "history", "output tape"];
@@ -28,15 +25,6 @@ export function openWindow() {
   byId("findwindow").onclick = () => use(null);
 }
 
-export function openDiagram() {
-  const {run} = current;
-  if (!run) return;
-  const {q, moment} = frame(), width = Math.min(600, innerWidth - 90), height = Math.min(420, innerHeight - 260);
-  const now = moment.state ?? run.rules[moment.rule - 1].state, rule = ruleAt(run, q, nameOf).rule;
-  dialog("<h2>State diagram</h2>"
-    + diagramPicture(run.rules, {width, height, now, rule, stage: moment.stage, stops: new Set(), name: nameOf}));
-}
-
 export function openHelp() {
   const keys = [
     ["<kbd>space</kbd>", "play and pause; with <kbd>shift</kbd> backward"],
@@ -45,6 +33,7 @@ export function openHelp() {
       "what a step is: machine step, quadruple, module move, element step"],
     ["<kbd>shift</kbd> <kbd>←</kbd> <kbd>→</kbd>", "back, or on, to a breakpoint"],
       ["<kbd>Home</kbd> <kbd>End</kbd>", "the start, the end"],
+    ["<kbd>ctrl</kbd> <kbd>Z</kbd>", "take the last change of the machine back; with <kbd>shift</kbd> make it again"],
   ];
   const colours = [["work", "work tape"], ["history", "history"], ["output", "output"],
     ["signal", "the signal and its way"],

@@ -13,19 +13,22 @@ export function markFaults(lines) {
   renderLines();
 }
 
-// The lines' numbers in the gutter. In front of a line stands the number of its rule, which is what the history shows:
-// with `standard` that isn't the line's.
+// The gutter. In front of a line stands its number, by which a fault names it. Where the rules are numbered otherwise, as
+// with `standard`, the number of its rule stands behind that, in the colour of the history, which shows it.
 export function renderLines() {
   const count = Math.max(1, state.text.replace(/\n$/, "").split("\n").length);
+  const numbers = Array.from({length: count}, (_, k) => ruleNumber(k + 1));
+  const hasTwo = !marked.faults.size && numbers.some((it, k) => it !== null && it !== k + 1);
   const kind = line => marked.faults.has(line) ? "fault" : line === marked.now && !marked.faults.size ? "now" : "";
-  const lines = Array.from({length: count}, (_, k) => `<div class="${kind(k + 1)}">${ruleNumber(k + 1)}</div>`);
+  const lines = numbers.map((it, k) => `<div class="${kind(k + 1)}"><i>${k + 1}</i>${hasTwo ? `<b class="ruleno">${it ?? ""}</b>` : ""}</div>`);
   byId("lines").innerHTML = lines.join("") + "<div></div>";
+  byId("lines").classList.toggle("two", hasTwo);
   byId("lines").scrollTop = byId("table").scrollTop;
 }
+// The number of a line's rule in the machine that runs, or null where it has none.
 function ruleNumber(line) {
-  if (!current.machine?.isStandard || marked.faults.size) return line;
-  const at = current.machine.userRules.findIndex(it => it.line === line);
-  return at < 0 ? "" : at + 2;
+  const {machine} = current, at = machine?.userRules.findIndex(it => it.line === line) ?? -1;
+  return at < 0 ? null : at + (machine.isStandard ? 2 : 1);
 }
 
 // Marks the line of the rule that is at work.

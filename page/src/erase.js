@@ -29,7 +29,8 @@ const ERASE_PAGE = `<div class="e-left">
 const eraser = {box: null, input: "", word: ""};
 const eraserPart = id => eraser.box.querySelector("#" + id);
 
-function eraseFault({status, text}, first, second) {
+function eraseFault({status, text, words: cut}, first, second) {
+  if (cut) return cut;
   if (status === STATUS.done || status === STATUS.stuck || status === STATUS.inside) return "";
   const inSecond = /^(text|machine): second /.test(text), word = /^word: (\d+)/.exec(text);
   if (word) return `Letter ${word[1]} of the word isn't in the tables.`;

@@ -68,6 +68,7 @@ async function takeFarm() {
 async function showFarm() {
   farm.input = farmText(farm.boards, frontOf(farm.lines, farm.at));
   const reply = await answer(["farm"], farm.input), parts = reply.text.split("%\n"), undoing = parts.pop();
+  if (reply.status !== STATUS.done) return;
   farm.text = reply.text;
   farm.steppers.forEach((it, k) => it.show(parts[k]));
   let before = 0;

@@ -1,5 +1,5 @@
 // A file that is opened: a table, a machine of JFLAP (.jff), or one of turingmachine.io (.yaml, the usual subset).
-// It only turns spellings; whether the table is one, the program says.
+// It only turns spellings; whether the table is one, the program says. The final states of JFLAP accept.
 import {turned} from "./table.js";
 
 const JFLAP_MOVES = {R: "+", L: "-", S: "0"};
@@ -18,7 +18,8 @@ function ofJflap(text) {
     return {from: get("from"), to: get("to"), read: get("read") || "_", write: get("write") || "_", shift: JFLAP_MOVES[get("move")] ?? "0"};
   });
   const order = rows.sort((a, b) => (b.from === initial) - (a.from === initial) || finals.includes(a.to) - finals.includes(b.to));
-  return order.map(row => [names.get(row.from), row.read, row.write, row.shift, names.get(row.to)].join(",")).join("\n");
+  const table = order.map(row => [names.get(row.from), row.read, row.write, row.shift, names.get(row.to)].join(",")).join("\n");
+  return {table, accept: finals.map(id => names.get(id))};
 }
 function ofYaml(text) {
   let blank = " ", start = null, state = null, inTable = false;
@@ -47,11 +48,11 @@ function ofYaml(text) {
   if (!rows.length) throw new Error("No table of turingmachine.io was found in it.");
   const leaves = new Set(rows.map(row => row[0]));
   rows.sort((a, b) => (b[0] === start) - (a[0] === start) || !leaves.has(a[4]) - !leaves.has(b[4]));
-  return rows.map(row => row.join(",")).join("\n");
+  return {table: rows.map(row => row.join(",")).join("\n"), accept: []};
 }
 export function openFile(name, text) {
   const kind = /\.jff$/i.test(name) ? "of JFLAP" : /\.ya?ml$/i.test(name) ? "of turingmachine.io" : null;
   if (!kind) return {table: text, about: `From ${name}.`};
-  const made = turned(kind === "of JFLAP" ? ofJflap(text) : ofYaml(text));
-  return {table: made.text, names: made.names, letter: true, about: `From ${name}, a machine ${kind}. It starts on the first letter of its word.`};
+  const {table, accept} = kind === "of JFLAP" ? ofJflap(text) : ofYaml(text), made = turned(table);
+  return {table: made.text, names: made.names, accept, letter: true, about: `From ${name}, a machine ${kind}. It starts on the first letter of its word.`};
 }

@@ -42,6 +42,7 @@ export function renderTime(f) {
     if (span.textContent !== values[it.dataset.layer]) span.textContent = values[it.dataset.layer];
   }
   byId("speedtext").textContent = speedWords();
+  byId("speed").setAttribute("aria-valuetext", speedWords());
 }
 function counters({e, q, moment}) {
   const {run, found} = current, {moves} = listed;

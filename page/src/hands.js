@@ -3,15 +3,18 @@ import {openAbout} from "./about.js";
 import {stopAll} from "./answer.js";
 import {dragBy, lookAt, moveBy, seen, zoomBy} from "./bank.js";
 import {dropBreak, runBreak, toggleBreak} from "./breaks.js";
-import {openDiagram, openHelp, openWindow} from "./dialogs.js";
+import {openDiagram} from "./diagram.js";
+import {openHelp, openWindow} from "./dialogs.js";
+import {takeDrag} from "./drag.js";
 import {renderLines} from "./editor.js";
 import {EXAMPLES} from "./examples.js";
 import {openFile} from "./files.js";
 import {renderFilm} from "./film.js";
 import {endHints, placeHint} from "./hints.js";
 import {linkOf} from "./links.js";
-import {stale, takeMachine, typed} from "./machine.js";
+import {changed, OWN_WORDS, showOutcome, stale, takeMachine, typed} from "./machine.js";
 import {listed} from "./moves.js";
+import {keepPast, takeBack} from "./past.js";
 import {exportPicture} from "./picture.js";
 import {chooseMiddle} from "./quadruples.js";
 import {openSaidOf} from "./said.js";
@@ -19,8 +22,9 @@ import {openTasks, taskAtHand} from "./sheet.js";
 import {chooseLayer, goTo, lastStep, pause, play, speedWords, step} from "./play.js";
 import {forgetSizes} from "./sizes.js";
 import {openStops} from "./stops.js";
-import {busy, byId, current, LAYERS, state, toast} from "./state.js";
+import {busy, byId, current, LAYERS, nameOf, state, toast} from "./state.js";
 import {takeTabs} from "./tabs.js";
+import {openVerdicts} from "./verdicts.js";
 import {frame, render} from "./view.js";
 import {openWorkshop} from "./workshop.js";
 import {number} from "./words.js";
@@ -41,6 +45,7 @@ export function takeHands() {
   onPanels();
   onHeader();
   document.addEventListener("keydown", onKey);
+  document.addEventListener("keydown", onChangeKey);
   let resting = null;
   addEventListener("resize", () => {
     clearTimeout(resting);
@@ -58,21 +63,36 @@ export function takeHands() {
 
 function onMachine() {
   on("table", "input", () => {
-    state.text = byId("table").value;
+    keepPast(true);
+    Object.assign(state, {text: byId("table").value, example: ""});
     byId("examples").value = "";
-    if (taskAtHand() === null) byId("about").textContent = "Your own machine, run by the program.";
+    if (taskAtHand() === null) byId("about").textContent = OWN_WORDS;
     renderLines();
     typed();
   });
   on("table", "scroll", () => { byId("lines").scrollTop = byId("table").scrollTop; });
-  on("word", "input", () => { state.word = byId("word").value.trim(); typed(); });
+  on("word", "input", () => { keepPast(true); state.word = byId("word").value.trim(); typed(); });
   on("examples", "change", () => takeMachine(EXAMPLES.find(it => it.key === byId("examples").value)));
   on("file", "change", takeFile);
-  on("diagram", "click", event => {
-    const it = event.target.closest("[data-state]");
-    if (it) toggleBreak({kind: "state", state: it.dataset.state});
-  });
-  byId("larger").onclick = openDiagram;
+  takeDrag(byId("diagram"), {nameAt: nameOf, draw: () => render(false), click: it => toggleBreak({kind: "state", state: it})});
+  byId("larger").onclick = () => { pause(); openDiagram(); };
+  byId("undo").onclick = () => takeChange(-1);
+  byId("redo").onclick = () => takeChange(1);
+  byId("verdicts").onclick = () => {
+    pause();
+    openVerdicts({kept: keepPast, told: () => { if (current.run) { showOutcome(); render(false); } }});
+  };
+}
+// The last change of the machine, taken back or made again.
+function takeChange(direction) {
+  if (takeBack(direction)) changed();
+}
+function onChangeKey(event) {
+  const {target, key, shiftKey} = event, open = document.querySelector("dialog[open]"), isOwn = target.id === "table" || target.id === "word";
+  if (!(event.ctrlKey || event.metaKey) || event.altKey || !["z", "y"].includes(key.toLowerCase())) return;
+  if (open && open.id !== "drawing" || target.matches("textarea,input:not([type=range])") && !isOwn) return;
+  event.preventDefault();
+  takeChange(shiftKey || key.toLowerCase() === "y" ? 1 : -1);
 }
 async function takeFile() {
   const file = byId("file").files[0];
@@ -100,6 +120,7 @@ function onTime() {
   on("speed", "input", () => {
     state.speed = Number(byId("speed").value);
     byId("speedtext").textContent = speedWords();
+    byId("speed").setAttribute("aria-valuetext", speedWords());
   });
   on("layers", "click", event => {
     const it = event.target.closest("[data-layer]");

@@ -2,12 +2,28 @@
 import {EXAMPLES} from "./examples.js";
 import {LAYERS, state} from "./state.js";
 
+// What stands in a link as JSON, where it isn't empty.
+const IN_LINK = [["n", "names"], ["ac", "accept"], ["rj", "reject"], ["ws", "tried"], ["p", "places"]];
+
 export function linkOf() {
   const it = new URLSearchParams({t: state.text, w: state.word, e: String(state.e), l: state.layer});
   if (state.asStandard) it.set("s", "1");
   if (state.window) it.set("win", state.window.join(" "));
-  if (Object.keys(state.names).length) it.set("n", JSON.stringify(state.names));
+  for (const [key, name] of IN_LINK) {
+    if (Object.keys(state[name]).length) it.set(key, JSON.stringify(state[name]));
+  }
   return "#" + it.toString();
+}
+function keptIn(it) {
+  return Object.fromEntries(IN_LINK.map(([key, name]) => {
+    const empty = Array.isArray(state[name]) ? [] : {};
+    try {
+      const found = JSON.parse(it.get(key) ?? "null") ?? empty;
+      return [name, Array.isArray(found) === Array.isArray(empty) && typeof found === "object" ? found : empty];
+    } catch {
+      return [name, empty];
+    }
+  }));
 }
 
 // What a link asks for, or null where it asks for nothing.
@@ -15,12 +31,10 @@ export function readLink(hash) {
   const it = new URLSearchParams(hash.slice(1));
   if (!it.has("t") && !it.has("m")) return null;
   const example = EXAMPLES.find(other => other.key === it.get("m"));
-  let names = {};
-  try { names = JSON.parse(it.get("n") ?? "{}") ?? {}; } catch { names = {}; }
   const window = it.get("win")?.split(" ").map(Number) ?? null;
   return {
     text: it.get("t") ?? example?.table ?? "", word: it.get("w") ?? example?.word ?? "", e: Number(it.get("e")) || 0,
     layer: LAYERS.includes(it.get("l")) ? it.get("l") : "quadruple", asStandard: it.has("s") || Boolean(example?.letter),
-    names, window: window?.length === 4 && window.every(Number.isInteger) ? window : null, example: example?.key ?? "",
+    ...keptIn(it), window: window?.length === 4 && window.every(Number.isInteger) ? window : null, example: example?.key ?? "",
   };
 }

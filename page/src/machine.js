@@ -1,20 +1,24 @@
 // From what is typed to a run: the program judges the table, it is brought into standard form where that is asked for, a
 // window is found, and the run's answers are fetched. What is wrong is said in words, with what the page can do about it.
-import {answer, STATUS} from "./answer.js";
+import {answer, isCutOff, STATUS} from "./answer.js";
 import {chips} from "./breaks.js";
 import {editorText, markFaults} from "./editor.js";
+import {EXAMPLES} from "./examples.js";
 import {renderFilm, resetFilm} from "./film.js";
 import {beginHints} from "./hints.js";
+import {keepPast} from "./past.js";
 import {fetchFrame, pause} from "./play.js";
 import {Run} from "./run.js";
 import {busy, byId, current, dialog, escaped, nameOf, state} from "./state.js";
 import {put} from "./sizes.js";
-import {blankCandidates, faultOf, rulesOf, statesOf, turned} from "./table.js";
+import {blankCandidates, faultOf, freeNames, rulesOf, spelled, statesOf, turned} from "./table.js";
+import {answerWords, judgedBy} from "./verdicts.js";
 import {render} from "./view.js";
 import {findRun, Refused} from "./window.js";
 import {number} from "./words.js";
 
 const MOST_BLANKS = 4;
+export const OWN_WORDS = "Your own machine, run by the program.";
 let waiting = null;
 
 // Something was typed: it is looked at when the typing rests. A step may be given at which the run is shown.
@@ -30,7 +34,9 @@ export function typed(delay = 300, keep = 0) {
 // Takes an example, or a machine like one.
 export function takeMachine(example, e = 0) {
   pause();
+  if (state.text) keepPast();
   Object.assign(state, {text: example.table, word: example.word, names: example.names ?? {}, asStandard: Boolean(example.letter),
+                        accept: example.accept ?? [], reject: example.reject ?? [], tried: [], places: {},
                         blank: null, window: example.window ?? null, breaks: [], e: 0, example: example.key ?? ""});
   byId("about").textContent = example.about;
   byId("examples").value = state.example;
@@ -41,10 +47,11 @@ export function takeMachine(example, e = 0) {
 }
 
 // Makes the run of what is typed, at a step that is to be kept.
-export async function rebuild(keep = 0) {
+async function rebuild(keep = 0) {
   const edition = ++state.editions, isOld = () => edition !== state.editions;
   busy("asking the program …");
-  const judged = await judge(state.text, isOld);
+  state.names = freeNames(state.text, state.names);
+  const given = spelled(state.text, state.names), judged = await judge(state.text, given, isOld);
   if (isOld()) return;
   if (judged.fault) {
     showFault(judged);
@@ -52,8 +59,8 @@ export async function rebuild(keep = 0) {
     busy("");
     return;
   }
-  const userRules = rulesOf(state.text), {table, isStandard} = judged;
-  current.machine = {table, isStandard, rules: rulesOf(table), userRules, userStates: statesOf(userRules)};
+  const userRules = rulesOf(given), {table, isStandard} = judged;
+  current.machine = {table, given, isStandard, rules: rulesOf(table), userRules, userStates: statesOf(userRules)};
   showVerdict(judged);
   byId("word").classList.remove("fault");
   let made;
@@ -67,17 +74,28 @@ export async function rebuild(keep = 0) {
   }
   if (!isOld()) showRun(made, keep);
 }
+// The machine was changed otherwise than by typing: the text stands in the editor, and is looked at.
+export function changed(keep = state.e) {
+  if (byId("sheet").hidden) byId("about").textContent = EXAMPLES.find(it => it.key === state.example)?.about ?? OWN_WORDS;
+  byId("examples").value = state.example;
+  byId("word").value = state.word;
+  editorText();
+  typed(0, keep);
+}
 
-// What the program says of a table: the table that runs, or the fault and what the page offers.
-async function judge(text, isOld) {
-  const checked = await answer(["check"], text);
+// What the program says of a table, as it was typed and as it is given to it: the table that runs, or the fault and what
+// the page offers.
+async function judge(text, given, isOld) {
+  const checked = await answer(["check"], given);
   if (isOld() || checked.status === STATUS.done) {
     state.asStandard = false;
-    return {table: text, isStandard: false, good: checked.text};
+    return {table: given, isStandard: false, good: checked.text};
   }
-  const standard = await answer(["standard"], text);
-  const fault = faultOf(checked.text, text), turn = turned(text, state.blank ?? null), offers = {};
-  if (turn.said.length && (await answer(["check"], turn.text)).status !== STATUS.text) offers.turn = turn;
+  const standard = await answer(["standard"], given);
+  const cut = [checked, standard].find(isCutOff);
+  if (cut) return {fault: cut.words, again: true};
+  const fault = faultOf(checked.text, text), turn = turned(text, state.blank ?? null, state.names), offers = {};
+  if (turn.said.length && (await answer(["check"], spelled(turn.text, turn.names))).status !== STATUS.text) offers.turn = turn;
   if (!offers.turn && standard.status === STATUS.done) {
     if (state.asStandard) return {table: standard.text, isStandard: true};
     offers.standard = true;
@@ -138,12 +156,13 @@ function addButton(text, kind, act) {
   return it;
 }
 function turnTo(turn) {
+  keepPast();
   state.text = turn.text;
-  Object.assign(state.names, turn.names);
+  state.names = turn.names;
   editorText();
   typed(0);
 }
-function showFault({fault, also, lines = [], turn, standard, blanks = []}) {
+function showFault({fault, also, lines = [], turn, standard, blanks = [], again = false}) {
   const box = byId("verdict");
   box.innerHTML = `<span class="fault">${escaped(fault)}</span>`;
   if (also) box.innerHTML += `<p class="note">${escaped(also)}</p>`;
@@ -152,25 +171,31 @@ function showFault({fault, also, lines = [], turn, standard, blanks = []}) {
     addButton("Turn it so", "main", () => turnTo(turn));
   }
   if (standard) {
-    addButton("It starts on the first letter", "main", () => { state.asStandard = true; typed(0); }).title =
+    addButton("It starts on the first letter", "main", () => { keepPast(); state.asStandard = true; typed(0); }).title =
       "The program's `standard` makes an equal machine that starts and halts on the blank before its word. Your names are kept.";
   }
   for (const it of blanks.slice(0, MOST_BLANKS)) {
-    addButton(`${it} is the blank`, "", () => { state.blank = it; turnTo(turned(state.text, it)); });
+    addButton(`${it} is the blank`, "", () => { state.blank = it; turnTo(turned(state.text, it, state.names)); });
   }
+  if (again) addButton("Try it again", "main", () => typed(0, state.e));
   markFaults(lines);
+  tellJudged();
 }
+// Whoever shows the table elsewhere hears that the program has judged it.
+function tellJudged() { document.dispatchEvent(new Event("judged")); }
 function showVerdict({good, isStandard}) {
   const {machine} = current, count = machine.rules.length, box = byId("verdict");
   if (isStandard) {
-    box.innerHTML = `<span class="note">Brought into standard form, ${count - machine.userRules.length} rules added.</span> `;
+    box.innerHTML = `<span class="note">Brought into standard form, ${count - machine.userRules.length} rules added. `
+      + `Beside each line's number stands its <b class="ruleno">rule's</b>.</span> `;
     addButton("See", "link", showStandard);
-    addButton("Undo", "link", () => { state.asStandard = false; typed(0); });
+    addButton("As typed", "link", () => { keepPast(); state.asStandard = false; typed(0); });
   } else {
     const [, states, symbols, rules] = /states (\d+) symbols (\d+) quintuples (\d+)/.exec(good);
     box.innerHTML = `<span class="note" title="${symbols} symbols with the blank">In standard form: ${states} states, ${rules} rules</span>`;
   }
   markFaults([]);
+  tellJudged();
 }
 function showStandard() {
   const lines = current.machine.rules.map((it, k) =>
@@ -179,6 +204,13 @@ function showStandard() {
     + `steps onto the word; the last ones go back over it.</p><pre class="listing">${lines.join("\n")}</pre>`);
 }
 function showRefusal({reply, message}) {
+  if (isCutOff(reply)) {
+    byId("outcome").innerHTML = `<span class="fault">${escaped(reply.words)}</span>`;
+    showFault({fault: reply.words, again: true});
+    stale(true);
+    busy("");
+    return;
+  }
   const place = /^word: (\d+)/.exec(reply.text), size = /^size: (.*)/.exec(reply.text);
   const letters = new Set(current.machine.rules.flatMap(it => [it.read, it.write]).filter(it => it !== "_"));
   const words = place ? `Letter ${place[1]}, “${state.word[place[1] - 1]}”, isn't in the table. Its letters: ${[...letters].join(" ") || "none"}.`
@@ -188,9 +220,9 @@ function showRefusal({reply, message}) {
   stale(true);
   busy("");
 }
-function showOutcome() {
+export function showOutcome() {
   const {run, found} = current, it = found.own, [l1, r1, n, r3] = run.window;
-  byId("outcome").textContent = {
+  byId("outcome").textContent = answerWords(judgedBy(it)) + {
     halted: `${number(it.steps)} steps → ${it.output || "no letter"}`,
     stuck: `stuck in ${nameOf(it.state)} on ${it.letter === "_" ? "blank" : it.letter} after ${it.steps}`,
     running: `runs on; ${n} steps shown`,

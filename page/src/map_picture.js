@@ -2,7 +2,7 @@
 import {escaped} from "./state.js";
 import {svg} from "./svg.js";
 import {shownPart} from "./tape_picture.js";
-import {lineOf, number, TAPES} from "./words.js";
+import {bankName, lineOf, number, TAPES} from "./words.js";
 
 const MAP_LEFT = 104, MAP_GAP = 6;
 
@@ -18,7 +18,8 @@ export function mapPicture(run, {bank, row, moment, hasLeft: isOut, width, heigh
   });
   if (inControl && row === 0) body += `<path class="tip" d="M13,${height / 2} l-10,-6 v12 z"/>`;
   if (hasLeft) body += `<path class="tip" d="M1,${height / 2} l11,-7 v14 z"/>`;
-  return svg(width, height, body, "map", 'role="img" aria-label="the modules of the circuit"');
+  const where = isOut ? "the signal has left" : bank ? `the signal is in ${bankName(bank)}` : "the signal is looked for";
+  return svg(width, height, body, "map", `role="img" aria-label="the modules of the circuit: ${escaped(where)}"`);
 }
 
 function controlPicture(control, isHere, height) {

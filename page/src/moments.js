@@ -1,6 +1,7 @@
 // The moments of a run: what `view` shows each time that Bennett's machine comes to a state. One `session` with a
 // breakpoint at each state answers them all; the time line, the tapes and the cells' past are looked up in them.
 import {GREATEST, readView} from "./texts.js";
+import {whole} from "./window.js";
 
 const MOST_MOMENTS = 4000;
 
@@ -12,7 +13,7 @@ export class Moments {
     const script = this.names.map((name, k) => `break s${k} state ${name}\n`).join("")
       + `go ${GREATEST}\nview\n`.repeat(most);
     this.script = this.inputOf(script);
-    const lines = (await this.session(script)).text.split("\n").slice(this.names.length), moments = [];
+    const lines = whole(await this.session(script)).text.split("\n").slice(this.names.length), moments = [];
     for (let at = 0; at + 7 < lines.length; at += 8) {
       const view = readView(lines, at + 1);
       const last = moments.at(-1);

@@ -1,10 +1,11 @@
 // One run of a machine at all layers, held as the program's answers: its moments, the circuit (`compile`), and the places
 // of the signal, fetched ahead in pieces (`session` with many lines `step 1`). It computes no step: where a bar lies
 // follows from the places that were answered, since an element's bar lies along the line by which the signal last came in.
-import {answer} from "./answer.js";
+import {answer, isCutOff} from "./answer.js";
 import {Moments} from "./moments.js";
 import {rulesOf, statesOf, lettersOf} from "./table.js";
 import {GREATEST, readBars, readCircuit, readPlace, readPlaces, readRun} from "./texts.js";
+import {whole} from "./window.js";
 
 const LEAST_CHUNK = 16384, MOST_CHUNK = 131072, MOST_KEPT = 300;
 
@@ -26,10 +27,10 @@ export class Run extends Moments {
   async open() {
     this.end = this.outcome.steps;
     const [bennett, compiled] = await Promise.all([answer(["bennett"], this.table), answer(["compile", ...this.words], this.table)]);
-    this.quadruples = bennett.text.split("\n").filter(Boolean).map(line => line.split(","));
+    this.quadruples = whole(bennett).text.split("\n").filter(Boolean).map(line => line.split(","));
     this.names = [...new Set(this.quadruples.flatMap(row => [row[0], row[7]]))];
-    this.compiled = compiled.text;
-    this.circuit = readCircuit(compiled.text);
+    this.compiled = whole(compiled).text;
+    this.circuit = readCircuit(this.compiled);
     // To build the circuit costs time in each call: the larger it is, the longer the pieces.
     this.piece = Math.min(MOST_CHUNK, LEAST_CHUNK * 2 ** Math.max(0, Math.round(Math.log2(this.circuit.count / 14000))));
     this.layOut();
@@ -86,7 +87,7 @@ export class Run extends Moments {
     entry.promise = (async () => {
       const count = Math.min(this.piece, this.end - c * this.piece);
       const reply = await this.session(`step ${c * this.piece}\n` + "step 1\n".repeat(count), how);
-      if (reply.status === -1) { this.chunks.delete(c); return null; }
+      if (reply.status === -1 || isCutOff(reply)) { this.chunks.delete(c); return null; }
       const {places, hasLeft} = readPlaces(reply.text, count + 1), bounds = [];
       for (let k = 0; k < places.length - (hasLeft ? 1 : 0); k++) if (this.entryOf(places[k]) >= 0) bounds.push(c * this.piece + k);
       Object.assign(entry, {places, hasLeft, bounds, from: c * this.piece});
@@ -115,6 +116,7 @@ export class Run extends Moments {
       for (let k = last; k >= 0; k--) bars[here.places[k] >> 2] = this.barBefore(here.places[k], here.places[k + 1], here.hasLeft && k === last);
     } else {
       const reply = await answer(["step", String(c * this.piece)], this.compiled);
+      if (reply.status === -1 || isCutOff(reply)) return null;
       bars = readBars(reply.text, this.circuit.count);
     }
     this.barsAt.set(c, bars);
@@ -252,7 +254,7 @@ export class Run extends Moments {
     });
     let best = null, hit = null;
     if (lines.length) {
-      const text = (await this.session(lines.join("\n") + `\nstep ${e}\n${direction > 0 ? "go" : "rev"} ${GREATEST}\n`)).text.split("\n");
+      const text = whole(await this.session(lines.join("\n") + `\nstep ${e}\n${direction > 0 ? "go" : "rev"} ${GREATEST}\n`)).text.split("\n");
       const found = /steps (\d+)(?: break (\S+))?$/.exec(text[lines.length + 1] ?? "");
       if (found?.[2]) { best = Number(found[1]); hit = labels.get(found[2]); }
     }

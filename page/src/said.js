@@ -11,8 +11,8 @@ const TITLES = {machine: "the machine", tapes: "the tapes", circuit: "the circui
 function callsOf(panel) {
   const {run, found, machine} = current, table = {input: run.table, what: "the table"}, at = String(state.e);
   const circuit = {input: run.compiled, what: "the circuit's text"};
-  const turned = machine.isStandard ? [{words: ["standard"], input: state.text, what: "the table as it was typed"}]
-    : [];
+  const what = machine.given === state.text ? "the table as it was typed" : "the table as it was typed, its names spelled";
+  const turned = machine.isStandard ? [{words: ["standard"], input: machine.given, what}] : [];
   const ran = found.isFound ? ["run", "=" + run.word, "auto"] : ["run", ...run.words];
   return {
     machine: [...turned, {words: ["check"], ...table}, {words: ["machine", "=" + run.word, OWN_STEPS], ...table}],

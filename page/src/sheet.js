@@ -108,7 +108,8 @@ async function checkTask() {
   if (!task) return;
   const values = Object.fromEntries(task.fields.map(({key}) => [key, byId(`task-${key}`).value]));
   sayTask("asking the program …", null);
-  const {isRight, words, told} = await task.check(values, choice);
+  const {isRight, words, told} = await task.check(values, choice).catch(fault =>
+    ({isRight: false, words: `Not judged. ${fault.message}`, told: ""}));
   if (sheet.task === task) sayTask(words, isRight, told.trim());
 }
 export const taskAtHand = () => sheet.task?.number ?? null;

@@ -1,7 +1,10 @@
 // What is typed and chosen (`state`), the machine and the run that are shown (`current`), and small helpers of the page.
+// `text` is the table as it was typed, `names` how the program knows the names in it that it can't read. `accept` and
+// `reject` have names of states as they were typed, `places` where the diagram's states were put, as shares of its size.
 export const LAYERS = ["machine", "quadruple", "module", "element"];
 export const state = {
   text: "", names: {}, asStandard: false, blank: null, word: "", window: null, example: null,
+  accept: [], reject: [], tried: [], places: {},
   e: 0, layer: "quadruple", playing: 0, speed: 40, breaks: [], cell: null, zoom: null, editions: 0,
   middle: "moves",
 };

@@ -26,10 +26,11 @@ const SHIFTS = {R: "+", r: "+", ">": "+", "→": "+", right: "+", L: "-", l: "-"
 const BLANKS = ["B", "b", "□", "␣", "#", "▢", "Δ", "ε", " "];
 const isName = name => /^[A-Za-z0-9'.-]{1,32}$/.test(name);
 
-// What would be turned so that the program can read the table: the new text and what was done, in words.
+// What would be turned so that the program can read the table: the new text, what was done, in words, and the names that
+// it can't read. These stay in the text; `known` has those that are spelled already.
 // `blank` is a letter that is to be read as the blank, or null to guess.
-export function turned(text, blank = null) {
-  const said = [], names = {};
+export function turned(text, blank = null, known = {}) {
+  const said = [], names = {...known};
   let rows = nonblank(text).map(({line}) => line);
   const commented = rows.filter(line => /^\s*(#|\/\/|%|;)/.test(line) && line.split(/[,;\t]/).length < 5);
   if (commented.length) { rows = rows.filter(line => !commented.includes(line)); said.push(`${commented.length === 1 ? "a comment line" : `${commented.length} comment lines`} dropped`); }
@@ -71,22 +72,41 @@ export function turned(text, blank = null) {
     for (const row of fields) for (const place of [1, 2]) if (row[place] === guessed) row[place] = "_";
     said.push(`${guessed.trim() === "" ? "an empty symbol" : guessed} to _, the blank`);
   }
-  const taken = new Set(fields.flatMap(row => row.length === 5 ? [row[0], row[4]] : []));
-  let renamed = 0;
-  const legal = name => {
-    if (isName(name) || name === "") return name;
-    const old = Object.keys(names).find(key => names[key] === name);
-    if (old) return old;
-    let made = name.normalize("NFKD").replace(/[_\s]+/g, "-").replace(/[^A-Za-z0-9'.-]/g, "").slice(0, 28) || "q";
-    for (let k = 1; taken.has(made) || made in names; k++) made = made.replace(/-\d+$/, "") + `-${k}`;
-    names[made] = name;
-    renamed++;
-    return made;
-  };
-  for (const row of fields) if (row.length === 5) { row[0] = legal(row[0]); row[4] = legal(row[4]); }
-  if (renamed) said.push(`${renamed} ${renamed === 1 ? "name" : "names"} spelled as the program wants, and shown as you wrote them`);
+  const taken = new Set(fields.flatMap(row => row.length === 5 ? [row[0], row[4]] : [])), before = Object.keys(names).length;
+  for (const name of taken) spell(name, names, taken);
+  const count = Object.keys(names).length - before;
+  if (count) said.push(`${count} ${count === 1 ? "name" : "names"} spelled for the program; here they stay as you wrote them`);
   return {text: fields.map(row => row.join(",") + "\n").join(""), said, names};
 }
+
+// ---- names that the program can't read: `names` has for each spelling the name as it was typed
+
+// Gives a name that the program can't read a spelling that no other state has.
+export function spell(name, names, taken) {
+  if (isName(name) || name === "" || Object.values(names).includes(name)) return;
+  const plain = name.normalize("NFKD").replace(/[_\s]+/g, "-").replace(/[^A-Za-z0-9'.-]/g, "").slice(0, 28) || "q";
+  let made = plain;
+  for (let k = 1; taken.has(made) || made in names; k++) made = `${plain}-${k}`;
+  names[made] = name;
+}
+// The same names, where none is the name of another state that was typed as well.
+export function freeNames(text, names) {
+  const rules = rulesOf(text), taken = new Set(rules.flatMap(it => [it.state, it.next]));
+  const entries = Object.entries(names), found = Object.fromEntries(entries.filter(([made, name]) => !(taken.has(made) && taken.has(name))));
+  for (const [made, name] of entries) if (!(made in found)) spell(name, found, taken);
+  return found;
+}
+// The table as the program gets it: line by line the same, with the names spelled.
+export function spelled(text, names) {
+  const made = new Map(Object.entries(names).map(([key, name]) => [name, key]));
+  if (!made.size) return text;
+  return text.split("\n").map(line => {
+    const fields = line.split(",");
+    for (const place of [0, 4]) if (made.has(unquoted(fields[place]))) fields[place] = made.get(unquoted(fields[place]));
+    return fields.join(",");
+  }).join("\n");
+}
+const unquoted = field => field?.replace(/\r$/, "").replace(/^"(.*)"$/, "$1");
 
 // Candidates for a blank: the letters of a table without `_`.
 export function blankCandidates(text) {

@@ -1,8 +1,12 @@
 // What the exercises share: short ways to ask the program, and to compare what was typed.
-import {answer} from "./answer.js";
+import {answer, isCutOff} from "./answer.js";
 import {EXAMPLES} from "./examples.js";
 
-export const ask = async (words, input = "") => (await answer(words, input)).text;
+export async function ask(words, input = "") {
+  const reply = await answer(words, input);
+  if (isCutOff(reply)) throw new Error(reply.words);
+  return reply.text;
+}
 // The number behind a word of an answer.
 export const numberIn = (name, text) => Number(new RegExp(`^${name} (\\d+)`, "m").exec(text)?.[1]);
 export const plain = it => (it ?? "").replace(/[\s,;]+/g, " ").trim();

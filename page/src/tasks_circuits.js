@@ -1,12 +1,14 @@
 // Exercises about circuits. Each has its words, where it is done, the fields to fill in, and a check that asks the
 // program.
 import {CIRCUITS} from "./circuits.js";
-import {ask, barsOf, isNumber, isSame, judged, numberIn, placeOf, plain, exampleTable} from "./task_tools.js";
+import {ask, barsOf, isNumber, isSame, judged, numberIn, placeOf, plain, exampleTable, rowsOf} from "./task_tools.js";
 
 const ONE_ELEMENT = (bar, side) =>
   `rotary 1\nelements 1\nstart 0.${side}\nend 0.${side}\nsteps 0\nat 0.${side}\ne 0 ${bar} - - - -\n`;
 const UNDO = "rotary 1\nelements 2\nstart 0.n\nend 0.n\nsteps 3\nleft 0.n\ne 0 H - - 1.w -\ne 1 H - - 0.e -\n";
 const BANK = "1,1,2,2\n2,2,1,1\n", LEAST_WINDOW = ["=", "0", "2", "2", "1"], FAR = "1000", COUNTED = 10;
+// So many steps are looked at, one by one, for a signal that comes back to the control.
+const WATCHED = 600;
 const CASES = ["H", "V"].flatMap(bar => ["n", "e", "s", "w"].map(side => ({bar, side})));
 
 async function checkRows(values) {
@@ -62,14 +64,24 @@ async function checkMove(values) {
                 "Not so. Four crossings: over the first column, into the marked one, back to the first, and over the " +
                   "second.");
 }
+// The ways into modules from step 6540 on, up to the control's: of each the module and the step, as the program's views
+// name them.
+async function waysOfReading() {
+  const script = "step 6540\n" + "view\nstep 1\n".repeat(WATCHED);
+  const said = rowsOf(await ask(["session", ...LEAST_WINDOW], `${exampleTable("least")}%\n${script}`)), ways = [];
+  for (let k = 0; k + 1 < said.length; k++) {
+    const step = /^element at \S+ steps (\d+)$/.exec(said[k]), way = /^module (control|tape \d cell -?\d+) line /.exec(said[k + 1]);
+    if (step && way) ways.push({module: way[1], step: Number(step[1])});
+    if (way?.[1] === "control") break;
+  }
+  return ways;
+}
 async function checkReading(values) {
-  const breaks = Array.from({length: 15}, (_, k) => `break c${k} element ${k}\n`).join("");
-  const said = await ask(["session", ...LEAST_WINDOW], `${exampleTable("least")}%\nstep 6540\n${breaks}go 100000\n`);
-  const steps = Number(/steps (\d+) break/.exec(said)?.[1]);
-  return judged(isNumber(values.cells, 3) && isNumber(values.steps, steps),
-    "Right: 182, 154 and 112 steps behind 6,540.",
+  const ways = await waysOfReading(), cells = ways.length - 1, costs = ways.slice(1).map((it, k) => it.step - ways[k].step);
+  const isRight = isNumber(values.cells, cells) && isNumber(values.steps, ways.at(-1).step);
+  return judged(isRight, `Right: ${costs.join(", ")} steps behind 6,540.`,
                 "Not yet. The command passes a cell without the head, is answered by the one with it, and the answer " +
-                  "passes again.");
+                  "passes again.", isRight ? ways.map(it => `${it.step} ${it.module}`).join("\n") : "");
 }
 async function checkByte() {
   const first = await ask(["compile", ...LEAST_WINDOW], exampleTable("least")),

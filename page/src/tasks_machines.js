@@ -13,6 +13,9 @@ const REPAIRED = [["S1", "S,_,_,+,T\nT,_,_,+,T\nT,_,_,0,F\n"], ["S2", "S,a,_,+,T
   ["S3", "S,_,_,+,T\nT,a,a,+,S\nT,_,_,0,F\n"],
                   ["S4", "S,_,_,+,T\nT,_,_,+,F\n"], ["S5", "S,_,_,+,T\nT,a,a,0,F\nT,_,_,0,F\n"]];
 const LONGEST = 5;
+// Machines that go so many cells on and halt: as many steps as rules.
+const WALKS = [2, 3, 4, 5].map(steps => Array.from({length: steps}, (_, k) =>
+  `Q${k},_,_,${k + 1 < steps ? "+" : "0"},Q${k + 1}\n`).join(""));
 
 // Whether a table is another one with one field changed, or with one line taken out.
 export function isOneChange(before, after) {
@@ -57,11 +60,18 @@ async function checkCounts(values) {
                                                            ask(["run", "=", "auto"], exampleTable("least"))]);
   const isFirst = isNumber(values.steps, numberIn("halted", own)), letters = readRun(leastRun).output.length;
   const isSecond = isNumber(values.i, numberIn("halted", least)) && isNumber(values.letters, letters);
-  const wrong = [[isFirst, "1"], [isSecond, "2"], [isSame(values.can, "no"), "3"]].filter(([it]) => !it).map(it =>
+  const counts = await countsOfSome(), can = counts.includes(15) ? "yes" : "no";
+  const wrong = [[isFirst, "1"], [isSecond, "2"], [isSame(values.can, can), "3"]].filter(([it]) => !it).map(it =>
     it[1]);
-  return judged(!wrong.length, "Right. The least machine is the one of 13 steps; 15 − 5 is no multiple of 4.",
-    `Not yet: part ${wrong.join(", part ")}.`,
-                wrong.length ? "" : [ran, leastRun].map(it => /quadruple steps \d+/.exec(it)[0]).join("\n"));
+  const told = `${[ran, leastRun].map(it => /quadruple steps \d+/.exec(it)[0]).join("\n")}\n${counts.length} other runs: ${counts.join(" ")}`;
+  return judged(!wrong.length, "Right. The least machine is the one of 13 steps. Of no run that the program made are there 15: 15 − 5 is no multiple of 4.",
+    `Not yet: part ${wrong.join(", part ")}.`, wrong.length ? "" : told);
+}
+// How many steps the reversible machines of some small machines take, as the program says.
+async function countsOfSome() {
+  const runs = [...WALKS.map(table => [table, ""]), ...["", "0", "1"].map(word => [exampleTable("increment"), word])];
+  const counts = await Promise.all(runs.map(async ([table, word]) => readRun(await ask(["run", "=" + word, "auto"], table)).quadruples));
+  return [...new Set(counts)].sort((a, b) => a - b);
 }
 async function checkElements(values) {
   const run = async window => numberIn("elements", await ask(["run", "=", ...window], exampleTable("least")));
@@ -122,8 +132,9 @@ async function checkFault(values) {
   const said = rowsOf(await ask(["session", ...HERE], `${HOMING}%\n${script}`)),
     made = /quintuple (\d+) step (\d+)$/.exec(said.at(-1) ?? "");
   const repaired = rules.map((it, k) => k + 1 === rule ? row : it).join("\n") + "\n";
-  const output = /output =(.*)/.exec(await ask(["machine", "=1011", "100"], repaired))?.[1];
-  const isRight = made && Number(made[1]) === rule && isNumber(values.step, Number(made[2])) && output === "1100";
+  const outputOf = async table => /output =(.*)/.exec(await ask(["machine", "=1011", "100"], table))?.[1];
+  const isRepaired = await outputOf(repaired) === await outputOf(exampleTable("increment"));
+  const isRight = made && Number(made[1]) === rule && isNumber(values.step, Number(made[2])) && isRepaired;
   return judged(isRight, "Right. Each step is undone by a step back, so nothing is run again.",
                 "Not yet. Break where cell 1 changes, and run back from the end of the computing.",
                   said.slice(-7).join("\n"));

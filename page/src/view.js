@@ -9,6 +9,7 @@ import {diagramPicture} from "./diagram_picture.js";
 import {heightOf, isPhone, put, widthOf} from "./sizes.js";
 import {byId, current, editorLine, escaped, nameOf, state} from "./state.js";
 import {tapePicture} from "./tape_picture.js";
+import {markOf} from "./verdicts.js";
 import {bankName, ruleAt, spoken, TAPES} from "./words.js";
 
 const TAPE_NOTES = ["its own tape", "the rules used", "the copy"];
@@ -75,7 +76,7 @@ function renderItself({moment}, rule) {
   byId("diagrambox").classList.toggle("low", high < LEAST_DIAGRAM);
   put("diagram", high < LEAST_DIAGRAM ? "" : diagramPicture(run.rules, {
     width: widthOf("diagram"), height: Math.min(280, high - 2), now: moment.stage === "retrace" ? stateAt(moment) : ownState,
-    rule: rule.rule, stage: moment.stage, stops, name: nameOf,
+    rule: rule.rule, stage: moment.stage, stops, name: nameOf, places: state.places, mark: markOf,
   }));
 }
 

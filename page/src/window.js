@@ -1,6 +1,6 @@
 // How a machine runs by itself, and the run of its circuit in a window that has room for it. The program finds the
 // window: the first line of `run =W auto` names it, and the rest is what `run` says in it.
-import {answer, STATUS} from "./answer.js";
+import {answer, isCutOff, STATUS} from "./answer.js";
 
 // How many steps a machine is run by itself, and how many are shown of one that runs on.
 const MOST_OWN_STEPS = 100000, SHOWN_STEPS = 40;
@@ -10,6 +10,12 @@ export class Refused extends Error {
     super(reply.text.trim());
     this.reply = reply;
   }
+}
+
+// An answer that wasn't cut off.
+export function whole(reply) {
+  if (reply.status === -1 || isCutOff(reply)) throw new Refused(reply);
+  return reply;
 }
 
 // A window that is given, by a link or by hand, stays. For a machine that runs on there is none that has room: so many
@@ -22,7 +28,7 @@ export async function findRun(table, word, given = null) {
   const line = /^window (\d+) (\d+) (\d+) (\d+)$/m.exec(ran.text);
   return {own, window: asked ?? line.slice(1).map(Number), text: ran.text, isFound: !asked};
 }
-async function ownRun(table, word) {
+export async function ownRun(table, word) {
   const ran = await answer(["machine", "=" + word, MOST_OWN_STEPS], table);
   if (![STATUS.done, STATUS.stuck, STATUS.inside].includes(ran.status)) throw new Refused(ran);
   const words = ran.text.split(/\s+/), outcome = words[0], steps = Number(outcome === "stuck" ? words[3] : words[1]);

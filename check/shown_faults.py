@@ -1,0 +1,140 @@
+"""What the page says where an answer is cut off: a fault in the module, one of the worker itself, no memory, a run that is
+stopped, a browser that is too old; and that it goes on. Faults are put into the worker before the page begins.
+"""
+import json
+import os
+import tempfile
+import time
+
+from counting import text_of
+from shown import PAGE
+from shown_editor import set_value, settle
+from shown_places import INCREMENT
+
+# The worker answers otherwise where its words and its input are of a pattern: it traps, has no memory, or breaks itself.
+BROKEN = """const Whole = Blob;
+Blob = function (parts, how) {
+  if (how?.type !== "text/javascript") return new Whole(parts, how);
+  return new Whole([...parts, %s], how);
+};"""
+IN_WORKER = """
+const keptCall = Workbench.prototype.call, said = new TextDecoder(), rules = %s;
+Workbench.prototype.call = function (words, input, room) {
+  const asked = said.decode(words).split("\\0").join(" ") + "|" + said.decode(input.slice(0, 600));
+  const [, kind] = rules.find(([pattern]) => new RegExp(pattern).test(asked)) ?? [];
+  if (kind === "trap") throw new WebAssembly.RuntimeError("unreachable");
+  if (kind === "memory") return {status: 9, text: new Uint8Array(), length: 0};
+  if (kind === "worker") {
+    setTimeout(() => { throw new Error("the worker is broken"); });
+    throw {toString() { throw new Error("nothing is posted"); }};
+  }
+  return keptCall.call(this, words, input, room);
+};"""
+TOO_OLD = "const Old = Blob; Blob = function (parts, how) { return new Old(['self.WebAssembly = undefined;\\n', ...parts], how); };"
+# By which words a call of a run is known, where its word is 101 and a state's name is Adding.
+CALLS = {"check": "^check[^]*Adding", "machine": "^machine =101 ", "run": "^run =101 auto", "bennett": "^bennett[^]*Adding",
+         "compile": "^compile =101 ", "session": "^session =101 "}
+ENDS = {"trap": "This answer was cut off: RuntimeError: unreachable", "memory": "There was no memory for this answer",
+        "worker": "This answer was cut off: "}
+
+
+def broken(page, *rules):
+    """The worker breaks by these rules from the next visit on; the script that does so, to be taken away again."""
+    source = BROKEN % json.dumps(IN_WORKER % json.dumps([list(it) for it in rules]))
+    return page.call("Page.addScriptToEvaluateOnNewDocument", source=source)["identifier"]
+
+
+def goes_on(page, program, name, count):
+    """Behind a fault the page takes another machine, and answers."""
+    set_value(page, "table", INCREMENT)
+    set_value(page, "word", "11")
+    settle(page, 500)
+    outcome, stale = page.ask("[document.getElementById('outcome').textContent, document.body.classList.contains('stale')]")
+    steps = program.text(["machine", "=11", "100"], INCREMENT).split()[1]
+    count.hold(outcome.startswith(f"{steps} steps → ") and not stale, f"behind {name} the page says {outcome!r}, and it takes {steps} steps")
+
+
+def check_cut(page, program, count):
+    """Each call behind a run is cut off by a trap, by a lack of memory, and by the worker."""
+    adding = INCREMENT.replace("Add,", "Adding,").replace(",Add\n", ",Adding\n")
+    for kind, words in ENDS.items():
+        for call, pattern in CALLS.items():
+            script = broken(page, (pattern, kind))
+            page.visit(f"file://{PAGE}#m=least")
+            set_value(page, "table", adding)
+            set_value(page, "word", "101")
+            settle(page, 700)
+            said = page.ask("document.getElementById('verdict').textContent")
+            buttons = page.ask("[...document.querySelectorAll('#verdict button')].map(it => it.textContent)")
+            count.hold(said.startswith(words) and "Try it again" in buttons, f"where {call} is cut off ({kind}) the page says {said[:120]!r}, {buttons}")
+            goes_on(page, program, f"{kind} in {call}", count)
+            count.hold(not page.faults(), f"{kind} in {call}: {page.faults()}")
+            page.call("Page.removeScriptToEvaluateOnNewDocument", identifier=script)
+
+
+def check_cut_elsewhere(page, program, count):
+    """The same where a step is fetched, in the workshop and in an exercise."""
+    script = broken(page, ("^session[^]*step 16384\n", "memory"), ("^realise", "trap"), ("^machine =111 100\\|", "memory"))
+    page.visit(f"file://{PAGE}#m=least")
+    page.ask("bench.goTo(20000); 0")
+    settle(page, 600)
+    said = page.ask("document.getElementById('busy').textContent")
+    count.hold(said.startswith("There was no memory"), f"where no step can be fetched the page says {said!r}")
+    page.ask("bench.goTo(100); 0")
+    settle(page, 300)
+    at = page.ask("bench.current.run.placeAt(100) && bench.placeName(bench.current.run.placeAt(100).place)")
+    table, words = page.ask("[bench.current.run.table, bench.current.run.words]")
+    count.hold(program.text(["view", *words, "100"], table).startswith(f"element at {at} "), f"behind it step 100 shows {at}")
+    page.ask("bench.openWorkshop('mirror'); 0")
+    settle(page, 700)
+    set_value(page, "m-text", "1,1,2,2\n2,2,1,1\n")
+    settle(page, 500)
+    said = page.ask("document.getElementById('m-fault').textContent")
+    count.hold(said.startswith("This answer was cut off"), f"where the workshop is cut off it says {said!r}")
+    page.ask("document.getElementById('workshop').close(); bench.beginTask(6); document.getElementById('taskcheck').click(); 0")
+    settle(page, 600)
+    said = page.ask("document.getElementById('tasksaid').textContent")
+    count.hold(said.startswith("Not judged. There was no memory"), f"an exercise that can't be judged says {said!r}")
+    page.ask("document.getElementById('taskend').click(); 0")
+    page.call("Page.removeScriptToEvaluateOnNewDocument", identifier=script)
+
+
+def check_stopped(page, program, count):
+    """A run that takes long is stopped by its button, which comes by itself; what was shown stays, and the page goes on."""
+    page.visit(f"file://{PAGE}#m=least")
+    set_value(page, "table", INCREMENT)
+    set_value(page, "word", "1" * 120)
+    until = time.monotonic() + 20
+    while not page.ask("!document.getElementById('stop').hidden") and time.monotonic() < until:
+        time.sleep(0.05)
+    came = page.ask("!document.getElementById('stop').hidden")
+    page.ask("document.getElementById('stop').click(); 0")
+    time.sleep(0.2)
+    said, stale, busy = page.ask("[document.getElementById('toast')?.textContent ?? '', document.body.classList.contains('stale'), document.getElementById('busy').textContent]")
+    count.hold(came and said.startswith("Stopped.") and stale and busy.startswith("still shown"), f"stopped: the button came: {came}; it says {said!r}, {busy!r}")
+    goes_on(page, program, "a stop", count)
+
+
+def check_old(page, count):
+    """A word where the browser is too old: where the script can't run, and where it has no WebAssembly."""
+    with tempfile.NamedTemporaryFile("w", suffix=".html", encoding="utf-8", delete=False) as file:
+        file.write(text_of("page", "hithwelor.html").replace('"use strict";\n', '"use strict";\nconst new syntax;\n', 1))
+    page.call("Page.navigate", url=f"file://{file.name}")
+    time.sleep(1)
+    early = page.ask("getComputedStyle(document.getElementById('tooold')).visibility")
+    time.sleep(3.5)
+    seen, words = page.ask("[getComputedStyle(document.getElementById('tooold')).visibility, document.getElementById('tooold').innerText]")
+    count.hold((early, seen) == ("hidden", "visible") and "2023" in words, f"where the script doesn't run, {words!r} is {early} and then {seen}")
+    os.remove(file.name)
+    script = page.call("Page.addScriptToEvaluateOnNewDocument", source=TOO_OLD)["identifier"]
+    page.call("Page.navigate", url=f"file://{PAGE}#m=least")
+    time.sleep(2)
+    said, gone = page.ask("[document.getElementById('verdict').textContent, document.getElementById('tooold') === null]")
+    count.hold(said.startswith("This browser can't run it") and gone, f"without WebAssembly the page says {said!r}")
+    page.call("Page.removeScriptToEvaluateOnNewDocument", identifier=script)
+
+
+def check_faults(page, program, count):
+    for check in (check_cut, check_cut_elsewhere, check_stopped):
+        check(page, program, count)
+    check_old(page, count)

@@ -1,0 +1,62 @@
+"""The page in Firefox: answers byte for byte, drawn places of some machines, a way there and back, and its layout."""
+import json
+import os
+import time
+
+from shown import PAGE, PATIENCE
+from shown_layout import LAID
+from shown_places import FIXED, look_at
+
+from firefox import Firefox, firefox_at_hand
+
+MACHINES_TRIED = ["Add one", "Turn each letter", "The least machine", "names of a book", "running on", "stuck", "its window ends it"]
+FAULTS = ("(window.seenFaults = [], addEventListener('error', it => seenFaults.push(String(it.message))), "
+          "addEventListener('unhandledrejection', it => seenFaults.push(String(it.reason))), 0)")
+READY = "typeof bench === 'object' && Boolean(bench.current.run) && !document.getElementById('busy').textContent.includes('…')"
+
+
+class ShownFirefox(Firefox):
+    """A Firefox with the page, by the same calls as the other browser."""
+
+    def visit(self, address):
+        self.go("about:blank")
+        self.go(address)
+        self.ask(FAULTS)
+        until = time.monotonic() + PATIENCE
+        while not self.ask(READY):
+            if time.monotonic() > until:
+                raise OSError(f"{address[:80]}: no run is shown; the page says {self.ask('document.body.innerText')[:200]!r}")
+            time.sleep(0.05)
+
+    def faults(self):
+        return self.ask("window.seenFaults ?? []")
+
+
+def check_firefox(program, answers, draw, places, pictures, count):
+    """All of it, or a word that no Firefox is installed."""
+    path = firefox_at_hand()
+    if not path:
+        count.skip("the page in Firefox", "no Firefox is installed: firefox-esr is one")
+        return
+    began = time.monotonic()
+    with ShownFirefox(path) as page:
+        page.resize(1680, 1150)
+        page.visit(f"file://{PAGE}#m=least")
+        answers(page, program, count)
+        for name, fragment in FIXED:
+            if name in MACHINES_TRIED:
+                look_at(page, program, f"Firefox, {name}", fragment, places, draw, count)
+        page.visit(f"file://{PAGE}#m=increment")
+        e = page.wait("(async () => { const {goTo, state, step} = bench; state.layer = 'quadruple'; goTo(0); "
+                      "for (let k = 0; k < 5; k++) await step(1); for (let k = 0; k < 5; k++) await step(-1); return state.e; })()")
+        count.hold(e == 0, f"Firefox: five quadruples there and back lead to step {e}")
+        for width, height in ((1300, 900), (520, 900)):
+            page.resize(width, height)
+            page.visit(f"file://{PAGE}#m=increment&e=700000")
+            page.wait("new Promise(done => setTimeout(done, 400))")
+            given, inner = page.ask(LAID), page.ask("innerWidth")
+            count.hold(given["count"] > 15 and not given["many"] and given["wide"] <= inner,
+                       f"Firefox, {inner} wide: {given['wide']} wide, of {given['count']} texts {json.dumps(given['over'])} lie over one another")
+            if pictures:
+                page.screenshot(os.path.join(pictures, f"firefox-{width}.png"))
+        print(f"Firefox {page.version()}: {len(MACHINES_TRIED) * places} places of {len(MACHINES_TRIED)} machines, in {time.monotonic() - began:.0f} s", flush=True)
