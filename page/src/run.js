@@ -1,18 +1,21 @@
 // One run of a machine at all layers, held as the program's answers: its moments, the circuit (`compile`), and the places
 // of the signal, fetched ahead in pieces (`session` with many lines `step 1`). It computes no step: where a bar lies
 // follows from the places that were answered, since an element's bar lies along the line by which the signal last came in.
-import {answer} from "./answer.js";
+import {answer, answerPlaces, LANES, STATUS} from "./answer.js";
 import {Moments} from "./moments.js";
 import {rulesOf, statesOf, lettersOf} from "./table.js";
-import {GREATEST, readBars, readCircuit, readPlace, readPlaces, readRun} from "./texts.js";
+import {GREATEST, readBars, readCircuit, readPlace, readRun} from "./texts.js";
 
-const LEAST_CHUNK = 16384, MOST_CHUNK = 131072, MOST_KEPT = 300;
+// How many places a piece has, and how many bytes of pieces and bars are kept.
+const LEAST_CHUNK = 16384, MOST_CHUNK = 131072, MOST_KEPT = 96e6, LEAST_PIECES = 12;
+// The elements and the steps up to which a piece has the least length.
+const PLAIN_COUNT = 14000, PLAIN_STEPS = 4e6;
 
 export class Run extends Moments {
   // A table, a word, and what `findRun` found of them.
-  constructor(table, word, {window, text}) {
+  constructor(table, word, {window, text, own, isOpen = false}) {
     super();
-    Object.assign(this, {table, word, window, outcome: readRun(text), chunks: new Map(), barsAt: new Map()});
+    Object.assign(this, {table, word, window, own, isOpen, outcome: readRun(text), chunks: new Map(), barsAt: new Map()});
     this.rules = rulesOf(table);
     this.states = statesOf(this.rules);
     this.letters = lettersOf(this.rules);
@@ -22,19 +25,25 @@ export class Run extends Moments {
   inputOf(script) { return `${this.table.endsWith("\n") ? this.table : this.table + "\n"}%\n${script}`; }
   session(script, how = {}) { return answer(["session", ...this.words], this.inputOf(script), how); }
 
-  // Fetches the circuit and the moments; how the run ended is known from the answer that found its window.
+  // Fetches the circuit and the first moments; how the run ended is known from the answer that found its window.
   async open() {
-    this.end = this.outcome.steps;
-    const [bennett, compiled] = await Promise.all([answer(["bennett"], this.table), answer(["compile", ...this.words], this.table)]);
+    // Of a long run the end is where its last moment is, once that is known.
+    this.end = this.isOpen ? Infinity : this.outcome.steps;
+    const bennett = await answer(["bennett"], this.table);
     this.quadruples = bennett.text.split("\n").filter(Boolean).map(line => line.split(","));
     this.names = [...new Set(this.quadruples.flatMap(row => [row[0], row[7]]))];
+    const {elements} = this.outcome;
+    // To build the circuit and to come to a piece costs time in each call: the more, the longer the pieces.
+    const far = Math.max(elements / PLAIN_COUNT, this.end / PLAIN_STEPS);
+    this.piece = Math.min(MOST_CHUNK, LEAST_CHUNK * 2 ** Math.max(0, Math.round(Math.log2(far))));
+    this.layOut();
+    this.beginMoments();
+    const [compiled] = await Promise.all([answer(["compile", ...this.words], this.table), this.more(), this.chunk(0, {lane: LANES.ahead})]);
+    if (compiled.status !== STATUS.done || !this.moments.length) throw new Error("Stopped.");
     this.compiled = compiled.text;
     this.circuit = readCircuit(compiled.text);
-    // To build the circuit costs time in each call: the larger it is, the longer the pieces.
-    this.piece = Math.min(MOST_CHUNK, LEAST_CHUNK * 2 ** Math.max(0, Math.round(Math.log2(this.circuit.count / 14000))));
-    this.layOut();
-    await this.findMoments();
     this.barsAt.set(0, this.circuit.bars);
+    await this.viewsNear(0, 1);
     return this;
   }
 
@@ -43,9 +52,11 @@ export class Run extends Moments {
     const z = this.letters.length, h = this.rules.length + 1, [l1, r1, n, r3] = this.window;
     this.symbols = [z, h, z];
     const size = k => 2 * k * (2 * k + 9), cells = [l1 + r1 + 1, n + 1, r3 + 1], rows = 2 * (z + 3) + h + 4;
-    const inCells = cells.reduce((sum, count, tape) => sum + count * size(this.symbols[tape]), 0), control = this.circuit.count - inCells;
+    const inCells = cells.reduce((sum, count, tape) => sum + count * size(this.symbols[tape]), 0), control = this.outcome.elements - inCells;
     this.banks = [{kind: "control", base: 0, rows, columns: control / (rows + 1), count: control, number: 0}];
     let base = control;
+    // At which number the banks of each tape begin.
+    this.tapeBanks = [1, 1 + cells[0], 1 + cells[0] + cells[1]];
     cells.forEach((count, tape) => {
       for (let k = 0; k < count; k++) {
         const symbols = this.symbols[tape];
@@ -54,7 +65,8 @@ export class Run extends Moments {
         base += size(symbols);
       }
     });
-    this.bases = this.banks.map(bank => bank.base);
+    this.bases = Int32Array.from(this.banks, bank => bank.base);
+    this.rowCounts = Int32Array.from(this.banks, bank => bank.rows);
   }
   bankOf(element) {
     let low = 0, high = this.banks.length;
@@ -64,13 +76,17 @@ export class Run extends Moments {
     }
     return this.banks[low];
   }
-  bankAt(tape, cell) { return this.banks.find(bank => bank.tape === tape && bank.cell === cell); }
+  bankAt(tape, cell) {
+    const before = this.tapeBanks[tape - 1] + cell + (tape === 1 ? this.window[0] : 0), it = this.banks[before];
+    return it?.tape === tape && it.cell === cell ? it : null;
+  }
   // The row of a bank's first column by which the signal is about to come in, or -1: there a move begins.
   entryOf(place) {
     if ((place & 3) !== 3) return -1;
     const bank = this.bankOf(place >> 2), row = (place >> 2) - bank.base;
     return row < bank.rows ? row : -1;
   }
+  numberOf(tape, symbol) { return symbol === "_" ? 0 : tape === 2 ? Number(symbol) : this.letters.indexOf(symbol); }
   symbolOf(tape, number) { return tape === 2 ? (number === 0 ? "_" : String(number)) : this.letters[number] ?? "?"; }
 
   // ---- the places of the signal, in pieces
@@ -83,20 +99,24 @@ export class Run extends Moments {
     if (there) return there.places ? there : there.promise;
     const entry = {};
     this.chunks.set(c, entry);
-    entry.promise = (async () => {
-      const count = Math.min(this.piece, this.end - c * this.piece);
-      const reply = await this.session(`step ${c * this.piece}\n` + "step 1\n".repeat(count), how);
-      if (reply.status === -1) { this.chunks.delete(c); return null; }
-      const {places, hasLeft} = readPlaces(reply.text, count + 1), bounds = [];
-      for (let k = 0; k < places.length - (hasLeft ? 1 : 0); k++) if (this.entryOf(places[k]) >= 0) bounds.push(c * this.piece + k);
-      Object.assign(entry, {places, hasLeft, bounds, from: c * this.piece});
+    entry.promise = this.fetchPlaces(c, how).then(places => {
+      if (!places) { this.chunks.delete(c); return null; }
+      Object.assign(entry, places, {from: c * this.piece});
       this.forget(c);
       return entry;
-    })();
+    });
     return entry.promise;
   }
+  async fetchPlaces(c, how) {
+    const count = Math.min(this.piece, this.end - c * this.piece), input = this.inputOf(`step ${c * this.piece}\n${"step 1\n".repeat(count)}`);
+    const reading = {count: count + 1, bases: this.bases, rows: this.rowCounts};
+    const {status, places, bounds, hasLeft} = await answerPlaces(["session", ...this.words], input, reading, how);
+    return status === STATUS.done ? {places, bounds: Float64Array.from(bounds, k => c * this.piece + k), hasLeft} : null;
+  }
+  // Lets go of the pieces that are farthest from one, and of their bars.
   forget(near) {
-    if (this.chunks.size <= MOST_KEPT) return;
+    const most = Math.max(LEAST_PIECES, MOST_KEPT / (4 * this.piece + this.outcome.elements));
+    if (this.chunks.size <= most) return;
     const far = [...this.chunks.keys()].filter(c => this.loaded(c)).sort((a, b) => Math.abs(b - near) - Math.abs(a - near))[0];
     this.chunks.delete(far);
     if (far !== 0) this.barsAt.delete(far);
@@ -114,7 +134,8 @@ export class Run extends Moments {
       const last = here.places.length - 2;
       for (let k = last; k >= 0; k--) bars[here.places[k] >> 2] = this.barBefore(here.places[k], here.places[k + 1], here.hasLeft && k === last);
     } else {
-      const reply = await answer(["step", String(c * this.piece)], this.compiled);
+      const reply = await answer(["step", String(c * this.piece)], this.compiled, {lane: LANES.ahead});
+      if (reply.status !== STATUS.done) return null;
       bars = readBars(reply.text, this.circuit.count);
     }
     this.barsAt.set(c, bars);
@@ -127,9 +148,10 @@ export class Run extends Moments {
   }
   // Everything for a frame at step e, and for those near it in the direction of play.
   async ready(e, direction = 0) {
-    const c = this.chunkNumber(e);
-    await this.chunk(c);
-    await this.bars(c);
+    if (!(await this.momentsTo(e)) || !(await this.viewsNear(this.momentIndex(e), direction))) return;
+    const c = this.chunkNumber(e), isNear = [c - 1, c, c + 1].some(k => this.barsAt.has(k)), bars = isNear ? null : this.bars(c);
+    if (!(await this.chunk(c))) return;
+    await (bars ?? this.bars(c));
     // A move may be longer than a piece: the control's cost up to twice its elements.
     for (let k = c - 1; k >= 0 && k > c - 60 && this.moveAt(e).from === null; k--) await this.chunk(k);
     for (let k = c + 1; k <= this.chunkNumber(this.end) && k < c + 60 && this.moveAt(e).to === null; k++) await this.chunk(k);
@@ -142,7 +164,7 @@ export class Run extends Moments {
       for (let k = 1; k <= many; k++) {
         const next = c + direction * k;
         if (next < 0 || next > this.chunkNumber(this.end)) break;
-        await this.chunk(next, {isIdle: true});
+        if (!(await this.chunk(next, {lane: LANES.ahead}))) break;
         await this.bars(next);
       }
     })().catch(() => {}).finally(() => { this.going = null; });
@@ -156,31 +178,45 @@ export class Run extends Moments {
     const moment = this.moments[this.momentIndex(e)];
     if (moment.steps === e) return {place: moment.place, hasLeft: moment.hasLeft};
     if (e === 0) return {place: readPlace("0.w"), hasLeft: false};
-    if (e === this.end && this.moments.at(-1).leaves) return {place: this.moments.at(-1).leaves.place, hasLeft: true};
+    if (e === this.end && this.leaves) return {place: this.leaves.place, hasLeft: true};
     return null;
+  }
+  // All bars at step e: those at the begin of its piece, and along the places since; null where they aren't there yet.
+  // What is handed out is changed by the next call.
+  barsNow(e) {
+    const c = this.chunkNumber(e), it = this.loaded(c), start = this.barsAt.get(c);
+    if (!it || !start) return null;
+    const last = Math.min(e - it.from, it.places.length - 1), isOn = this.now?.start === start && this.now.last <= last;
+    if (!isOn) {
+      const bars = this.now?.bars ?? new Uint8Array(this.outcome.elements);
+      bars.set(start);
+      this.now = {start, last: 0, bars};
+    }
+    const {bars} = this.now;
+    for (let k = this.now.last; k < last; k++) bars[it.places[k] >> 2] = it.places[k] & 1;
+    this.now.last = last;
+    return bars;
   }
   // The bars of one bank at step e, or null where they aren't there yet.
   bankBars(bank, e) {
-    const c = this.chunkNumber(e), it = this.loaded(c), start = this.barsAt.get(c);
-    if (it && start) {
-      const bars = start.slice(bank.base, bank.base + bank.count);
-      const last = Math.min(e - it.from, it.places.length - 1);
-      for (let k = 0; k < last; k++) {
-        const element = (it.places[k] >> 2) - bank.base;
-        if (element >= 0 && element < bank.count) bars[element] = it.places[k] & 1;
-      }
-      return bars;
-    }
+    const bars = this.barsNow(e);
+    if (bars) return bars.subarray(bank.base, bank.base + bank.count);
     const moment = this.moments[this.momentIndex(e)];
-    if (e === 0) return this.circuit.bars.slice(bank.base, bank.base + bank.count);
-    if (bank.kind === "cell" && (moment.steps === e || (e === this.end && moment.leaves))) {
+    if (e === 0) return this.circuit.bars.subarray(bank.base, bank.base + bank.count);
+    if (bank.kind === "cell" && moment.tapes && (moment.steps === e || (e === this.end && this.leaves))) {
       const tape = moment.tapes[bank.tape - 1], symbol = tape.symbols[bank.cell - tape.first];
-      const number = bank.tape === 2 ? (symbol === "_" ? 0 : Number(symbol)) : this.letters.indexOf(symbol);
-      const column = number + (tape.head === bank.cell ? this.symbols[bank.tape - 1] : 0), bars = new Uint8Array(bank.count);
-      bars[column * (bank.rows + 1) + bank.rows] = 1;
-      return bars;
+      const column = this.numberOf(bank.tape, symbol) + (tape.head === bank.cell ? this.symbols[bank.tape - 1] : 0), alone = new Uint8Array(bank.count);
+      alone[column * (bank.rows + 1) + bank.rows] = 1;
+      return alone;
     }
     return null;
+  }
+  // The marked column of a bank, -1 where none is, or null where its bars aren't there yet.
+  markedColumn(bank, e) {
+    const bars = this.bankBars(bank, e), high = bank.rows + 1;
+    if (!bars) return null;
+    for (let c = 0; c < bank.columns; c++) if (bars[c * high + bank.rows] === 1) return c;
+    return -1;
   }
   // The move in which step e is: where it begins, and where the next one does; null where that piece isn't there.
   moveAt(e) {
@@ -225,13 +261,12 @@ export class Run extends Moments {
   async nextStop(layer, e, direction) {
     if (layer === "element") return Math.max(0, Math.min(this.end, e + direction));
     if (layer !== "module") {
-      const stops = this.stops[layer];
-      const next = direction > 0 ? stops.find(step => step > e) : stops.findLast(step => step < e);
-      return next ?? (direction < 0 ? 0 : this.isCut ? e : this.end);
+      await this.moreUntil(() => direction > 0 ? this.stops[layer].at(-1) > e : this.isKnown(e));
+      return this.stopNear(layer, e, direction) ?? (direction < 0 ? 0 : this.isWhole ? this.end : e);
     }
-    for (let c = this.chunkNumber(e); ; c += direction) {
+    for (let c = this.chunkNumber(direction > 0 ? e : Math.max(0, e - 1)); ; c += direction) {
       const it = await this.chunk(c);
-      if (!it) return direction > 0 ? this.end : 0;
+      if (!it) return direction < 0 ? 0 : Number.isFinite(this.end) ? this.end : e;
       const found = direction > 0 ? it.bounds.find(step => step > e) : it.bounds.findLast(step => step < e);
       if (found !== undefined) return found;
     }
@@ -239,8 +274,8 @@ export class Run extends Moments {
 
   // ---- breakpoints
 
-  // On or back to the next breakpoint, by one `session`; cells are looked up in the moments that were answered.
-  async runTo(e, direction, breaks) {
+  // On or back to the next breakpoint, by one `session`; cells are looked up in the moments. `told` hears where that is.
+  async runTo(e, direction, breaks, told = () => {}) {
     const lines = [], labels = new Map();
     breaks.forEach((it, k) => {
       const add = (line, n) => { const label = `b${k}x${n}`; lines.push(`break ${label} ${line}`); labels.set(label, it); };
@@ -252,14 +287,15 @@ export class Run extends Moments {
     });
     let best = null, hit = null;
     if (lines.length) {
-      const text = (await this.session(lines.join("\n") + `\nstep ${e}\n${direction > 0 ? "go" : "rev"} ${GREATEST}\n`)).text.split("\n");
+      const text = (await this.session(lines.join("\n") + `\nstep ${e}\n${direction > 0 ? "go" : "rev"} ${GREATEST}\n`, {lane: LANES.long})).text.split("\n");
       const found = /steps (\d+)(?: break (\S+))?$/.exec(text[lines.length + 1] ?? "");
       if (found?.[2]) { best = Number(found[1]); hit = labels.get(found[2]); }
     }
     for (const it of breaks) if (it.kind === "cell") {
-      const step = this.cellChange(it.tape, it.cell, e, direction);
+      await this.momentsTo(e);
+      const q = await this.findChange(it.tape, it.cell, this.changeFrom(e, direction), direction, told), step = this.starts[q] ?? null;
       if (step !== null && (best === null || direction * (step - best) < 0)) { best = step; hit = it; }
     }
-    return {step: best ?? (direction > 0 ? this.end : 0), hit};
+    return {step: best ?? (direction < 0 ? 0 : Number.isFinite(this.end) ? this.end : e), hit};
   }
 }

@@ -13,7 +13,7 @@ function callsOf(panel) {
   const circuit = {input: run.compiled, what: "the circuit's text"};
   const turned = machine.isStandard ? [{words: ["standard"], input: state.text, what: "the table as it was typed"}]
     : [];
-  const ran = found.isFound ? ["run", "=" + run.word, "auto"] : ["run", ...run.words];
+  const ran = run.isOpen ? ["run", ...run.words, at] : found.isFound ? ["run", "=" + run.word, "auto"] : ["run", ...run.words];
   return {
     machine: [...turned, {words: ["check"], ...table}, {words: ["machine", "=" + run.word, OWN_STEPS], ...table}],
     tapes: [{words: ["view", ...run.words, at], ...table}, {words: ["bennett"], ...table}],

@@ -2,7 +2,7 @@
 export const LAYERS = ["machine", "quadruple", "module", "element"];
 export const state = {
   text: "", names: {}, asStandard: false, blank: null, word: "", window: null, example: null,
-  e: 0, layer: "quadruple", playing: 0, speed: 40, breaks: [], cell: null, zoom: null, editions: 0,
+  e: 0, layer: "quadruple", playing: 0, speed: 40, breaks: [], cell: null, zoom: null, span: null, editions: 0,
   middle: "moves",
 };
 // `run` has the answers of one run; `found` what the machine does by itself, and the window; `machine` the table that runs.

@@ -6,6 +6,10 @@ export const TAPES = ["", "work", "history", "output"];
 export const STAGES = {compute: "compute, and keep a history", copy: "copy the output", retrace: "retrace, and take the history back"};
 const numbers = new Intl.NumberFormat("en");
 export const number = it => numbers.format(it);
+// How many element steps a run has, where that is known by now.
+export const endWords = run => Number.isFinite(run.end) ? number(run.end) : "…";
+// How many quadruples it has, or has at least.
+export const countWords = run => run.total || run.isWhole ? number(run.count - 1) : `${number(run.count - 1)} …`;
 
 // The line by which the signal comes into a bank: its short name and what it means.
 export function lineOf(run, bank, row) {
@@ -102,6 +106,6 @@ function retracing(run, it, name) {
 }
 export const spoken = (run, e, q, name) => {
   const it = run.moments[q], words = ruleAt(run, q, name);
-  return `${it.stage}, quadruple ${q} of ${run.moments.length - 1}, element step ${number(e)}. ${words.head} ${words.more} ` +
+  return `${it.stage}, quadruple ${q} of ${run.count - 1}, element step ${number(e)}. ${words.head} ${words.more} ` +
     it.tapes.map((tape, k) => `${TAPES[k + 1]}: ${tape.symbols.map(symbolWord).join(" ")}, head at ${tape.head ?? "no cell"}`).join(". ");
 };
