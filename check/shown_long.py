@@ -12,8 +12,8 @@ from shown_runs import faults_at, next_quadruple
 from workbench_text import read_tape
 
 GREATEST = str(2**62)
-SMALL = {"small": 0, "quick": 0, "first": 5, "block": 0, "kept": 0, "least": 40}
-PLAIN = {"small": 500000, "quick": 6000000, "first": 48, "block": 300000, "kept": 4000000, "least": 64}
+SMALL = {"small": 0, "quick": 0, "first": 5, "block": 0, "kept": 0, "least": 40, "chunk": 1024, "far": 0}
+PLAIN = {"small": 500000, "quick": 6000000, "first": 48, "block": 300000, "kept": 4000000, "least": 64, "chunk": 16384, "far": 30000000}
 # A machine that goes three cells to the left of its word.
 LEFT = "S,_,_,+,A\nA,1,1,-,B\nB,_,_,-,C\nC,_,_,-,D\nD,_,_,-,E\nE,_,_,0,F\n"
 WALK = "S,_,_,+,A\nA,1,1,+,A\nA,_,_,0,H\n"
@@ -106,7 +106,23 @@ def check_pieces(page, program, draw, count):
             faults = faults_at(page, program, told.table, told.words, compiled, e)
             count.hold(not faults, f"{where}, step {e}: the page shows {'; '.join(faults)}")
         check_stops(page, told, where, draw, count)
+        check_moves(page, program, told, where, draw, count)
         count.hold(not page.faults(), f"{where}: {page.faults()}")
+
+
+def check_moves(page, program, told, where, draw, count):
+    """The moves of a quadruple: where the signal comes into the first column of a bank, by the places that the program tells."""
+    starts = told.starts()
+    q = draw.randrange(1, len(starts) - 1)
+    page.wait(f"""(async () => {{ const run = bench.current.run; bench.state.layer = "quadruple"; bench.goTo({starts[q]});
+      const first = run.chunkNumber({starts[q]}), last = run.chunkNumber({starts[q + 1]});
+      for (let k = 0; k < 200 && !run.range(first, last).every(c => run.loaded(c)); k++) await new Promise(done => setTimeout(done, 50)); }})()""")
+    given = page.ask(f"bench.current.run.movesBetween({starts[q]}, {starts[q + 1]}).map(it => [it.step, bench.placeName(it.place)])")
+    banks = page.ask("bench.current.run.banks.map(it => [it.base, it.rows, it.count])")
+    entries = {f"{base + row}.w" for base, rows, _ in banks for row in range(rows)}
+    lines = program.text(["session", *told.words], f"{told.table}%\nstep {starts[q]}\n" + "step 1\n" * (starts[q + 1] - starts[q] - 1)).splitlines()
+    right = [[int(line.split()[3]), line.split()[1]] for line in lines if line.split()[1] in entries]
+    count.hold(given == right, f"{where}, quadruple {q}: of its {len(right)} moves {len(given)} are listed: {given[:3]}, {right[:3]}")
 
 
 def check_stops(page, told, where, draw, count):
@@ -149,7 +165,7 @@ def check_cells(page, program, draw, count):
             count.hold(given == right, f"{fragment}, step {e}: between two moments {given} is shown, and not {right}")
             said, short = page.ask("(it => [it.title, it.textContent])(document.querySelector('#controlsaid span'))")
             number = next_quadruple(program.text(["bennett"], told.table), view)
-            count.hold(not number or f"quadruple {number[0]}: {number[1]} [" in said and said.endswith(f"] {number[2]}") and short.endswith(f"quadruple {number[0]}"),
+            count.hold(not number or f"row {number[0]} of Bennett's table: {number[1]} [" in said and said.endswith(f"] {number[2]}") and f"row {number[0]} of" in short,
                        f"{fragment}, step {e}: of the control it is said {said!r}, and the quadruple is {number}")
 
 
@@ -160,8 +176,8 @@ def check_control(page, program, draw, count):
         page.visit(f"file://{PAGE}{fragment}")
         told = told_of(page, program)
         quadruples = [line.split(",") for line in program.text(["bennett"], told.table).splitlines()]
-        names, columns = page.ask("[bench.controlStates(bench.current.run), bench.current.run.banks[0].columns]")
-        count.hold(len(names) == columns and names[0]["kind"] == "begin" and names[1]["kind"] == "end", f"{fragment}: {len(names)} names of {columns} columns")
+        names, columns, labels = page.ask("(it => [it, bench.current.run.banks[0].columns, it.map(bench.controlLabel)])(bench.controlStates(bench.current.run))")
+        count.hold(len(names) == columns == len(set(labels)) and names[0]["kind"] == "begin" and names[1]["kind"] == "end", f"{fragment}: {len(names)} names of {columns} columns")
         for q in sorted(draw.sample(range(len(told.moments) - 1), min(8, len(told.moments) - 1))):
             steps, name = told.moments[q][:2]
             found = page.wait(f"""(async () => {{ const run = bench.current.run, found = []; await run.ready({steps});
@@ -219,6 +235,7 @@ def check_span(page, program, count):
     page.call("Input.dispatchMouseEvent", type="mousePressed", x=strip[0] + middle * strip[2], y=strip[1] + 6, button="left", clickCount=1)
     page.call("Input.dispatchMouseEvent", type="mouseMoved", x=strip[0] + .7 * strip[2], y=strip[1] + 6, button="left", buttons=1)
     page.call("Input.dispatchMouseEvent", type="mouseReleased", x=strip[0] + .7 * strip[2], y=strip[1] + 6, button="left", clickCount=1)
+    rest(page)
     count.hold(abs(sum(seen()) / 2 - .7 * whole) < .5, f"drawn along to .7 of {whole} the window is {seen()}")
     page.ask("document.querySelector('[data-span=all]').click(); 0")
     count.hold(seen() is None, f"after All the window is {seen()}")

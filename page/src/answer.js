@@ -1,13 +1,13 @@
 // The one door to the program: words and an input go in, its status and its text come out. The proved program stands in
 // this page as a module, and answers in a worker; nothing is sent anywhere.
 export const STATUS = {done: 0, usage: 2, text: 3, machine: 4, word: 5, size: 6, noMemory: 9, stuck: 10, window: 11, inside: 12};
-// Each lane has a worker of its own: for what is waited for, for what is fetched ahead, and for what takes long, so that
-// a step doesn't queue behind them.
-export const LANES = {now: 0, ahead: 1, long: 2};
+// Each lane has a worker of its own: for what is waited for, for what is waited for at the same time, for what is fetched
+// ahead, and for what takes long, so that a step doesn't queue behind them.
+export const LANES = {now: 0, beside: 1, ahead: 2, long: 3};
 export const log = [];
 const MOST_LOGGED = 400;
 const decoder = new TextDecoder();
-const benches = [null, null, null];
+const benches = [null, null, null, null];
 let compiledModule = null;
 
 function bytesOf(base64) {

@@ -1,7 +1,7 @@
 // The page: what was typed becomes a machine, that a run, and the run is shown at one step of one time.
 import {answer, log} from "./answer.js";
 import {chips} from "./breaks.js";
-import {controlStates, controlWords} from "./control.js";
+import {controlLabel, controlStates} from "./control.js";
 import {editorText} from "./editor.js";
 import {EXAMPLES} from "./examples.js";
 import {PICTURES, takeHands, TEXTS} from "./hands.js";
@@ -54,6 +54,6 @@ function begin() {
 
 // For the checks, and for the curious.
 window.bench = {
-  answer, beginTask, comesTo, composed, controlStates, controlWords, current, frames, goTo, inTurn, limits, lineOf, log, openWorkshop, pageOf, pause, PICTURES, placeName, play, render, state,
+  answer, beginTask, comesTo, composed, controlLabel, controlStates, current, frames, goTo, inTurn, limits, lineOf, log, openWorkshop, pageOf, pause, PICTURES, placeName, play, render, state,
   longRuns, RANGES, step, TEXTS, timings, zoomTime,
 };

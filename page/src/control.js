@@ -50,7 +50,7 @@ export function controlWords(it) {
   if (it.kind === "end") return "has sent the signal out";
   const tape = `the ${TAPES[it.tape]} tape`;
   if (it.kind === "reads") return `${it.state} reads ${tape}`;
-  if (it.kind === "shifts") return `quadruple ${it.quadruple} moves ${tape} ${it.way === "+" ? "right" : "left"}`;
+  if (it.kind === "shifts") return `row ${it.quadruple} moves ${tape} ${it.way === "+" ? "right" : "left"}`;
   return `writes ${tape}, on to ${it.state}`;
 }
 export function controlInFull(it) {
@@ -60,7 +60,8 @@ export function controlInFull(it) {
 }
 export function controlLabel(it) {
   if (it.kind === "begin" || it.kind === "end") return it.kind === "begin" ? "Begin" : "End";
-  return it.kind === "shifts" ? `${it.quadruple}s${it.tape}` : `${it.state}${it.kind === "reads" ? "r" : "w"}${it.tape}`;
+  if (it.kind === "shifts") return `${it.quadruple}s${it.tape}`;
+  return `${it.state}${it.kind === "reads" ? "r" : "w"}${it.tape}${it.symbols.length ? ":" : ""}${it.symbols.join(",")}`;
 }
 
 // What the control is about at a step: its state, where a column is marked, and the quadruple at work; short, and in full.
@@ -68,6 +69,6 @@ export function controlSaid(run, {e, q, at}) {
   if (at?.hasLeft) return {short: "", full: ""};
   const column = run.markedColumn(run.banks[0], e), number = quadrupleAt(run, q), row = run.quadruples[number], state = controlStates(run)[column];
   const words = column === -1 ? "the signal is in it" : state ? controlWords(state) : "";
-  const work = row ? `quadruple ${number + 1}: ${row[0]} ${actText(row)} ${row[7]}` : "", full = state ? controlInFull(state) : words;
-  return {short: [words, row ? `quadruple ${number + 1}` : ""].filter(Boolean).join(" · "), full: [full, work].filter(Boolean).join(" · ")};
+  const work = row ? `row ${number + 1} of Bennett's table: ${row[0]} ${actText(row)} ${row[7]}` : "", full = state ? controlInFull(state) : words;
+  return {short: [words, row ? `row ${number + 1} of the table` : ""].filter(Boolean).join(" · "), full: [full, work].filter(Boolean).join(" · ")};
 }

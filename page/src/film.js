@@ -11,7 +11,7 @@ import {byId, current, state} from "./state.js";
 import {render} from "./view.js";
 import {countWords, endWords, number} from "./words.js";
 
-const LEAST_NAME = 60, MOST_WHOLE = 4000, MOST_COLUMNS = 480, LEAST_COLUMNS = 48, FILM_SYMBOLS = 2e6, FIRST_PASS = 8;
+const LEAST_NAME = 60, MOST_WHOLE = 4000, MOST_COLUMNS = 720, LEAST_COLUMNS = 48, FILM_SYMBOLS = 2e6, FIRST_PASS = 8;
 // How many moments stand between two that are drawn, and whether they are being asked for.
 const film = {stride: 1, stages: [], asking: null};
 

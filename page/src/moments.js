@@ -10,8 +10,13 @@ const FIRST_MOMENTS = 48, MOST_MOMENTS = 4096, QUICK_STEPS = 6e6, PIECE_TIME = 1
 // Symbols on tapes: of a run that comes with all its views, of one block of views, and of the views that are kept.
 const SMALL_SYMBOLS = 5e5, BLOCK_SYMBOLS = 3e5, KEPT_SYMBOLS = 4e6;
 const LEAST_BLOCK = 8, MOST_BLOCK = 512, LEAST_KEPT = 64;
+// How many places a piece of the signal's way has at least, and from which element step on several are fetched at once.
+const LEAST_CHUNK = 16384, FAR_STEP = 3e7;
 // What the checks lower, so that short runs are shown as long ones are.
-export const limits = {small: SMALL_SYMBOLS, first: FIRST_MOMENTS, quick: QUICK_STEPS, block: BLOCK_SYMBOLS, kept: KEPT_SYMBOLS, least: LEAST_KEPT};
+export const limits = {
+  small: SMALL_SYMBOLS, first: FIRST_MOMENTS, quick: QUICK_STEPS, block: BLOCK_SYMBOLS, kept: KEPT_SYMBOLS, least: LEAST_KEPT,
+  chunk: LEAST_CHUNK, far: FAR_STEP,
+};
 
 const digitsOf = name => Number(/\d+/.exec(name)[0]);
 
@@ -161,6 +166,14 @@ export class Moments {
   async viewsNear(q, direction = 0, how = {}) {
     this.at = q;
     if (this.hasViews(q)) return true;
+    // Who wants the same meanwhile waits for the same answer.
+    if (this.viewing?.q !== q) {
+      const it = {q, promise: this.askNear(q, direction, how).finally(() => { if (this.viewing === it) this.viewing = null; })};
+      this.viewing = it;
+    }
+    return this.viewing.promise;
+  }
+  askNear(q, direction, how) {
     const from = direction < 0 ? q - this.block : q - 2, to = direction > 0 ? q + this.block : q + 2;
     return this.askViews(this.missing([...this.viewsWanted(q), ...this.range(from, to)]), how);
   }

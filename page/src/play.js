@@ -62,7 +62,7 @@ async function withWords({run, e}, work) {
 async function fetchQuadruple(run) {
   const {q} = frame(), from = run.starts[q], to = run.starts[q + 1] ?? run.end, first = run.chunkNumber(from);
   const last = Math.min(run.chunkNumber(Math.max(0, to - 1)), first + MOST_PIECES);
-  for (let c = first; c <= last && !wanted; c++) if (!(await run.chunk(c))) break;
+  await run.chunksBetween(first, last, {lane: LANES.now}, () => wanted);
 }
 
 export function goTo(e, {direction = 0, isLive = true} = {}) {
@@ -152,16 +152,19 @@ function tick(now) {
   frames.push({ms: performance.now() - began, gap: spent, isWaiting, at: now});
   if (frames.length > MOST_FRAMES) frames.shift();
   const isSlow = state.layer === "element" || state.layer === "module" || rate <= SLOW;
-  if (isWaiting || isSlow && isMoved) fetchFrame(direction);
-  else if (isMoved) fetchViews(run, direction);
+  if (isSlow && (isMoved || isWaiting)) fetchFrame(direction);
+  else if (isMoved || isWaiting) fetchViews(run, direction);
   if (stop || (direction > 0 ? e >= run.end : e <= 0)) pause();
   else requestAnimationFrame(tick);
 }
-// The views of moments that the play comes to soon.
+// The views of moments that the play comes to soon: from the first one on that isn't there.
 function fetchViews(run, direction) {
-  const q = run.momentIndex(state.e), next = q + direction * Math.ceil(run.block / 2);
-  if (run.isSmall || run.coming || run.hasView(next) || next < 0 || next >= run.moments.length) return;
-  run.coming = run.viewsNear(next, direction, {lane: LANES.ahead}).catch(console.error).finally(() => { run.coming = null; });
+  if (run.isSmall || run.coming) return;
+  let next = run.momentIndex(state.e);
+  const most = next + direction * Math.ceil(run.block / 2);
+  while (next !== most && run.hasViews(next)) next += direction;
+  if (run.hasViews(next) || next < 0 || next >= run.moments.length) return;
+  run.coming = run.viewsNear(next, direction).catch(console.error).finally(() => { run.coming = null; });
 }
 // Whether all that a frame shows of the tapes is there.
 const isThere = (run, e) => run.isKnown(e) && run.hasViews(run.momentIndex(e)) && elementAhead(state.playing) !== undefined;

@@ -2,12 +2,13 @@
 // of the signal, fetched ahead in pieces (`session` with many lines `step 1`). It computes no step: where a bar lies
 // follows from the places that were answered, since an element's bar lies along the line by which the signal last came in.
 import {answer, answerPlaces, LANES, STATUS} from "./answer.js";
-import {Moments} from "./moments.js";
+import {limits, Moments} from "./moments.js";
 import {rulesOf, statesOf, lettersOf} from "./table.js";
 import {GREATEST, readBars, readCircuit, readPlace, readRun} from "./texts.js";
 
-// How many places a piece has, and how many bytes of pieces and bars are kept.
-const LEAST_CHUNK = 16384, MOST_CHUNK = 131072, MOST_KEPT = 96e6, LEAST_PIECES = 12;
+// How many places a piece has at most, and how many bytes of pieces and bars are kept.
+const MOST_CHUNK = 131072, MOST_KEPT = 96e6, LEAST_PIECES = 12;
+const MOST_AHEAD = 4;
 // The elements and the steps up to which a piece has the least length.
 const PLAIN_COUNT = 14000, PLAIN_STEPS = 4e6;
 
@@ -35,7 +36,7 @@ export class Run extends Moments {
     const {elements} = this.outcome;
     // To build the circuit and to come to a piece costs time in each call: the more, the longer the pieces.
     const far = Math.max(elements / PLAIN_COUNT, this.end / PLAIN_STEPS);
-    this.piece = Math.min(MOST_CHUNK, LEAST_CHUNK * 2 ** Math.max(0, Math.round(Math.log2(far))));
+    this.piece = Math.min(MOST_CHUNK, limits.chunk * 2 ** Math.max(0, Math.round(Math.log2(far))));
     this.layOut();
     this.beginMoments();
     const [compiled] = await Promise.all([answer(["compile", ...this.words], this.table), this.more(), this.chunk(0, {lane: LANES.ahead})]);
@@ -93,25 +94,51 @@ export class Run extends Moments {
 
   chunkNumber(e) { return Math.floor(Math.min(e, Math.max(0, this.end - 1)) / this.piece); }
   loaded(c) { const it = this.chunks.get(c); return it && it.places ? it : null; }
+  hasPiece(c) { return c >= 0 && c * this.piece < Math.max(1, this.end); }
   async chunk(c, how = {}) {
-    if (c < 0 || c * this.piece >= Math.max(1, this.end)) return null;
+    if (!this.hasPiece(c)) return null;
     const there = this.chunks.get(c);
-    if (there) return there.places ? there : there.promise;
-    const entry = {};
-    this.chunks.set(c, entry);
-    entry.promise = this.fetchPlaces(c, how).then(places => {
-      if (!places) { this.chunks.delete(c); return null; }
-      Object.assign(entry, places, {from: c * this.piece});
-      this.forget(c);
-      return entry;
-    });
-    return entry.promise;
+    return there ? there.places ? there : there.promise : this.fetchChunks(c, 1, how)[0].promise;
   }
-  async fetchPlaces(c, how) {
-    const count = Math.min(this.piece, this.end - c * this.piece), input = this.inputOf(`step ${c * this.piece}\n${"step 1\n".repeat(count)}`);
+  // So many pieces from one on by one call, since the way to the first costs as much for all as for one.
+  fetchChunks(first, many, how) {
+    const entries = Array.from({length: many}, (_, k) => ({c: first + k})), reply = this.fetchPlaces(first, many, how);
+    for (const it of entries) {
+      this.chunks.set(it.c, it);
+      it.promise = reply.then(found => {
+        if (!found) { this.chunks.delete(it.c); return null; }
+        Object.assign(it, this.pieceOf(found, it.c, first));
+        this.forget(it.c);
+        return it;
+      });
+    }
+    return entries;
+  }
+  // One piece of what was fetched from a first one on.
+  pieceOf({places, bounds, hasLeft}, c, first) {
+    const from = (c - first) * this.piece, to = Math.min(places.length, from + this.piece + 1), isLast = to === places.length;
+    const begun = bounds.filter(k => k >= from && (isLast || k < to));
+    return {places: places.slice(from, to), bounds: Float64Array.from(begun, k => first * this.piece + k), hasLeft: hasLeft && isLast, from: c * this.piece};
+  }
+  async fetchPlaces(c, many, how) {
+    const count = Math.min(many * this.piece, this.end - c * this.piece), input = this.inputOf(`step ${c * this.piece}\n${"step 1\n".repeat(count)}`);
     const reading = {count: count + 1, bases: this.bases, rows: this.rowCounts};
     const {status, places, bounds, hasLeft} = await answerPlaces(["session", ...this.words], input, reading, how);
-    return status === STATUS.done ? {places, bounds: Float64Array.from(bounds, k => c * this.piece + k), hasLeft} : null;
+    return status === STATUS.done ? {places, bounds, hasLeft} : null;
+  }
+  // Fetches the pieces between two that aren't there: one by one where they are soon come to, else as many as stand side
+  // by side by one call. `isOff` says that they aren't wanted any more.
+  async chunksBetween(first, last, how, isOff = () => false) {
+    for (let c = first; c <= last && !isOff(); c++) {
+      if (!this.hasPiece(c) || this.chunks.has(c)) {
+        if (this.hasPiece(c) && !(await this.chunk(c, how))) return;
+        continue;
+      }
+      let to = c;
+      while (c * this.piece > limits.far && to < last && this.hasPiece(to + 1) && !this.chunks.has(to + 1)) to++;
+      if (!(await this.fetchChunks(c, to - c + 1, how)[0].promise)) return;
+      c = to;
+    }
   }
   // Lets go of the pieces that are farthest from one, and of their bars.
   forget(near) {
@@ -122,7 +149,7 @@ export class Run extends Moments {
     if (far !== 0) this.barsAt.delete(far);
   }
   // The bars where a piece begins: handed on from a neighbour that is there, else asked of the program.
-  async bars(c) {
+  async bars(c, how) {
     if (this.barsAt.has(c)) return this.barsAt.get(c);
     const before = this.loaded(c - 1), here = this.loaded(c);
     let bars;
@@ -134,7 +161,7 @@ export class Run extends Moments {
       const last = here.places.length - 2;
       for (let k = last; k >= 0; k--) bars[here.places[k] >> 2] = this.barBefore(here.places[k], here.places[k + 1], here.hasLeft && k === last);
     } else {
-      const reply = await answer(["step", String(c * this.piece)], this.compiled, {lane: LANES.ahead});
+      const reply = await answer(["step", String(c * this.piece)], this.compiled, how);
       if (reply.status !== STATUS.done) return null;
       bars = readBars(reply.text, this.circuit.count);
     }
@@ -148,25 +175,26 @@ export class Run extends Moments {
   }
   // Everything for a frame at step e, and for those near it in the direction of play.
   async ready(e, direction = 0) {
-    if (!(await this.momentsTo(e)) || !(await this.viewsNear(this.momentIndex(e), direction))) return;
-    const c = this.chunkNumber(e), isNear = [c - 1, c, c + 1].some(k => this.barsAt.has(k)), bars = isNear ? null : this.bars(c);
-    if (!(await this.chunk(c))) return;
+    if (!(await this.momentsTo(e))) return;
+    const q = this.momentIndex(e), c = this.chunkNumber(e), isNear = [c - 1, c, c + 1].some(k => this.barsAt.has(k));
+    // To come to a far step takes long, so what isn't there comes by several lanes at the same time.
+    const bars = isNear ? null : this.bars(c, {lane: LANES.beside}), views = this.viewsNear(q, direction, {lane: LANES.ahead});
+    if (!(await this.chunk(c)) || !(await views)) return;
     await (bars ?? this.bars(c));
     // A move may be longer than a piece: the control's cost up to twice its elements.
     for (let k = c - 1; k >= 0 && k > c - 60 && this.moveAt(e).from === null; k--) await this.chunk(k);
     for (let k = c + 1; k <= this.chunkNumber(this.end) && k < c + 60 && this.moveAt(e).to === null; k++) await this.chunk(k);
-    if (direction) this.ahead(c, direction);
+    this.ahead(c, direction || 1, direction ? MOST_AHEAD : 1);
   }
-  // A few pieces ahead of the play, one after another.
-  ahead(c, direction, many = 4) {
+  // A few pieces ahead, and one behind.
+  ahead(c, direction, many) {
     if (this.going) return;
+    const how = {lane: LANES.ahead}, next = c + direction, far = c + many * direction;
     this.going = (async () => {
-      for (let k = 1; k <= many; k++) {
-        const next = c + direction * k;
-        if (next < 0 || next > this.chunkNumber(this.end)) break;
-        if (!(await this.chunk(next, {lane: LANES.ahead}))) break;
-        await this.bars(next);
-      }
+      if (c * this.piece <= limits.far && !(await this.chunk(next, how)) && this.hasPiece(next)) return;
+      await this.chunksBetween(Math.min(next, far), Math.max(next, far), how);
+      await this.chunk(c - direction, how);
+      for (let k = 1; k <= many; k++) if (this.loaded(c + k * direction)) await this.bars(c + k * direction, how);
     })().catch(() => {}).finally(() => { this.going = null; });
   }
   placeAt(e) {
@@ -237,13 +265,14 @@ export class Run extends Moments {
     return {from, to};
   }
   // The moves that are known between two steps, the first one's beginning at or behind the first step.
-  movesBetween(from, to, most = 200) {
+  movesBetween(from, to) {
     const found = [];
     for (let c = this.chunkNumber(from); c <= this.chunkNumber(to); c++) {
       const it = this.loaded(c);
       if (!it) { found.isPart = true; continue; }
       for (const step of it.bounds) {
-        if (step >= from && step < to && found.length < most) found.push({step, place: it.places[step - it.from]});
+        // The last place of a piece is the next one's first.
+        if (step >= from && step < to && found.at(-1)?.step !== step) found.push({step, place: it.places[step - it.from]});
       }
     }
     return found;

@@ -38,9 +38,10 @@ async function ownRun(table, word) {
 // The ends of the work tape that were too near, and were put farther, by machine and word.
 const widened = new Map();
 const widenedAs = (table, word) => JSON.stringify([table, word]);
-// The history wants a cell for each step, the output one behind its end; how far the machine goes on its own tape shows.
+// The history wants a cell for each step, the output one behind its end. How far the machine goes on its own tape shows;
+// at first there is room for its word and its output, one behind the other.
 function longWindow(table, word, {steps, output}) {
-  const [left, right] = widened.get(widenedAs(table, word)) ?? [1, Math.max(word.length, output.length) + 1];
+  const [left, right] = widened.get(widenedAs(table, word)) ?? [1, word.length + output.length + 2];
   return [left, right, steps, output.length + 1];
 }
 // Where the signal has left a window by an end of the work tape, that end is put twice as far. Whether it was so.
