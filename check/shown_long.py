@@ -190,7 +190,7 @@ def check_control(page, program, draw, count):
             from_state = quadruples[first["quadruple"] - 1][0] if first["kind"] == "shifts" else first.get("state")
             count.hold(from_state == name and first["kind"] in ("reads", "shifts") and not first.get("symbols"),
                        f"{fragment}: at the moment of {name} the control's column is {first}")
-            for step, it in found[1:4]:
+            for step, it in found[1:]:
                 line = program.text(["view", *told.words, str(step)], told.table).splitlines()[1]
                 come = re.match(r"module control line (A|DoneW|DoneR|DoneL)(?: \d+)? (\d)$", line)
                 count.hold(come and it and it["kind"] == waits[come[1]] and it["tape"] == int(come[2]),
@@ -309,7 +309,11 @@ def check_firsts(page, program, draw, count):
 
 
 def check_long(page, program, draw, count):
+    # The hints would stand over what is clicked.
+    page.visit(f"file://{PAGE}#m=least")
+    page.ask("localStorage.setItem('hithwelor hints', 'seen'); 0")
     for check in (check_pieces, check_cells, check_control, check_marks, check_firsts):
         check(page, program, draw, count)
     check_span(page, program, count)
     page.visit(f"file://{PAGE}#m=least")
+    page.ask("localStorage.clear(); 0")

@@ -9,7 +9,7 @@ from shown_long import WALK
 # What is aimed at, in milliseconds.
 FIRST, LARGE, STEP = 1000, 8000, 100
 LETTERS = 1008
-PLAYED = """(async () => {
+PLAYED = """window.played = null; (async () => {
   const {current, frames, goTo, pause, play, RANGES, state} = bench, run = current.run, layer = "%s", kept = RANGES[layer][1];
   const found = [];
   Object.assign(state, {layer, speed: 100});
@@ -18,25 +18,26 @@ PLAYED = """(async () => {
   for (const direction of [1, -1]) {
     frames.length = 0;
     const began = performance.now();
-    let worst = 0, waited = 0, frame = 0, seen = 0, since = null, last = null;
+    let worst = 0, waited = 0, since = null, last = null;
+    const times = [];
     play(direction);
     while (state.playing) {
       await new Promise(done => setTimeout(done, 20));
       for (const it of frames.splice(0)) {
-        seen++;
-        frame = Math.max(frame, it.ms);
+        times.push(it.ms);
         if (last !== null) worst = Math.max(worst, it.at - last);
         last = it.at;
         if (it.isWaiting) since ??= it.at;
         else if (since !== null) { waited = Math.max(waited, it.at - since); since = null; }
       }
     }
-    found.push({e: state.e, seconds: (performance.now() - began) / 1000, frame, gap: worst, waited, seen});
+    times.sort((a, b) => a - b);
+    found.push({e: state.e, seconds: (performance.now() - began) / 1000, frame: times.at(-1), median: times[times.length >> 1], gap: worst, waited, seen: times.length});
   }
   RANGES[layer][1] = kept;
   state.speed = 40;
-  return found;
-})()"""
+  window.played = found;
+})(); 0"""
 STEPPED = """(async () => {
   const {current, goTo, state, step, timings} = bench, run = current.run, found = {};
   for (const layer of ["machine", "quadruple", "module", "element"]) {
@@ -84,11 +85,14 @@ def check_times(page, program, factor, is_long, count):
     aim(count, factor, "the first example's first picture, the best of five", min(firsts), FIRST)
 
     page.visit(f"file://{PAGE}#m=increment&win=0 5 11 5")
-    for layer, rate in (("machine", 25), ("quadruple", 60), ("module", 600), ("element", 60000)):
-        there, back = page.wait(PLAYED % (layer, rate))
+    for layer, rate in (("machine", 25), ("quadruple", 60), ("module", 120), ("element", 60000)):
+        page.ask(PLAYED % (layer, rate))
+        while not page.ask("window.played"):
+            time.sleep(1)
+        there, back = page.ask("window.played")
         for way, it in (("on", there), ("back", back)):
-            print(f"increment, {layer}, played {way}: {it['seconds']:.1f} s, {it['seen']} frames, the longest {it['frame']:.0f} ms, between two "
-                  f"{it['gap']:.0f} ms, the longest wait {it['waited']:.0f} ms")
+            print(f"increment, {layer}, played {way}: {it['seconds']:.1f} s, {it['seen']} frames of {it['median']:.0f} ms in the middle, {it['frame']:.0f} ms "
+                  f"at most; between two {it['gap']:.0f} ms at most, the longest wait {it['waited']:.0f} ms")
             count.hold(max(it["frame"], it["waited"]) <= factor * STEP, f"increment, {layer}, played {way}: {it}")
         count.hold(there["e"] == page.ask("bench.current.run.end") and back["e"] == 0, f"increment, {layer}: it is played to {there['e']} and {back['e']}")
     report_steps(page, "increment", factor, count)

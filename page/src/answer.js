@@ -18,6 +18,18 @@ function bytesOf(base64) {
 // The module is compiled once, and all workers have it.
 const moduleOf = () => compiledModule ??= WebAssembly.compile(bytesOf(MODULE));
 
+// The compiled module is handed to a worker, or its bytes, where a browser hands over no compiled ones.
+async function givenModule(bench) {
+  const bytes = () => bench.call({kind: "module", bytes: bytesOf(MODULE)});
+  try {
+    const it = await bench.call({kind: "module", module: await moduleOf()});
+    return it.kind === "unread" ? bytes() : it;
+  } catch (fault) {
+    if (fault.name !== "DataCloneError") throw fault;
+    return bytes();
+  }
+}
+
 function beginBench(lane) {
   const source = new Blob([WORKER], {type: "text/javascript"});
   const bench = {waiting: new Map(), count: 0, worker: new Worker(URL.createObjectURL(source))};
@@ -26,10 +38,13 @@ function beginBench(lane) {
     bench.worker.postMessage({...message, number: bench.count});
   });
   bench.worker.onmessage = event => {
-    bench.waiting.get(event.data.number)?.(event.data);
-    bench.waiting.delete(event.data.number);
+    const numbers = event.data.kind === "unread" ? [...bench.waiting.keys()] : [event.data.number];
+    for (const number of numbers) {
+      bench.waiting.get(number)?.(event.data);
+      bench.waiting.delete(number);
+    }
   };
-  bench.ready = moduleOf().then(module => bench.call({kind: "module", module})).then(it => {
+  bench.ready = givenModule(bench).then(it => {
     if (it.kind !== "ready") throw new Error(it.text);
   }).catch(fault => { throw new Error(`This browser can't run it: ${fault.message ?? fault}`); });
   benches[lane] = bench;

@@ -2,7 +2,7 @@
 import {escaped, minus} from "./state.js";
 import {n1, svg} from "./svg.js";
 import {symbolWord} from "./table.js";
-import {TAPES} from "./words.js";
+import {heardOf, TAPES} from "./words.js";
 
 const TAPE_LEFT = 12, TAPE_TOP = 12;
 
@@ -41,7 +41,8 @@ export function tapePicture(tape, {width, size = 34, before = null, picked = [],
   return svg(width, TAPE_TOP + size + (isNumbered ? 16 : 3), body, `t${tape.tape}`, label);
 }
 // A tape as it is heard: its symbols from its first cell on, and its head.
-function tapeWordsOf({tape, first, head, symbols}) {
+function tapeWordsOf(it) {
+  const {tape, head} = it, {first, symbols} = heardOf(it);
   const heard = symbols.map(symbolWord).join(" "), at = head === null ? "no head" : `head at cell ${head}`;
   return `${TAPES[tape]} tape from cell ${first}: ${heard}; ${at}`;
 }

@@ -1,14 +1,16 @@
-// The page's worker: takes the module that it is given, and answers one call after another.
+// The page's worker: takes the module that it is given, compiled or as bytes, and answers one call after another.
 "use strict";
 let bench = null;
 const coder = new TextEncoder();
 
+// Where a compiled module can't be handed over, its bytes are asked for.
+onmessageerror = () => postMessage({kind: "unread"});
 onmessage = event => {
   const {kind, number} = event.data;
   const began = performance.now(), spent = () => performance.now() - began;
   try {
     if (kind === "module") {
-      bench = new Workbench(event.data.module);
+      bench = new Workbench(event.data.module ?? new WebAssembly.Module(event.data.bytes));
       postMessage({kind: "ready", number, ms: spent()});
       return;
     }
