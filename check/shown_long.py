@@ -18,9 +18,9 @@ PLAIN = {"small": 500000, "quick": 6000000, "first": 48, "block": 300000, "kept"
 LEFT = "S,_,_,+,A\nA,1,1,-,B\nB,_,_,-,C\nC,_,_,-,D\nD,_,_,-,E\nE,_,_,0,F\n"
 WALK = "S,_,_,+,A\nA,1,1,+,A\nA,_,_,0,H\n"
 MOMENTS = "bench.current.run.moments.map(it => [it.steps, it.name, it.stage, it.state, it.rule])"
-# What stands in the corners of cells between two moments: tape, cell, symbol, and whether the head has come there.
+# What is seen of cells between two moments: tape, cell, symbol, whether the head has come there, and the symbol in the corner.
 NOW = """[...document.querySelectorAll("#three .between")].map(it => [Number(it.closest("svg").classList[1].slice(1)),
-  Number(it.dataset.now), it.querySelector(".nowsymbol").textContent.replace("·", "_"), Boolean(it.querySelector(".nowtip"))])"""
+  Number(it.dataset.now), it.dataset.symbol, Boolean(it.querySelector(".nowtip")), it.querySelector(".nowsymbol")?.textContent.replace("·", "_") ?? null])"""
 
 
 class Told:
@@ -160,7 +160,7 @@ def check_cells(page, program, draw, count):
                 for k, (was, symbol) in enumerate(zip(old.symbols, new.symbols)):
                     cell = old.first + k
                     if was != symbol or (old.head == cell) != (new.head == cell):
-                        right.append([tape, cell, symbol, new.head == cell and old.head != cell])
+                        right.append([tape, cell, symbol, new.head == cell and old.head != cell, symbol if symbol != was else None])
             given = page.ask(NOW)
             count.hold(given == right, f"{fragment}, step {e}: between two moments {given} is shown, and not {right}")
             said, short = page.ask("(it => [it.title, it.textContent])(document.querySelector('#controlsaid span'))")

@@ -32,7 +32,8 @@ PLAYED = """window.played = null; (async () => {
       }
     }
     times.sort((a, b) => a - b);
-    found.push({e: state.e, seconds: (performance.now() - began) / 1000, frame: times.at(-1), median: times[times.length >> 1], gap: worst, waited, seen: times.length});
+    found.push({e: state.e, seconds: (performance.now() - began) / 1000, frame: times.at(-1), median: times[times.length >> 1], gap: worst, waited, seen: times.length,
+                over: times.filter(it => it > 100).length});
   }
   RANGES[layer][1] = kept;
   state.speed = 40;
@@ -92,7 +93,7 @@ def check_times(page, program, factor, is_long, count):
         there, back = page.ask("window.played")
         for way, it in (("on", there), ("back", back)):
             print(f"increment, {layer}, played {way}: {it['seconds']:.1f} s, {it['seen']} frames of {it['median']:.0f} ms in the middle, {it['frame']:.0f} ms "
-                  f"at most; between two {it['gap']:.0f} ms at most, the longest wait {it['waited']:.0f} ms")
+                  f"at most, {it['over']} above 100 ms; between two {it['gap']:.0f} ms at most, the longest wait {it['waited']:.0f} ms")
             count.hold(max(it["frame"], it["waited"]) <= factor * STEP, f"increment, {layer}, played {way}: {it}")
         count.hold(there["e"] == page.ask("bench.current.run.end") and back["e"] == 0, f"increment, {layer}: it is played to {there['e']} and {back['e']}")
     report_steps(page, "increment", factor, count)
@@ -109,7 +110,8 @@ def check_times(page, program, factor, is_long, count):
         page.visit(f"file://{PAGE}#t={quote(WALK)}&w={'1' * letters}")
         print(f"{letters} ones: first picture {page.ask(SHOWN_AT):,.0f} ms, {page.ask('bench.current.run.outcome.elements'):,} elements")
         if letters == LETTERS:
-            page.wait(WHOLE)
+            while not page.ask("bench.current.run.isWhole"):
+                time.sleep(1)
             print(f"{letters} ones: all {page.ask('bench.current.run.count'):,} moments, {page.ask('bench.current.run.end'):,} element steps, "
                   f"are known after {time.monotonic() - began:,.0f} s")
         else:

@@ -19,7 +19,7 @@ const PANELS = {
       "history notes the number of each rule; the output tape gets the copy.",
     "First it computes and keeps the history, then it copies the output, then it takes every step back and empties " +
       "the history. A triangle marks each head, a darker cell what was just written. Between two moments a cell within " +
-        "a broken line has changed since; what it holds by now stands small in its corner. Below stand the moves of the " +
+        "a broken line has changed since; in its corner stands what it holds by now, where that is another symbol. Below stand the moves of the " +
         "circuit for one quadruple, with what each costs, or the table of all quadruples.",
   ]},
   circuit: {title: "The circuit", words: [

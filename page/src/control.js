@@ -50,7 +50,7 @@ export function controlWords(it) {
   if (it.kind === "end") return "has sent the signal out";
   const tape = `the ${TAPES[it.tape]} tape`;
   if (it.kind === "reads") return `${it.state} reads ${tape}`;
-  if (it.kind === "shifts") return `row ${it.quadruple} moves ${tape} ${it.way === "+" ? "right" : "left"}`;
+  if (it.kind === "shifts") return `row ${it.quadruple} of the table moves ${tape} ${it.way === "+" ? "right" : "left"}`;
   return `writes ${tape}, on to ${it.state}`;
 }
 export function controlInFull(it) {
@@ -61,7 +61,7 @@ export function controlInFull(it) {
 export function controlLabel(it) {
   if (it.kind === "begin" || it.kind === "end") return it.kind === "begin" ? "Begin" : "End";
   if (it.kind === "shifts") return `${it.quadruple}s${it.tape}`;
-  return `${it.state}${it.kind === "reads" ? "r" : "w"}${it.tape}${it.symbols.length ? ":" : ""}${it.symbols.join(",")}`;
+  return `${it.state}${it.kind === "reads" ? "r" : "w"}${it.tape}${it.symbols.length ? ":" : ""}${it.symbols.map(symbol => symbol === "_" ? "·" : symbol).join(",")}`;
 }
 
 // What the control is about at a step: its state, where a column is marked, and the quadruple at work; short, and in full.
@@ -70,5 +70,6 @@ export function controlSaid(run, {e, q, at}) {
   const column = run.markedColumn(run.banks[0], e), number = quadrupleAt(run, q), row = run.quadruples[number], state = controlStates(run)[column];
   const words = column === -1 ? "the signal is in it" : state ? controlWords(state) : "";
   const work = row ? `row ${number + 1} of Bennett's table: ${row[0]} ${actText(row)} ${row[7]}` : "", full = state ? controlInFull(state) : words;
-  return {short: [words, row ? `row ${number + 1} of the table` : ""].filter(Boolean).join(" · "), full: [full, work].filter(Boolean).join(" · ")};
+  const place = row && state?.kind !== "shifts" ? `row ${number + 1} of the table` : "";
+  return {short: [words, place].filter(Boolean).join(" · "), full: [full, work].filter(Boolean).join(" · ")};
 }

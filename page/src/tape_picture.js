@@ -47,11 +47,12 @@ function tapeWordsOf(it) {
   return `${TAPES[tape]} tape from cell ${first}: ${heard}; ${at}`;
 }
 // What a cell holds by now, small in its corner, within a broken line; and the head, where it has come already.
-function nowPicture({cell, symbol, hasHead, hadHead}, x, wide, size) {
+function nowPicture({cell, symbol, was, hasHead, hadHead}, x, wide, size) {
   const tip = hasHead && !hadHead ? `<path class="nowtip" d="M${x + wide / 2},${TAPE_TOP - 1} l-6,-9 h12 z"/>` : "";
   const words = symbol === "?" ? "between two states" : `now ${symbolWord(symbol)}${hasHead ? ", with the head" : ""}`;
-  return `<g class="between" data-now="${cell}"><title>cell ${minus(cell)}: ${escaped(words)}</title><rect class="nowbox" x="${x + 2.5}" y="${TAPE_TOP + 2.5}" width="${wide - 5}" height="${size - 5}" rx="2"/>`
-    + `<text class="nowsymbol" x="${x + wide - 5}" y="${TAPE_TOP + 12}">${symbol === "_" ? "·" : escaped(symbol)}</text>${tip}</g>`;
+  const corner = symbol === was ? "" : `<text class="nowsymbol" x="${x + wide - 5}" y="${TAPE_TOP + 12}">${symbol === "_" ? "·" : escaped(symbol)}</text>`;
+  return `<g class="between" data-now="${cell}" data-symbol="${escaped(symbol)}"><title>cell ${minus(cell)}: ${escaped(words)}</title><rect class="nowbox" x="${x + 2.5}" y="${TAPE_TOP + 2.5}" width="${wide - 5}" height="${size - 5}" rx="2"/>`
+    + `${corner}${tip}</g>`;
 }
 function cellPicture({tape, cell, symbol, isNew, x, wide, size, isNumbered}) {
   const isBlank = symbol === "_", kind = isNew ? "new" : isBlank ? "" : "full";
