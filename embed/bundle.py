@@ -11,6 +11,7 @@ import re
 
 SRC = os.path.join(os.path.dirname(os.path.dirname(os.path.abspath(__file__))), "page", "src")
 FIRST = "app.js"
+WORKERS = ["core.js", "places.js", "worker.js"]
 STYLES = ["style.css", "pictures.css", "dialogs.css", "print.css"]
 # What a browser may do with the page: run the one script that it has, and the module; draw. Nothing goes out.
 POLICY = ("default-src 'none'; script-src 'sha256-{script}' 'wasm-unsafe-eval'; worker-src blob:; style-src 'unsafe-inline'; "
@@ -88,7 +89,7 @@ def plain(text):
 
 def page_text(module):
     """The page: one file of HTML with its style, its script, the worker's script and the module."""
-    worker = '"use strict";\n' + plain(text_of("core.js")) + plain(text_of("worker.js"))
+    worker = '"use strict";\n' + "".join(plain(text_of(name)) for name in WORKERS)
     script = ('"use strict";\n' + f"const WORKER = {json.dumps(worker)};\n" + one_scope()
               + f'\nconst MODULE = "{base64.b64encode(module).decode()}";\nstart();\n')
     script = script.replace("</", "<\\/")

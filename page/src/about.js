@@ -1,9 +1,10 @@
 // What is seen, in words: for each panel what it shows, and what stands in it at this step. All of it is looked up in
 // the program's answers.
+import {controlSaid} from "./control.js";
 import {byId, current, dialog, escaped, nameOf, state} from "./state.js";
 import {symbolWord} from "./table.js";
 import {frame} from "./view.js";
-import {bankName, exitWords, number, ruleAt, TAPES} from "./words.js";
+import {bankName, countWords, endWords, exitWords, number, ruleAt, TAPES} from "./words.js";
 
 const PANELS = {
   machine: {title: "The machine", words: [
@@ -20,7 +21,8 @@ const PANELS = {
     "The same machine, made so that no step forgets. It has three tapes: the work tape is the machine's own; the " +
       "history notes the number of each rule; the output tape gets the copy.",
     "First it computes and keeps the history, then it copies the output, then it takes every step back and empties " +
-      "the history. A triangle marks each head, a darker cell what was just written. Below stand the moves of the " +
+      "the history. A triangle marks each head, a darker cell what was just written. Between two moments a cell within " +
+        "a broken line has changed since; in its corner stands what it holds by now, where that is another symbol. Below stand the moves of the " +
         "circuit for one quadruple, with what each costs, or the table of all quadruples.",
   ]},
   circuit: {title: "The circuit", words: [
@@ -32,8 +34,11 @@ const PANELS = {
   time: {title: "The time line", words: [
     "The whole run as one picture. Time goes to the right; each band is a tape and each row in it a cell. The hill " +
       "is the history: it grows, stands while the output is copied, and is taken back.",
-    "The red line is now. The strip below has the moves of the quadruple at work, as wide as they cost. The four " +
-      "buttons say what a step is; the arrow keys make one, on or back.",
+    "The red line is now. + and − make the part that is seen smaller and larger, the wheel too; the strip below shows " +
+      "the whole with that part in a frame, which can be drawn along. Of a long run as many moments are drawn as have " +
+        "room. A dot is a place where a breakpoint holds.",
+    "The second strip has the moves of the quadruple at work, as wide as they cost. The four buttons say what a step " +
+      "is; the arrow keys make one, on or back.",
   ]},
 };
 const PAGES_ABOUT = {
@@ -88,7 +93,7 @@ function tapeWords({moment, q}) {
       : `the head is at cell ${tape.head}`;
     return `The ${TAPES[k + 1]} tape from cell ${tape.first} on: ${symbols}; ${head}.`;
   });
-  return [`Stage: ${moment.stage}. Quadruple ${q} of ${current.run.moments.length - 1}, from state ${moment.name}.`,
+  return [`Stage: ${moment.stage}. Quadruple ${q} of ${current.run.count - 1}, from state ${moment.name}.`,
     `${rule.head} ${rule.more}`, ...tapes];
 }
 function circuitWords({e, at, bank, move}) {
@@ -101,15 +106,16 @@ function circuitWords({e, at, bank, move}) {
     : `The signal is in ${bankName(bank)}, at element ${number(at.place >> 2)}.`;
   const far = move.from !== null && move.to !== null && !at.hasLeft
     ? ` It is step ${number(e - move.from)} of ${number(move.to - move.from)} of this move.` : "";
-  return [count, window, where + far];
+  const {full} = controlSaid(run, frame());
+  return [count, window, where + far, full ? `The control: ${full}.` : ""].filter(Boolean);
 }
 function timeWords({e, q}) {
-  const {run} = current, stages = ["compute", "copy", "retrace"].map(stage => {
-    const places = run.moments.flatMap((it, k) => it.stage === stage ? [k] : []);
-    return places.length ? `${stage} from quadruple ${places[0]} to ${places.at(-1)}` : "";
+  const {run} = current, parts = run.stageParts(), stages = parts.map((it, k) => {
+    const isOpen = !run.isWhole && k === parts.length - 1;
+    return `${it.stage} from quadruple ${it.from} ${isOpen ? "on, as far as it is known by now" : `to ${it.to - 1}`}`;
   });
-  const count = `${number(run.moments.length - 1)} quadruples and ${number(run.end)} element steps`;
-  return [`The run has ${count}: ${stages.filter(Boolean).join(", ")}.`,
+  const count = `${countWords(run)} quadruples and ${endWords(run)} element steps`;
+  return [`The run has ${count}: ${stages.join(", ")}.`,
           `Now: quadruple ${number(q)}, element step ${number(e)}. A step is a ${state.layer === "element" ? "step " +
             "of the signal" : state.layer === "module" ? "move of a module"
               : {machine: "machine step", quadruple: "quadruple"}[state.layer]}.`];

@@ -4,20 +4,37 @@
 import {busy} from "./state.js";
 
 export const STATUS = {done: 0, usage: 2, text: 3, machine: 4, word: 5, size: 6, noMemory: 9, stuck: 10, window: 11, inside: 12};
+// Each lane has a worker of its own: for what is waited for, for what is waited for at the same time, for what is fetched
+// ahead, and for what takes long, so that a step doesn't queue behind them.
+export const LANES = {now: 0, beside: 1, ahead: 2, long: 3};
 export const log = [];
 const STOPPED = "stopped";
 const MOST_LOGGED = 400;
 const decoder = new TextDecoder();
-// Two workers: one for what is waited for, one for what is fetched ahead, so that a jump doesn't queue behind pieces.
-const benches = [null, null];
+const benches = [null, null, null, null];
+let compiledModule = null;
 
 function bytesOf(base64) {
   const binary = atob(base64), bytes = new Uint8Array(binary.length);
   for (let k = 0; k < binary.length; k++) bytes[k] = binary.charCodeAt(k);
   return bytes;
 }
+// The module is compiled once, and all workers have it.
+const moduleOf = () => compiledModule ??= WebAssembly.compile(bytesOf(MODULE));
 
-function beginBench(place) {
+// The compiled module is handed to a worker, or its bytes, where a browser hands over no compiled ones.
+async function givenModule(bench) {
+  const bytes = () => bench.call({kind: "module", bytes: bytesOf(MODULE)});
+  try {
+    const it = await bench.call({kind: "module", module: await moduleOf()});
+    return it.kind === "unread" ? bytes() : it;
+  } catch (fault) {
+    if (fault.name !== "DataCloneError") throw fault;
+    return bytes();
+  }
+}
+
+function beginBench(lane) {
   const source = new Blob([WORKER], {type: "text/javascript"});
   const bench = {waiting: new Map(), count: 0, worker: new Worker(URL.createObjectURL(source))};
   bench.call = message => new Promise(done => {
@@ -27,32 +44,34 @@ function beginBench(place) {
   // A fault of the worker itself: what waits is cut off, and the next call begins a new worker.
   bench.worker.onerror = event => {
     event.preventDefault();
-    endBench(place, String(event.message || "a fault of the worker"));
+    endLane(lane, String(event.message || "a fault of the worker"));
   };
   bench.worker.onmessage = event => {
-    bench.waiting.get(event.data.number)?.(event.data);
-    bench.waiting.delete(event.data.number);
+    const numbers = event.data.kind === "unread" ? [...bench.waiting.keys()] : [event.data.number];
+    for (const number of numbers) {
+      bench.waiting.get(number)?.(event.data);
+      bench.waiting.delete(number);
+    }
   };
-  bench.ready = bench.call({kind: "module", bytes: bytesOf(MODULE)}).then(it => {
+  bench.ready = givenModule(bench).then(it => {
     if (it.kind === "ready") return;
-    if (benches[place] === bench) benches[place] = null;
-    if (it.text !== STOPPED) throw new Error(`This browser can't run it: ${it.text}`);
-  });
-  benches[place] = bench;
+    if (benches[lane] === bench) benches[lane] = null;
+    if (it.text !== STOPPED) throw new Error(it.text);
+  }).catch(fault => { throw new Error(`This browser can't run it: ${fault.message ?? fault}`); });
+  benches[lane] = bench;
   return bench;
 }
 
 // Ends a worker: each waiting answer becomes status -1, and the next call begins a new one.
-function endBench(place, text) {
-  const bench = benches[place];
+function endLane(lane, text) {
+  const bench = benches[lane];
   if (!bench) return;
   bench.worker.terminate();
-  benches[place] = null;
+  benches[lane] = null;
   for (const done of bench.waiting.values()) done({kind: "fault", text, ms: 0});
 }
-export function stopAll() {
-  benches.forEach((_, place) => endBench(place, STOPPED));
-}
+export function stopLane(lane) { endLane(lane, STOPPED); }
+export function stopAll() { benches.forEach((_, lane) => stopLane(lane)); }
 
 // Whether an answer was cut off, and isn't the program's; what is said of it.
 export const isCutOff = reply => Boolean(reply.words);
@@ -61,16 +80,24 @@ function cutWords(status, text) {
   return status === -1 && text !== STOPPED ? `This answer was cut off: ${text}. The next one begins anew.` : "";
 }
 
-// `isIdle` says that the answer is fetched ahead.
-export async function answer(words, input = "", {isIdle = false} = {}) {
-  const began = performance.now(), place = isIdle ? 1 : 0, bench = benches[place] ?? beginBench(place);
+async function callLane(lane, words, input, more = {}) {
+  const began = performance.now(), bench = benches[lane] ?? beginBench(lane);
   await bench.ready;
-  const isThere = benches[place] === bench;
-  const it = isThere ? await bench.call({kind: "call", words: words.map(String), input}) : {kind: "fault", text: STOPPED};
-  const isAnswer = it.kind === "answer", text = isAnswer ? decoder.decode(it.text) : String(it.text);
-  log.push({words: words.join(" "), status: it.status ?? -1, bytes: text.length, ms: performance.now() - began, program: it.ms});
+  const isThere = benches[lane] === bench;
+  const it = isThere ? await bench.call({kind: "call", words: words.map(String), input, ...more}) : {kind: "fault", text: STOPPED};
+  const text = it.kind === "answer" ? decoder.decode(it.text) : String(it.text ?? "");
+  log.push({words: words.join(" "), status: it.status ?? -1, bytes: it.bytes ?? text.length, ms: performance.now() - began, program: it.ms});
   if (log.length > MOST_LOGGED) log.shift();
-  const status = isAnswer ? it.status : -1, cut = cutWords(status, text);
+  const status = it.kind === "fault" ? -1 : it.status, cut = cutWords(status, text);
   if (cut) busy(cut);
-  return {status, text, words: cut};
+  return {...it, status, text, words: cut};
+}
+export async function answer(words, input = "", {lane = LANES.now} = {}) {
+  const reply = await callLane(lane, words, input);
+  return {status: reply.status, text: reply.text, words: reply.words};
+}
+// The places of the signal that a script is answered with, read in the worker: at most so many, where the banks begin
+// at these elements and have so many rows.
+export async function answerPlaces(words, input, reading, {lane = LANES.now} = {}) {
+  return callLane(lane, words, input, {reading});
 }

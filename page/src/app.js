@@ -1,17 +1,22 @@
 // The page: what was typed becomes a machine, that a run, and the run is shown at one step of one time.
 import {answer, log} from "./answer.js";
 import {chips} from "./breaks.js";
+import {controlLabel, controlStates} from "./control.js";
 import {editorText} from "./editor.js";
 import {EXAMPLES} from "./examples.js";
 import {PICTURES, takeHands, TEXTS} from "./hands.js";
 import {readLink} from "./links.js";
-import {takeMachine, typed} from "./machine.js";
+import {rebuild, takeMachine, typed} from "./machine.js";
+import {comesTo} from "./marks.js";
+import {limits} from "./moments.js";
 import {composed} from "./picture.js";
-import {frames, goTo, pause, play, showButtons, step, timings} from "./play.js";
+import {frames, goTo, pause, play, RANGES, showButtons, step, timings} from "./play.js";
 import {beginTask} from "./sheet.js";
 import {byId, current, escaped, state} from "./state.js";
 import {placeName} from "./texts.js";
+import {zoomTime} from "./span.js";
 import {render} from "./view.js";
+import {longRuns} from "./window.js";
 import {inTurn} from "./turns.js";
 import {lineOf} from "./words.js";
 import {openWorkshop, pageOf} from "./workshop.js";
@@ -50,6 +55,6 @@ function begin() {
 
 // For the checks, and for the curious.
 window.bench = {
-  answer, beginTask, composed, current, frames, goTo, inTurn, lineOf, log, openWorkshop, pageOf, pause, PICTURES, placeName, play, render, state,
-  step, TEXTS, timings,
+  answer, beginTask, comesTo, composed, controlLabel, controlStates, current, frames, goTo, inTurn, limits, lineOf, log, openWorkshop, pageOf, pause, PICTURES, placeName, play, render, state,
+  longRuns, RANGES, step, TEXTS, timings, zoomTime,
 };

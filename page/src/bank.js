@@ -1,6 +1,7 @@
 // The circuit's panel: the map of all modules, and the module in which the signal is as a bank of elements.
 import {bankPicture, overviewPicture, TOP, WIDE} from "./bank_picture.js";
 import {mapPicture} from "./map_picture.js";
+import {controlSaid} from "./control.js";
 import {forgetSizes, heightOf, put, widthOf} from "./sizes.js";
 import {byId, current, escaped, nameOf, state} from "./state.js";
 import {render} from "./view.js";
@@ -13,8 +14,9 @@ export const seen = {view: null};
 export function renderBank(f) {
   const {run} = current, hasLeft = Boolean(f.at?.hasLeft);
   put("map", mapPicture(run, {bank: f.bank, row: f.row, moment: f.moment, hasLeft, width: widthOf("map"), height: MAP_HEIGHT}));
+  put("controlsaid", sayControl(controlSaid(run, f)));
   if (!f.bank) {
-    byId("what").textContent = "fetching the way of the signal …";
+    put("what", "fetching the way of the signal …");
     return;
   }
   const {bank} = f, bars = run.bankBars(bank, f.e);
@@ -32,6 +34,7 @@ export function renderBank(f) {
   put("bank", bankPicture(run, {bank, bars, place, hasLeft, trail, width, height, pitch, wide, x, y, left: NAMES_WIDTH}));
 }
 
+const sayControl = ({short, full}) => short ? `<span title="${escaped(full)}"><b>Control</b> ${escaped(short)}</span>` : "";
 // The line by which the signal came in, in words, and how far its move is.
 function moveWords(f, hasLeft) {
   const {run} = current;

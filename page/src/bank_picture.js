@@ -1,10 +1,13 @@
 // A bank of rotary elements: its columns with their bars and wires, the mark, the signal and the way behind it.
 import {escaped} from "./state.js";
 import {n1, svg} from "./svg.js";
+import {controlInFull, controlLabel, controlStates} from "./control.js";
 import {bankName, lineOf} from "./words.js";
 
 // How much wider than high a place of the grid is, at least; and the room above it.
-export const WIDE = 1.5, TOP = 19;
+export const WIDE = 1.5, TOP = 25;
+// How wide a letter of a label is, and where the two lines of labels stand.
+const LETTER = 6.4, LABEL_LINES = [9, 19];
 const [NORTH, EAST, SOUTH, WEST] = [0, 1, 2, 3], STEPS = [[0, -1], [1, 0], [0, 1], [-1, 0]];
 // The strokes of the way, from the newest part on: up to which age, how wide, how strong.
 const TRAIL = [[6, .11, 1], [24, .09, .7], [90, .07, .42], [Infinity, .05, .22]];
@@ -116,20 +119,34 @@ function signalPicture(grid, place, hasLeft) {
   return `<circle class="ring" ${at} r="${n1(Math.max(5, P * .24))}"/><circle class="signal" ${at} r="${n1(Math.max(3, P * .14))}"/>`;
 }
 
-// Above each column the state for which it stands: a cell's symbol, with a mark where the head is; a number in the
-// control. Beside each row the name of its line.
+// The state for which a column stands: a cell's symbol, with a mark where the head is; of the control its name, and what
+// it is about in words.
+function columnLabel(run, bank, column) {
+  if (bank.kind === "cell") {
+    const z = run.symbols[bank.tape - 1];
+    return [`${column >= z ? "▾" : ""}${run.symbolOf(bank.tape, column % z)}`];
+  }
+  const it = controlStates(run)[column];
+  return it ? [controlLabel(it), `state ${column + 1}: ${controlInFull(it)}`] : [String(column + 1)];
+}
+const longestLabel = run => run.longestLabel ??= Math.max(...controlStates(run).map(it => controlLabel(it).length), 3);
+// Above each column its state; beside each row the name of its line.
 function labelsPicture(grid, bars, place) {
   const {run, bank, rows, width, height, left, P} = grid;
-  const label = (text, isNow, anchor, x, y) => `<text class="small mono${isNow ? "" : " quiet"}" ${isNow ? 'font-weight="700"' : ""} text-anchor="${anchor}" x="${n1(x)}" y="${n1(y)}">${escaped(text)}</text>`;
-  const z = bank.kind === "cell" ? run.symbols[bank.tape - 1] : 0;
-  let body = "";
+  const label = ([text, title], isNow, anchor, x, y) => `<text class="small mono${isNow ? "" : " quiet"}" ${isNow ? 'font-weight="700"' : ""} text-anchor="${anchor}" x="${n1(x)}" y="${n1(y)}">`
+    + `${title ? `<title>${escaped(title)}</title>` : ""}${escaped(text)}</text>`;
+  // Names of the control's states stand on two lines in turn, and as many as have room.
+  const isControl = bank.kind === "control", every = isControl ? Math.max(1, Math.ceil((longestLabel(run) * LETTER + 3) / (2 * grid.X))) : 1;
+  const high = c => isControl && Math.floor(c / every) % 2 ? LABEL_LINES[0] : LABEL_LINES[1];
+  let body = "", marked = -Infinity;
+  for (let c = grid.first[0]; c <= grid.last[0]; c++) if (bars?.[c * (rows + 1) + rows] === 1) marked = c;
   for (let c = grid.first[0]; c <= grid.last[0]; c++) {
-    const x = grid.cx(c), text = z ? `${c >= z ? "▾" : ""}${run.symbolOf(bank.tape, c % z)}` : String(c + 1);
-    if (x > left - P * .2 && x < width) body += label(text, bars?.[c * (rows + 1) + rows] === 1, "middle", x, 11);
+    const x = grid.cx(c), isNow = c === marked, isOut = c % every !== 0 || every > 1 && Math.abs(c - marked) < 2 * every;
+    if (x > left - P * .2 && x < width && (isNow || !isOut)) body += label(columnLabel(run, bank, c), isNow, "middle", x, high(c));
   }
   for (let r = grid.first[1]; r <= Math.min(grid.last[1], rows - 1); r++) {
     const y = grid.cy(r), isNow = place === 4 * (bank.base + r) + WEST;
-    if (y > TOP && y < height - 6) body += label(lineOf(run, bank, r).name, isNow, "end", left - P * .32 - 3, y + 3);
+    if (y > TOP && y < height - 6) body += label([lineOf(run, bank, r).name], isNow, "end", left - P * .32 - 3, y + 3);
   }
   return body;
 }

@@ -1,10 +1,9 @@
 // Breakpoints: on states of the machine, on cells of the tapes and on elements of the circuit.
 import {goTo, pause} from "./play.js";
 import {busy, byId, current, escaped, minus, nameOf, state, toast} from "./state.js";
+import {showMarks} from "./marks.js";
 import {render} from "./view.js";
 import {number, TAPES} from "./words.js";
-
-const MOST_MARKS = 400, MOST_SEARCHED = 200000;
 
 function breakWords(it) {
   if (it.kind === "state") return `state ${nameOf(it.state)}`;
@@ -34,17 +33,25 @@ export function chips() {
   byId("breaks").classList.toggle("some", state.breaks.length > 0);
   showMarks();
 }
-// On the film a dot stands where a breakpoint holds; those on elements aren't known before they are asked for.
-function showMarks() {
-  const count = current.run?.moments.length ?? 0, found = new Set();
-  for (let q = 0; q < count; q++) if (state.breaks.some(it => holdsAt(it, q))) found.add(q);
-  const dots = [...found].slice(0, MOST_MARKS).map(q => `<i style="left:${q / count * 100}%"></i>`);
-  byId("breakmarks").innerHTML = dots.join("");
-}
-function holdsAt(it, q) {
+export function holdsAt(it, q) {
   const {run} = current, moment = run.moments[q];
   if (it.kind === "state") return moment.state === it.state && moment.stage !== "copy" && moment.rule === null;
-  return it.kind === "cell" && q > 0 && run.cellAt(q, it.tape, it.cell) !== run.cellAt(q - 1, it.tape, it.cell);
+  return it.kind === "cell" && run.isChange(q, it.tape, it.cell);
+}
+
+// Where the signal comes next to an element at which a play stops: asked of the program as the play begins, and undefined
+// until it has answered.
+const ahead = {key: null, found: null};
+export function elementAhead(direction) {
+  const elements = state.breaks.filter(it => it.kind === "element"), {run} = current;
+  if (!elements.length || !direction) return null;
+  const key = JSON.stringify([direction, elements]), isBehind = ahead.found && direction * (ahead.found.step - state.e) <= 0;
+  if (ahead.run === run && ahead.key === key && !isBehind) return ahead.found;
+  Object.assign(ahead, {run, key, found: undefined});
+  run.runTo(state.e, direction, elements).then(({step, hit: it}) => {
+    if (ahead.key === key && ahead.run === run) ahead.found = it ? {step, it} : {step: direction * Infinity, it: null};
+  }).catch(console.error);
+  return undefined;
 }
 
 // The first breakpoint between two steps, the one that is come to included, and its step.
@@ -59,11 +66,8 @@ export function stopBetween(from, to) {
   for (let q = run.momentIndex(low); q < run.moments.length && run.starts[q] <= high; q++) {
     for (const it of state.breaks) if (holdsAt(it, q)) take(run.starts[q], it);
   }
-  const elements = state.breaks.filter(it => it.kind === "element");
-  for (let e = low; elements.length && e <= high && high - low < MOST_SEARCHED; e++) {
-    const at = run.loaded(run.chunkNumber(e)) ? run.placeAt(e) : null;
-    if (at && !at.hasLeft) for (const it of elements) if (at.place >> 2 === it.element) take(e, it);
-  }
+  const element = elementAhead(direction);
+  if (element?.it) take(element.step, element.it);
   return best;
 }
 export function hit(it) { toast(`Stopped: ${breakWords(it)}`); }
@@ -72,9 +76,11 @@ export function hit(it) { toast(`Stopped: ${breakWords(it)}`); }
 export async function runBreak(direction) {
   if (!current.run || !state.breaks.length) return;
   pause();
-  busy(direction > 0 ? "running on …" : "running back …");
-  const {step: e, hit: it} = await current.run.runTo(state.e, direction, state.breaks);
+  const {run} = current, way = direction > 0 ? "running on" : "running back";
+  busy(`${way} …`);
+  const {step: e, hit: it} = await run.runTo(state.e, direction, state.breaks, q => busy(`${way}: quadruple ${number(q)} of ${number(run.count - 1)} …`));
   busy("");
+  if (run !== current.run) return;
   goTo(e);
   if (it) hit(it);
   else toast(direction > 0 ? "No breakpoint on the way: the end." : "No breakpoint on the way back: the start.");

@@ -1,7 +1,8 @@
-// The whole run in one picture: time to the right, the cells of the three tapes downward, the history upward.
+// The run in one picture: time to the right, the cells of the three tapes downward, the history upward. It is drawn of
+// columns, each a moment that stands up to the next one that is drawn.
 import {n1, svg} from "./svg.js";
 
-const GAP = 5, TOP_ROOM = 17, BOTTOM_ROOM = 3, LEAST_BAND = 14;
+const GAP = 5, TOP_ROOM = 17, BOTTOM_ROOM = 3, LEAST_BAND = 14, ROWS_A_PIXEL = 2;
 
 // Where the band of each tape stands.
 export function bandsOf(run, height) {
@@ -16,59 +17,49 @@ export function bandsOf(run, height) {
   });
 }
 
-export function filmPicture(run, width, height) {
-  const wide = width / run.moments.length;
-  const bands = bandsOf(run, height).map((band, k) => cellsPicture(run, band, k, wide) + headLine(run, band, k, wide));
-  return svg(width, height, stagesPicture(run, wide, height) + bands.join(""), "film", 'preserveAspectRatio="none" aria-hidden="true"');
-}
-
-// The first moment behind `q` at which something is otherwise.
-function endOf(moments, q, same) {
-  let to = q;
-  while (to < moments.length && same(moments[to])) to++;
-  return to;
-}
-function stagesPicture(run, wide, height) {
-  const {moments} = run;
-  let body = "";
-  for (let q = 0; q < moments.length;) {
-    const {stage} = moments[q], to = endOf(moments, q, it => it.stage === stage);
-    body += `<g class="${stage}"><rect class="tint" x="${n1(q * wide)}" y="0" width="${n1((to - q) * wide)}" height="${height}"/></g>`;
-    q = to;
-  }
-  return body;
+// The part of the time line that is seen is `from` to `to`, with its stages.
+export function filmPicture(run, columns, {from, to, stages}, width, height) {
+  const wide = width / (to - from), placed = columns.map(it => ({x: (it.from - from) * wide, end: (it.to - from) * wide, tapes: it.moment.tapes}));
+  const bands = bandsOf(run, height).map((band, k) => cellsPicture(run, placed, band, k) + headLine(placed, band, k));
+  const seen = stages.filter(it => it.to > from && it.from < to).map(it =>
+    `<g class="${it.stage}"><rect class="tint" x="${n1((it.from - from) * wide)}" y="0" width="${n1((it.to - it.from) * wide)}" height="${height}"/></g>`);
+  return svg(width, height, seen.join("") + bands.join(""), "film", 'preserveAspectRatio="none" aria-hidden="true"');
 }
 
 // The row of a band in which a cell stands.
 const rowOf = (band, k, place) => k === 1 ? band.count - 1 - place : place;
-function cellsPicture(run, band, k, wide) {
-  const {moments} = run, shades = new Map(), high = band.height / band.count, thick = n1(Math.max(high - (high > 4 ? .7 : 0), .5));
-  for (let cell = 0; cell < band.count; cell++) {
-    for (let q = 0; q < moments.length;) {
-      const symbol = moments[q].tapes[k].symbols[cell], to = endOf(moments, q, it => it.tapes[k].symbols[cell] === symbol);
-      if (symbol !== "_") {
-        const number = k === 1 ? Number(symbol) : run.letters.indexOf(symbol), share = number / Math.max(1, run.symbols[k] - 1);
-        const shade = n1(.3 + .6 * share), length = n1((to - q) * wide);
-        const path = `M${n1(q * wide)},${n1(band.y + rowOf(band, k, cell) * high)}h${length}v${thick}h${-length}z`;
-        shades.set(shade, (shades.get(shade) ?? "") + path);
-      }
-      q = to;
+// The cells that are drawn: all, or as many as can be told apart.
+function cellsPicture(run, columns, band, k) {
+  const stride = Math.max(1, Math.floor(band.count / (band.height * ROWS_A_PIXEL))), high = band.height / band.count;
+  const thick = n1(Math.max(high * stride - (high > 4 ? .7 : 0), .5)), shades = new Map();
+  for (let cell = 0; cell < band.count; cell += stride) {
+    const y = n1(band.y + rowOf(band, k, cell) * high);
+    for (let at = 0; at < columns.length;) {
+      const symbol = columns[at].tapes[k].symbols[cell], first = at;
+      while (at < columns.length && columns[at].tapes[k].symbols[cell] === symbol) at++;
+      if (symbol === "_") continue;
+      const shade = shadeOf(run, k, symbol), x = n1(columns[first].x), length = n1(columns[at - 1].end - columns[first].x);
+      shades.set(shade, `${shades.get(shade) ?? ""}M${x},${y}h${length}v${thick}h${-length}z`);
     }
   }
   return [...shades].map(([shade, path]) => `<path class="ink${k + 1}" opacity="${shade}" d="${path}"/>`).join("");
 }
-function headLine(run, band, k, wide) {
+function shadeOf(run, k, symbol) {
+  const number = k === 1 ? Number(symbol) : run.letters.indexOf(symbol);
+  return n1(.3 + .6 * number / Math.max(1, run.symbols[k] - 1));
+}
+function headLine(columns, band, k) {
   const high = band.height / band.count;
   let line = "", last = null;
-  run.moments.forEach((moment, q) => {
-    const {head, first} = moment.tapes[k];
+  for (const {x, end, tapes} of columns) {
+    const {head, first} = tapes[k];
     if (head === null) {
       last = null;
-      return;
+      continue;
     }
-    const y = n1(band.y + (rowOf(band, k, head - first) + .5) * high), end = `H${n1((q + 1) * wide)}`;
-    line += last === null ? `M${n1(q * wide)},${y}${end}` : y === last ? end : `V${y}${end}`;
+    const y = n1(band.y + (rowOf(band, k, head - first) + .5) * high), on = `H${n1(end)}`;
+    line += last === null ? `M${n1(x)},${y}${on}` : y === last ? on : `V${y}${on}`;
     last = y;
-  });
+  }
   return `<path class="head-line" d="${line}"/>`;
 }

@@ -3,6 +3,7 @@ import {openAbout} from "./about.js";
 import {stopAll} from "./answer.js";
 import {dragBy, lookAt, moveBy, seen, zoomBy} from "./bank.js";
 import {dropBreak, runBreak, toggleBreak} from "./breaks.js";
+import {goToFirst} from "./cell.js";
 import {openDiagram} from "./diagram.js";
 import {openHelp, openWindow} from "./dialogs.js";
 import {takeDrag} from "./drag.js";
@@ -19,7 +20,8 @@ import {exportPicture} from "./picture.js";
 import {chooseMiddle} from "./quadruples.js";
 import {openSaidOf} from "./said.js";
 import {openTasks, taskAtHand} from "./sheet.js";
-import {chooseLayer, goTo, lastStep, pause, play, speedWords, step} from "./play.js";
+import {chooseLayer, goTo, goToEnd, pause, play, speedWords, step} from "./play.js";
+import {centreTime, moveTime, spanOf, wholeCount, wholeTime, zoomTime} from "./span.js";
 import {forgetSizes} from "./sizes.js";
 import {openStops} from "./stops.js";
 import {busy, byId, current, LAYERS, nameOf, state, toast} from "./state.js";
@@ -27,12 +29,12 @@ import {takeTabs} from "./tabs.js";
 import {openVerdicts} from "./verdicts.js";
 import {frame, render} from "./view.js";
 import {openWorkshop} from "./workshop.js";
-import {number} from "./words.js";
+import {endWords, number} from "./words.js";
 
 // What a picture of the whole is made of.
 export const PICTURES = ["own", "diagram", "three", "map", "overview", "bank", "filmpic"];
 export const TEXTS = "#own p,#stages b,#stages span,#rule .head,#rule .more,#three b,#three .tape>div>span,#size,#where,#what,#filmnames span,#stagenames span";
-const LEAST_DRAG = 4;
+const LEAST_DRAG = 4, TIME_FACTOR = 2, WHEEL_FACTOR = 1.25, THIRD = 1 / 3;
 
 const on = (id, kind, act, how) => byId(id).addEventListener(kind, act, how);
 const togglePlay = direction => Math.sign(state.playing) === direction ? pause() : play(direction);
@@ -109,7 +111,7 @@ async function takeFile() {
 
 function onTime() {
   byId("first").onclick = () => { pause(); goTo(0); };
-  byId("last").onclick = () => { pause(); if (current.run) goTo(lastStep(current.run)); };
+  byId("last").onclick = goToEnd;
   byId("back").onclick = () => step(-1);
   byId("forth").onclick = () => step(1);
   byId("play").onclick = () => togglePlay(1);
@@ -139,6 +141,7 @@ function onTime() {
   });
   on("film", "pointermove", event => { if (byId("film").held) scrub(event); });
   for (const kind of ["pointerup", "pointercancel"]) on("film", kind, () => { byId("film").held = false; });
+  onSpan();
   on("strip", "pointerdown", event => {
     if (!current.run || !listed.moves) return;
     pause();
@@ -147,13 +150,61 @@ function onTime() {
     goTo(state.layer === "element" ? e : list.findLast(it => it.step <= e)?.step ?? from);
   });
 }
-// To the place of the film that is held, at a stop of the layer.
+// To the place of the film that is held, at a stop of the layer; beyond the moments that are known, once they are.
 function scrub(event) {
-  const {run} = current, box = byId("film").getBoundingClientRect();
-  const e = run.stepAt((event.clientX - box.left) / box.width * run.moments.length);
+  const {run} = current, box = byId("film").getBoundingClientRect(), {from, to} = spanOf();
+  goToTime(run, from + (to - from) * Math.max(0, Math.min(1, (event.clientX - box.left) / box.width)));
+}
+let wantedTime = null;
+async function goToTime(run, time) {
+  wantedTime = time;
+  const isKnown = () => run.isWhole || run.moments.length > time + 1;
+  if (!isKnown()) {
+    const told = () => busy(`the program comes to quadruple ${number(Math.floor(time))}: ${number(run.moments.length)} are known …`);
+    told();
+    await run.moreUntil(() => run !== current.run || wantedTime !== time || isKnown(), told);
+    if (wantedTime === time) busy("");
+  }
+  if (run !== current.run || wantedTime !== time || !isKnown()) return;
+  const e = run.stepAt(time);
   if (state.layer === "element") goTo(e);
   else if (state.layer === "module") goTo(run.moveAt(e).from ?? run.starts[run.momentIndex(e)]);
-  else goTo(run.stops[state.layer].findLast(it => it <= e) ?? 0);
+  else goTo(run.stopNear(state.layer, e + 1, -1) ?? 0);
+}
+
+// The part of the time line that is seen: the wheel, the buttons, and the whole in little with its frame.
+function onSpan() {
+  const share = (id, event) => {
+    const box = byId(id).getBoundingClientRect();
+    return (event.clientX - box.left) / box.width;
+  };
+  on("film", "wheel", event => {
+    if (!current.run) return;
+    event.preventDefault();
+    if (event.shiftKey || Math.abs(event.deltaX) > Math.abs(event.deltaY)) moveTime(Math.sign(event.deltaX || event.deltaY) * THIRD / 2);
+    else zoomTime(event.deltaY < 0 ? WHEEL_FACTOR : 1 / WHEEL_FACTOR, share("film", event));
+  }, {passive: false});
+  on("spanbuttons", "click", event => {
+    const kind = event.target.closest("[data-span]")?.dataset.span;
+    if (kind) ({in: () => zoomTime(TIME_FACTOR), out: () => zoomTime(1 / TIME_FACTOR), all: wholeTime})[kind]();
+  });
+  let held = null;
+  on("whole", "pointerdown", event => {
+    if (!current.run) return;
+    const {from, to} = spanOf(), time = share("whole", event) * wholeCount();
+    if (!state.span || time < from || time > to) centreTime(time);
+    held = time - (spanOf().from + spanOf().to) / 2;
+    byId("whole").setPointerCapture(event.pointerId);
+  });
+  on("whole", "pointermove", event => { if (held !== null) centreTime(share("whole", event) * wholeCount() - held); });
+  for (const kind of ["pointerup", "pointercancel"]) on("whole", kind, () => { held = null; });
+  on("whole", "keydown", event => {
+    const act = {ArrowLeft: () => moveTime(-THIRD), ArrowRight: () => moveTime(THIRD), Home: () => centreTime(0), End: () => centreTime(Infinity)}[event.key];
+    if (!act || !current.run || event.ctrlKey || event.metaKey || event.altKey || event.shiftKey) return;
+    event.preventDefault();
+    event.stopPropagation();
+    act();
+  });
 }
 
 // ---- cells, moves, and the bank
@@ -167,12 +218,31 @@ function onPictures() {
     state.cell = isSame ? null : cell;
     render(false);
   });
+  on("three", "keydown", onCells);
   on("moves", "click", event => {
     const it = event.target.closest("[data-step]");
     if (!it) return;
     pause();
     goTo(Number(it.dataset.step));
   });
+}
+// Cells by keys: arrows pick one, Enter goes to where it was first changed.
+function onCells(event) {
+  const {key} = event, {run} = current;
+  if (!run || event.ctrlKey || event.metaKey || event.altKey || event.shiftKey) return;
+  const tapes = run.moments[0].tapes, it = state.cell ?? {tape: 1, cell: tapes[0].first - 1};
+  const moves = {ArrowLeft: [0, -1], ArrowRight: [0, 1], ArrowUp: [-1, 0], ArrowDown: [1, 0]}[key];
+  if (moves) {
+    const tape = Math.max(1, Math.min(3, it.tape + moves[0])), {first, symbols} = tapes[tape - 1];
+    state.cell = {tape, cell: Math.max(first, Math.min(first + symbols.length - 1, it.cell + moves[1]))};
+    render(false);
+  } else if (key === "Enter" && state.cell) goToFirst(state.cell);
+  else if (key === "Escape" && state.cell) {
+    state.cell = null;
+    render(false);
+  } else return;
+  event.preventDefault();
+  event.stopPropagation();
 }
 let drag = null;
 function onBank() {
@@ -239,12 +309,15 @@ function onHeader() {
   byId("help").onclick = openHelp;
   byId("tasks").onclick = openTasks;
   byId("openworkshop").onclick = () => { pause(); openWorkshop(); };
+  // A run that isn't there yet is given up; of one that is shown, what is asked for beside it.
   byId("stop").onclick = () => {
+    const isMaking = state.isMaking || !current.run;
     state.editions++;
+    wantedTime = null;
     stopAll();
     busy("");
-    stale(true);
-    toast("Stopped. Make the word shorter, or choose the window by hand.");
+    if (isMaking) stale(true);
+    toast(isMaking ? "Stopped. Make the word shorter, or choose the window by hand." : "Stopped. A step or a click asks again.");
   };
   byId("share").onclick = async () => {
     history.replaceState(null, "", linkOf());
@@ -258,7 +331,7 @@ function onHeader() {
   byId("picture").onclick = () => {
     const {run} = current;
     if (!run) return;
-    const where = `quadruple ${run.momentIndex(state.e)} of ${run.moments.length - 1}, element step ${number(state.e)} of ${number(run.end)}`;
+    const where = `quadruple ${run.momentIndex(state.e)} of ${run.count - 1}, element step ${number(state.e)} of ${endWords(run)}`;
     exportPicture(`Hithwelor · word ${state.word || "empty"} · ${where}`, PICTURES, TEXTS);
   };
 }
@@ -267,12 +340,13 @@ function onKey(event) {
   if (target.matches("textarea,input:not([type=range]),select") || document.querySelector("dialog[open]")) return;
   if (event.ctrlKey || event.metaKey || event.altKey || (target.matches("input[type=range]") && !shiftKey && key !== " ")) return;
   const layer = by => chooseLayer(LAYERS[Math.max(0, Math.min(LAYERS.length - 1, LAYERS.indexOf(state.layer) + by))]);
-  const act = shiftKey ? {
+  const zoom = {"+": () => zoomTime(TIME_FACTOR), "-": () => zoomTime(1 / TIME_FACTOR), 0: () => wholeTime()};
+  const act = zoom[key] ?? (shiftKey ? {
     " ": () => togglePlay(-1), ArrowRight: () => runBreak(1), ArrowLeft: () => runBreak(-1), ArrowUp: () => layer(-1), ArrowDown: () => layer(1),
   }[key] : {
     " ": () => state.playing ? pause() : play(1), ArrowRight: () => step(1), ArrowLeft: () => step(-1),
     Home: () => byId("first").click(), End: () => byId("last").click(), Escape: endHints,
-  }[key];
+  }[key]);
   if (!act) return;
   event.preventDefault();
   if (key === " " && target.matches("button")) target.blur();

@@ -4,17 +4,17 @@ import {answer, isCutOff, STATUS} from "./answer.js";
 import {chips} from "./breaks.js";
 import {editorText, markFaults} from "./editor.js";
 import {EXAMPLES} from "./examples.js";
-import {renderFilm, resetFilm} from "./film.js";
+import {followRun, renderFilm, resetFilm} from "./film.js";
 import {beginHints} from "./hints.js";
 import {keepPast} from "./past.js";
 import {fetchFrame, pause} from "./play.js";
 import {Run} from "./run.js";
-import {busy, byId, current, dialog, escaped, nameOf, state} from "./state.js";
+import {busy, byId, current, dialog, escaped, nameOf, state, toast} from "./state.js";
 import {put} from "./sizes.js";
 import {blankCandidates, faultOf, freeNames, rulesOf, spelled, statesOf, turned} from "./table.js";
 import {answerWords, judgedBy} from "./verdicts.js";
 import {render} from "./view.js";
-import {findRun, Refused} from "./window.js";
+import {findRun, Refused, widen} from "./window.js";
 import {number} from "./words.js";
 
 const MOST_BLANKS = 4;
@@ -49,6 +49,7 @@ export function takeMachine(example, e = 0) {
 // Makes the run of what is typed, at a step that is to be kept.
 async function rebuild(keep = 0) {
   const edition = ++state.editions, isOld = () => edition !== state.editions;
+  state.isMaking = true;
   busy("asking the program …");
   state.names = freeNames(state.text, state.names);
   const given = spelled(state.text, state.names), judged = await judge(state.text, given, isOld);
@@ -118,17 +119,27 @@ async function makeRun(table, isOld) {
 
 function showRun({run, found}, keep) {
   Object.assign(current, {run, found});
+  state.isMaking = false;
   state.breaks = state.breaks.filter(it => it.kind !== "state" || run.states.includes(it.state));
   stale(false);
   busy("");
-  Object.assign(state, {e: Math.max(0, Math.min(keep, run.end)), cell: null, zoom: null});
+  Object.assign(state, {e: Math.max(0, Math.min(keep, run.end)), cell: null, zoom: null, span: null});
   resetFilm();
   showOutcome();
   chips();
   renderFilm();
   render();
+  requestAnimationFrame(() => { if (!performance.getEntriesByName("shown").length) performance.mark("shown"); });
   fetchFrame(1);
+  followRun(run).then(isWhole => { if (isWhole && run === current.run && !Number.isFinite(run.end)) openWider(run); }).catch(console.error);
   beginHints();
+}
+
+// A long run has left its window, so it is shown anew in a wider one.
+async function openWider(run) {
+  if (!(await widen(run)) || run !== current.run) return;
+  toast("The work tape had too few cells for this run: it is opened again with more.");
+  typed(0);
 }
 
 // Whether what is shown is of an earlier table.

@@ -1,14 +1,15 @@
 // Time: to a step, a step on or back on a layer, and playing both ways. What a frame wants of the program is fetched, and
 // then it is drawn again; nothing is computed as a step.
-import {hit, stopBetween} from "./breaks.js";
+import {elementAhead, hit, stopBetween} from "./breaks.js";
+import {LANES} from "./answer.js";
 import {isPhone} from "./sizes.js";
-import {byId, current, state} from "./state.js";
+import {busy, byId, current, state} from "./state.js";
 import {frame, render} from "./view.js";
 import {number} from "./words.js";
 
 // Steps a second on each layer, the least and the most.
-const RANGES = {machine: [.4, 25], quadruple: [.5, 60], module: [.7, 120], element: [1, 6000]};
-const MOST_PIECES = 24, MOST_FRAMES = 4000, MOST_GAP = 100, SLOW = 6;
+export const RANGES = {machine: [.4, 25], quadruple: [.5, 60], module: [.7, 120], element: [1, 6000]};
+const MOST_PIECES = 24, MOST_FRAMES = 4000, MOST_GAP = 100, SLOW = 6, LONG_WORK = 500;
 // Where less motion is asked for, a picture stands so long while it plays.
 const CALM_GAP = 400, isCalm = matchMedia("(prefers-reduced-motion: reduce)");
 const PLAY = '<svg viewBox="0 0 16 16" aria-hidden="true"><path d="M4 2.500 12.500 8 4 13.500z"/></svg>';
@@ -40,16 +41,28 @@ async function fetchAll() {
   while (wanted) {
     const it = wanted;
     wanted = null;
-    await it.run.ready(it.e, it.direction);
-    if (it.run === current.run && !state.playing) await fetchQuadruple(it.run);
+    await withWords(it, it.run.ready(it.e, it.direction));
+    if (it.run !== current.run) continue;
+    render(false);
+    if (!state.playing) await fetchQuadruple(it.run);
     render(false);
   }
+}
+// Says what is fetched, where that takes long.
+async function withWords({run, e}, work) {
+  const isOpen = byId("busy").textContent === "";
+  const later = setTimeout(() => {
+    if (isOpen && !state.playing && run === current.run) busy(`the circuit runs to element step ${number(e)} …`);
+  }, LONG_WORK);
+  await work;
+  clearTimeout(later);
+  if (byId("busy").textContent.startsWith("the circuit runs to")) busy("");
 }
 // The pieces of the quadruple that is shown, so that its moves can be listed.
 async function fetchQuadruple(run) {
   const {q} = frame(), from = run.starts[q], to = run.starts[q + 1] ?? run.end, first = run.chunkNumber(from);
   const last = Math.min(run.chunkNumber(Math.max(0, to - 1)), first + MOST_PIECES);
-  for (let c = first; c <= last && !wanted; c++) await run.chunk(c);
+  await run.chunksBetween(first, last, {lane: LANES.now}, () => wanted);
 }
 
 export function goTo(e, {direction = 0, isLive = true} = {}) {
@@ -61,11 +74,25 @@ export function goTo(e, {direction = 0, isLive = true} = {}) {
 export async function step(direction) {
   if (!current.run) return;
   pause();
-  const began = performance.now(), e = await current.run.nextStop(state.layer, state.e, direction);
+  const {run} = current, began = performance.now(), e = await run.nextStop(state.layer, state.e, direction);
+  if (run.isKnown(e)) await run.viewsNear(run.momentIndex(e), direction);
+  if (run !== current.run) return;
   goTo(e, {direction});
   timings.push({layer: state.layer, ms: performance.now() - began});
 }
-export const lastStep = run => run.isCut ? run.starts.at(-1) : run.end;
+// To the end of the run, which of a long one is known when all moments are.
+export async function goToEnd() {
+  const {run} = current;
+  if (!run) return;
+  pause();
+  const told = () => busy(`the program runs to the end: ${number(run.moments.length)} quadruples so far …`);
+  if (!Number.isFinite(run.end)) {
+    told();
+    await run.moreUntil(() => run !== current.run, told);
+    busy("");
+  }
+  if (run === current.run && Number.isFinite(run.end)) goTo(run.end);
+}
 export function chooseLayer(layer) {
   state.layer = layer;
   pace.owed = 0;
@@ -81,9 +108,10 @@ const pace = {then: 0, owed: 0};
 export function play(direction) {
   const {run} = current;
   if (!run) return;
-  if (direction > 0 && state.e >= lastStep(run)) state.e = 0;
-  if (direction < 0 && state.e <= 0) state.e = run.end;
+  if (direction > 0 && state.e >= run.end) state.e = 0;
+  if (direction < 0 && state.e <= 0 && Number.isFinite(run.end)) state.e = run.end;
   state.playing = direction;
+  elementAhead(direction);
   Object.assign(pace, {then: performance.now(), owed: 0});
   showButtons();
   requestAnimationFrame(tick);
@@ -121,25 +149,37 @@ function tick(now) {
   const isMoved = e !== state.e;
   state.e = e;
   if (isMoved) render(false);
-  frames.push({ms: performance.now() - began, gap: spent, isWaiting});
+  frames.push({ms: performance.now() - began, gap: spent, isWaiting, at: now});
   if (frames.length > MOST_FRAMES) frames.shift();
   const isSlow = state.layer === "element" || state.layer === "module" || rate <= SLOW;
   if (isSlow && (isMoved || isWaiting)) fetchFrame(direction);
-  if (stop || (direction > 0 ? e >= lastStep(run) : e <= 0)) pause();
+  else if (isMoved || isWaiting) fetchViews(run, direction);
+  if (stop || (direction > 0 ? e >= run.end : e <= 0)) pause();
   else requestAnimationFrame(tick);
 }
+// The views of moments that the play comes to soon: from the first one on that isn't there.
+function fetchViews(run, direction) {
+  if (run.isSmall || run.coming) return;
+  let next = run.momentIndex(state.e);
+  const most = next + direction * Math.ceil(run.block / 2);
+  while (next !== most && run.hasViews(next)) next += direction;
+  if (run.hasViews(next) || next < 0 || next >= run.moments.length) return;
+  run.coming = run.viewsNear(next, direction).catch(console.error).finally(() => { run.coming = null; });
+}
+// Whether all that a frame shows of the tapes is there.
+const isThere = (run, e) => run.isKnown(e) && run.hasViews(run.momentIndex(e)) && elementAhead(state.playing) !== undefined;
 // Where the play comes to on the layer of elements; it waits where a piece isn't there yet.
 function elementsOn(run, direction) {
   const many = Math.floor(pace.owed), e = Math.max(0, Math.min(run.end, state.e + direction * many)), c = run.chunkNumber(e);
   pace.owed -= many;
-  return run.loaded(c) && run.barsAt.has(c) ? {e, isWaiting: false} : {e: state.e, isWaiting: true};
+  return run.loaded(c) && run.barsAt.has(c) && isThere(run, e) ? {e, isWaiting: false} : {e: state.e, isWaiting: true};
 }
 // The same on the others, from stop to stop, up to a breakpoint.
 function stopsOn(run, direction) {
   let e = state.e;
   while (pace.owed >= 1) {
     const next = stopBehind(run, e, direction);
-    if (next === null) {
+    if (next === null || !isThere(run, next)) {
       pace.owed = Math.min(pace.owed, 1);
       return {e, isWaiting: true};
     }
@@ -155,6 +195,6 @@ function stopBehind(run, e, direction) {
     const move = run.moveAt(direction > 0 ? e : e - 1);
     return direction > 0 ? move.to : e === 0 ? 0 : move.from;
   }
-  const stops = run.stops[state.layer];
-  return (direction > 0 ? stops.find(it => it > e) : stops.findLast(it => it < e)) ?? e;
+  const next = run.stopNear(state.layer, e, direction);
+  return next ?? (direction > 0 && !run.isWhole ? null : e);
 }

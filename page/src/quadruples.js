@@ -29,6 +29,9 @@ export function renderQuadruples({q}) {
   if (rows[at]) bringIntoSight(rows[at]);
 }
 
+// A quadruple as it is written: what is read on the tapes, and what is done on them.
+export const actText = row => `[${row.slice(1, 4).join(" ")}] to [${row.slice(4, 7).join(" ")}]`;
+
 function tableText(run) {
   const heads = ["", "state", "work", "history", "output", "then"].map(it => `<th scope="col">${it}</th>`);
   const rows = run.quadruples.map((row, k) => {

@@ -1,19 +1,23 @@
 // One run of a machine at all layers, held as the program's answers: its moments, the circuit (`compile`), and the places
 // of the signal, fetched ahead in pieces (`session` with many lines `step 1`). It computes no step: where a bar lies
 // follows from the places that were answered, since an element's bar lies along the line by which the signal last came in.
-import {answer, isCutOff} from "./answer.js";
-import {Moments} from "./moments.js";
+import {answer, answerPlaces, LANES, STATUS} from "./answer.js";
+import {limits, Moments} from "./moments.js";
 import {rulesOf, statesOf, lettersOf} from "./table.js";
-import {GREATEST, readBars, readCircuit, readPlace, readPlaces, readRun} from "./texts.js";
+import {GREATEST, readBars, readCircuit, readPlace, readRun} from "./texts.js";
 import {whole} from "./window.js";
 
-const LEAST_CHUNK = 16384, MOST_CHUNK = 131072, MOST_KEPT = 300;
+// How many places a piece has at most, and how many bytes of pieces and bars are kept.
+const MOST_CHUNK = 131072, MOST_KEPT = 96e6, LEAST_PIECES = 12;
+const MOST_AHEAD = 4;
+// The elements and the steps up to which a piece has the least length.
+const PLAIN_COUNT = 14000, PLAIN_STEPS = 4e6;
 
 export class Run extends Moments {
   // A table, a word, and what `findRun` found of them.
-  constructor(table, word, {window, text}) {
+  constructor(table, word, {window, text, own, isOpen = false}) {
     super();
-    Object.assign(this, {table, word, window, outcome: readRun(text), chunks: new Map(), barsAt: new Map()});
+    Object.assign(this, {table, word, window, own, isOpen, outcome: readRun(text), chunks: new Map(), barsAt: new Map()});
     this.rules = rulesOf(table);
     this.states = statesOf(this.rules);
     this.letters = lettersOf(this.rules);
@@ -23,19 +27,25 @@ export class Run extends Moments {
   inputOf(script) { return `${this.table.endsWith("\n") ? this.table : this.table + "\n"}%\n${script}`; }
   session(script, how = {}) { return answer(["session", ...this.words], this.inputOf(script), how); }
 
-  // Fetches the circuit and the moments; how the run ended is known from the answer that found its window.
+  // Fetches the circuit and the first moments; how the run ended is known from the answer that found its window.
   async open() {
-    this.end = this.outcome.steps;
-    const [bennett, compiled] = await Promise.all([answer(["bennett"], this.table), answer(["compile", ...this.words], this.table)]);
+    // Of a long run the end is where its last moment is, once that is known.
+    this.end = this.isOpen ? Infinity : this.outcome.steps;
+    const bennett = await answer(["bennett"], this.table);
     this.quadruples = whole(bennett).text.split("\n").filter(Boolean).map(line => line.split(","));
     this.names = [...new Set(this.quadruples.flatMap(row => [row[0], row[7]]))];
-    this.compiled = whole(compiled).text;
-    this.circuit = readCircuit(this.compiled);
-    // To build the circuit costs time in each call: the larger it is, the longer the pieces.
-    this.piece = Math.min(MOST_CHUNK, LEAST_CHUNK * 2 ** Math.max(0, Math.round(Math.log2(this.circuit.count / 14000))));
+    const {elements} = this.outcome;
+    // To build the circuit and to come to a piece costs time in each call: the more, the longer the pieces.
+    const far = Math.max(elements / PLAIN_COUNT, this.end / PLAIN_STEPS);
+    this.piece = Math.min(MOST_CHUNK, limits.chunk * 2 ** Math.max(0, Math.round(Math.log2(far))));
     this.layOut();
-    await this.findMoments();
+    this.beginMoments();
+    const [compiled] = await Promise.all([answer(["compile", ...this.words], this.table), this.more(), this.chunk(0, {lane: LANES.ahead})]);
+    this.compiled = whole(compiled).text;
+    if (!this.moments.length) throw new Error("Stopped.");
+    this.circuit = readCircuit(this.compiled);
     this.barsAt.set(0, this.circuit.bars);
+    await this.viewsNear(0, 1);
     return this;
   }
 
@@ -44,9 +54,11 @@ export class Run extends Moments {
     const z = this.letters.length, h = this.rules.length + 1, [l1, r1, n, r3] = this.window;
     this.symbols = [z, h, z];
     const size = k => 2 * k * (2 * k + 9), cells = [l1 + r1 + 1, n + 1, r3 + 1], rows = 2 * (z + 3) + h + 4;
-    const inCells = cells.reduce((sum, count, tape) => sum + count * size(this.symbols[tape]), 0), control = this.circuit.count - inCells;
+    const inCells = cells.reduce((sum, count, tape) => sum + count * size(this.symbols[tape]), 0), control = this.outcome.elements - inCells;
     this.banks = [{kind: "control", base: 0, rows, columns: control / (rows + 1), count: control, number: 0}];
     let base = control;
+    // At which number the banks of each tape begin.
+    this.tapeBanks = [1, 1 + cells[0], 1 + cells[0] + cells[1]];
     cells.forEach((count, tape) => {
       for (let k = 0; k < count; k++) {
         const symbols = this.symbols[tape];
@@ -55,7 +67,8 @@ export class Run extends Moments {
         base += size(symbols);
       }
     });
-    this.bases = this.banks.map(bank => bank.base);
+    this.bases = Int32Array.from(this.banks, bank => bank.base);
+    this.rowCounts = Int32Array.from(this.banks, bank => bank.rows);
   }
   bankOf(element) {
     let low = 0, high = this.banks.length;
@@ -65,45 +78,79 @@ export class Run extends Moments {
     }
     return this.banks[low];
   }
-  bankAt(tape, cell) { return this.banks.find(bank => bank.tape === tape && bank.cell === cell); }
+  bankAt(tape, cell) {
+    const before = this.tapeBanks[tape - 1] + cell + (tape === 1 ? this.window[0] : 0), it = this.banks[before];
+    return it?.tape === tape && it.cell === cell ? it : null;
+  }
   // The row of a bank's first column by which the signal is about to come in, or -1: there a move begins.
   entryOf(place) {
     if ((place & 3) !== 3) return -1;
     const bank = this.bankOf(place >> 2), row = (place >> 2) - bank.base;
     return row < bank.rows ? row : -1;
   }
+  numberOf(tape, symbol) { return symbol === "_" ? 0 : tape === 2 ? Number(symbol) : this.letters.indexOf(symbol); }
   symbolOf(tape, number) { return tape === 2 ? (number === 0 ? "_" : String(number)) : this.letters[number] ?? "?"; }
 
   // ---- the places of the signal, in pieces
 
   chunkNumber(e) { return Math.floor(Math.min(e, Math.max(0, this.end - 1)) / this.piece); }
   loaded(c) { const it = this.chunks.get(c); return it && it.places ? it : null; }
+  hasPiece(c) { return c >= 0 && c * this.piece < Math.max(1, this.end); }
   async chunk(c, how = {}) {
-    if (c < 0 || c * this.piece >= Math.max(1, this.end)) return null;
+    if (!this.hasPiece(c)) return null;
     const there = this.chunks.get(c);
-    if (there) return there.places ? there : there.promise;
-    const entry = {};
-    this.chunks.set(c, entry);
-    entry.promise = (async () => {
-      const count = Math.min(this.piece, this.end - c * this.piece);
-      const reply = await this.session(`step ${c * this.piece}\n` + "step 1\n".repeat(count), how);
-      if (reply.status === -1 || isCutOff(reply)) { this.chunks.delete(c); return null; }
-      const {places, hasLeft} = readPlaces(reply.text, count + 1), bounds = [];
-      for (let k = 0; k < places.length - (hasLeft ? 1 : 0); k++) if (this.entryOf(places[k]) >= 0) bounds.push(c * this.piece + k);
-      Object.assign(entry, {places, hasLeft, bounds, from: c * this.piece});
-      this.forget(c);
-      return entry;
-    })();
-    return entry.promise;
+    return there ? there.places ? there : there.promise : this.fetchChunks(c, 1, how)[0].promise;
   }
+  // So many pieces from one on by one call, since the way to the first costs as much for all as for one.
+  fetchChunks(first, many, how) {
+    const entries = Array.from({length: many}, (_, k) => ({c: first + k})), reply = this.fetchPlaces(first, many, how);
+    for (const it of entries) {
+      this.chunks.set(it.c, it);
+      it.promise = reply.then(found => {
+        if (!found) { this.chunks.delete(it.c); return null; }
+        Object.assign(it, this.pieceOf(found, it.c, first));
+        this.forget(it.c);
+        return it;
+      });
+    }
+    return entries;
+  }
+  // One piece of what was fetched from a first one on.
+  pieceOf({places, bounds, hasLeft}, c, first) {
+    const from = (c - first) * this.piece, to = Math.min(places.length, from + this.piece + 1), isLast = to === places.length;
+    const begun = bounds.filter(k => k >= from && (isLast || k < to));
+    return {places: places.slice(from, to), bounds: Float64Array.from(begun, k => first * this.piece + k), hasLeft: hasLeft && isLast, from: c * this.piece};
+  }
+  async fetchPlaces(c, many, how) {
+    const count = Math.min(many * this.piece, this.end - c * this.piece), input = this.inputOf(`step ${c * this.piece}\n${"step 1\n".repeat(count)}`);
+    const reading = {count: count + 1, bases: this.bases, rows: this.rowCounts};
+    const {status, places, bounds, hasLeft} = await answerPlaces(["session", ...this.words], input, reading, how);
+    return status === STATUS.done ? {places, bounds, hasLeft} : null;
+  }
+  // Fetches the pieces between two that aren't there: one by one where they are soon come to, else as many as stand side
+  // by side by one call. `isOff` says that they aren't wanted any more.
+  async chunksBetween(first, last, how, isOff = () => false) {
+    for (let c = first; c <= last && !isOff(); c++) {
+      if (!this.hasPiece(c) || this.chunks.has(c)) {
+        if (this.hasPiece(c) && !(await this.chunk(c, how))) return;
+        continue;
+      }
+      let to = c;
+      while (c * this.piece > limits.far && to < last && this.hasPiece(to + 1) && !this.chunks.has(to + 1)) to++;
+      if (!(await this.fetchChunks(c, to - c + 1, how)[0].promise)) return;
+      c = to;
+    }
+  }
+  // Lets go of the pieces that are farthest from one, and of their bars.
   forget(near) {
-    if (this.chunks.size <= MOST_KEPT) return;
+    const most = Math.max(LEAST_PIECES, MOST_KEPT / (4 * this.piece + this.outcome.elements));
+    if (this.chunks.size <= most) return;
     const far = [...this.chunks.keys()].filter(c => this.loaded(c)).sort((a, b) => Math.abs(b - near) - Math.abs(a - near))[0];
     this.chunks.delete(far);
     if (far !== 0) this.barsAt.delete(far);
   }
   // The bars where a piece begins: handed on from a neighbour that is there, else asked of the program.
-  async bars(c) {
+  async bars(c, how) {
     if (this.barsAt.has(c)) return this.barsAt.get(c);
     const before = this.loaded(c - 1), here = this.loaded(c);
     let bars;
@@ -115,8 +162,8 @@ export class Run extends Moments {
       const last = here.places.length - 2;
       for (let k = last; k >= 0; k--) bars[here.places[k] >> 2] = this.barBefore(here.places[k], here.places[k + 1], here.hasLeft && k === last);
     } else {
-      const reply = await answer(["step", String(c * this.piece)], this.compiled);
-      if (reply.status === -1 || isCutOff(reply)) return null;
+      const reply = await answer(["step", String(c * this.piece)], this.compiled, how);
+      if (reply.status !== STATUS.done) return null;
       bars = readBars(reply.text, this.circuit.count);
     }
     this.barsAt.set(c, bars);
@@ -129,24 +176,26 @@ export class Run extends Moments {
   }
   // Everything for a frame at step e, and for those near it in the direction of play.
   async ready(e, direction = 0) {
-    const c = this.chunkNumber(e);
-    await this.chunk(c);
-    await this.bars(c);
+    if (!(await this.momentsTo(e))) return;
+    const q = this.momentIndex(e), c = this.chunkNumber(e), isNear = [c - 1, c, c + 1].some(k => this.barsAt.has(k));
+    // To come to a far step takes long, so what isn't there comes by several lanes at the same time.
+    const bars = isNear ? null : this.bars(c, {lane: LANES.beside}), views = this.viewsNear(q, direction, {lane: LANES.ahead});
+    if (!(await this.chunk(c)) || !(await views)) return;
+    await (bars ?? this.bars(c));
     // A move may be longer than a piece: the control's cost up to twice its elements.
     for (let k = c - 1; k >= 0 && k > c - 60 && this.moveAt(e).from === null; k--) await this.chunk(k);
     for (let k = c + 1; k <= this.chunkNumber(this.end) && k < c + 60 && this.moveAt(e).to === null; k++) await this.chunk(k);
-    if (direction) this.ahead(c, direction);
+    this.ahead(c, direction || 1, direction ? MOST_AHEAD : 1);
   }
-  // A few pieces ahead of the play, one after another.
-  ahead(c, direction, many = 4) {
+  // A few pieces ahead, and one behind.
+  ahead(c, direction, many) {
     if (this.going) return;
+    const how = {lane: LANES.ahead}, next = c + direction, far = c + many * direction;
     this.going = (async () => {
-      for (let k = 1; k <= many; k++) {
-        const next = c + direction * k;
-        if (next < 0 || next > this.chunkNumber(this.end)) break;
-        await this.chunk(next, {isIdle: true});
-        await this.bars(next);
-      }
+      if (c * this.piece <= limits.far && !(await this.chunk(next, how)) && this.hasPiece(next)) return;
+      await this.chunksBetween(Math.min(next, far), Math.max(next, far), how);
+      await this.chunk(c - direction, how);
+      for (let k = 1; k <= many; k++) if (this.loaded(c + k * direction)) await this.bars(c + k * direction, how);
     })().catch(() => {}).finally(() => { this.going = null; });
   }
   placeAt(e) {
@@ -158,31 +207,45 @@ export class Run extends Moments {
     const moment = this.moments[this.momentIndex(e)];
     if (moment.steps === e) return {place: moment.place, hasLeft: moment.hasLeft};
     if (e === 0) return {place: readPlace("0.w"), hasLeft: false};
-    if (e === this.end && this.moments.at(-1).leaves) return {place: this.moments.at(-1).leaves.place, hasLeft: true};
+    if (e === this.end && this.leaves) return {place: this.leaves.place, hasLeft: true};
     return null;
+  }
+  // All bars at step e: those at the begin of its piece, and along the places since; null where they aren't there yet.
+  // What is handed out is changed by the next call.
+  barsNow(e) {
+    const c = this.chunkNumber(e), it = this.loaded(c), start = this.barsAt.get(c);
+    if (!it || !start) return null;
+    const last = Math.min(e - it.from, it.places.length - 1), isOn = this.now?.start === start && this.now.last <= last;
+    if (!isOn) {
+      const bars = this.now?.bars ?? new Uint8Array(this.outcome.elements);
+      bars.set(start);
+      this.now = {start, last: 0, bars};
+    }
+    const {bars} = this.now;
+    for (let k = this.now.last; k < last; k++) bars[it.places[k] >> 2] = it.places[k] & 1;
+    this.now.last = last;
+    return bars;
   }
   // The bars of one bank at step e, or null where they aren't there yet.
   bankBars(bank, e) {
-    const c = this.chunkNumber(e), it = this.loaded(c), start = this.barsAt.get(c);
-    if (it && start) {
-      const bars = start.slice(bank.base, bank.base + bank.count);
-      const last = Math.min(e - it.from, it.places.length - 1);
-      for (let k = 0; k < last; k++) {
-        const element = (it.places[k] >> 2) - bank.base;
-        if (element >= 0 && element < bank.count) bars[element] = it.places[k] & 1;
-      }
-      return bars;
-    }
+    const bars = this.barsNow(e);
+    if (bars) return bars.subarray(bank.base, bank.base + bank.count);
     const moment = this.moments[this.momentIndex(e)];
-    if (e === 0) return this.circuit.bars.slice(bank.base, bank.base + bank.count);
-    if (bank.kind === "cell" && (moment.steps === e || (e === this.end && moment.leaves))) {
+    if (e === 0) return this.circuit.bars.subarray(bank.base, bank.base + bank.count);
+    if (bank.kind === "cell" && moment.tapes && (moment.steps === e || (e === this.end && this.leaves))) {
       const tape = moment.tapes[bank.tape - 1], symbol = tape.symbols[bank.cell - tape.first];
-      const number = bank.tape === 2 ? (symbol === "_" ? 0 : Number(symbol)) : this.letters.indexOf(symbol);
-      const column = number + (tape.head === bank.cell ? this.symbols[bank.tape - 1] : 0), bars = new Uint8Array(bank.count);
-      bars[column * (bank.rows + 1) + bank.rows] = 1;
-      return bars;
+      const column = this.numberOf(bank.tape, symbol) + (tape.head === bank.cell ? this.symbols[bank.tape - 1] : 0), alone = new Uint8Array(bank.count);
+      alone[column * (bank.rows + 1) + bank.rows] = 1;
+      return alone;
     }
     return null;
+  }
+  // The marked column of a bank, -1 where none is, or null where its bars aren't there yet.
+  markedColumn(bank, e) {
+    const bars = this.bankBars(bank, e), high = bank.rows + 1;
+    if (!bars) return null;
+    for (let c = 0; c < bank.columns; c++) if (bars[c * high + bank.rows] === 1) return c;
+    return -1;
   }
   // The move in which step e is: where it begins, and where the next one does; null where that piece isn't there.
   moveAt(e) {
@@ -203,13 +266,14 @@ export class Run extends Moments {
     return {from, to};
   }
   // The moves that are known between two steps, the first one's beginning at or behind the first step.
-  movesBetween(from, to, most = 200) {
+  movesBetween(from, to) {
     const found = [];
     for (let c = this.chunkNumber(from); c <= this.chunkNumber(to); c++) {
       const it = this.loaded(c);
       if (!it) { found.isPart = true; continue; }
       for (const step of it.bounds) {
-        if (step >= from && step < to && found.length < most) found.push({step, place: it.places[step - it.from]});
+        // The last place of a piece is the next one's first.
+        if (step >= from && step < to && found.at(-1)?.step !== step) found.push({step, place: it.places[step - it.from]});
       }
     }
     return found;
@@ -227,13 +291,12 @@ export class Run extends Moments {
   async nextStop(layer, e, direction) {
     if (layer === "element") return Math.max(0, Math.min(this.end, e + direction));
     if (layer !== "module") {
-      const stops = this.stops[layer];
-      const next = direction > 0 ? stops.find(step => step > e) : stops.findLast(step => step < e);
-      return next ?? (direction < 0 ? 0 : this.isCut ? e : this.end);
+      await this.moreUntil(() => direction > 0 ? this.stops[layer].at(-1) > e : this.isKnown(e));
+      return this.stopNear(layer, e, direction) ?? (direction < 0 ? 0 : this.isWhole ? this.end : e);
     }
-    for (let c = this.chunkNumber(e); ; c += direction) {
+    for (let c = this.chunkNumber(direction > 0 ? e : Math.max(0, e - 1)); ; c += direction) {
       const it = await this.chunk(c);
-      if (!it) return direction > 0 ? this.end : 0;
+      if (!it) return direction < 0 ? 0 : Number.isFinite(this.end) ? this.end : e;
       const found = direction > 0 ? it.bounds.find(step => step > e) : it.bounds.findLast(step => step < e);
       if (found !== undefined) return found;
     }
@@ -241,8 +304,8 @@ export class Run extends Moments {
 
   // ---- breakpoints
 
-  // On or back to the next breakpoint, by one `session`; cells are looked up in the moments that were answered.
-  async runTo(e, direction, breaks) {
+  // On or back to the next breakpoint, by one `session`; cells are looked up in the moments. `told` hears where that is.
+  async runTo(e, direction, breaks, told = () => {}) {
     const lines = [], labels = new Map();
     breaks.forEach((it, k) => {
       const add = (line, n) => { const label = `b${k}x${n}`; lines.push(`break ${label} ${line}`); labels.set(label, it); };
@@ -254,14 +317,15 @@ export class Run extends Moments {
     });
     let best = null, hit = null;
     if (lines.length) {
-      const text = whole(await this.session(lines.join("\n") + `\nstep ${e}\n${direction > 0 ? "go" : "rev"} ${GREATEST}\n`)).text.split("\n");
+      const text = whole(await this.session(lines.join("\n") + `\nstep ${e}\n${direction > 0 ? "go" : "rev"} ${GREATEST}\n`, {lane: LANES.long})).text.split("\n");
       const found = /steps (\d+)(?: break (\S+))?$/.exec(text[lines.length + 1] ?? "");
       if (found?.[2]) { best = Number(found[1]); hit = labels.get(found[2]); }
     }
     for (const it of breaks) if (it.kind === "cell") {
-      const step = this.cellChange(it.tape, it.cell, e, direction);
+      await this.momentsTo(e);
+      const q = await this.findChange(it.tape, it.cell, this.changeFrom(e, direction), direction, told), step = this.starts[q] ?? null;
       if (step !== null && (best === null || direction * (step - best) < 0)) { best = step; hit = it; }
     }
-    return {step: best ?? (direction > 0 ? this.end : 0), hit};
+    return {step: best ?? (direction < 0 ? 0 : Number.isFinite(this.end) ? this.end : e), hit};
   }
 }

@@ -1,7 +1,7 @@
 // What the program said for each picture: the words, the input and the text that it answered with, to read and to copy.
 // They are asked for anew as the dialog opens, so they are the program's own, for the step that is shown.
 import {answer} from "./answer.js";
-import {byId, current, dialog, escaped, state} from "./state.js";
+import {busy, byId, current, dialog, escaped, state} from "./state.js";
 import {number} from "./words.js";
 
 const MOST_LINES = 240, COPIED_FOR = 1500, OWN_STEPS = "100000";
@@ -13,7 +13,7 @@ function callsOf(panel) {
   const circuit = {input: run.compiled, what: "the circuit's text"};
   const what = machine.given === state.text ? "the table as it was typed" : "the table as it was typed, its names spelled";
   const turned = machine.isStandard ? [{words: ["standard"], input: machine.given, what}] : [];
-  const ran = found.isFound ? ["run", "=" + run.word, "auto"] : ["run", ...run.words];
+  const ran = run.isOpen ? ["run", ...run.words, at] : found.isFound ? ["run", "=" + run.word, "auto"] : ["run", ...run.words];
   return {
     machine: [...turned, {words: ["check"], ...table}, {words: ["machine", "=" + run.word, OWN_STEPS], ...table}],
     tapes: [{words: ["view", ...run.words, at], ...table}, {words: ["bennett"], ...table}],
@@ -30,7 +30,9 @@ export function openSaidOf(panel) {
 // A dialog with these calls and their answers.
 export async function openSaid(title, calls) {
   const replies = [];
+  busy("asking the program …");
   for (const it of calls) replies.push(await answer(it.words, it.input));
+  busy("");
   const sections = calls.map((it, k) => `<section class="said"><p><code>${escaped(it.words.join(" "))}</code>
     <span class="quiet">· ${it.what ? `input: ${escaped(it.what)} ·` : ""} status ${replies[k].status}</span></p>
     <p class="row">${["words", "input", "text"].map(what => button(what, k)).join("")}</p>

@@ -5,7 +5,7 @@ export const LAYERS = ["machine", "quadruple", "module", "element"];
 export const state = {
   text: "", names: {}, asStandard: false, blank: null, word: "", window: null, example: null,
   accept: [], reject: [], tried: [], places: {},
-  e: 0, layer: "quadruple", playing: 0, speed: 40, breaks: [], cell: null, zoom: null, editions: 0,
+  e: 0, layer: "quadruple", playing: 0, speed: 40, breaks: [], cell: null, zoom: null, span: null, editions: 0,
   middle: "moves",
 };
 // `run` has the answers of one run; `found` what the machine does by itself, and the window; `machine` the table that runs.
@@ -15,13 +15,24 @@ export const byId = id => document.getElementById(id);
 export const escaped = it => String(it).replace(/[&<>"]/g, c => ({"&": "&amp;", "<": "&lt;", ">": "&gt;", '"': "&quot;"})[c]);
 export const minus = it => String(it).replace("-", "−");
 
-let stopSoon = null;
-// Says what is waited for; where that takes long, a button offers to stop it.
+const STOP_AFTER = 1200, TIME_AFTER = 2;
+const work = {since: null, ticking: null};
+// Says what is waited for; where that takes long, for how long by now, and a button offers to stop it.
 export function busy(words) {
+  const isOn = words.endsWith("…"), now = performance.now();
   byId("busy").textContent = words;
-  clearTimeout(stopSoon);
-  byId("stop").hidden = true;
-  if (words.endsWith("…")) stopSoon = setTimeout(() => { byId("stop").hidden = false; }, 1200);
+  work.since = isOn ? work.since ?? now : null;
+  if (isOn) work.ticking ??= setInterval(tellTime, 200);
+  else {
+    clearInterval(work.ticking);
+    work.ticking = null;
+  }
+  tellTime();
+}
+function tellTime() {
+  const spent = work.since === null ? 0 : performance.now() - work.since, seconds = Math.floor(spent / 1000);
+  byId("stop").hidden = spent < STOP_AFTER;
+  byId("busytime").textContent = seconds >= TIME_AFTER ? `${seconds} s` : "";
 }
 export function toast(words) {
   byId("toast")?.remove();

@@ -94,22 +94,3 @@ export function readBars(text, count) {
   }
   return bars;
 }
-
-// The places that a script of lines `step 1` was answered with.
-export function readPlaces(text, count) {
-  const places = new Int32Array(count);
-  let at = 0, found = 0, hasLeft = false;
-  while (at < text.length && found < count) {
-    hasLeft = text[at] === "l";
-    at += hasLeft ? "left ".length : "at ".length;
-    let element = 0, code;
-    while ((code = text.charCodeAt(at)) !== 46) {
-      element = element * 10 + code - 48;
-      at++;
-    }
-    places[found++] = 4 * element + SIDES.indexOf(text[at + 1]);
-    at = text.indexOf("\n", at) + 1;
-    if (hasLeft) break;
-  }
-  return {places: places.subarray(0, found), hasLeft};
-}

@@ -1,5 +1,6 @@
 // What is seen at one step: the stage and the rule in words, three tapes, the machine by itself, and the circuit.
 import {renderBank} from "./bank.js";
+import {betweenAt, betweenWords} from "./between.js";
 import {renderCell} from "./cell.js";
 import {markLine} from "./editor.js";
 import {renderTime} from "./film.js";
@@ -25,15 +26,23 @@ export function frame() {
 
 export function render(isLive = !state.playing) {
   if (!current.run) return;
-  const f = frame(), rule = ruleAt(current.run, f.q, nameOf), {stage} = f.moment;
+  const f = frame(), {stage} = f.moment, isLate = !current.run.isKnown(f.e) || !current.run.hasViews(f.q);
+  // What the tapes show isn't there yet: all stays as it was, but for the place on the time line.
+  document.body.classList.toggle("late", isLate);
+  if (isLate) {
+    renderTime(f);
+    return;
+  }
+  const rule = ruleAt(current.run, f.q, nameOf);
   byId("machine").className = "panel " + stage;
   for (const it of byId("stages").children) {
     it.classList.toggle("now", it.dataset.stage === stage);
     it.setAttribute("aria-current", it.dataset.stage === stage ? "step" : "false");
   }
   const tag = rule.rule ? `<span class="tagno">rule ${rule.rule}${rule.isBack ? ", undone" : ""}</span> ` : "";
-  put("rule", `<p class="head">${tag}${escaped(rule.head)}</p><p class="more">${escaped(rule.more)}</p>`);
-  renderTapes(f);
+  const between = betweenAt(current.run, f), aside = between.length ? ` <span class="aside">${escaped(betweenWords(between))}</span>` : "";
+  put("rule", `<p class="head">${tag}${escaped(rule.head)}</p><p class="more">${escaped(rule.more)}${aside}</p>`);
+  renderTapes(f, between);
   renderCell();
   markLine(editorLine(rule.rule));
   renderItself(f, rule);
@@ -50,15 +59,16 @@ function cellSize(room, longest) {
   const most = isPhone() ? 30 : Math.min(44, Math.floor((heightOf("tapes") - 430) / 3));
   return fits >= 28 ? Math.max(28, Math.min(most, fits)) : Math.max(30, Math.min(most, 32));
 }
-function renderTapes({q, moment}) {
+function renderTapes({q, moment}, between) {
   const room = widthOf("three"), width = isPhone() ? room : room - 84, before = q > 0 ? current.run.moments[q - 1] : null;
   const size = cellSize(room, Math.max(...moment.tapes.map(it => it.symbols.length)));
   put("three", moment.tapes.map((tape, k) => {
     const title = TAPES[k + 1][0].toUpperCase() + TAPES[k + 1].slice(1);
     const picked = state.breaks.filter(it => it.kind === "cell" && it.tape === k + 1).map(it => it.cell);
     if (state.cell?.tape === k + 1) picked.push(state.cell.cell);
+    const now = between.filter(it => it.tape === k + 1);
     return `<div class="tape"><div><b>${title}</b><span>${TAPE_NOTES[k]}</span></div>`
-      + tapePicture(tape, {width, size, before: before?.tapes[k], picked}) + "</div>";
+      + tapePicture(tape, {width, size, before: before?.tapes?.[k], picked, now}) + "</div>";
   }).join(""));
 }
 
@@ -70,7 +80,7 @@ function renderItself({moment}, rule) {
   const ownState = isOver ? copying?.state ?? last.state : stateAt(moment), shown = isOver ? copying ?? last : moment;
   const words = isOver ? "<b>By itself</b> it has halted; it can't go back."
     : `<b>By itself</b>, step ${moment.step}: in <b>${escaped(nameOf(ownState))}</b>`;
-  const tape = tapePicture({...shown.tapes[0], tape: 1}, {width: widthOf("own"), size: 24, isNumbered: false});
+  const tape = tapePicture({...(shown.tapes ?? moment.tapes)[0], tape: 1}, {width: widthOf("own"), size: 24, isNumbered: false});
   put("own", `<p>${words}</p><div class="${isOver ? "over" : ""}">${tape}</div>`);
   const high = heightOf("diagram"), stops = new Set(state.breaks.filter(it => it.kind === "state").map(it => it.state));
   byId("diagrambox").classList.toggle("low", high < LEAST_DIAGRAM);

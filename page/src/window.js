@@ -1,9 +1,12 @@
 // How a machine runs by itself, and the run of its circuit in a window that has room for it. The program finds the
-// window: the first line of `run =W auto` names it, and the rest is what `run` says in it.
-import {answer, isCutOff, STATUS} from "./answer.js";
+// window: the first line of `run =W auto` names it, and the rest is what `run` says in it. Where the machine makes many
+// steps by itself, the whole run takes long: then the window is as wide as its steps and its output want, and how the
+// run goes on is asked for while it is looked at.
+import {answer, isCutOff, LANES, STATUS} from "./answer.js";
 
-// How many steps a machine is run by itself, and how many are shown of one that runs on.
+// How many steps a machine is run by itself, how many are shown of one that runs on, and above how many a run is long.
 const MOST_OWN_STEPS = 100000, SHOWN_STEPS = 40;
+export const longRuns = {above: 200};
 
 export class Refused extends Error {
   constructor(reply) {
@@ -22,15 +25,36 @@ export function whole(reply) {
 // of its steps are shown.
 export async function findRun(table, word, given = null) {
   const own = await ownRun(table, word), shown = [SHOWN_STEPS, Math.max(word.length, SHOWN_STEPS), SHOWN_STEPS, 1];
-  const asked = given ?? (own.outcome === "running" ? shown : null);
-  const words = ["run", "=" + word, ...(asked ?? ["auto"])], ran = await answer(words, table);
-  if (![STATUS.done, STATUS.stuck, STATUS.window].includes(ran.status)) throw new Refused(ran);
+  const isOpen = !given && own.outcome === "halted" && own.steps > longRuns.above;
+  const asked = given ?? (own.outcome === "running" ? shown : isOpen ? longWindow(table, word, own) : null);
+  const words = ["run", "=" + word, ...(asked ?? ["auto"]), ...(isOpen ? ["0"] : [])], ran = await answer(words, table);
+  if (![STATUS.done, STATUS.stuck, STATUS.window, STATUS.inside].includes(ran.status)) throw new Refused(ran);
   const line = /^window (\d+) (\d+) (\d+) (\d+)$/m.exec(ran.text);
-  return {own, window: asked ?? line.slice(1).map(Number), text: ran.text, isFound: !asked};
+  return {own, window: asked ?? line.slice(1).map(Number), text: ran.text, isFound: !asked, isOpen};
 }
 export async function ownRun(table, word) {
   const ran = await answer(["machine", "=" + word, MOST_OWN_STEPS], table);
   if (![STATUS.done, STATUS.stuck, STATUS.inside].includes(ran.status)) throw new Refused(ran);
   const words = ran.text.split(/\s+/), outcome = words[0], steps = Number(outcome === "stuck" ? words[3] : words[1]);
   return {outcome, steps, output: /^output =(.*)$/m.exec(ran.text)?.[1] ?? null, state: words[1], letter: words[2]};
+}
+
+// ---- windows of long runs
+
+// The ends of the work tape that were too near, and were put farther, by machine and word.
+const widened = new Map();
+const widenedAs = (table, word) => JSON.stringify([table, word]);
+// The history wants a cell for each step, the output one behind its end. How far the machine goes on its own tape shows;
+// at first there is room for its word and its output, one behind the other.
+function longWindow(table, word, {steps, output}) {
+  const [left, right] = widened.get(widenedAs(table, word)) ?? [1, word.length + output.length + 2];
+  return [left, right, steps, output.length + 1];
+}
+// Where the signal has left a window by an end of the work tape, that end is put twice as far. Whether it was so.
+export async function widen(run) {
+  const ran = await answer(["run", ...run.words], run.table, {lane: LANES.long}), side = /^exit window 1 (left|right)$/m.exec(ran.text)?.[1];
+  if (!side) return false;
+  const [left, right] = run.window;
+  widened.set(widenedAs(run.table, run.word), side === "left" ? [2 * left, right] : [left, 2 * right]);
+  return true;
 }

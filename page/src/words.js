@@ -6,6 +6,10 @@ export const TAPES = ["", "work", "history", "output"];
 export const STAGES = {compute: "compute, and keep a history", copy: "copy the output", retrace: "retrace, and take the history back"};
 const numbers = new Intl.NumberFormat("en");
 export const number = it => numbers.format(it);
+// How many element steps a run has, where that is known by now.
+export const endWords = run => Number.isFinite(run.end) ? number(run.end) : "…";
+// How many quadruples it has, or has at least.
+export const countWords = run => run.total || run.isWhole ? number(run.count - 1) : `${number(run.count - 1)} …`;
 
 // The line by which the signal comes into a bank: its short name and what it means.
 export function lineOf(run, bank, row) {
@@ -100,8 +104,15 @@ function retracing(run, it, name) {
   const more = `Now: take the ${last} out of the history, ${SHIFT_BACK[run.rules[last - 1].shift]}.`;
   return {rule: last, isBack: true, head: "Undo the last rule in the history.", more};
 }
+// Of a long tape the cells near its head are heard.
+const MOST_HEARD = 120, HEARD_NEAR = 20;
+export function heardOf({symbols, first, head}) {
+  if (symbols.length <= MOST_HEARD) return {first, symbols};
+  const from = Math.max(0, (head ?? first) - first - HEARD_NEAR);
+  return {first: first + from, symbols: symbols.slice(from, from + 2 * HEARD_NEAR + 1)};
+}
 export const spoken = (run, e, q, name) => {
   const it = run.moments[q], words = ruleAt(run, q, name);
-  return `${it.stage}, quadruple ${q} of ${run.moments.length - 1}, element step ${number(e)}. ${words.head} ${words.more} ` +
-    it.tapes.map((tape, k) => `${TAPES[k + 1]}: ${tape.symbols.map(symbolWord).join(" ")}, head at ${tape.head ?? "no cell"}`).join(". ");
+  return `${it.stage}, quadruple ${q} of ${run.count - 1}, element step ${number(e)}. ${words.head} ${words.more} ` +
+    it.tapes.map((tape, k) => `${TAPES[k + 1]}: ${heardOf(tape).symbols.map(symbolWord).join(" ")}, head at ${tape.head ?? "no cell"}`).join(". ");
 };

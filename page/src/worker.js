@@ -1,21 +1,28 @@
-// The page's worker: compiles the module that it is given, and answers one call after another.
+// The page's worker: takes the module that it is given, compiled or as bytes, and answers one call after another.
 "use strict";
 let bench = null;
 const coder = new TextEncoder();
 
-onmessage = async event => {
+// Where a compiled module can't be handed over, its bytes are asked for.
+onmessageerror = () => postMessage({kind: "unread"});
+onmessage = event => {
   const {kind, number} = event.data;
-  const began = performance.now();
+  const began = performance.now(), spent = () => performance.now() - began;
   try {
     if (kind === "module") {
-      bench = new Workbench(await WebAssembly.compile(event.data.bytes));
-      postMessage({kind: "ready", number, ms: performance.now() - began});
+      bench = new Workbench(event.data.module ?? new WebAssembly.Module(event.data.bytes));
+      postMessage({kind: "ready", number, ms: spent()});
       return;
     }
-    const {words, input} = event.data;
-    const {status, text} = bench.answer(coder.encode(words.join("\0")), coder.encode(input));
-    postMessage({kind: "answer", number, status, text, ms: performance.now() - began, memory: bench.memory()}, [text.buffer]);
+    const {words, input, reading} = event.data;
+    const {status, text} = bench.answer(coder.encode(words.join("\0")), coder.encode(input)), ms = spent();
+    if (!reading || status !== 0) {
+      postMessage({kind: "answer", number, status, text, ms, memory: bench.memory()}, [text.buffer]);
+      return;
+    }
+    const read = readPlaces(text, reading.count), bounds = boundsOf(read, reading);
+    postMessage({kind: "places", number, status, bytes: text.length, ...read, bounds, ms}, [read.places.buffer, bounds.buffer]);
   } catch (fault) {
-    postMessage({kind: "fault", number, text: String(fault), ms: performance.now() - began});
+    postMessage({kind: "fault", number, text: String(fault), ms: spent()});
   }
 };
