@@ -6,7 +6,7 @@ import {editorText} from "./editor.js";
 import {EXAMPLES} from "./examples.js";
 import {PICTURES, takeHands, TEXTS} from "./hands.js";
 import {readLink} from "./links.js";
-import {rebuild, takeMachine, typed} from "./machine.js";
+import {takeMachine, typed} from "./machine.js";
 import {comesTo} from "./marks.js";
 import {limits} from "./moments.js";
 import {composed} from "./picture.js";

@@ -7,7 +7,7 @@ import {bankName, lineOf} from "./words.js";
 // How much wider than high a place of the grid is, at least; and the room above it.
 export const WIDE = 1.5, TOP = 25;
 // How wide a letter of a label is, and where the two lines of labels stand.
-const LETTER = 6.4, LABEL_LINES = [9, 19];
+const LETTER_WIDTH = 6.4, LABEL_LINES = [9, 19];
 const [NORTH, EAST, SOUTH, WEST] = [0, 1, 2, 3], STEPS = [[0, -1], [1, 0], [0, 1], [-1, 0]];
 // The strokes of the way, from the newest part on: up to which age, how wide, how strong.
 const TRAIL = [[6, .11, 1], [24, .09, .7], [90, .07, .42], [Infinity, .05, .22]];
@@ -136,7 +136,7 @@ function labelsPicture(grid, bars, place) {
   const label = ([text, title], isNow, anchor, x, y) => `<text class="small mono${isNow ? "" : " quiet"}" ${isNow ? 'font-weight="700"' : ""} text-anchor="${anchor}" x="${n1(x)}" y="${n1(y)}">`
     + `${title ? `<title>${escaped(title)}</title>` : ""}${escaped(text)}</text>`;
   // Names of the control's states stand on two lines in turn, and as many as have room.
-  const isControl = bank.kind === "control", every = isControl ? Math.max(1, Math.ceil((longestLabel(run) * LETTER + 3) / (2 * grid.X))) : 1;
+  const isControl = bank.kind === "control", every = isControl ? Math.max(1, Math.ceil((longestLabel(run) * LETTER_WIDTH + 3) / (2 * grid.X))) : 1;
   const high = c => isControl && Math.floor(c / every) % 2 ? LABEL_LINES[0] : LABEL_LINES[1];
   let body = "", marked = -Infinity;
   for (let c = grid.first[0]; c <= grid.last[0]; c++) if (bars?.[c * (rows + 1) + rows] === 1) marked = c;

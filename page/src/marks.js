@@ -7,15 +7,15 @@ import {spanOf} from "./span.js";
 import {byId, current, state} from "./state.js";
 import {number} from "./words.js";
 
-const MOST_MARKS = 400, MOST_COMES = 200, PARTS = 32, MARKS_REST = 180;
+const MOST_MARKS = 400, MOST_COMES = 200, MARK_PARTS = 32, MARKS_REST = 180;
 // What was asked of the elements: for which part, and the steps by their numbers.
 const marks = {run: null, key: null, comes: new Map(), later: null, isMore: false};
 
 // Where the signal comes to an element between two steps, the second one included: at most so many steps, and whether
 // there are more of them. The way is gone in parts, so that it ends soon behind the second step.
 export async function comesTo(run, element, from, to, most = MOST_COMES) {
-  const part = Math.max(1, Math.ceil((to - from) / PARTS));
-  const script = `break e element ${element}\nstep ${from}\n` + `go ${part}\n`.repeat(most + PARTS + 1);
+  const part = Math.max(1, Math.ceil((to - from) / MARK_PARTS));
+  const script = `break e element ${element}\nstep ${from}\n` + `go ${part}\n`.repeat(most + MARK_PARTS + 1);
   const reply = await run.session(script, {lane: LANES.long});
   if (reply.status !== STATUS.done) return null;
   const found = [];

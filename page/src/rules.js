@@ -3,7 +3,7 @@ import {withoutRule, withRule} from "./edits.js";
 import {escaped, state} from "./state.js";
 import {rulesOf} from "./table.js";
 
-const PARTS = ["state", "read", "write", "move", "next"], MOST_ROWS = 120;
+const PARTS = ["state", "read", "write", "move", "next"], MOST_RULE_ROWS = 120;
 const MOVE_WORDS = [["+", "right"], ["-", "left"], ["0", "stay"]];
 
 // The lines of a text that are rules, whatever the program says of them.
@@ -12,8 +12,8 @@ export const rulesWritten = text => rulesOf(text).filter(it => it.next !== undef
 // Fills a box with the rules of the chosen state, or with all; `write` takes a new text.
 export function fillRules(box, {rules, states, chosen, write}) {
   const focused = fieldAt(document.activeElement), all = rules.filter(it => chosen === null || it.state === chosen);
-  const rows = all.slice(0, MOST_ROWS).map(ruleRow);
-  const more = all.length > MOST_ROWS ? `<p class="quiet">${all.length - MOST_ROWS} more: choose a state.</p>` : "";
+  const rows = all.slice(0, MOST_RULE_ROWS).map(ruleRow);
+  const more = all.length > MOST_RULE_ROWS ? `<p class="quiet">${all.length - MOST_RULE_ROWS} more: choose a state.</p>` : "";
   const heads = ["", ...PARTS, ""].map(it => `<th scope="col">${it}</th>`).join("");
   box.innerHTML = `<datalist id="d-states">${states.map(it => `<option value="${escaped(it)}">`).join("")}</datalist>
     <table class="rules"><thead><tr>${heads}</tr></thead><tbody>${rows.join("")}</tbody></table>${more}`;
