@@ -44,7 +44,7 @@ function beginBench(lane) {
   // A fault of the worker itself: what waits is cut off, and the next call begins a new worker.
   bench.worker.onerror = event => {
     event.preventDefault();
-    endLane(lane, String(event.message || "a fault of the worker"));
+    if (benches[lane] === bench) endLane(lane, String(event.message || "a fault of the worker"));
   };
   bench.worker.onmessage = event => {
     const numbers = event.data.kind === "unread" ? [...bench.waiting.keys()] : [event.data.number];

@@ -45,7 +45,10 @@ export class Moments {
     const from = this.moments.at(-1)?.steps ?? 0, began = performance.now();
     const each = `go ${GREATEST}\n${this.isSmall ? "view\n" : ""}`;
     const script = `${this.setBreaks}step ${from}\n${each.repeat(this.many)}`, reply = await this.session(script, {lane: LANES.long});
-    if (reply.status !== STATUS.done) return false;
+    if (reply.status !== STATUS.done) {
+      this.cut = reply;
+      return false;
+    }
     this.script = this.inputOf(script);
     this.takeMoments(reply.text.split("\n"));
     // Each piece begins with the way to its first step, so it is longer the farther that is.

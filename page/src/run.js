@@ -42,7 +42,7 @@ export class Run extends Moments {
     this.beginMoments();
     const [compiled] = await Promise.all([answer(["compile", ...this.words], this.table), this.more(), this.chunk(0, {lane: LANES.ahead})]);
     this.compiled = whole(compiled).text;
-    if (!this.moments.length) throw new Error("Stopped.");
+    if (!this.moments.length) whole(this.cut);
     this.circuit = readCircuit(this.compiled);
     this.barsAt.set(0, this.circuit.bars);
     await this.viewsNear(0, 1);
