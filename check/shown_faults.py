@@ -102,6 +102,8 @@ def check_cut_elsewhere(page, program, count):
 def check_stopped(page, program, count):
     """A run that takes long is stopped by its button, which comes by itself; what was shown stays, and the page goes on."""
     page.visit(f"file://{PAGE}#m=least")
+    # So that the whole run of a long word is waited for.
+    page.ask("bench.longRuns.above = Infinity; 0")
     set_value(page, "table", INCREMENT)
     set_value(page, "word", "1" * 120)
     until = time.monotonic() + 20
