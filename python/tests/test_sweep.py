@@ -195,7 +195,8 @@ class Long(Sweeps):
         self.assertEqual(status, 0)
         self.assert_line(said, "took too long: 1")
         late, ended = out.splitlines()[1:]
-        self.assertIn(",run,,auto,,time,,,,,0.", late)
+        self.assertIn(",run,,auto,,time,,,,,", late)
+        self.assertLess(float(late.rsplit(",", 1)[1]), 20)
         self.assertIn(",run,0,1 2 4 1,0,end,216636,17,3756,,", ended)
 
     def test_a_line_tells_how_far_it_is(self):
