@@ -13,9 +13,14 @@ NAMES = ["chromium", "chromium-browser", "google-chrome", "google-chrome-stable"
 KEYS = {"ArrowLeft": 37, "ArrowRight": 39, "Home": 36, "End": 35}
 
 
+def first_at_hand(names):
+    """The path of the first of these programs that is installed, or None."""
+    return next((path for path in map(shutil.which, names) if path), None)
+
+
 def browser_at_hand():
-    """The path of a browser, or None."""
-    return next((path for path in map(shutil.which, NAMES) if path), None)
+    """The path of a Chromium, or None."""
+    return first_at_hand(NAMES)
 
 
 class Browser:

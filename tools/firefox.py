@@ -8,6 +8,8 @@ import subprocess
 import tempfile
 import time
 
+from browser import first_at_hand
+
 NAMES = ["firefox-esr", "firefox"]
 # No first pages, no updates, no reports: what a profile asks for before it is used.
 PREFERENCES = {
@@ -21,7 +23,7 @@ MILLISECONDS = 120000
 
 def firefox_at_hand():
     """The path of a Firefox, or None."""
-    return next((path for path in map(shutil.which, NAMES) if path), None)
+    return first_at_hand(NAMES)
 
 
 class Firefox:
