@@ -95,6 +95,7 @@ class Reading(unittest.TestCase):
         items, _ = sample()
         self.assertEqual([items[name].sentence for name in ("Pair", "twice", "once")],
                          ["a pair of numbers", "twice a number, and once", "twice a number, and once"])
+        self.assertEqual([items[name].sentence_of for name in ("Pair", "twice", "once")], ["Pair", "twice", "twice"])
 
     def test_imports_are_told_with_their_other_names(self):
         _, (names, _) = sample()
