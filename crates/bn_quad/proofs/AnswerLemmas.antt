@@ -1,7 +1,6 @@
 -- Each call has one answer.
-use Rattle.std.specs.Prelude.{◌≡◌, ℕ, zero, suc, ◌<◌, ◌≤◌, List, [], ◌∷◌, Some, ◌⊎◌}
-use Rattle.std.proofs.Common.{refl, sym, subst, ◌∙◌, ap, arith, inl, inr}
-use Rattle.std.proofs.lemmas.Bool.{cases_lt}
+use Rattle.std.specs.Prelude.{◌≡◌, ℕ, zero, suc, List, [], ◌∷◌, Some}
+use Rattle.std.proofs.Common.{refl, sym, subst, ◌∙◌, ap}
 use Rattle.bn_machine.specs.Tape.{moved}
 use Rattle.bn_machine.specs.Window.{Windowed, with_tape}
 use Rattle.bn_lists.specs.Lists.{nth}

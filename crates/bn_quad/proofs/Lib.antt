@@ -1,5 +1,6 @@
 pub mod AnswerLemmas
 pub mod BackwardLemmas
+pub mod IndexLemmas
 pub mod KeptLemmas
 pub mod NamesLemmas
 pub mod OverlapKeptLemmas

@@ -4,4 +4,5 @@ pub mod Kept
 pub mod Names
 pub mod Calls
 pub mod Search
+pub mod Index
 pub mod Laws

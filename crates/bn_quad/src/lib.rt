@@ -3,6 +3,7 @@
 #![tactic(auto)]
 
 mod clash;
+mod indexed;
 mod laws;
 mod machine;
 mod names;
@@ -10,10 +11,12 @@ mod quad;
 mod refusal;
 mod search;
 mod soundness;
+mod state_index;
 mod tapes;
 mod uniform;
 
 pub use bn_lists::NoMemory;
+pub use indexed::IndexedMachine;
 pub use laws::{
     one_rule_applies, quad_steps_are_functions, quad_turns_are_one, refusals_are_one,
     rules_are_their_quads, steps_are_leads, turned_rules_lead_back,

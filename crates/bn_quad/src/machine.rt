@@ -1,6 +1,7 @@
 //! Machines of quadruples.
 ghost use Rattle.bn_quad.specs.Kept.{turned_quad};
 ghost use Rattle.std.specs.Prelude.{◌≡◌, ◌↔◌, ◌<◌, ◌≤◌, ◌^◌, Some, IfOk, IfErr, OnOk, IsOk, All, length, map, reverse};
+ghost use Rattle.std.specs.Prelude.{IfSome, MatchOption};
 
 use crate::clash::{Clash, Flaw};
 use crate::quad::{Quad, turned};
@@ -36,10 +37,10 @@ impl Model for QuadMachine {
 impl QuadMachine {
     ghost use Rattle.bn_lists.specs.Lists.{nth};
     ghost use Rattle.bn_quad.specs.Quadruples.{IsQuadMachine, initial_of, final_state_of, inverse_of, HasOneSuccessor};
-    ghost use Rattle.bn_quad.specs.Quadruples.{HasOnePredecessor};
+    ghost use Rattle.bn_quad.specs.Quadruples.{HasOnePredecessor, HasNoRule, IsFirstRule};
     ghost use Rattle.bn_quad.specs.Overlap.{IsDeterministic, IsReversible, IsUniform, IsLeastClash};
-    ghost use Rattle.bn_quad.specs.Kept.{quad_of, IsSound};
-    ghost use Rattle.bn_quad.specs.Calls.{IsMadeOf, IsQuadRefusal, IsNotUniform, StepsBack, IsQuadTurn};
+    ghost use Rattle.bn_quad.specs.Kept.{quad_of, rule_of, IsSound, IsUnmixed};
+    ghost use Rattle.bn_quad.specs.Calls.{IsMadeOf, IsQuadRefusal, IsNotUniform, StepsBack, IsQuadTurn, configuration};
 
     /// The machine of these quadruples with `states` states and on each tape, tape 1 first, so many symbols. It takes
     /// no memory. `Empty` comes exactly where there is no quadruple; else on the first faulty quadruple `Range`
@@ -184,10 +185,26 @@ impl QuadMachine {
     pub fn step(&self, state: &mut u32, tapes: &mut Tapes) -> QuadTurn
         ensures { IsQuadTurn self.now result state.old tapes.old state.new tapes.new }
     {
+        let found = first_rule(self.quads.as_slice(), *state, tapes);
+        self.step_by(found, state, tapes)
+    }
+
+    /// The step by the first quadruple that applies, which comes with its number, or where none applies.
+    pub(crate) fn step_by(
+        &self,
+        found: Option<(u32, Quad)>,
+        state: &mut u32,
+        tapes: &mut Tapes,
+    ) -> QuadTurn
+        requires first { MatchOption found (HasNoRule self.now.rules (configuration state.old tapes.old))
+            (λ f. IsFirstRule self.now.rules (configuration state.old tapes.old) f.0 (rule_of f.1)) }
+        requires unmixed { IfSome found (λ f. IsUnmixed f.1) }
+        ensures { IsQuadTurn self.now result state.old tapes.old state.new tapes.new }
+    {
         if *state == self.final_state() {
             return QuadTurn::Final;
         }
-        let Some((number, quad)) = first_rule(self.quads.as_slice(), *state, tapes) else {
+        let Some((number, quad)) = found else {
             return QuadTurn::Stuck;
         };
         if let Some((tape, side)) = first_leaving(&quad, tapes) {

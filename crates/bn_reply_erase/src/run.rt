@@ -9,7 +9,7 @@ ghost use Rattle.bn_reply_erase.specs.EraseRun.{ComesOutOf, HasEnded, IsErasingO
 use bn_base::MOST_COUNT;
 use bn_erase::Erasing;
 use bn_machine::{Tape, TapeRefusal};
-use bn_quad::{QuadMachine, QuadTurn, Tapes};
+use bn_quad::{IndexedMachine, QuadTurn, Tapes};
 use bn_reply::NoMemory;
 use bn_reply_tables::letter_at;
 use std::alloc::Global;
@@ -46,13 +46,14 @@ pub(crate) fn run_word(
     ensures { IfOk result (λ r. HasEnded erasing.now word.now steps r.steps r.ending) }
 {
     let machine = erasing.machine().machine();
+    let indexed = IndexedMachine::try_new(alloc, machine)?;
     let mut tapes = Tapes {
         one: wide_tape(alloc, steps + 1, word)?,
         two: wide_tape(alloc, steps + 1, &[])?,
         three: wide_tape(alloc, steps + 1, &[])?,
     };
     let mut state = machine.initial_state();
-    let (made, turn) = run(machine, &mut state, &mut tapes, steps);
+    let (made, turn) = run(&indexed, &mut state, &mut tapes, steps);
     Ok(Ended {
         steps: made,
         ending: ending_after(alloc, turn, state, &tapes)?,
@@ -75,7 +76,12 @@ fn wide_tape(alloc: Global, side: u32, word: &[u32]) -> Result<Tape, NoMemory>
 
 // Makes at most `steps` steps, and then one more where all are made. Answers how many were made before the last turn,
 // and that turn.
-fn run(machine: &QuadMachine, state: &mut u32, tapes: &mut Tapes, steps: u32) -> (u32, QuadTurn)
+fn run(
+    machine: &IndexedMachine<'_>,
+    state: &mut u32,
+    tapes: &mut Tapes,
+    steps: u32,
+) -> (u32, QuadTurn)
     ensures { IsRun machine.now steps state.old tapes.old result.0 result.1 state.new tapes.new }
 {
     for made in 0..steps {
