@@ -1,6 +1,6 @@
 -- Where the first fault of a table's entries lies, and what a reader that takes in one entry after another keeps.
 use Rattle.std.proofs.Common.{◌≡◌, ◌<◌, ◌≤◌, ◌+◌, ◌∷◌, ◌++◌, ◌∙◌, ℕ, Bool, true, false, not, List, [], length, map, Option, Some, None, refl, sym, ap, inl, inr, arith, append_assoc, length-append, nat_lt, if◌then◌else◌, All}
-use Rattle.std.proofs.lemmas.Bool.{cases_Bool, ltb-false, le-ltb}
+use Rattle.std.proofs.lemmas.Bool.{cases_Bool, ltb-false, le-ltb, lt-ltb}
 use Rattle.std.proofs.lemmas.List.{append-nil, length-map}
 use Rattle.std.proofs.lemmas.List.Elements.{All-head, All-tail}
 use Rattle.bn_csv.specs.Faults.{else_fault, fault_from, first_fault, limited}
@@ -79,36 +79,56 @@ module _ {F : Type 0} (most : ℕ) (too_many : ℕ → F) (form_fault : ℕ → 
     pub few : count ≤ most
     pub faults : fault_from (limited most too_many form_fault) 1 entries ≡ fault_from (limited most too_many form_fault) (count + 1) left
 
-module _ {F : Type 0} {most : ℕ} {too_many : ℕ → F} {form_fault : ℕ → List (List ℕ) → Option F} {entries taken : List (List (List ℕ))} {count : ℕ} where
+module _ {F : Type 0} {most : ℕ} {too_many : ℕ → F} {form_fault : ℕ → List (List ℕ) → Option F} {entries taken : List (List (List ℕ))} where
   -- at the start the reader has taken in none
-  pub taken_none : taken ≡ [] → length taken ≡ count → HasTaken most too_many form_fault entries taken count entries
-  taken_none none many =
-      let zero_long : count ≡ 0 = sym many ∙ ap (λ (t : List (List (List ℕ))). length t) none in
-      record { together = rw none refl; many = many; few = omega arith; faults = rw zero_long refl }
+  pub taken_none : taken ≡ [] → HasTaken most too_many form_fault entries taken 0 entries
+  taken_none none = record { together = rw none refl; many = rw none refl; few = omega arith; faults = refl }
 
-  -- it takes in one more, which has no fault
-  pub taken_more : {taken2 left rest : List (List (List ℕ))} {count2 : ℕ} {fields : List (List ℕ)}
-      → HasTaken most too_many form_fault entries taken count left → left ≡ fields ∷ rest → taken2 ≡ taken ++ fields ∷ [] → length taken2 ≡ count2
-      → limited most too_many form_fault (count + 1) fields ≡ None → HasTaken most too_many form_fault entries taken2 count2 rest
-  taken_more {taken2} {left} {rest} {count2} {fields} h is more many pass =
-      let one : count2 ≡ count + 1 =
-      sym many ∙ ap (λ (t : List (List (List ℕ))). length t) more ∙ length-append taken (fields ∷ []) ∙ omega (arith, h.many) in
-      record {
-        together = rw more (append_assoc taken (fields ∷ []) rest ∙ rw (← is) h.together);
-        many = many;
-        few = omega (arith, one, (in_number most too_many form_fault (count + 1) fields pass).0);
-        faults = h.faults ∙ rw is (passing (limited most too_many form_fault) (count + 1) fields rest pass ∙ rw one refl);
-      }
+module _ {F : Type 0} {most : ℕ} {too_many : ℕ → F} {form_fault : ℕ → List (List ℕ) → Option F} {entries taken : List (List (List ℕ))} {count : ℕ} where
+  -- it takes in one more, which isn't too many and whose form has no fault
+  pub taken_more : {taken2 left rest : List (List (List ℕ))} {fields : List (List ℕ)}
+      → HasTaken most too_many form_fault entries taken count left → left ≡ fields ∷ rest → taken2 ≡ taken ++ fields ∷ []
+      → count + 1 ≤ most → form_fault (count + 1) fields ≡ None → HasTaken most too_many form_fault entries taken2 (count + 1) rest
+  taken_more {taken2} {left} {rest} {fields} h is more few pass = record {
+    together = rw more (append_assoc taken (fields ∷ []) rest ∙ rw (← is) h.together);
+    many = rw more (length-append taken (fields ∷ []) ∙ omega (arith, h.many));
+    few = few;
+    faults = h.faults ∙ rw is (passing (limited most too_many form_fault) (count + 1) fields rest (within_number most too_many form_fault (count + 1) fields few ∙ pass));
+  }
 
-  -- where none is left, it has taken in all
+  -- a fault of the form of the next entry, which isn't too many, is the first of all
+  pub fault_of_next : {left rest : List (List (List ℕ))} {fields : List (List ℕ)} {fault : F}
+      → HasTaken most too_many form_fault entries taken count left → left ≡ fields ∷ rest
+      → count + 1 ≤ most → form_fault (count + 1) fields ≡ Some fault → fault_from (limited most too_many form_fault) 1 entries ≡ Some fault
+  fault_of_next {left} {rest} {fields} {fault} h is few e =
+      h.faults ∙ rw is (failing (limited most too_many form_fault) (count + 1) fields rest fault (within_number most too_many form_fault (count + 1) fields few ∙ e))
+
+  -- behind the most, one more is too many
+  pub too_many_next : {left rest : List (List (List ℕ))} {fields : List (List ℕ)}
+      → HasTaken most too_many form_fault entries taken count left → left ≡ fields ∷ rest
+      → count ≡ most → fault_from (limited most too_many form_fault) 1 entries ≡ Some (too_many (count + 1))
+  too_many_next {left} {rest} {fields} h is all =
+      h.faults ∙ rw is (failing (limited most too_many form_fault) (count + 1) fields rest (too_many (count + 1)) (rw (lt-ltb most (count + 1) (omega arith)) refl))
+
+  -- where none is left, it has taken in all, and none has a fault
   pub taken_all : {left : List (List (List ℕ))} → HasTaken most too_many form_fault entries taken count left → left ≡ [] → taken ≡ entries
   taken_all {left} h none = sym (append-nil taken) ∙ rw (← none) h.together
+
+  pub all_pass : {left : List (List (List ℕ))} → HasTaken most too_many form_fault entries taken count left → left ≡ []
+      → fault_from (limited most too_many form_fault) 1 entries ≡ None
+  all_pass {left} h none = h.faults ∙ rw none (nothing_left (limited most too_many form_fault) (count + 1))
 
 module _ {F : Type 0} (empty : F) (entry_fault : ℕ → List (List ℕ) → Option F) where
   -- without an entry, that is the fault
   pub no_entry : (entries : List (List (List ℕ))) → entries ≡ [] → first_fault empty entry_fault entries ≡ Some empty
   unfolding first_fault
   no_entry entries e = rw e refl
+
+  -- a fault of an entry is that of all
+  pub first_is : (entries : List (List (List ℕ))) (fault : F) → fault_from entry_fault 1 entries ≡ Some fault → first_fault empty entry_fault entries ≡ Some fault
+  unfolding fault_from first_fault
+  first_is [] fault e = cc e
+  first_is (fields ∷ rest) fault e = e
 
   -- with an entry, the fault is the first entry's, or one behind it
   some_entry : (entries : List (List (List ℕ))) → 0 < length entries → first_fault empty entry_fault entries ≡ fault_from entry_fault 1 entries
@@ -138,15 +158,3 @@ module _ {F : Type 0} (empty : F) (entry_fault : ℕ → List (List ℕ) → Opt
   none_faulty made Good most none entries xs rows some few h =
       let count : length entries ≡ length xs = ap (λ (t : List (List (List ℕ))). length t) (sym rows) ∙ length-map xs made in
       some_entry entries some ∙ rw (← rows) (none_from entry_fault made Good most none 1 xs (omega arith) h)
-
--- a fault of the next entry is that of all
-pub fault_of_next : {F : Type 0} (empty : F) {most : ℕ} {too_many : ℕ → F} {form_fault : ℕ → List (List ℕ) → Option F}
-    {entries taken left rest : List (List (List ℕ))} {count : ℕ} {fields : List (List ℕ)} {fault : F}
-    → HasTaken most too_many form_fault entries taken count left → left ≡ fields ∷ rest
-    → limited most too_many form_fault (count + 1) fields ≡ Some fault
-    → first_fault empty (limited most too_many form_fault) entries ≡ Some fault
-fault_of_next empty {most} {too_many} {form_fault} {entries} {taken} {left} {rest} {count} {fields} {fault} h is e =
-    let long : length entries ≡ length taken + length left = ap (λ (t : List (List (List ℕ))). length t) (sym h.together) ∙ length-append taken left in
-    let more : length left ≡ length rest + 1 = rw is (omega arith) in
-    some_entry empty (limited most too_many form_fault) entries (omega arith) ∙ h.faults
-    ∙ rw is (failing (limited most too_many form_fault) (count + 1) fields rest fault e)

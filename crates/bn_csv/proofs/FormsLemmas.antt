@@ -3,7 +3,7 @@ use Rattle.std.proofs.Common.{◌≡◌, ℕ, Bool, true, List, [], ◌∷◌, a
 use Rattle.std.specs.List.{list_all}
 use Rattle.std.proofs.lemmas.Bool.{false≢true}
 use Rattle.std.proofs.lemmas.Bool.Decides.{nat_tests}
-use Rattle.bn_csv.specs.Forms.{is_letter, is_name_byte, is_state_name, is_symbol, is_symbol_byte}
+use Rattle.bn_csv.specs.Forms.{is_name_byte, is_state_name, is_symbol, is_symbol_byte}
 use Rattle.bn_csv.specs.Lines.{is_plain, is_plain_byte}
 use Rattle.bn_csv.proofs.NumberingLemmas.{both_true}
 
@@ -30,10 +30,6 @@ all-plain-symbol (b ∷ rest) e = let (here, later) = both_true (is_symbol_byte 
 pub plain-state-name : (name : List ℕ) → is_state_name name ≡ true → is_plain name ≡ true
 plain-state-name [] e = absurd (false≢true e)
 plain-state-name (b ∷ rest) e = all-plain-name (b ∷ rest) (both_true _ (list_all is_name_byte (b ∷ rest)) e).1
-
-pub plain-letter : (symbol : List ℕ) → is_letter symbol ≡ true → is_plain symbol ≡ true
-plain-letter [] e = absurd (false≢true e)
-plain-letter (b ∷ rest) e = all-plain-symbol (b ∷ rest) (both_true _ (list_all is_symbol_byte (b ∷ rest)) e).1
 
 pub plain-symbol : (symbol : List ℕ) → is_symbol symbol ≡ true → is_plain symbol ≡ true
 plain-symbol [] e = absurd (false≢true e)

@@ -1,5 +1,6 @@
 pub mod AddedLemmas
 pub mod FaultLemmas
+pub mod FieldLemmas
 pub mod FormsLemmas
 pub mod LinesLemmas
 pub mod NumberingLemmas

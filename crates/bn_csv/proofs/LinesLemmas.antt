@@ -1,9 +1,10 @@
 -- The lines of plain entries are what csv writes of them, and are read as these entries again.
-use Rattle.std.proofs.Common.{◌≡◌, ◌<◌, ◌∷◌, ◌++◌, ◌∙◌, ◌&&◌, ◌==◌, ℕ, suc, zero, Bool, true, false, List, [], length, Some, refl, sym, ap, arith, append_assoc, length-append, get_or}
+use Rattle.std.proofs.Common.{◌≡◌, ◌<◌, ◌≤◌, ◌+◌, ◌∷◌, ◌++◌, ◌∙◌, ◌==◌, ℕ, suc, zero, Bool, true, false, List, [], length, map, take, Some, refl, sym, ap, arith, append_assoc, length-append, get_or, All}
 use Rattle.std.specs.List.{join_with_byte, list_all, list_any}
 use Rattle.std.proofs.lemmas.Bool.{false≢true}
 use Rattle.std.proofs.lemmas.Bool.Decides.{nat_tests}
-use Rattle.std.proofs.lemmas.List.{append-nil}
+use Rattle.std.proofs.lemmas.List.{append-nil, map-append, take_all, take_more}
+use Rattle.std.proofs.lemmas.List.Elements.{All-head, All-tail}
 use Rattle.csv.specs.Machine.{next_record}
 use Rattle.csv.specs.Reading.{default_config, records_from, strip_bom}
 use Rattle.csv.specs.Writing.{default_writer, field_text, fields_text, is_blank, needs_byte, row_text, with_flexible}
@@ -12,11 +13,8 @@ use Rattle.csv.specs.declared.writer.WriterBuilder.{WriterBuilder}
 use Rattle.csv.proofs.RoundTrip.{read-write}
 use Rattle.bn_csv.specs.Entries.{entries_of}
 use Rattle.bn_csv.specs.Lines.{is_plain, is_plain_byte, is_plain_entry, line_of, lines_of}
+use Rattle.bn_csv.proofs.NumberingLemmas.{both_true}
 use Rattle.bn_csv.proofs.RecordsFromLemmas.{none_at_end, one_more}
-
-both : (a b : Bool) → (a && b) ≡ true → (a ≡ true) × (b ≡ true)
-both true b e = (refl, e)
-both false b e = cc e
 
 -- the writer's settings, but for whether entries may differ in length
 abbrev setup : Bool → WriterBuilder
@@ -28,7 +26,7 @@ plain-byte flexible b e = grind (arith, nat_tests)
 plain-bytes : (flexible : Bool) (field : List ℕ) → list_all is_plain_byte field ≡ true → list_any (needs_byte (setup flexible)) field ≡ false
 plain-bytes flexible [] e = refl
 plain-bytes flexible (b ∷ rest) e =
-    let (head, tail) = both (is_plain_byte b) (list_all is_plain_byte rest) e in
+    let (head, tail) = both_true (is_plain_byte b) (list_all is_plain_byte rest) e in
     rw (plain-byte flexible b head) (plain-bytes flexible rest tail)
 
 plain-text : (flexible : Bool) (field : List ℕ) → is_plain field ≡ true → field_text (setup flexible) field ≡ field
@@ -40,7 +38,7 @@ plain-body : (flexible : Bool) (field : List ℕ) (rest : List (List ℕ)) → i
 unfolding fields_text
 plain-body flexible field [] e h = append-nil _ ∙ plain-text flexible field e
 plain-body flexible field (next ∷ rest) e h =
-    let (head, tail) = both (is_plain next) (list_all is_plain rest) h in
+    let (head, tail) = both_true (is_plain next) (list_all is_plain rest) h in
     ap (λ (t : List ℕ). t ++ fields_text (setup flexible) (next ∷ rest)) (plain-text flexible field e)
     ∙ ap (λ (t : List ℕ). field ++ (44 ∷ t)) (plain-body flexible next rest head tail)
 
@@ -58,7 +56,7 @@ pub row_text-plain : (flexible : Bool) (fields : List (List ℕ)) → is_plain_e
 unfolding line_of
 row_text-plain flexible [] e = cc e
 row_text-plain flexible (field ∷ rest) e =
-    let (head, tail) = both (is_plain field) (list_all is_plain rest) e in
+    let (head, tail) = both_true (is_plain field) (list_all is_plain rest) e in
     rw (shows flexible field rest head) (ap (λ (t : List ℕ). t ++ (10 ∷ [])) (plain-body flexible field rest head tail))
 
 -- the first byte of a plain entry's line is no part of a byte order mark
@@ -97,7 +95,7 @@ unfolding lines_of
 lines-read n [] h e = none_at_end default_config n
 lines-read zero (row ∷ rows) h e = absurd (omega arith)
 lines-read (suc n) (row ∷ rows) h e =
-    let (head, tail) = both (is_plain_entry row) (list_all is_plain_entry rows) e in
+    let (head, tail) = both_true (is_plain_entry row) (list_all is_plain_entry rows) e in
     let shorter : length (lines_of rows) < n = omega (arith, length-append (line_of row) (lines_of rows), line-length row, h) in
     one_more default_config n st.StartRecord (line_of row ++ lines_of rows) (row, st.StartRecord, lines_of rows) (line-read row (lines_of rows) head)
     ∙ ap (λ (t : List (List (List ℕ))). row ∷ t) (lines-read n rows shorter tail)
@@ -105,7 +103,7 @@ lines-read (suc n) (row ∷ rows) h e =
 lines-low : (rows : List (List (List ℕ))) → list_all is_plain_entry rows ≡ true → first_of (lines_of rows) < 128
 unfolding lines_of
 lines-low [] e = omega arith
-lines-low (row ∷ rows) e = line-low row (lines_of rows) (both (is_plain_entry row) (list_all is_plain_entry rows) e).0
+lines-low (row ∷ rows) e = line-low row (lines_of rows) (both_true (is_plain_entry row) (list_all is_plain_entry rows) e).0
 
 -- reading the lines of plain entries gives these entries
 pub entries_of-lines_of : (rows : List (List (List ℕ))) → list_all is_plain_entry rows ≡ true → entries_of (lines_of rows) ≡ rows
@@ -124,3 +122,25 @@ lines_of-push (first ∷ rows) row =
 pub lines_of-nil : lines_of [] ≡ []
 unfolding lines_of
 lines_of-nil = refl
+
+-- Entries of the elements of a list, written one after another.
+module _ {X : Type 0} (entry : X → List (List ℕ)) where
+  -- the line of one more element
+  pub lines_of-more : (xs : List X) (i : ℕ) (x : X) (before after : List ℕ) → i < length xs → before ≡ lines_of (map entry (take i xs))
+      → after ≡ before ++ line_of (entry (get_or xs i x)) → after ≡ lines_of (map entry (take (i + 1) xs))
+  lines_of-more xs i x before after inside so_far now =
+      now
+      ∙ ap (λ (text : List ℕ). text ++ line_of (entry (get_or xs i x))) so_far
+      ∙ sym (lines_of-push (map entry (take i xs)) (entry (get_or xs i x)))
+      ∙ ap lines_of (sym (map-append entry (take i xs) (get_or xs i x ∷ [])))
+      ∙ ap (λ (ys : List X). lines_of (map entry ys)) (sym (take_more xs i x inside))
+
+  -- the lines of all
+  pub lines_of-all : (xs : List X) (i : ℕ) (text : List ℕ) → length xs ≤ i → text ≡ lines_of (map entry (take i xs)) → text ≡ lines_of (map entry xs)
+  lines_of-all xs i text past e = e ∙ ap (λ (ys : List X). lines_of (map entry ys)) (take_all i xs past)
+
+  -- they need no quotes where the entry of no good element does
+  pub all_plain : (Good : X → Type 0) → ((x : X) → Good x → is_plain_entry (entry x) ≡ true)
+      → (xs : List X) → All Good xs → list_all is_plain_entry (map entry xs) ≡ true
+  all_plain Good plain [] h = refl
+  all_plain Good plain (x ∷ xs) h = rw (plain x (All-head Good x xs h)) (all_plain Good plain xs (All-tail Good x xs h))

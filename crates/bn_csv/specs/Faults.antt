@@ -1,5 +1,5 @@
 -- The first fault of a table's entries, whatever the faults are. Entries are counted from 1.
-use Rattle.std.specs.Prelude.{ℕ, ◌+◌, nat_lt, if◌then◌else◌, List, [], ◌∷◌, Option, Some, None}
+use Rattle.std.specs.Prelude.{ℕ, ◌+◌, nat_lt, if◌then◌else◌, List, [], ◌∷◌, Option, Some, None, Result, Ok, Err}
 
 -- the first of two faults, where there is one, else the later of them
 abbrev pub else_fault : {F : Type 0} → Option F → Option F → Option F
@@ -21,3 +21,8 @@ fault_from entry_fault entry (fields ∷ rest) =
 unfoldable pub first_fault : {F : Type 0} → F → (ℕ → List (List ℕ) → Option F) → List (List (List ℕ)) → Option F
 first_fault empty entry_fault [] = Some empty
 first_fault empty entry_fault (fields ∷ rest) = fault_from entry_fault 1 (fields ∷ rest)
+
+-- the error of a result, if it has one
+abbrev pub err_of : {T E : Type 0} → Result T E → Option E
+err_of (Ok x) = None
+err_of (Err e) = Some e

@@ -2,6 +2,7 @@
 //! names and symbols, numbering by first appearance, and one line of text for each entry.
 #![tactic(auto)]
 
+mod drafts;
 mod entries;
 mod forms;
 mod laws;
@@ -9,6 +10,7 @@ mod names;
 mod writer;
 
 pub use bn_lists::NoMemory;
+pub use drafts::{TableDraft, read_entries};
 pub use entries::{Entries, Entry};
 pub use forms::{is_letter, is_state_name, is_symbol};
 pub use laws::{first_appearances_number_names, written_entries_are_read_back};

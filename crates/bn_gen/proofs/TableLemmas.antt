@@ -4,7 +4,7 @@ use Rattle.std.specs.List.{list_all}
 use Rattle.std.proofs.Math.ListN.{get_or-append}
 use Rattle.std.proofs.lemmas.List.{get_or-take}
 use Rattle.std.proofs.lemmas.Option.{slice_get-get_or}
-use Rattle.std.proofs.Common.{◌≡◌, ◌≤◌, ◌<◌, ◌+◌, ◌*◌, ◌∷◌, [], ℕ, zero, suc, ap, List, true, ◌∙◌, ◌++◌, refl, sym, subst, arith}
+use Rattle.std.proofs.Common.{◌≡◌, ◌≤◌, ◌<◌, ◌+◌, ◌*◌, ◌∷◌, [], ℕ, zero, suc, ap, List, true, ◌∙◌, refl, sym, subst, arith}
 use Rattle.bn_csv.specs.Forms.{is_state_name, is_symbol_byte}
 use Rattle.bn_csv.specs.Lines.{lines_of}
 use Rattle.bn_csv.proofs.FormsLemmas.{all-at}
@@ -14,11 +14,11 @@ use Rattle.bn_machine.specs.declared.quint.Quint.{Quint}
 use Rattle.bn_table.specs.Entry.{HasForms, said}
 use Rattle.bn_table.specs.Reading.{Reads}
 use Rattle.bn_table.specs.Rows.{IsTable, blank, letters_in, names_in, rows_by, rows_of}
-use Rattle.bn_table.proofs.Writing.{all-lines, reads-back}
+use Rattle.bn_table.proofs.Writing.{lines-all, reads-back}
 use Rattle.bn_gen.specs.Increments.{IsRoundCount, quints_of}
 use Rattle.bn_gen.specs.Text.{increments_table, increments_text, increment_letters, increment_names, round_names}
 use Rattle.bn_gen.proofs.Cases.{by_cases}
-use Rattle.bn_gen.proofs.MachineLemmas.{counted, in_range}
+use Rattle.bn_gen.proofs.MachineLemmas.{in_range}
 
 -- ---- it is a table
 
@@ -100,7 +100,7 @@ forms k q state next h r state_is next_is = record {
 pub text_is : (k : ℕ) (quints : List Quint) (i : ℕ) (text : List ℕ) → quints ≡ quints_of k → length quints ≤ i →
     text ≡ lines_of (rows_by (increment_names k) increment_letters (take i quints)) → text ≡ increments_text k
 text_is k quints i text same all e =
-    e ∙ all-lines (increment_names k) increment_letters quints i all ∙ ap (λ (qs : List Quint). lines_of (rows_by (increment_names k) increment_letters qs)) same
+    lines-all (increment_names k) increment_letters quints i text all e ∙ ap (λ (qs : List Quint). lines_of (rows_by (increment_names k) increment_letters qs)) same
 
 pub text_reads : (k : ℕ) (text : List ℕ) → IsRoundCount k → text ≡ increments_text k → Reads text (increments_table k)
 text_reads k text h e = reads-back (increments_table k) text (is_table k h) e

@@ -1,13 +1,13 @@
 -- A draft and its quadruples.
 use Rattle.std.proofs.Common.{◌≡◌, ◌<◌, ◌≤◌, get_or, ◌∷◌, ◌++◌, ◌∙◌, ℕ, List, [], length, Option, Some, refl, sym, ap, arith, subst, All, zero, suc, map}
-use Rattle.std.proofs.lemmas.List.{map-append}
+use Rattle.std.proofs.lemmas.List.{length-map, map-append}
 use Rattle.std.proofs.lemmas.List.Elements.{All-head, All-tail}
 use Rattle.std.proofs.lemmas.Option.{slice_get-get_or}
 use Rattle.bn_lists.specs.Lists.{nth}
 use Rattle.bn_quad.specs.Names.{Naming}
 use Rattle.bn_quad.specs.Quadruples.{Deed, Rewrite, Move, Rule, Quadruples, IsDeedInRange, IsRuleInRange}
 use Rattle.bn_quad.specs.Kept.{Agree, IsUnmixed, IsActInRange, IsFirstFault, IsReadInRange, IsSound, act_at, act_of, quad_of, read_at, read_of, rule_of, rules_of}
-use Rattle.bn_quad.proofs.KeptLemmas.{act_of-deed_of, length-rules_of, read_of-deed_of, rule_of-quad_of, rules_of-quads}
+use Rattle.bn_quad.proofs.KeptLemmas.{act_of-deed_of, read_of-deed_of, rule_of-quad_of, rules_of-quads}
 use Rattle.bn_quad.specs.declared.quad.Quad.{Quad}
 use Rattle.bn_quad.specs.declared.quad.Act.{Act}
 use Rattle.bn_qtable.specs.Draft.{Adds, IsDraft, blanks_alone, drafted, names_of}
@@ -16,12 +16,7 @@ use Rattle.bn_qtable.specs.declared.entry.TheConstants.{MOST_ENTRIES}
 use Rattle.bn_qtable.specs.Rows.{IsQuadTableOf, SpellsQuadruples, counts_of, quadruple_rows_by, table_of}
 use Rattle.bn_qtable.specs.Named.{RuleIsNamed}
 use Rattle.bn_qtable.specs.declared.draft.Draft.{Draft}
-use Rattle.bn_qtable.proofs.Growing.{Few, few-names, rows-count, spells-more, spells-none, spells-own}
-
-pub few-draft : (d : Draft) → IsDraft d → Few (names_of d) (length d.quads.items)
-few-draft d h =
-    let P : ℕ → Type 0 = Few (names_of d) in
-    subst P (length-rules_of d.quads.items) (few-names (names_of d) (rules_of d.quads.items) (drafted d) h.spelled)
+use Rattle.bn_qtable.proofs.Growing.{spells-more, spells-none, spells-own}
 
 -- three tapes that agree
 abbrev pub AllAgree : Quad → Type 0
@@ -120,19 +115,18 @@ no-first-fault d states symbols i q h e f fault =
     let R : Quad → Type 0 = IsSound states symbols in
     fault.faulty (subst R is (subst Q (sym f) (subst P (sym e) sound)))
 
-pub table-of-draft : (d : Draft) (p : Quadruples) (n : Naming) → IsDraft d → length d.quads.items ≤ MOST_ENTRIES → map quad_of p.rules ≡ d.quads.items → p.states ≡ length (names_of d).states → p.symbols ≡ counts_of (names_of d)
+pub table-of-draft : (d : Draft) (p : Quadruples) (n : Naming) → IsDraft d → length (drafted d) ≤ MOST_ENTRIES → map quad_of p.rules ≡ d.quads.items → p.states ≡ length (names_of d).states → p.symbols ≡ counts_of (names_of d)
     → 0 < length p.rules → n ≡ names_of d → IsQuadTableOf (drafted d) (table_of p n)
 table-of-draft d p n h few listed states symbols some names =
     let rules : p.rules ≡ rules_of d.quads.items = sym (rules_of-quads p.rules) ∙ ap rules_of listed in
     let P : List (Rule ℕ) → Type 0 = λ rs. SpellsQuadruples (names_of d) rs (drafted d) in
     let Q : Naming → Type 0 = λ m. SpellsQuadruples m p.rules (drafted d) in
-    let count : length (drafted d) ≡ length d.quads.items = rows-count (names_of d) (rules_of d.quads.items) ∙ length-rules_of d.quads.items in
+    let count : length (drafted d) ≡ length (rules_of d.quads.items) = length-map (rules_of d.quads.items) _ in
     let long : length p.rules ≡ length (rules_of d.quads.items) = ap (λ (rs : List (Rule ℕ)). length rs) rules in
-    let same = length-rules_of d.quads.items in
     record {
       spelled = subst Q (sym names) (subst P (sym rules) h.spelled);
       some = omega arith;
-      few = omega arith;
+      few = few;
       states = states ∙ ap (λ (m : Naming). length m.states) (sym names);
       symbols = symbols ∙ ap counts_of (sym names);
     }

@@ -1,8 +1,8 @@
 -- Names that are gathered, one after the other.
-use Rattle.std.proofs.Common.{◌≡◌, ◌<◌, ◌≤◌, ◌+◌, ◌∷◌, ◌++◌, ◌∙◌, ℕ, zero, suc, List, [], length, take, Some, refl, sym, ap, arith, slice_get}
+use Rattle.std.proofs.Common.{◌≡◌, ◌<◌, ◌≤◌, ◌+◌, ◌∷◌, ◌++◌, ◌∙◌, ℕ, zero, suc, List, [], take, Some, refl, ap, arith, slice_get}
 use Rattle.std.specs.Prelude.{bytes_eq, Contains, true, Result, Ok, Err, OnOk}
 use Rattle.std.specs.Result.{is_ok}
-use Rattle.std.proofs.lemmas.List.{take_all, take_more}
+use Rattle.std.proofs.lemmas.List.{take_more}
 use Rattle.std.proofs.lemmas.Option.{get_or_from_slice_get, slice_get-get_or, slice_get_within}
 use Rattle.std.proofs.lemmas.Slice.Eq.{bytes_eq-Decides}
 use Rattle.bn_csv.specs.NumberingLaws.{AreApart}
@@ -31,16 +31,7 @@ new-name xs i x apart at (k, within, here) =
 pub one-name : (xs : List (List ℕ)) (i : ℕ) (x : List ℕ) → slice_get xs i ≡ Some x → take (i + 1) xs ≡ take i xs ++ x ∷ []
 one-name xs i x at = take_more xs i x (slice_get_within xs i x at) ∙ ap (λ (t : List ℕ). take i xs ++ t ∷ []) (get_or_from_slice_get xs i x x at)
 
-pub all-names : (xs : List (List ℕ)) (i : ℕ) → length xs ≤ i → take i xs ≡ xs
-all-names xs i h = take_all i xs h
-
 -- the names of one tape
-pub on-tape-none : (n : Naming) (tape : ℕ) → symbols_on n tape ≡ [] → on_tape n tape [] ≡ n
-on-tape-none n zero e = refl
-on-tape-none n (suc zero) e = λ i. record { states = n.states; one = sym e i; two = n.two; three = n.three }
-on-tape-none n (suc (suc zero)) e = λ i. record { states = n.states; one = n.one; two = sym e i; three = n.three }
-on-tape-none n (suc (suc (suc tape))) e = λ i. record { states = n.states; one = n.one; two = n.two; three = sym e i }
-
 pub on-tape-more : (n : Naming) (tape : ℕ) (xs : List (List ℕ)) (x : List ℕ) → with_symbol (on_tape n tape xs) tape x ≡ on_tape n tape (xs ++ x ∷ [])
 on-tape-more n zero xs x = refl
 on-tape-more n (suc zero) xs x = refl

@@ -3,7 +3,7 @@ use Rattle.std.proofs.Common.{◌≡◌, ◌<◌, ◌≤◌, ◌+◌, ◌*◌, �
 use Rattle.std.specs.Prelude.{bytes_eq, slice_index_or, if◌then◌else◌}
 use Rattle.std.specs.List.{list_all}
 use Rattle.std.proofs.lemmas.Bool.{cases_Bool}
-use Rattle.std.proofs.lemmas.List.{append-nil, map-append, length-map}
+use Rattle.std.proofs.lemmas.List.{append-nil, map-append}
 use Rattle.std.proofs.lemmas.List.Concat.{flat_map-append}
 use Rattle.std.proofs.lemmas.List.Elements.{All-nil, All-push, All-head, All-tail, All-weaker}
 use Rattle.std.proofs.lemmas.Option.{slice_get_within, get_or_from_slice_get}
@@ -12,12 +12,12 @@ use Rattle.bn_csv.specs.Forms.{is_state_name, is_symbol}
 use Rattle.bn_csv.specs.Numbering.{firsts, firsts_by, with_name}
 use Rattle.bn_csv.proofs.NumberingLemmas.{firsts_push, length-firsts}
 use Rattle.bn_csv.proofs.AddedLemmas.{front, new_all, new_grows}
-use Rattle.bn_quad.specs.Names.{Naming, naming_of}
+use Rattle.bn_quad.specs.Names.{Naming}
 use Rattle.bn_quad.specs.Quadruples.{Deed, Rewrite, Move, Rule, IsDeedInRange, IsRuleInRange}
 use Rattle.bn_qtable.specs.Entry.{SaidQuadruple, Says, Rewrites, Moves, SaysHasForms, quadruple_entry, read_field, act_field, slash}
 use Rattle.bn_qtable.specs.Rows.{SpellsQuadruples, blank_name, counts_of, quadruple_rows_by, said_deed, said_of_quadruple, state_names_in, symbols_at, symbol_names_in}
 use Rattle.bn_csv.specs.Entries.{field_at}
-use Rattle.bn_qtable.specs.Draft.{Adds, Stands, with_says}
+use Rattle.bn_qtable.specs.Draft.{Adds, Stands, blanks_alone, with_says}
 use Rattle.bn_qtable.proofs.Passing.{no-slash}
 
 -- names with others behind them
@@ -179,10 +179,7 @@ spells-more n rules entries s r n2 h a =
     }
 
 -- no entry
-pub first-names : Naming
-first-names = naming_of [] (blank_name ∷ []) (blank_name ∷ []) (blank_name ∷ [])
-
-pub spells-none : SpellsQuadruples (naming_of [] (blank_name ∷ []) (blank_name ∷ []) (blank_name ∷ [])) [] []
+pub spells-none : SpellsQuadruples blanks_alone [] []
 unfolding firsts_by
 spells-none = record {
   rows = refl;
@@ -235,7 +232,7 @@ pub record Few (n : Naming) (count : ℕ) : Type 0 where
   pub two : length n.two ≤ 2 * count + 1
   pub three : length n.three ≤ 2 * count + 1
 
-few-of : (n : Naming) (rules : List (Rule ℕ)) (entries : List (List (List ℕ))) → SpellsQuadruples n rules entries → Few n (length entries)
+pub few-of : (n : Naming) (rules : List (Rule ℕ)) (entries : List (List (List ℕ))) → SpellsQuadruples n rules entries → Few n (length entries)
 few-of n rules entries h =
     let most : length (firsts (state_names_in entries)) ≤ length (state_names_in entries) = length-firsts bytes_eq bytes_eq-Decides (state_names_in entries) in
     let is : length n.states ≡ length (firsts (state_names_in entries)) = ap (λ (t : List (List ℕ)). length t) h.states_by_first in
@@ -246,12 +243,3 @@ few-of n rules entries h =
       two = few-symbols 2 n.two entries h.two_by_first;
       three = few-symbols 3 n.three entries h.three_by_first;
     }
-
-pub rows-count : (n : Naming) (rules : List (Rule ℕ)) → length (quadruple_rows_by n rules) ≡ length rules
-rows-count n rules = length-map rules _
-
-pub few-names : (n : Naming) (rules : List (Rule ℕ)) (entries : List (List (List ℕ))) → SpellsQuadruples n rules entries → Few n (length rules)
-few-names n rules entries h =
-    let count : length entries ≡ length rules = ap (λ (t : List (List (List ℕ))). length t) (sym h.rows) ∙ rows-count n rules in
-    let P : ℕ → Type 0 = Few n in
-    subst P count (few-of n rules entries h)

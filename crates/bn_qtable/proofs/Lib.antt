@@ -3,6 +3,5 @@ pub mod Passing
 pub mod Growing
 pub mod Drafting
 pub mod ReadingLaws
-pub mod Coming
 pub mod Writing
 pub mod Gathering

@@ -1,5 +1,5 @@
 -- Entries without a fault, and what they say.
-use Rattle.std.proofs.Common.{◌≡◌, ◌≤◌, ◌∷◌, ◌∙◌, ℕ, true, false, List, [], length, Some, None, refl, sym, ap, inl, inr, arith, slice_get}
+use Rattle.std.proofs.Common.{◌≡◌, ◌≤◌, ◌∷◌, ◌∙◌, ℕ, true, false, List, [], None, refl, sym, ap, inl, inr}
 use Rattle.std.specs.Prelude.{bytes_eq}
 use Rattle.std.proofs.lemmas.Bool.{cases_Bool, false≢true}
 use Rattle.std.proofs.lemmas.Slice.Eq.{bytes_eq-Decides}
@@ -13,34 +13,6 @@ use Rattle.bn_qtable.specs.Faults.{quadruple_entry_fault, quadruple_field_fault,
 use Rattle.bn_qtable.specs.declared.entry.TheConstants.{MOST_ENTRIES}
 use Rattle.bn_qtable.specs.declared.refusal.QuadTableRefusal.TheVariants as refusal
 use Rattle.bn_machine.proofs.ShiftLemmas.{shift_is}
-
--- eight fields
-pub eight_is : (fields : List (List ℕ)) (a b c d e f g h : List ℕ) → length fields ≡ 8 → slice_get fields 0 ≡ Some a → slice_get fields 1 ≡ Some b
-    → slice_get fields 2 ≡ Some c → slice_get fields 3 ≡ Some d → slice_get fields 4 ≡ Some e → slice_get fields 5 ≡ Some f → slice_get fields 6 ≡ Some g → slice_get fields 7 ≡ Some h
-    → fields ≡ a ∷ b ∷ c ∷ d ∷ e ∷ f ∷ g ∷ h ∷ []
-eight_is (s ∷ t ∷ u ∷ v ∷ w ∷ x ∷ y ∷ z ∷ []) a b c d e f g h n f0 f1 f2 f3 f4 f5 f6 f7 = cc
-eight_is [] a b c d e f g h n f0 f1 f2 f3 f4 f5 f6 f7 = cc
-eight_is (s ∷ []) a b c d e f g h n f0 f1 f2 f3 f4 f5 f6 f7 = cc f1
-eight_is (s ∷ t ∷ []) a b c d e f g h n f0 f1 f2 f3 f4 f5 f6 f7 = cc f2
-eight_is (s ∷ t ∷ u ∷ []) a b c d e f g h n f0 f1 f2 f3 f4 f5 f6 f7 = cc f3
-eight_is (s ∷ t ∷ u ∷ v ∷ []) a b c d e f g h n f0 f1 f2 f3 f4 f5 f6 f7 = cc f4
-eight_is (s ∷ t ∷ u ∷ v ∷ w ∷ []) a b c d e f g h n f0 f1 f2 f3 f4 f5 f6 f7 = cc f5
-eight_is (s ∷ t ∷ u ∷ v ∷ w ∷ x ∷ []) a b c d e f g h n f0 f1 f2 f3 f4 f5 f6 f7 = cc f6
-eight_is (s ∷ t ∷ u ∷ v ∷ w ∷ x ∷ y ∷ []) a b c d e f g h n f0 f1 f2 f3 f4 f5 f6 f7 = cc f7
-eight_is (s ∷ t ∷ u ∷ v ∷ w ∷ x ∷ y ∷ z ∷ zz ∷ zs) a b c d e f g h n f0 f1 f2 f3 f4 f5 f6 f7 = absurd (omega arith)
-
--- not eight fields
-pub not_eight : (entry : ℕ) (fields : List (List ℕ)) → (length fields ≡ 8 → ⊥) → quadruple_form_fault entry fields ≡ Some (refusal.FieldCount entry)
-not_eight entry [] h = refl
-not_eight entry (a ∷ []) h = refl
-not_eight entry (a ∷ b ∷ []) h = refl
-not_eight entry (a ∷ b ∷ c ∷ []) h = refl
-not_eight entry (a ∷ b ∷ c ∷ d ∷ []) h = refl
-not_eight entry (a ∷ b ∷ c ∷ d ∷ e ∷ []) h = refl
-not_eight entry (a ∷ b ∷ c ∷ d ∷ e ∷ f ∷ []) h = refl
-not_eight entry (a ∷ b ∷ c ∷ d ∷ e ∷ f ∷ g ∷ []) h = refl
-not_eight entry (a ∷ b ∷ c ∷ d ∷ e ∷ f ∷ g ∷ x ∷ []) h = absurd (h refl)
-not_eight entry (a ∷ b ∷ c ∷ d ∷ e ∷ f ∷ g ∷ x ∷ y ∷ ys) h = refl
 
 shift_back : (s : Shift) → is_shift (shift_text s) ≡ true
 shift_back Left = refl

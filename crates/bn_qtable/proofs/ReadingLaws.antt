@@ -15,7 +15,7 @@ use Rattle.bn_csv.proofs.NumberingLemmas.{apart-firsts}
 use Rattle.bn_quad.specs.Names.{Naming, naming_of}
 use Rattle.bn_quad.specs.Quadruples.{Deed, Rewrite, Move, Rule, IsDeedInRange, IsRuleInRange, quadruples_of}
 use Rattle.bn_qtable.specs.Entry.{SaidQuadruple, Says, Rewrites, Moves, HasForms, SaysHasForms, quadruple_entry, read_field, act_field}
-use Rattle.bn_qtable.specs.Draft.{Adds, Stands, with_says}
+use Rattle.bn_qtable.specs.Draft.{Adds, Stands, blanks_alone, with_says}
 use Rattle.bn_qtable.specs.Faults.{quadruple_entry_fault, quadruple_table_fault, quadruple_form_fault}
 use Rattle.bn_qtable.specs.Rows.{IsQuadTableOf, QuadTable, SpellsQuadruples, blank_name, counts_of, quadruple_rows_by, said_deed, said_of_quadruple, state_names_in, symbol_names_in, table_of}
 use Rattle.bn_qtable.specs.declared.entry.TheConstants.{MOST_ENTRIES}
@@ -196,7 +196,7 @@ one-more n rules done s f h few =
     }
 
 nothing : Spelling []
-nothing = record { names = naming_of [] (blank_name ∷ []) (blank_name ∷ []) (blank_name ∷ []); rules = []; spells = spells-none; few = omega arith }
+nothing = record { names = blanks_alone; rules = []; spells = spells-none; few = omega arith }
 
 next-spelling : (done : List (List (List ℕ))) (fields : List (List ℕ)) → Spelling done → quadruple_entry_fault (length done + 1) fields ≡ None → Spelling (done ++ fields ∷ [])
 next-spelling done fields so here =

@@ -1,15 +1,12 @@
 -- The text of a table.
-use Rattle.std.proofs.Common.{◌≡◌, ◌<◌, ◌≤◌, ◌+◌, ◌∷◌, ◌++◌, ◌∙◌, ℕ, zero, suc, List, [], length, take, get_or, true, refl, ap, All, Some, slice_get, arith}
+use Rattle.std.proofs.Common.{◌≡◌, ◌<◌, ◌∷◌, ◌∙◌, ℕ, zero, suc, List, [], length, get_or, map, true, refl, ap, All, Some, slice_get, arith}
 use Rattle.std.specs.Prelude.{slice_index_or}
-use Rattle.std.specs.List.{list_all}
-use Rattle.std.proofs.lemmas.List.{map-append, take_all, take_more}
-use Rattle.std.proofs.lemmas.List.Elements.{All-head, All-tail}
 use Rattle.std.proofs.lemmas.Option.{get_or_from_slice_get}
 use Rattle.bn_csv.specs.Entries.{entries_of}
 use Rattle.bn_csv.specs.Forms.{is_state_name, is_symbol}
 use Rattle.bn_csv.proofs.FormsLemmas.{plain-state-name, plain-symbol}
-use Rattle.bn_csv.specs.Lines.{is_plain, is_plain_entry, line_of, lines_of}
-use Rattle.bn_csv.proofs.LinesLemmas.{entries_of-lines_of, lines_of-push}
+use Rattle.bn_csv.specs.Lines.{is_plain, is_plain_entry, lines_of}
+use Rattle.bn_csv.proofs.LinesLemmas.{all_plain, entries_of-lines_of}
 use Rattle.bn_lists.specs.Lists.{nth}
 use Rattle.bn_machine.specs.declared.quint.Shift.{Shift}
 use Rattle.bn_machine.specs.declared.quint.Shift.TheVariants.{Left, Stay, Right}
@@ -79,27 +76,18 @@ rule-named p n (a ∷ b ∷ c ∷ []) e l h r k =
 pub all-named : (p : Quadruples) (n : Naming) → IsQuadMachine p → HasNames p n → All (RuleIsNamed n) p.rules
 all-named p n m h = λ k d inside. rule-named p n p.symbols refl m.tapes h (get_or p.rules k d) (m.in_range k d inside)
 
-plain-rows : (n : Naming) (rules : List (Rule ℕ)) → All (RuleIsNamed n) rules → list_all is_plain_entry (quadruple_rows_by n rules) ≡ true
-plain-rows n [] h = refl
-plain-rows n (r ∷ rs) h =
-    let N : Rule ℕ → Type 0 = RuleIsNamed n in
-    rw (plain-row n r (All-head N r rs h)) (plain-rows n rs (All-tail N r rs h))
-
 -- the lines of a machine's entries are read as the entries
 pub entries-back : (p : Quadruples) (n : Naming) (text : List ℕ) → IsQuadMachine p → HasNames p n → text ≡ lines_of (quadruple_rows_by n p.rules) → entries_of text ≡ quadruple_rows_by n p.rules
-entries-back p n text m h e = ap entries_of e ∙ entries_of-lines_of (quadruple_rows_by n p.rules) (plain-rows n p.rules (all-named p n m h))
+entries-back p n text m h e = ap entries_of e ∙ entries_of-lines_of (quadruple_rows_by n p.rules) (all_plain (λ (r : Rule ℕ). quadruple_entry (said_of_quadruple n r)) (RuleIsNamed n) (plain-row n) p.rules (all-named p n m h))
 
--- the line of one more quadruple
-pub one-line : (n : Naming) (quads : List Quad) (i : ℕ) (q : Quad) → i < length quads
-    → lines_of (quadruple_rows_by n (rules_of (take (i + 1) quads))) ≡ lines_of (quadruple_rows_by n (rules_of (take i quads))) ++ line_of (quadruple_entry (said_of_quadruple n (rule_of (get_or quads i q))))
-one-line n quads i q h =
-    ap (λ (qs : List Quad). lines_of (quadruple_rows_by n (rules_of qs))) (take_more quads i q h)
-    ∙ ap (λ (rs : List (Rule ℕ)). lines_of (quadruple_rows_by n rs)) (map-append rule_of (take i quads) (get_or quads i q ∷ []))
-    ∙ ap lines_of (map-append (λ (r : Rule ℕ). quadruple_entry (said_of_quadruple n r)) (rules_of (take i quads)) (rule_of (get_or quads i q) ∷ []))
-    ∙ lines_of-push (quadruple_rows_by n (rules_of (take i quads))) (quadruple_entry (said_of_quadruple n (rule_of (get_or quads i q))))
+-- the entry of a kept quadruple
+abbrev pub row : Naming → Quad → List (List ℕ)
+row n q = quadruple_entry (said_of_quadruple n (rule_of q))
 
-pub all-lines : (n : Naming) (quads : List Quad) (i : ℕ) → length quads ≤ i → lines_of (quadruple_rows_by n (rules_of (take i quads))) ≡ lines_of (quadruple_rows_by n (rules_of quads))
-all-lines n quads i h = ap (λ (qs : List Quad). lines_of (quadruple_rows_by n (rules_of qs))) (take_all i quads h)
+-- the lines of kept quadruples are those of their rules
+pub kept-lines : (n : Naming) (quads : List Quad) → map (row n) quads ≡ quadruple_rows_by n (rules_of quads)
+kept-lines n [] = refl
+kept-lines n (q ∷ qs) = ap (λ (rows : List (List (List ℕ))). row n q ∷ rows) (kept-lines n qs)
 
 pub plain-at : (names : List (List ℕ)) (n : ℕ) (name : List ℕ) → slice_get names n ≡ Some name → IsNamed is_symbol names n → is_plain name ≡ true
 plain-at names n name at (other, there, form) = let same : name ≡ other = cc in ap is_plain same ∙ plain-symbol other form

@@ -1,11 +1,12 @@
 //! One entry of a table of quadruples.
 
 ghost use Rattle.std.specs.Prelude.{◌≡◌, ◌∷◌, [], true, false, IfOk, IfSome, IfNone, bytes_eq};
+ghost use Rattle.bn_csv.specs.Faults.{err_of};
 ghost use Rattle.bn_qtable.specs.Entry.{HasForms, SaysHasForms, quadruple_entry, slash, read_field};
 ghost use Rattle.bn_qtable.specs.Entry.{act_field};
-ghost use Rattle.bn_qtable.specs.Fields.{said, says, err_of};
+ghost use Rattle.bn_qtable.specs.Fields.{said, says};
 ghost use Rattle.bn_qtable.specs.Faults as fault;
-ghost use Rattle.bn_qtable.specs.Faults.{quadruple_entry_fault, quadruple_field_fault};
+ghost use Rattle.bn_qtable.specs.Faults.{quadruple_field_fault, quadruple_form_fault};
 
 use crate::refusal::QuadTableRefusal;
 use bn_csv::{Entry, is_state_name, is_symbol};
@@ -134,15 +135,12 @@ fn eight_fields<'a>(
     })
 }
 
-/// What an entry says, where it is the one with this number, counted from 1; else its first fault.
+/// What an entry says, or the first fault of its fields. The number is the entry's own, counted from 1.
 pub fn read_fields<'a>(entry: &'a Entry, number: u32) -> Result<Fields<'a>, QuadTableRefusal>
     ensures says { IfOk result (λ f. quadruple_entry (said f) ≡ entry.now) }
     ensures forms { IfOk result (λ f. HasForms (said f)) }
-    ensures fault { quadruple_entry_fault number entry.now ≡ err_of result }
+    ensures fault { quadruple_form_fault number entry.now ≡ err_of result }
 {
-    if number > MOST_ENTRIES {
-        return Err(QuadTableRefusal::TooMany { entry: number });
-    }
     if entry.len() != 8 {
         return Err(QuadTableRefusal::FieldCount { entry: number });
     }

@@ -14,9 +14,9 @@ ghost use Rattle.bn_qtable.specs.Reading.{ReadsQuadruples};
 ghost use Rattle.bn_qtable.specs.Rows.{IsTable, quadruple_rows_by, said_deed, said_of_quadruple, table_of};
 ghost use Rattle.bn_qtable.specs.declared.refusal.QuadTableRefusal.TheVariants as refusal;
 
-use crate::draft::{add_entry, into_table, new_draft};
+use crate::draft::{into_table, new_draft};
 use crate::refusal::QuadTableRefusal;
-use bn_csv::{Entries, Entry, EntryWriter, NoMemory};
+use bn_csv::{EntryWriter, NoMemory, read_entries};
 use bn_machine::{Shift, text_of_shift};
 use bn_quad::{Act, Quad, QuadMachine, QuadNames};
 use std::alloc::Global;
@@ -30,12 +30,7 @@ pub fn read_quads(alloc: Global, bytes: &[u8]) -> Result<(QuadMachine, QuadNames
     ensures named { IfOk result (λ t. HasNames t.0 t.1) }
     ensures refused { IfErr result (λ e. e ≢ refusal.NoMemory → quadruple_table_fault (entries_of bytes.now) ≡ Some e) }
 {
-    let mut entries = Entries::new(alloc, bytes);
-    let mut entry = Entry::new(alloc);
-    let mut draft = new_draft(alloc)?;
-    'entries: while entries.read_entry(&mut entry)? {
-        add_entry(&mut draft, &entry)?;
-    }
+    let draft = read_entries(alloc, bytes, new_draft(alloc)?)?;
     into_table(alloc, draft)
 }
 

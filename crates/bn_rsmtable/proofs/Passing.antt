@@ -1,6 +1,6 @@
 -- Entries without a fault, and the moves that they are.
-use Rattle.std.specs.Prelude.{◌≡◌, ℕ, ◌≤◌, List, [], ◌∷◌, length, Some, None, slice_get, refl}
-use Rattle.std.proofs.Common.{◌∙◌, arith}
+use Rattle.std.specs.Prelude.{◌≡◌, ℕ, ◌≤◌, List, [], ◌∷◌, None, refl}
+use Rattle.std.proofs.Common.{◌∙◌}
 use Rattle.bn_csv.proofs.FaultLemmas.{in_number, passed, within_number}
 use Rattle.bn_rsm.specs.declared.rsm_move.RsmMove.{RsmMove}
 use Rattle.bn_rsmtable.specs.Entry.{IsMove, move_entry}
@@ -8,16 +8,6 @@ use Rattle.bn_rsmtable.specs.Faults.{move_entry_fault, move_field_fault, move_fo
 use Rattle.bn_rsmtable.specs.declared.entry.TheConstants.{MOST_ENTRIES}
 use Rattle.bn_rsmtable.specs.declared.refusal.RsmTableRefusal.TheVariants as refusal
 use Rattle.bn_rsmtable.proofs.Decimals.{number_decimal, numbered, same_number}
-
--- four fields
-pub four_is : (fields : List (List ℕ)) (a b c d : List ℕ) → length fields ≡ 4 → slice_get fields 0 ≡ Some a → slice_get fields 1 ≡ Some b
-    → slice_get fields 2 ≡ Some c → slice_get fields 3 ≡ Some d → fields ≡ a ∷ b ∷ c ∷ d ∷ []
-four_is (s ∷ t ∷ u ∷ v ∷ []) a b c d n f0 f1 f2 f3 = cc
-four_is [] a b c d n f0 f1 f2 f3 = cc f0
-four_is (s ∷ []) a b c d n f0 f1 f2 f3 = cc f1
-four_is (s ∷ t ∷ []) a b c d n f0 f1 f2 f3 = cc f2
-four_is (s ∷ t ∷ u ∷ []) a b c d n f0 f1 f2 f3 = cc f3
-four_is (s ∷ t ∷ u ∷ v ∷ w ∷ ws) a b c d n f0 f1 f2 f3 = absurd (omega arith)
 
 -- the move that an entry is
 pub record IsEntry (fields : List (List ℕ)) : Type 0 where

@@ -3,14 +3,13 @@ use Rattle.std.specs.Prelude.{◌≡◌, ◌≢◌, ℕ, ◌+◌, ◌≤◌, nat
 use Rattle.std.proofs.Common.{◌++◌, length-append, sym, ap, subst, ◌∙◌, arith, inl, inr}
 use Rattle.std.proofs.lemmas.List.{length-map, map-append}
 use Rattle.std.proofs.lemmas.List.Elements.{All-head, All-nil, All-push, All-tail}
-use Rattle.std.specs.List.{list_all}
 use Rattle.bn_csv.specs.Entries.{entries_of}
 use Rattle.bn_csv.specs.Faults.{else_fault, fault_from, first_fault}
 use Rattle.bn_csv.proofs.FaultLemmas.{in_number, kept_to_last, none_faulty}
 use Rattle.bn_rsmtable.specs.declared.entry.TheConstants.{MOST_ENTRIES}
 use Rattle.bn_base.specs.declared.limits.TheConstants.{MOST_COUNT}
 use Rattle.bn_csv.specs.Lines.{is_plain_entry, lines_of}
-use Rattle.bn_csv.proofs.LinesLemmas.{entries_of-lines_of}
+use Rattle.bn_csv.proofs.LinesLemmas.{all_plain, entries_of-lines_of}
 use Rattle.bn_rsm.specs.Faults as moves
 use Rattle.bn_rsm.specs.Laws.{MovesAreSoundOrRefused, RefusalsAreOne, SoundMovesAreTaken}
 use Rattle.bn_rsm.specs.Machines.{AreSound, Machine, same_machine}
@@ -243,16 +242,12 @@ plain_step m h =
     let out = h.out in
     rw (plain_decimal (m.state + 1) (omega arith), plain_decimal (m.line + 1) (omega arith), plain_decimal (m.next + 1) (omega arith), plain_decimal (m.out + 1) (omega arith)) refl
 
-plain_steps : (ms : List RsmMove) → All IsMove ms → list_all is_plain_entry (entries_by ms) ≡ true
-plain_steps [] h = refl
-plain_steps (m ∷ ms) h = rw (plain_step m (All-head IsMove m ms h)) (plain_steps ms (All-tail IsMove m ms h))
-
 -- a machine's lines are read as it again
 pub read_back : (m : Machine) (bytes : List ℕ) → IsTable m → bytes ≡ lines_of (entries_by m.moves) → ReadsMoves bytes m
 read_back m bytes h is =
     let states : states_named m.moves ≤ MOST_COUNT = omega (arith, h.states, h.states_few) in
     let lines : lines_named m.moves ≤ MOST_COUNT = omega (arith, h.lines, h.lines_few) in
-    let back : entries_of bytes ≡ entries_by m.moves = ap entries_of is ∙ entries_of-lines_of (entries_by m.moves) (plain_steps m.moves (all_moves m.moves states lines)) in
+    let back : entries_of bytes ≡ entries_by m.moves = ap entries_of is ∙ entries_of-lines_of (entries_by m.moves) (all_plain move_entry IsMove plain_step m.moves (all_moves m.moves states lines)) in
     let count : length (entries_of bytes) ≡ length m.moves = ap (λ (xs : List (List (List ℕ))). length xs) back ∙ length-map m.moves move_entry in
     record {
       moves = record { rows = sym back; within = all_moves m.moves states lines; some = omega (arith, h.some); few = omega (arith, h.few) };

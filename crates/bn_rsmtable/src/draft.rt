@@ -1,16 +1,14 @@
 //! A table that is being read.
 
-ghost use Rattle.std.specs.Prelude.{◌≡◌, ◌≢◌, ◌≤◌, ◌+◌, ◌++◌, ◌∷◌, [], length, None, Some, OnOk, IfOk, IfErr};
+ghost use Rattle.std.specs.Prelude.{◌≡◌, ◌≢◌, ◌≤◌, ◌++◌, ◌∷◌, [], length, OnOk, IfOk, IfErr};
 ghost use Rattle.bn_rsmtable.specs.Draft.{IsDraft};
-ghost use Rattle.bn_rsmtable.specs.Entry.{IsMove, move_entry, states_named, lines_named};
-ghost use Rattle.bn_rsmtable.specs.Faults.{move_entry_fault};
+ghost use Rattle.bn_rsmtable.specs.Entry.{IsMove, states_named, lines_named};
 ghost use Rattle.bn_rsmtable.specs.Drafted.{drafted, IsTold};
-ghost use Rattle.bn_rsmtable.specs.declared.entry.TheConstants.{MOST_ENTRIES};
 ghost use Rattle.bn_rsmtable.specs.declared.refusal.RsmTableRefusal.TheVariants as refusal;
 
-use crate::entry::read_move;
+use crate::entry::{MOST_ENTRIES, read_move};
 use crate::refusal::RsmTableRefusal;
-use bn_csv::{Entry, NoMemory};
+use bn_csv::{Entry, NoMemory, TableDraft};
 use bn_rsm::{Rsm, RsmMove, RsmRefusal};
 use std::alloc::Global;
 
@@ -43,33 +41,48 @@ fn add_move(draft: &mut Draft, step: RsmMove) -> Result<(), NoMemory>
 {
     draft.states = draft.states.max(step.state + 1).max(step.next + 1);
     draft.lines = draft.lines.max(step.line + 1).max(step.out + 1);
-    if draft.moves.push(step).is_err() {
-        return Err(NoMemory);
-    }
+    draft.moves.push(step)?;
     Ok(())
 }
 
-/// Reads one more entry into the draft, or answers its first fault.
-pub fn add_entry(draft: &mut Draft, entry: &Entry) -> Result<(), RsmTableRefusal>
-    requires draft { IsDraft draft.old }
-    requires few { length draft.old.moves.items ≤ MOST_ENTRIES }
-    ensures draft { OnOk result (IsDraft draft.new) }
-    ensures more { OnOk result (drafted draft.new ≡ drafted draft.old ++ entry.now ∷ []) }
-    ensures passes { OnOk result (move_entry_fault (length draft.old.moves.items + 1) entry.now ≡ None) }
-    ensures fault { IfErr result (λ e. e ≢ refusal.NoMemory
-        → move_entry_fault (length draft.old.moves.items + 1) entry.now ≡ Some e) }
-{
-    let number = draft.moves.len() as u32 + 1;
-    let step = read_move(entry, number)?;
-    add_move(draft, step)?;
-    Ok(())
+impl TableDraft for Draft {
+    ghost use Rattle.bn_rsmtable.specs.Faults.{move_form_fault};
+    ghost use Rattle.bn_rsmtable.specs.declared.entry.TheConstants.{MOST_ENTRIES as most};
+
+    type Refusal = RsmTableRefusal;
+
+    const MOST_ENTRIES: u32 = MOST_ENTRIES;
+
+    ghost MOST_ENTRIES = { most };
+
+    ghost is_draft = { IsDraft };
+
+    ghost taken = { drafted };
+
+    ghost form_fault = { move_form_fault };
+
+    ghost too_many = { refusal.TooMany };
+
+    ghost no_memory = { refusal.NoMemory };
+
+    ghost wants = { λ n e h. h };
+
+    fn too_many(entry: u32) -> RsmTableRefusal {
+        RsmTableRefusal::TooMany { entry }
+    }
+
+    fn add_entry(&mut self, entry: &Entry, number: u32) -> Result<(), RsmTableRefusal> {
+        let step = read_move(entry, number)?;
+        add_move(self, step)?;
+        Ok(())
+    }
 }
 
 /// The machine of a draft's moves; else `Empty` where there is none, or the first move that agrees with an earlier
 /// one on a side.
 pub fn into_machine(alloc: Global, draft: Draft) -> Result<Rsm, RsmTableRefusal>
     requires draft { IsDraft draft }
-    requires few { length draft.moves.items ≤ MOST_ENTRIES }
+    requires few { length (drafted draft) ≤ MOST_ENTRIES }
     ensures moves { IfOk result (λ r. r.moves ≡ draft.moves.items) }
     ensures states { IfOk result (λ r. r.states ≡ states_named draft.moves.items) }
     ensures lines { IfOk result (λ r. r.lines ≡ lines_named draft.moves.items) }

@@ -1,10 +1,10 @@
 //! One entry of a table of moves.
 
 ghost use Rattle.std.specs.Prelude.{◌≡◌, ◌<◌, ◌+◌, ◌∷◌, [], true, false, decimal, MatchOption, IfOk, ◌^◌};
+ghost use Rattle.bn_csv.specs.Faults.{err_of};
 ghost use Rattle.bn_rsmtable.specs.Entry.{IsMove, move_entry};
 ghost use Rattle.bn_rsmtable.specs.Faults as fault;
-ghost use Rattle.bn_rsmtable.specs.Faults.{move_entry_fault, move_field_fault};
-ghost use Rattle.bn_rsmtable.specs.Fields.{err_of};
+ghost use Rattle.bn_rsmtable.specs.Faults.{move_field_fault, move_form_fault};
 
 use crate::refusal::RsmTableRefusal;
 use bn_base::{MOST_COUNT, read_u64};
@@ -68,15 +68,12 @@ fn four_fields(
     })
 }
 
-/// The move of an entry, where it is the one with this number, counted from 1; else its first fault.
+/// The move of an entry, or the first fault of its fields. The number is the entry's own, counted from 1.
 pub fn read_move(entry: &Entry, number: u32) -> Result<RsmMove, RsmTableRefusal>
     ensures says { IfOk result (λ m. move_entry m ≡ entry.now) }
     ensures within { IfOk result IsMove }
-    ensures fault { move_entry_fault number entry.now ≡ err_of result }
+    ensures fault { move_form_fault number entry.now ≡ err_of result }
 {
-    if number > MOST_ENTRIES {
-        return Err(RsmTableRefusal::TooMany { entry: number });
-    }
     if entry.len() != 4 {
         return Err(RsmTableRefusal::FieldCount { entry: number });
     }

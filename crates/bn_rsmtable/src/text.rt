@@ -7,9 +7,9 @@ ghost use Rattle.bn_rsmtable.specs.Entry.{AreReadAs, move_entry, entries_by, lin
 ghost use Rattle.bn_rsmtable.specs.Reading.{IsMoveTableRefusal, ReadsMoves};
 ghost use Rattle.bn_rsmtable.specs.Writing.{IsTable};
 
-use crate::draft::{add_entry, into_machine, new_draft};
+use crate::draft::{into_machine, new_draft};
 use crate::refusal::RsmTableRefusal;
-use bn_csv::{Entries, Entry, EntryWriter, NoMemory};
+use bn_csv::{EntryWriter, NoMemory, read_entries};
 use bn_rsm::{Rsm, RsmMove};
 use itoa::Buffer;
 use std::alloc::Global;
@@ -21,12 +21,7 @@ pub fn read_rsm(alloc: Global, bytes: &[u8]) -> Result<Rsm, RsmTableRefusal>
     ensures ok { IfOk result (ReadsMoves bytes.now) }
     ensures refused { IfErr result (IsMoveTableRefusal bytes.now) }
 {
-    let mut entries = Entries::new(alloc, bytes);
-    let mut entry = Entry::new(alloc);
-    let mut draft = new_draft(alloc);
-    'entries: while entries.read_entry(&mut entry)? {
-        add_entry(&mut draft, &entry)?;
-    }
+    let draft = read_entries(alloc, bytes, new_draft(alloc))?;
     into_machine(alloc, draft)
 }
 

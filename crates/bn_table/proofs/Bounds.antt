@@ -66,10 +66,9 @@ names-count [] = refl
 names-count (fields ∷ rest) = let later = names-count rest in omega arith
 
 pub few-names : (names : List (List ℕ)) (letters : List ℕ) (quints : List Quint) (entries : List (List (List ℕ))) → SpellsQuintuples names letters quints entries
-    → length names ≤ 2 * length quints
+    → length names ≤ 2 * length entries
 few-names names letters quints entries h =
     let most : length (firsts (names_in entries)) ≤ length (names_in entries) = length-firsts bytes_eq bytes_eq-Decides (names_in entries) in
-    let count : length entries ≡ length quints = ap (λ (t : List (List (List ℕ))). length t) (sym h.rows) ∙ length-map quints _ in
     let is : length names ≡ length (firsts (names_in entries)) = ap (λ (t : List (List ℕ)). length t) h.names_by_first in
     omega (arith, names-count entries)
 
@@ -99,6 +98,6 @@ fits_table t h =
     record {
       numbered = rw h.states (numbered-names t.names (states_in t.machine.quints) (names_in (rows_of t)) s.names_by_first numbers);
       quints = few;
-      states = rw h.states (omega (arith, few-names t.names t.letters t.machine.quints (rows_of t) s));
+      states = rw h.states (omega (arith, h.few, few-names t.names t.letters t.machine.quints (rows_of t) s));
       symbols = rw h.symbols (few-letters t.names t.letters t.machine.quints (rows_of t) s);
     }

@@ -1,5 +1,5 @@
 -- One more entry of a table.
-use Rattle.std.proofs.Common.{◌≡◌, ◌≤◌, ◌∷◌, ◌++◌, ◌∙◌, ℕ, true, List, [], length, Some, refl, sym, ap, subst, arith, slice_get, append_assoc, nat_eq, length-append, All}
+use Rattle.std.proofs.Common.{◌≡◌, ◌≤◌, ◌∷◌, ◌++◌, ◌∙◌, ℕ, List, [], length, Some, refl, sym, ap, subst, arith, slice_get, append_assoc, nat_eq, length-append, All}
 use Rattle.std.specs.Prelude.{bytes_eq}
 use Rattle.std.proofs.lemmas.Bool.Decides.{Decides-eqb}
 use Rattle.std.proofs.lemmas.List.{map-append}
@@ -12,7 +12,7 @@ use Rattle.bn_csv.proofs.NumberingLemmas.{firsts-push, firsts_push}
 use Rattle.bn_csv.proofs.AddedLemmas.{front, new_all, new_grows}
 use Rattle.bn_machine.specs.Machine.{IsInRange}
 use Rattle.bn_machine.specs.declared.quint.Quint.{Quint}
-use Rattle.bn_table.specs.Entry.{Said, entry_of}
+use Rattle.bn_table.specs.Entry.{HasForms, Said, entry_of}
 use Rattle.bn_table.specs.Rows.{SpellsQuintuples, blank, letters_in, names_in, rows_by, said_of, with_letter}
 use Rattle.bn_csv.specs.Entries.{field_at}
 
@@ -37,10 +37,7 @@ pub record Adds (names : List (List ℕ)) (letters : List ℕ) (s : Said) (q : Q
   pub write : slice_get letters2 q.write ≡ Some s.write
   pub next : slice_get names2 q.next ≡ Some s.next
   pub shift : q.shift ≡ s.shift
-  pub state_form : is_state_name s.state ≡ true
-  pub read_form : is_symbol_byte s.read ≡ true
-  pub write_form : is_symbol_byte s.write ≡ true
-  pub next_form : is_state_name s.next ≡ true
+  pub forms : HasForms s
 
 said-added : (names : List (List ℕ)) (letters : List ℕ) (s : Said) (q : Quint) (names2 : List (List ℕ)) (letters2 : List ℕ) → Adds names letters s q names2 letters2
     → entry_of (said_of names2 letters2 q) ≡ entry_of s
@@ -91,8 +88,8 @@ spells-more names letters quints entries s q names2 letters2 h a =
       in_range = All-push (IsInRange (length names2) (length letters2)) quints q (All-weaker (IsInRange (length names) (length letters)) (IsInRange (length names2) (length letters2)) (wider (length names) (length letters) (length names2) (length letters2) longer wide) quints h.in_range) here;
       names_by_first = a.names_after ∙ rw h.names_by_first (sym (names-after entries s));
       letters_by_first = a.letters_after ∙ rw h.letters_by_first (sym (letters-after entries s));
-      names_form = rw a.names_after (new_all bytes_eq is_state_name (with_name names s.state) s.next (new_all bytes_eq is_state_name names s.state h.names_form a.state_form) a.next_form);
-      letters_form = rw a.letters_after (new_all nat_eq is_symbol_byte (with_letter letters s.read) s.write (new_all nat_eq is_symbol_byte letters s.read h.letters_form a.read_form) a.write_form);
+      names_form = rw a.names_after (new_all bytes_eq is_state_name (with_name names s.state) s.next (new_all bytes_eq is_state_name names s.state h.names_form a.forms.state) a.forms.next);
+      letters_form = rw a.letters_after (new_all nat_eq is_symbol_byte (with_letter letters s.read) s.write (new_all nat_eq is_symbol_byte letters s.read h.letters_form a.forms.read) a.forms.write);
     }
 
 -- no entry

@@ -1,8 +1,9 @@
 -- Entries without a fault, and what they say.
-use Rattle.std.proofs.Common.{◌≡◌, ◌≤◌, ◌∷◌, ◌∙◌, ℕ, true, List, [], length, Some, None, refl, arith, slice_get}
-use Rattle.std.specs.Prelude.{◌==◌}
+use Rattle.std.proofs.Common.{◌≡◌, ◌≤◌, ◌∷◌, ◌∙◌, ℕ, true, List, [], length, None, refl, sym, subst, arith, Result, Ok, Err}
+use Rattle.std.specs.Prelude.{◌==◌, IfOk}
 use Rattle.std.proofs.lemmas.Bool.{false≢true}
 use Rattle.std.proofs.lemmas.Bool.Decides.{Decides-eqb}
+use Rattle.bn_csv.specs.Faults.{err_of}
 use Rattle.bn_csv.specs.Forms.{is_letter, is_state_name, is_symbol_byte}
 use Rattle.bn_csv.proofs.FaultLemmas.{in_number, passed, within_number}
 use Rattle.bn_csv.proofs.NumberingLemmas.{both_true}
@@ -11,30 +12,12 @@ use Rattle.bn_machine.specs.declared.quint.Shift.TheVariants.{Left, Stay, Right}
 use Rattle.bn_table.specs.Entry.{Said, HasForms, entry_of}
 use Rattle.bn_machine.specs.Shifts.{is_shift, shift_text}
 use Rattle.bn_table.specs.Faults.{entry_fault, field_fault, form_fault}
+use Rattle.bn_table.specs.Fields.{said}
+use Rattle.bn_table.specs.declared.entry.Fields.{Fields}
 use Rattle.bn_table.specs.declared.entry.TheConstants.{MOST_ENTRIES}
+use Rattle.bn_table.specs.declared.refusal.TableRefusal.{TableRefusal}
 use Rattle.bn_table.specs.declared.refusal.TableRefusal.TheVariants as refusal
 use Rattle.bn_machine.proofs.ShiftLemmas.{shift_is}
-
--- five fields
-pub five_is : (fields : List (List ℕ)) (a b c d e : List ℕ) → length fields ≡ 5 → slice_get fields 0 ≡ Some a → slice_get fields 1 ≡ Some b
-    → slice_get fields 2 ≡ Some c → slice_get fields 3 ≡ Some d → slice_get fields 4 ≡ Some e → fields ≡ a ∷ b ∷ c ∷ d ∷ e ∷ []
-five_is (v ∷ w ∷ x ∷ y ∷ z ∷ []) a b c d e n f0 f1 f2 f3 f4 = cc
-five_is [] a b c d e n f0 f1 f2 f3 f4 = cc f0
-five_is (v ∷ []) a b c d e n f0 f1 f2 f3 f4 = cc f1
-five_is (v ∷ w ∷ []) a b c d e n f0 f1 f2 f3 f4 = cc f2
-five_is (v ∷ w ∷ x ∷ []) a b c d e n f0 f1 f2 f3 f4 = cc f3
-five_is (v ∷ w ∷ x ∷ y ∷ []) a b c d e n f0 f1 f2 f3 f4 = cc f4
-five_is (v ∷ w ∷ x ∷ y ∷ z ∷ u ∷ us) a b c d e n f0 f1 f2 f3 f4 = absurd (omega arith)
-
--- not five fields
-pub not_five : (entry : ℕ) (fields : List (List ℕ)) → (length fields ≡ 5 → ⊥) → form_fault entry fields ≡ Some (refusal.FieldCount entry)
-not_five entry [] h = refl
-not_five entry (v ∷ []) h = refl
-not_five entry (v ∷ w ∷ []) h = refl
-not_five entry (v ∷ w ∷ x ∷ []) h = refl
-not_five entry (v ∷ w ∷ x ∷ y ∷ []) h = refl
-not_five entry (v ∷ w ∷ x ∷ y ∷ z ∷ []) h = absurd (h refl)
-not_five entry (v ∷ w ∷ x ∷ y ∷ z ∷ u ∷ us) h = refl
 
 letter_is : (field : List ℕ) → is_letter field ≡ true → (b : ℕ) × (field ≡ b ∷ []) × (is_symbol_byte b ≡ true)
 letter_is [] e = absurd (false≢true e)
@@ -101,19 +84,22 @@ says n fields h =
       ),
     )
 
--- what an entry without a fault says has the right forms
-pub forms : (n : ℕ) (s : Said) → entry_fault n (entry_of s) ≡ None → (n ≤ MOST_ENTRIES) × HasForms s
-forms n s h =
-    let (few, form) = in_number MOST_ENTRIES refusal.TooMany form_fault n (entry_of s) h in
-    let p = fields-pass n s.state (s.read ∷ []) (s.write ∷ []) (shift_text s.shift) s.next form in (
-      few,
-      record {
-        state = p.state;
-        read = (both_true (is_symbol_byte s.read) true p.read).0;
-        write = (both_true (is_symbol_byte s.write) true p.write).0;
-        next = p.next;
-      },
-    )
+-- what five fields without a fault say has the right forms
+forms : (n : ℕ) (s : Said) → form_fault n (entry_of s) ≡ None → HasForms s
+forms n s form =
+    let p = fields-pass n s.state (s.read ∷ []) (s.write ∷ []) (shift_text s.shift) s.next form in record {
+      state = p.state;
+      read = (both_true (is_symbol_byte s.read) true p.read).0;
+      write = (both_true (is_symbol_byte s.write) true p.write).0;
+      next = p.next;
+    }
+
+pub said-forms : (n : ℕ) (a b c d e : List ℕ) (r : Result Fields TableRefusal) → IfOk r (λ f. entry_of (said f) ≡ a ∷ b ∷ c ∷ d ∷ e ∷ []) → field_fault n a b c d e ≡ err_of r
+    → IfOk r (λ f. HasForms (said f))
+said-forms n a b c d e (Ok f) is none =
+    let P : List (List ℕ) → Type 0 = λ fields. form_fault n fields ≡ None in
+    forms n (said f) (subst P (sym is) none)
+said-forms n a b c d e (Err x) is none = tt
 
 -- entries in the right forms have no fault, up to as many as a table may have
 pub no_fault : (n : ℕ) (s : Said) → n ≤ MOST_ENTRIES → HasForms s → entry_fault n (entry_of s) ≡ None

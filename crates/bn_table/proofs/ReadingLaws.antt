@@ -106,10 +106,7 @@ one-more names letters quints done s f h few =
       write = write;
       next = next;
       shift = refl;
-      state_form = f.state;
-      read_form = f.read;
-      write_form = f.write;
-      next_form = f.next;
+      forms = f;
     } in
     record {
       names = with_name (with_name names s.state) s.next;

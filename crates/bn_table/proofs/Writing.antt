@@ -1,13 +1,11 @@
 -- The text of a table.
-use Rattle.std.proofs.Common.{◌≡◌, ◌<◌, ◌≤◌, ◌+◌, ◌∷◌, ◌++◌, ◌∙◌, ℕ, List, [], length, take, get_or, true, refl, sym, ap, subst, All}
+use Rattle.std.proofs.Common.{◌≡◌, ◌<◌, ◌≤◌, ◌+◌, ◌++◌, ◌∙◌, ℕ, List, length, take, get_or, true, refl, sym, ap, subst, All}
 use Rattle.std.specs.List.{list_all}
-use Rattle.std.proofs.lemmas.List.{map-append, take_all, take_more}
-use Rattle.std.proofs.lemmas.List.Elements.{All-head, All-tail}
 use Rattle.bn_csv.specs.Entries.{entries_of}
 use Rattle.bn_csv.specs.Forms.{is_state_name, is_symbol_byte}
 use Rattle.bn_csv.proofs.FormsLemmas.{plain-state-name, plain-symbol-byte}
 use Rattle.bn_csv.specs.Lines.{is_plain, is_plain_entry, line_of, lines_of}
-use Rattle.bn_csv.proofs.LinesLemmas.{entries_of-lines_of, lines_of-push}
+use Rattle.bn_csv.proofs.LinesLemmas.{all_plain, entries_of-lines_of, lines_of-all, lines_of-more}
 use Rattle.bn_machine.specs.Machine.{IsInRange}
 use Rattle.bn_machine.specs.declared.quint.Quint.{Quint}
 use Rattle.bn_machine.specs.declared.quint.Shift.{Shift}
@@ -30,10 +28,8 @@ plain-said s h =
 
 plain-rows : (names : List (List ℕ)) (letters : List ℕ) (quints : List Quint) → list_all is_state_name names ≡ true → list_all is_symbol_byte letters ≡ true
     → All (IsInRange (length names) (length letters)) quints → list_all is_plain_entry (rows_by names letters quints) ≡ true
-plain-rows names letters [] f g h = refl
-plain-rows names letters (q ∷ qs) f g h =
-    let In : Quint → Type 0 = IsInRange (length names) (length letters) in
-    rw (plain-said (said_of names letters q) (row-forms names letters q f g (All-head In q qs h))) (plain-rows names letters qs f g (All-tail In q qs h))
+plain-rows names letters quints f g h =
+    all_plain (λ (q : Quint). entry_of (said_of names letters q)) (IsInRange (length names) (length letters)) (λ q within. plain-said (said_of names letters q) (row-forms names letters q f g within)) quints h
 
 -- the lines of a table's entries are read as the table
 pub reads-back : (t : Named) (text : List ℕ) → IsTable t → text ≡ lines_of (rows_of t) → Reads text t
@@ -43,13 +39,10 @@ reads-back t text h e =
     let P : List (List (List ℕ)) → Type 0 = λ entries. IsTableOf entries t in
     subst P (sym back) h
 
--- the line of one more quintuple
-pub one-line : (names : List (List ℕ)) (letters : List ℕ) (quints : List Quint) (i : ℕ) (q : Quint) → i < length quints
-    → lines_of (rows_by names letters (take (i + 1) quints)) ≡ lines_of (rows_by names letters (take i quints)) ++ line_of (entry_of (said_of names letters (get_or quints i q)))
-one-line names letters quints i q h =
-    ap (λ (qs : List Quint). lines_of (rows_by names letters qs)) (take_more quints i q h)
-    ∙ ap lines_of (map-append (λ r. entry_of (said_of names letters r)) (take i quints) (get_or quints i q ∷ []))
-    ∙ lines_of-push (rows_by names letters (take i quints)) (entry_of (said_of names letters (get_or quints i q)))
+-- the line of one more quintuple, and the lines of all
+pub line-more : (names : List (List ℕ)) (letters : List ℕ) (quints : List Quint) (i : ℕ) (q : Quint) (before after : List ℕ) → i < length quints → before ≡ lines_of (rows_by names letters (take i quints))
+    → after ≡ before ++ line_of (entry_of (said_of names letters (get_or quints i q))) → after ≡ lines_of (rows_by names letters (take (i + 1) quints))
+line-more names letters = lines_of-more (λ (q : Quint). entry_of (said_of names letters q))
 
-pub all-lines : (names : List (List ℕ)) (letters : List ℕ) (quints : List Quint) (i : ℕ) → length quints ≤ i → lines_of (rows_by names letters (take i quints)) ≡ lines_of (rows_by names letters quints)
-all-lines names letters quints i h = ap (λ (qs : List Quint). lines_of (rows_by names letters qs)) (take_all i quints h)
+pub lines-all : (names : List (List ℕ)) (letters : List ℕ) (quints : List Quint) (i : ℕ) (text : List ℕ) → length quints ≤ i → text ≡ lines_of (rows_by names letters (take i quints)) → text ≡ lines_of (rows_by names letters quints)
+lines-all names letters = lines_of-all (λ (q : Quint). entry_of (said_of names letters q))

@@ -1,19 +1,17 @@
 //! A table that is being read.
 
-ghost use Rattle.std.specs.Prelude.{◌≡◌, ◌≢◌, ◌<◌, ◌≤◌, ◌+◌, ◌-◌, ◌^◌, ◌++◌, ◌∷◌, [], length, Some, None};
+ghost use Rattle.std.specs.Prelude.{◌≡◌, ◌<◌, ◌≤◌, ◌-◌, ◌^◌, ◌++◌, ◌∷◌, [], length, Some};
 ghost use Rattle.std.specs.Prelude.{slice_get, OnOk, IfOk, IfErr};
-ghost use Rattle.bn_table.specs.Entry.{entry_of};
+ghost use Rattle.bn_table.specs.Entry.{HasForms, entry_of};
 ghost use Rattle.bn_table.specs.Fields.{said};
-ghost use Rattle.bn_table.specs.Faults.{entry_fault};
 ghost use Rattle.bn_table.specs.Rows.{IsTableOf, with_letter};
 ghost use Rattle.bn_table.specs.declared.refusal.TableRefusal.TheVariants as refusal;
 ghost use Rattle.bn_table.specs.Draft.{IsDraft, drafted};
-ghost use Rattle.bn_table.specs.declared.entry.TheConstants.{MOST_ENTRIES};
 
-use crate::entry::{Fields, read_fields};
+use crate::entry::{Fields, MOST_ENTRIES, read_fields};
 use crate::refusal::TableRefusal;
 use crate::table::{Table, place_of};
-use bn_csv::{Entry, Names, NoMemory};
+use bn_csv::{Entry, Names, NoMemory, TableDraft};
 use bn_machine::{Machine, MachineRefusal, Quint};
 use std::alloc::Global;
 
@@ -35,9 +33,7 @@ fn number_letter(letters: &mut Vec<u8>, letter: u8) -> Result<u32, NoMemory>
         return Ok(symbol as u32);
     }
     let symbol = letters.len() as u32;
-    if letters.push(letter).is_err() {
-        return Err(NoMemory);
-    }
+    letters.push(letter)?;
     Ok(symbol)
 }
 
@@ -46,9 +42,7 @@ pub fn new_draft(alloc: Global) -> Result<Draft, NoMemory>
     ensures { IfOk result (λ d. IsDraft d × (drafted d ≡ [])) }
 {
     let mut letters = Vec::new(alloc);
-    if letters.push(b'_').is_err() {
-        return Err(NoMemory);
-    }
+    letters.push(b'_')?;
     Ok(Draft {
         names: Names::new(alloc),
         letters,
@@ -59,7 +53,8 @@ pub fn new_draft(alloc: Global) -> Result<Draft, NoMemory>
 // Adds the quintuple of an entry.
 fn add_fields(draft: &mut Draft, fields: &Fields) -> Result<(), NoMemory>
     requires draft { IsDraft draft.old }
-    requires passes { entry_fault (length draft.old.quints.items + 1) (entry_of (said fields.now)) ≡ None }
+    requires few { length (drafted draft.old) < MOST_ENTRIES }
+    requires forms { HasForms (said fields.now) }
     ensures { OnOk result (IsDraft draft.new
         × (drafted draft.new ≡ drafted draft.old ++ entry_of (said fields.now) ∷ [])) }
 {
@@ -74,31 +69,47 @@ fn add_fields(draft: &mut Draft, fields: &Fields) -> Result<(), NoMemory>
         shift: fields.shift,
         next,
     };
-    if draft.quints.push(quint).is_err() {
-        return Err(NoMemory);
-    }
+    draft.quints.push(quint)?;
     Ok(())
 }
 
-/// Reads one more entry into the draft, or answers its first fault.
-pub fn add_entry(draft: &mut Draft, entry: &Entry) -> Result<(), TableRefusal>
-    requires draft { IsDraft draft.old }
-    requires few { length draft.old.quints.items ≤ MOST_ENTRIES }
-    ensures ok { OnOk result (IsDraft draft.new × (drafted draft.new ≡ drafted draft.old ++ entry.now ∷ [])) }
-    ensures passes { OnOk result (entry_fault (length draft.old.quints.items + 1) entry.now ≡ None) }
-    ensures fault { IfErr result (λ e. e ≢ refusal.NoMemory
-        → entry_fault (length draft.old.quints.items + 1) entry.now ≡ Some e) }
-{
-    let number = draft.quints.len() as u32 + 1;
-    let fields = read_fields(entry, number)?;
-    add_fields(draft, &fields)?;
-    Ok(())
+impl TableDraft for Draft {
+    ghost use Rattle.bn_table.specs.Faults.{form_fault as fault};
+    ghost use Rattle.bn_table.specs.declared.entry.TheConstants.{MOST_ENTRIES as most};
+
+    type Refusal = TableRefusal;
+
+    const MOST_ENTRIES: u32 = MOST_ENTRIES;
+
+    ghost MOST_ENTRIES = { most };
+
+    ghost is_draft = { IsDraft };
+
+    ghost taken = { drafted };
+
+    ghost form_fault = { fault };
+
+    ghost too_many = { refusal.TooMany };
+
+    ghost no_memory = { refusal.NoMemory };
+
+    ghost wants = { λ n e h. h };
+
+    fn too_many(entry: u32) -> TableRefusal {
+        TableRefusal::TooMany { entry }
+    }
+
+    fn add_entry(&mut self, entry: &Entry, number: u32) -> Result<(), TableRefusal> {
+        let fields = read_fields(entry, number)?;
+        add_fields(self, &fields)?;
+        Ok(())
+    }
 }
 
 /// The table of a draft, which has an entry; else `Empty`.
 pub fn into_table(draft: Draft) -> Result<Table, TableRefusal>
     requires draft { IsDraft draft }
-    requires few { length draft.quints.items ≤ MOST_ENTRIES }
+    requires few { length (drafted draft) ≤ MOST_ENTRIES }
     ensures ok { IfOk result (IsTableOf (drafted draft)) }
     ensures empty { IfErr result (λ e. (e ≡ refusal.Empty) × (drafted draft ≡ [])) }
 {

@@ -1,10 +1,11 @@
 //! One entry of a table of quintuples.
 
 ghost use Rattle.std.specs.Prelude.{◌≡◌, ◌∷◌, [], true, false, MatchOption, IfOk};
+ghost use Rattle.bn_csv.specs.Faults.{err_of};
 ghost use Rattle.bn_csv.specs.Forms.{is_letter as letter_form};
-ghost use Rattle.bn_table.specs.Entry.{entry_of};
-ghost use Rattle.bn_table.specs.Fields.{said, err_of};
-ghost use Rattle.bn_table.specs.Faults.{entry_fault, field_fault};
+ghost use Rattle.bn_table.specs.Entry.{HasForms, entry_of};
+ghost use Rattle.bn_table.specs.Fields.{said};
+ghost use Rattle.bn_table.specs.Faults.{field_fault, form_fault};
 
 use crate::refusal::TableRefusal;
 use bn_csv::{Entry, is_letter, is_state_name};
@@ -77,14 +78,12 @@ fn five_fields<'a>(
     })
 }
 
-/// What an entry says, where it is the one with this number, counted from 1; else its first fault.
+/// What an entry says, or the first fault of its fields. The number is the entry's own, counted from 1.
 pub fn read_fields<'a>(entry: &'a Entry, number: u32) -> Result<Fields<'a>, TableRefusal>
     ensures says { IfOk result (λ f. entry_of (said f) ≡ entry.now) }
-    ensures fault { entry_fault number entry.now ≡ err_of result }
+    ensures forms { IfOk result (λ f. HasForms (said f)) }
+    ensures fault { form_fault number entry.now ≡ err_of result }
 {
-    if number > MOST_ENTRIES {
-        return Err(TableRefusal::TooMany { entry: number });
-    }
     if entry.len() != 5 {
         return Err(TableRefusal::FieldCount { entry: number });
     }

@@ -8,9 +8,9 @@ use std::marker::Model;
 
 /// The place of a letter among others, counted from 0.
 pub(crate) fn place_of(letters: &[u8], letter: u8) -> Option<usize>
-    ensures { result ≡ position (λ known. known == letter) letters.now }
+    ensures { result ≡ position (λ known. letter == known) letters.now }
 {
-    letters.iter().position(|known| *known == letter)
+    letters.iter().position(|known| letter == *known)
 }
 
 /// A table of quintuples: a machine, a name for each state, and a letter, one byte, for each symbol. Its states

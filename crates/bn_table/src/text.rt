@@ -10,10 +10,10 @@ ghost use Rattle.bn_table.specs.Reading.{Reads};
 ghost use Rattle.bn_table.specs.Rows.{IsTable, rows_of, said_of};
 ghost use Rattle.bn_table.specs.declared.refusal.TableRefusal.TheVariants as refusal;
 
-use crate::draft::{add_entry, into_table, new_draft};
+use crate::draft::{into_table, new_draft};
 use crate::refusal::TableRefusal;
 use crate::table::Table;
-use bn_csv::{Entries, Entry, EntryWriter, NoMemory};
+use bn_csv::{EntryWriter, NoMemory, read_entries};
 use bn_machine::{Quint, Shift, text_of_shift};
 use std::alloc::Global;
 
@@ -24,12 +24,7 @@ pub fn read_quints(alloc: Global, bytes: &[u8]) -> Result<Table, TableRefusal>
     ensures ok { IfOk result (Reads bytes.now) }
     ensures refused { IfErr result (λ e. e ≢ refusal.NoMemory → table_fault (entries_of bytes.now) ≡ Some e) }
 {
-    let mut entries = Entries::new(alloc, bytes);
-    let mut entry = Entry::new(alloc);
-    let mut draft = new_draft(alloc)?;
-    'entries: while entries.read_entry(&mut entry)? {
-        add_entry(&mut draft, &entry)?;
-    }
+    let draft = read_entries(alloc, bytes, new_draft(alloc)?)?;
     into_table(draft)
 }
 

@@ -1,15 +1,12 @@
 -- One line after another.
-use Rattle.std.proofs.Common.{◌≡◌, ◌∙◌, ◌++◌, sym, List, ℕ, ap, get_or, length, take, ◌≤◌}
+use Rattle.std.proofs.Common.{◌≡◌, ◌∙◌, sym, ap}
 use Rattle.std.proofs.lemmas.Result.{IfOk-weaker}
-use Rattle.bn_csv.specs.Lines.{line_of}
 use Rattle.bn_csv.proofs.LinesLemmas.{lines_of-nil}
 use Rattle.bn_machine.specs.Machine.{Program}
 use Rattle.bn_machine.specs.declared.quint.Quint.{Quint}
 use Rattle.bn_machine.specs.declared.quint.Shift.TheVariants.{Left}
-use Rattle.bn_table.specs.Entry.{entry_of}
 use Rattle.bn_table.specs.Reading.{Reads}
-use Rattle.bn_table.specs.Rows.{said_of}
-use Rattle.bn_table.proofs.Writing.{one-line}
+use Rattle.bn_table.proofs.Writing.{line-more}
 use Rattle.bn_gen.specs.Increments.{quints_of}
 use Rattle.bn_gen.specs.Text.{increments_table, increment_letters, increment_names}
 use Rattle.bn_gen.proofs.TableLemmas.{text_is, text_reads}
@@ -20,13 +17,8 @@ loop-quint-init c = c.new-writer.ensures ∙ sym lines_of-nil
 
 pub loop-quint-preserved : goal.loop-quint-preserved
 loop-quint-preserved c =
-    let names = increment_names c.args.k in
     let blank : Quint = record { state = 0; read = 0; write = 0; shift = Left; next = 0 } in
-    let quints = c.quints-quint-items.result.now in
-    let i = c.loop-quint.quint-index in
-    c.in_ok-write_quint.ensures
-    ∙ ap (λ (w : List ℕ). w ++ line_of (entry_of (said_of names increment_letters (get_or quints i blank)))) c.loop-quint.invariant
-    ∙ sym (one-line names increment_letters quints i blank c.loop-quint-test.true)
+    line-more (increment_names c.args.k) increment_letters c.quints-quint-items.result.now c.loop-quint.quint-index blank c.loop-quint.writer c.write_quint.new.writer c.loop-quint-test.true c.loop-quint.invariant c.in_ok-write_quint.ensures
 
 pub returns-clause-read_back : goal.returns-clause-read_back
 returns-clause-read_back c =

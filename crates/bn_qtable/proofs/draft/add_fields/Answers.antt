@@ -1,21 +1,20 @@
 -- One more entry, and its quadruple.
-use Rattle.std.proofs.Common.{◌≡◌, ◌+◌, ◌++◌, ◌∷◌, [], arith, rules, true, length}
+use Rattle.std.proofs.Common.{◌≡◌, ◌<◌, ◌++◌, ◌∷◌, [], arith, rules, true, length}
 use Rattle.std.specs.Result.{is_ok}
-use Rattle.bn_csv.proofs.FaultLemmas.{in_number}
-use Rattle.bn_qtable.specs.Entry.{quadruple_entry}
-use Rattle.bn_qtable.specs.Faults.{quadruple_form_fault}
+use Rattle.bn_quad.specs.Kept.{rules_of}
+use Rattle.bn_qtable.specs.Draft.{drafted, names_of}
 use Rattle.bn_qtable.specs.Fields.{said}
 use Rattle.bn_qtable.specs.declared.entry.TheConstants.{MOST_ENTRIES}
-use Rattle.bn_qtable.specs.declared.refusal.QuadTableRefusal.TheVariants as refusal
 use Rattle.bn_qtable.specs.declared.draft.Draft.{Draft}
-use Rattle.bn_qtable.proofs.Drafting.{few-draft, one-drafted}
+use Rattle.bn_qtable.proofs.Drafting.{one-drafted}
+use Rattle.bn_qtable.proofs.Growing.{few-of}
 use Rattle.bn_qtable.proofs.draft.add_fields.Goals as goal
 
 pub number-requires-clause-room : goal.number-requires-clause-room
 number-requires-clause-room c =
     let d = c.args.draft.now in
-    let few = (in_number MOST_ENTRIES refusal.TooMany quadruple_form_fault (length d.quads.items + 1) (quadruple_entry (said c.args.fields.now)) c.requires.passes).0 in
-    let all = few-draft d c.requires.draft in
+    let few : length (drafted d) < MOST_ENTRIES = c.requires.few in
+    let all = few-of (names_of d) (rules_of d.quads.items) (drafted d) c.requires.draft.spelled in
     record { states = omega (arith, all.states); one = omega (arith, all.one); two = omega (arith, all.two); three = omega (arith, all.three) }
 
 pub returns : goal.returns

@@ -1,20 +1,19 @@
 -- One line after another.
-use Rattle.std.proofs.Common.{◌≡◌, ◌∙◌, ◌++◌, sym, List, ℕ, [], ap, get_or, length, take, ◌≤◌, subst}
+use Rattle.std.proofs.Common.{◌≡◌, ◌∙◌, sym, List, ℕ, [], ap, length, take, ◌≤◌, subst}
 use Rattle.std.proofs.lemmas.Result.{IfOk-weaker}
 use Rattle.bn_csv.specs.Entries.{entries_of}
-use Rattle.bn_csv.specs.Lines.{line_of, lines_of}
-use Rattle.bn_csv.proofs.LinesLemmas.{lines_of-nil}
-use Rattle.bn_quad.specs.Kept.{quad_of, rule_of, rules_of}
+use Rattle.bn_csv.specs.Lines.{lines_of}
+use Rattle.bn_csv.proofs.LinesLemmas.{lines_of-all, lines_of-more, lines_of-nil}
+use Rattle.bn_quad.specs.Kept.{quad_of, rules_of}
 use Rattle.bn_quad.proofs.KeptLemmas.{rules_of-quads}
 use Rattle.bn_quad.specs.Names.{Naming}
 use Rattle.bn_quad.specs.Quadruples.{Quadruples, Rule}
 use Rattle.bn_quad.specs.declared.quad.Quad.{Quad}
 use Rattle.std.specs.Prelude.{map}
-use Rattle.bn_qtable.specs.Entry.{quadruple_entry}
 use Rattle.bn_qtable.specs.Reading.{ReadsQuadruples}
-use Rattle.bn_qtable.specs.Rows.{IsTable, IsQuadTableOf, quadruple_rows_by, said_of_quadruple, table_of}
+use Rattle.bn_qtable.specs.Rows.{IsTable, IsQuadTableOf, quadruple_rows_by, table_of}
 use Rattle.bn_qtable.proofs.Drafting.{acts-at, named-at, unmixed-at}
-use Rattle.bn_qtable.proofs.Writing.{all-lines, all-named, entries-back, one-line}
+use Rattle.bn_qtable.proofs.Writing.{all-named, entries-back, kept-lines, row}
 use Rattle.bn_qtable.proofs.text.write_quads.Goals as goal
 
 abbrev no_quad : Quad
@@ -38,18 +37,13 @@ write_quad-requires-clause-named c =
 
 pub loop-quad-preserved : goal.loop-quad-preserved
 loop-quad-preserved c =
-    let n = c.args.names.now in
-    let quads = c.quads-quad-items.result.now in
-    let i = c.loop-quad.quad-index in
-    c.in_ok-write_quad.ensures
-    ∙ ap (λ (w : List ℕ). w ++ line_of (quadruple_entry (said_of_quadruple n (rule_of (get_or quads i no_quad))))) c.loop-quad.invariant
-    ∙ sym (one-line n quads i no_quad c.loop-quad-test.true)
+    lines_of-more (row c.args.names.now) c.quads-quad-items.result.now c.loop-quad.quad-index no_quad c.loop-quad.writer c.write_quad.new.writer c.loop-quad-test.true c.loop-quad.invariant c.in_ok-write_quad.ensures
 
 -- the whole text
 whole : (p : Quadruples) (n : Naming) (quads : List Quad) (i : ℕ) (text : List ℕ) → quads ≡ map quad_of p.rules → length quads ≤ i
-    → text ≡ lines_of (quadruple_rows_by n (rules_of (take i quads))) → text ≡ lines_of (quadruple_rows_by n p.rules)
+    → text ≡ lines_of (map (row n) (take i quads)) → text ≡ lines_of (quadruple_rows_by n p.rules)
 whole p n quads i text same all e =
-    e ∙ all-lines n quads i all ∙ ap (λ (rs : List (Rule ℕ)). lines_of (quadruple_rows_by n rs)) (ap rules_of same ∙ rules_of-quads p.rules)
+    lines_of-all (row n) quads i text all e ∙ ap lines_of (kept-lines n quads) ∙ ap (λ (rs : List (Rule ℕ)). lines_of (quadruple_rows_by n rs)) (ap rules_of same ∙ rules_of-quads p.rules)
 
 back : (p : Quadruples) (n : Naming) (text : List ℕ) → entries_of text ≡ quadruple_rows_by n p.rules → IsTable (table_of p n) → ReadsQuadruples text (table_of p n)
 back p n text e h =

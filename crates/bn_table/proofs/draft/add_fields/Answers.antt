@@ -1,5 +1,5 @@
 -- One more entry, and its quintuple.
-use Rattle.std.proofs.Common.{◌≡◌, ◌≤◌, ◌<◌, ◌+◌, ◌++◌, ◌∷◌, [], refl, arith, rules, true, length}
+use Rattle.std.proofs.Common.{◌≡◌, ◌<◌, ◌++◌, ◌∷◌, [], refl, arith, rules, true, length}
 use Rattle.std.specs.Result.{is_ok}
 use Rattle.std.proofs.Common.{nat_eq}
 use Rattle.std.specs.Prelude.{bytes_eq}
@@ -12,13 +12,12 @@ use Rattle.bn_table.specs.Rows.{with_letter}
 use Rattle.bn_table.specs.declared.entry.TheConstants.{MOST_ENTRIES}
 use Rattle.bn_table.proofs.Bounds.{few-letters, few-names}
 use Rattle.bn_table.proofs.Growing.{Adds, one-drafted}
-use Rattle.bn_table.proofs.Passing.{forms}
 use Rattle.bn_table.proofs.draft.add_fields.Goals as goal
 
 pub number_of-requires : goal.number_of-requires
 number_of-requires c =
     let d = c.args.draft.now in
-    let few : length d.quints.items + 1 ≤ MOST_ENTRIES = (forms (length d.quints.items + 1) (said c.args.fields.now) c.requires.passes).0 in
+    let few : length (drafted d) < MOST_ENTRIES = c.requires.few in
     record { room = omega (arith, few-names d.names d.letters.items d.quints.items (drafted d) c.requires.draft) }
 
 pub number_letter-requires : goal.number_letter-requires
@@ -35,7 +34,7 @@ number_letter-requires-2 c =
 pub number_of-requires-2 : goal.number_of-requires-2
 number_of-requires-2 c =
     let d = c.args.draft.now in
-    let few : length d.quints.items + 1 ≤ MOST_ENTRIES = (forms (length d.quints.items + 1) (said c.args.fields.now) c.requires.passes).0 in
+    let few : length (drafted d) < MOST_ENTRIES = c.requires.few in
     let after : c.number_of.new.self ≡ with_name d.names c.args.fields.now.state.now = c.in_ok-state.ensures.names in
     record { room = rw after (omega (arith, few-names d.names d.letters.items d.quints.items (drafted d) c.requires.draft, new_length bytes_eq d.names c.args.fields.now.state.now)) }
 
@@ -43,7 +42,6 @@ pub returns : goal.returns
 returns c =
     let d = c.args.draft.now in
     let s = said c.args.fields.now in
-    let f = (forms (length d.quints.items + 1) s c.requires.passes).1 in
     let q : Quint = record { state = c.in_ok-state.state; read = c.in_ok-read.read; write = c.in_ok-write.write; shift = c.args.fields.now.shift; next = c.in_ok-next.next } in
     let good : is_ok c.push.result ≡ true = search rules in
     let pushed : c.push.new.self.items ≡ d.quints.items ++ q ∷ [] = rw good at c.push.ensures.items in
@@ -59,9 +57,6 @@ returns c =
       write = c.in_ok-write.ensures.number;
       next = c.in_ok-next.ensures.number;
       shift = refl;
-      state_form = f.state;
-      read_form = f.read;
-      write_form = f.write;
-      next_form = f.next;
+      forms = c.requires.forms;
     } in
     one-drafted d.names d.letters.items d.quints.items s q c.number_of-2.new.self c.number_letter-2.new.letters.items c.push.new.self.items c.requires.draft adds pushed

@@ -1,32 +1,19 @@
--- By what is kept from one entry to the next.
+-- By the draft with all entries.
 use Rattle.std.proofs.Common.{◌∙◌, sym, ap, Some}
 use Rattle.std.proofs.lemmas.Result.{MatchResult-weaker, err_from_is_err_and}
 use Rattle.bn_csv.specs.Entries.{entries_of}
-use Rattle.bn_csv.proofs.FaultLemmas.{fault_of_next, no_entry, taken_all}
+use Rattle.bn_csv.proofs.FaultLemmas.{first_is, no_entry}
 use Rattle.bn_table.specs.Faults.{entry_fault}
 use Rattle.bn_table.specs.declared.refusal.TableRefusal.{TableRefusal}
 use Rattle.bn_table.specs.declared.refusal.TableRefusal.TheVariants as refusal
-use Rattle.bn_table.proofs.Coming.{come-first, come-further}
 use Rattle.bn_table.proofs.text.read_quints.Goals as goal
 
-pub entries-init : goal.entries-init
-entries-init c = rw c.new-entries.ensures (come-first (entries_of c.args.bytes.now) c.in_ok-draft.draft c.in_ok-draft.ensures.0 c.in_ok-draft.ensures.1)
-
-pub entries-preserved : goal.entries-preserved
-entries-preserved c =
-    let next = rw c.if-branch.true at c.in_ok-read_entry.ensures.ok in
-    come-further (entries_of c.args.bytes.now) c.entries.draft c.add_entry.new.draft c.entries.entries c.read_entry.new.self c.read_entry.new.entry c.entries.invariant next
-    c.in_ok-add_entry.ensures.ok.0 c.in_ok-add_entry.ensures.ok.1 c.in_ok-add_entry.ensures.passes
-
-pub returns-in_err-add_entry-clause-refused : goal.returns-in_err-add_entry-clause-refused
-returns-in_err-add_entry-clause-refused c =
-    let next = rw c.if-branch.true at c.in_ok-read_entry.ensures.ok in
-    let p = err_from_is_err_and c.from_residual-in_err-add_entry.result c.from_residual-in_err-add_entry.ensures.1 in
-    rw (p.1, p.2) (λ n. fault_of_next refusal.Empty c.entries.invariant.taken next (c.in_err-add_entry.ensures.fault n))
+pub returns-in_err-draft-clause-refused : goal.returns-in_err-draft-clause-refused
+returns-in_err-draft-clause-refused c =
+    let p = err_from_is_err_and c.from_residual-in_err-draft.result c.from_residual-in_err-draft.ensures.1 in
+    rw (p.1, p.2) (λ n. first_is refusal.Empty entry_fault (entries_of c.args.bytes.now) _ (c.in_err-draft.ensures.refused n))
 
 pub returns-clause-refused : goal.returns-clause-refused
 returns-clause-refused c =
-    let none = (rw c.if-branch.false at c.in_ok-read_entry.ensures.ok).0 in
-    let all = taken_all c.entries.invariant.taken none in
     MatchResult-weaker c.into_table.result c.into_table.ensures.empty (λ t p. tt)
-    (λ e p n. no_entry refusal.Empty entry_fault (entries_of c.args.bytes.now) (sym all ∙ p.1) ∙ sym (ap (λ (x : TableRefusal). Some x) p.0))
+    (λ e p n. no_entry refusal.Empty entry_fault (entries_of c.args.bytes.now) (sym c.in_ok-draft.ensures.taken ∙ p.1) ∙ sym (ap (λ (x : TableRefusal). Some x) p.0))
