@@ -10,7 +10,8 @@ use Rattle.bn_standardise.specs.declared.name.Name.{Name}
 use Rattle.bn_standardise.specs.declared.name.Name.TheVariants.{First, Own, Last}
 use Rattle.bn_standardise.specs.declared.rule.Rule.{Rule}
 use Rattle.bn_standardise.specs.Standardised.{numbered, standardised_by, Occurs, TellsApart, IsLoose}
-use Rattle.bn_standardise.proofs.ListLemmas.{nth_in, in_append_cases, in_map_cases, pairwise_unambiguous, last_stands, early_in, final_last}
+use Rattle.bn_lists.proofs.MemberLemmas.{of_two}
+use Rattle.bn_standardise.proofs.ListLemmas.{nth_in, in_map_cases, pairwise_unambiguous, last_stands, early_in, final_last}
 use Rattle.bn_standardise.proofs.RuleLemmas.{final_occurs, later_state, earlier_next, quints_apart}
 
 -- the rules but the last
@@ -33,7 +34,7 @@ state_cases number p q loose (inr h) =
 next_cases : (number : Name → ℕ) (p : Program) (q : Quint) → IsLoose p → Has (standardised_by number p).quints q → (q.next ≡ number Last) ⊎ ((s : ℕ) × Occurs p.quints s × (q.next ≡ number (Own s)))
 next_cases number p q loose h =
     let rule = in_map_cases (numbered number) (body_of p ++ leaving (final_of p.quints) ∷ []) q h in
-    elim (in_append_cases (body_of p) (leaving (final_of p.quints) ∷ []) rule.0 rule.1) [
+    elim (of_two (body_of p) (leaving (final_of p.quints) ∷ []) rule.0 rule.1) [
       | inl early ↦ let own = earlier_next p rule.0 loose.machine.some early in inr (own.0, own.1, ap (λ (r : Quint). r.next) rule.2 ∙ ap number own.2)
       | inr (inl e) ↦ inl (ap (λ (r : Quint). r.next) rule.2 ∙ ap (λ (r : Rule). number r.next) e)
       | inr (inr none) ↦ absurd none

@@ -1,8 +1,9 @@
 -- Lemmas on lists of which every two elements are related, and on the quintuple that such a list finds.
-use Rattle.std.specs.Prelude.{◌≡◌, ℕ, zero, suc, ◌<◌, List, [], ◌∷◌, ◌++◌, length, map, Some, ⊤, ◌⊎◌}
+use Rattle.std.specs.Prelude.{◌≡◌, ℕ, zero, suc, ◌<◌, List, [], ◌∷◌, ◌++◌, length, map, Some, ⊤}
 use Rattle.std.proofs.Common.{refl, sym, subst, ◌∙◌, ap, arith, inl, inr}
 use Rattle.bn_machine.specs.Machine.{final_of, Matches, IsFirstMatch}
 use Rattle.bn_lists.specs.Lists.{nth, Has}
+use Rattle.bn_lists.proofs.MemberLemmas.{of_two}
 use Rattle.bn_machine.proofs.MachineStepLemmas.{first_match_or_none}
 use Rattle.bn_machine.specs.declared.quint.Quint.{Quint}
 use Rattle.bn_standard.specs.Standard.{Repeats, IsUnambiguous}
@@ -31,23 +32,6 @@ in_nth [] x h = absurd h
 in_nth (y ∷ ys) x (inl e) = (1, ap Some (sym e))
 in_nth (y ∷ ys) x (inr h) = let there = in_nth ys x h in (suc there.0, nth_later y ys there.0 x there.1)
 
--- parts of a list that is joined
-pub in_append_cases : {X : Type 0} (xs ys : List X) (x : X) → Has (xs ++ ys) x → Has xs x ⊎ Has ys x
-in_append_cases [] ys x h = inr h
-in_append_cases (y ∷ xs) ys x (inl e) = inl (inl e)
-in_append_cases (y ∷ xs) ys x (inr h) = elim (in_append_cases xs ys x h) [ inl a ↦ inl (inr a) | inr b ↦ inr b ]
-
--- what is in the first part is in the joined list
-pub in_append_left : {X : Type 0} (xs ys : List X) (x : X) → Has xs x → Has (xs ++ ys) x
-in_append_left [] ys x h = absurd h
-in_append_left (y ∷ xs) ys x (inl e) = inl e
-in_append_left (y ∷ xs) ys x (inr h) = inr (in_append_left xs ys x h)
-
--- and so is what is in the second
-pub in_append_right : {X : Type 0} (xs ys : List X) (x : X) → Has ys x → Has (xs ++ ys) x
-in_append_right [] ys x h = h
-in_append_right (y ∷ xs) ys x h = inr (in_append_right xs ys x h)
-
 -- elements of a list of images
 pub in_map_cases : {X Y : Type 0} (f : X → Y) (xs : List X) (y : Y) → Has (map f xs) y → (x : X) × Has xs x × (y ≡ f x)
 in_map_cases f [] y h = absurd h
@@ -66,7 +50,7 @@ in_map f (y ∷ ys) x (inr h) = inr (in_map f ys x h)
 pub pairwise_append : {X : Type 0} (R : X → X → Type 0) (xs ys : List X) → Pairwise R xs → Pairwise R ys → ((x y : X) → Has xs x → Has ys y → R x y) → Pairwise R (xs ++ ys)
 pairwise_append R [] ys a b across = b
 pairwise_append R (x ∷ xs) ys a b across = (
-  λ y h. elim (in_append_cases xs ys y h) [ inl here ↦ a.0 y here | inr there ↦ across x y (inl refl) there ],
+  λ y h. elim (of_two xs ys y h) [ inl here ↦ a.0 y here | inr there ↦ across x y (inl refl) there ],
   pairwise_append R xs ys a.1 b (λ v w h k. across v w (inr h) k),
 )
 

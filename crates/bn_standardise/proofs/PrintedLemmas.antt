@@ -29,7 +29,8 @@ use Rattle.bn_standardise.specs.Printed.{IsSmall, IsWritable, name_text, rule_en
 use Rattle.bn_standardise.specs.declared.name.Name.{Name}
 use Rattle.bn_standardise.specs.declared.name.Name.TheVariants.{First, Own, Last}
 use Rattle.bn_standardise.specs.declared.rule.Rule.{Rule}
-use Rattle.bn_standardise.proofs.ListLemmas.{in_append_cases, in_append_right, nth_in}
+use Rattle.bn_lists.proofs.MemberLemmas.{behind, of_two}
+use Rattle.bn_standardise.proofs.ListLemmas.{nth_in}
 use Rattle.bn_standardise.proofs.RuleLemmas.{earlier_next, later_state, rules_counted}
 use Rattle.bn_standardise.proofs.RunLemmas.{in_range}
 use Rattle.bn_standardise.proofs.NumberingLemmas.{first_appears, names_in as names_of_rule, place_stands, same_decides}
@@ -54,7 +55,7 @@ state_small p r machine few (inr h) = own_small p r.state machine few (later_sta
 
 next_small : (p : Program) (r : Rule) → IsMachine p → p.states ≤ 8000 → Has (rules_of p) r → IsSmall r.next
 next_small p r machine few (inl e) = own_small p r.next machine few (earlier_next p r machine.some (inl e))
-next_small p r machine few (inr h) = elim (in_append_cases (middle_of p) (leaving (final_of p.quints) ∷ []) r h) [
+next_small p r machine few (inr h) = elim (of_two (middle_of p) (leaving (final_of p.quints) ∷ []) r h) [
   | inl mid ↦ own_small p r.next machine few (earlier_next p r machine.some (inr mid))
   | inr (inl e) ↦ subst (λ (s : Rule). IsSmall s.next) (sym e) tt
   | inr (inr none) ↦ absurd none
@@ -230,7 +231,7 @@ module _ (t : Named) (table : IsTable t) (fits : FitsTable t.machine) (few : cou
 
   in_tail_rules : (r : Rule) → Has tail_rules r → Has (rules_of t.machine) r
   in_tail_rules r h = inr (subst (λ l. Has l r) (sym (append_assoc (map own_rule t.machine.quints) (back_over_all (final_of t.machine.quints) 1 (t.machine.symbols - 1)) (leaving (final_of t.machine.quints) ∷ [])))
-      (in_append_right (map own_rule t.machine.quints) tail_rules r h))
+      (behind (map own_rule t.machine.quints) tail_rules r h))
 
   -- all letters that are written, behind the blank
   all_letters : letters_in (map (rule_entry t.letters) (rules_of t.machine)) ≡ blank ∷ blank ∷ letters_in (rows_of t) ++ letters_in (map (rule_entry t.letters) tail_rules)

@@ -8,7 +8,8 @@ use Rattle.bn_lists.specs.Lists.{Has}
 use Rattle.bn_standardise.specs.Rules.{own_rule, back_over_all, leaving, middle_of, rules_of}
 use Rattle.bn_standardise.specs.declared.rule.Rule.{Rule}
 use Rattle.bn_standardise.specs.Standardised.{numbered, standardised, numbering_of}
-use Rattle.bn_standardise.proofs.ListLemmas.{nth_in, in_append_cases, in_map_cases}
+use Rattle.bn_lists.proofs.MemberLemmas.{of_two}
+use Rattle.bn_standardise.proofs.ListLemmas.{nth_in, in_map_cases}
 use Rattle.bn_standardise.proofs.RuleLemmas.{some_symbol, back_over_cases, rules_counted}
 use Rattle.bn_standardise.proofs.NumberingLemmas.{numbers_inside}
 use Rattle.bn_standardise.proofs.RunLemmas.{in_range}
@@ -21,8 +22,8 @@ pub record KnowsSymbols (symbols : ℕ) (r : Rule) : Type 0 where
 -- every rule does
 pub rule_knows : (p : Program) (r : Rule) → IsMachine p → Has (rules_of p) r → KnowsSymbols p.symbols r
 rule_knows p r machine (inl e) = let some = some_symbol p machine in subst (KnowsSymbols p.symbols) (sym e) (record { read = some; write = some })
-rule_knows p r machine (inr h) = elim (in_append_cases (middle_of p) (leaving (final_of p.quints) ∷ []) r h) [
-  | inl mid ↦ elim (in_append_cases (map own_rule p.quints) (back_over_all (final_of p.quints) 1 (p.symbols - 1)) r mid) [
+rule_knows p r machine (inr h) = elim (of_two (middle_of p) (leaving (final_of p.quints) ∷ []) r h) [
+  | inl mid ↦ elim (of_two (map own_rule p.quints) (back_over_all (final_of p.quints) 1 (p.symbols - 1)) r mid) [
     | inl own ↦
         let q = in_map_cases own_rule p.quints r own in
         let range = in_range p q.0 machine q.1 in

@@ -11,7 +11,8 @@ use Rattle.bn_standardise.specs.declared.name.Name.{Name}
 use Rattle.bn_standardise.specs.declared.name.Name.TheVariants.{Own}
 use Rattle.bn_standardise.specs.declared.rule.Rule.{Rule}
 use Rattle.bn_standardise.specs.Standardised.{numbered, standardised_by, Occurs, TellsApart, IsLoose}
-use Rattle.bn_standardise.proofs.ListLemmas.{Pairwise, in_nth, in_append_cases, in_append_left, in_append_right, in_map_cases, in_map, pairwise_append, pairwise_map, Apart, unambiguous_pairwise}
+use Rattle.bn_lists.proofs.MemberLemmas.{behind, in_front, of_two}
+use Rattle.bn_standardise.proofs.ListLemmas.{Pairwise, in_nth, in_map_cases, in_map, pairwise_append, pairwise_map, Apart, unambiguous_pairwise}
 
 -- ---- states that occur
 
@@ -68,7 +69,7 @@ pub record IsOwn (qs : List Quint) (r : Rule) : Type 0 where
 
 -- each rule of the middle is such a one
 pub middle_own : (p : Program) (r : Rule) → 0 < length p.quints → Has (middle_of p) r → IsOwn p.quints r
-middle_own p r some h = elim (in_append_cases (map own_rule p.quints) (back_over_all (final_of p.quints) 1 (p.symbols - 1)) r h) [
+middle_own p r some h = elim (of_two (map own_rule p.quints) (back_over_all (final_of p.quints) 1 (p.symbols - 1)) r h) [
   | inl own ↦
       let q = in_map_cases own_rule p.quints r own in
       record {
@@ -93,7 +94,7 @@ middle_own p r some h = elim (in_append_cases (map own_rule p.quints) (back_over
 
 -- all rules but the first leave one of the machine's own states
 pub later_state : (p : Program) (r : Rule) → 0 < length p.quints → Has (middle_of p ++ leaving (final_of p.quints) ∷ []) r → (s : ℕ) × Occurs p.quints s × (r.state ≡ Own s)
-later_state p r some h = elim (in_append_cases (middle_of p) (leaving (final_of p.quints) ∷ []) r h) [
+later_state p r some h = elim (of_two (middle_of p) (leaving (final_of p.quints) ∷ []) r h) [
   | inl mid ↦ let own = middle_own p r some mid in (own.state, own.state_occurs, own.state_is)
   | inr (inl e) ↦ (final_of p.quints, final_occurs p.quints some, ap (λ (s : Rule). s.state) e)
   | inr (inr none) ↦ absurd none
@@ -106,16 +107,16 @@ earlier_next p r some (inr mid) = let own = middle_own p r some mid in (own.next
 
 -- which rules are among all
 pub renamed_in : (p : Program) (q : Quint) → Has p.quints q → Has (rules_of p) (own_rule q)
-renamed_in p q h = inr (in_append_left (middle_of p) _ (own_rule q) (in_append_left (map own_rule p.quints) _ (own_rule q) (in_map own_rule p.quints q h)))
+renamed_in p q h = inr (in_front (middle_of p) _ (own_rule q) (in_front (map own_rule p.quints) _ (own_rule q) (in_map own_rule p.quints q h)))
 
 -- the rule back over a known letter is one of all
 pub back_over_here : (p : Program) (x : ℕ) → x ≢ 0 → x < p.symbols → Has (rules_of p) (back_over (final_of p.quints) x)
-back_over_here p x letter known = inr (in_append_left (middle_of p) _ (back_over (final_of p.quints) x) (in_append_right (map own_rule p.quints) _ (back_over (final_of p.quints) x)
+back_over_here p x letter known = inr (in_front (middle_of p) _ (back_over (final_of p.quints) x) (behind (map own_rule p.quints) _ (back_over (final_of p.quints) x)
     (back_over_in (final_of p.quints) 1 (p.symbols - 1) (x - 1) x (omega arith) (omega arith))))
 
 -- the last rule is one of all
 pub leaving_in : (p : Program) → Has (rules_of p) (leaving (final_of p.quints))
-leaving_in p = inr (in_append_right (middle_of p) _ (leaving (final_of p.quints)) (inl refl))
+leaving_in p = inr (behind (middle_of p) _ (leaving (final_of p.quints)) (inl refl))
 
 -- ---- no two rules clash
 
@@ -151,7 +152,7 @@ owns_apart number p tells q r h k apart state read =
 
 -- a rule of the middle and the last one
 last_apart : (number : Name → ℕ) (p : Program) → IsLoose p → TellsApart number p → (x : Rule) → Has (middle_of p) x → RulesApart number x (leaving (final_of p.quints))
-last_apart number p loose tells x h state read = elim (in_append_cases (map own_rule p.quints) (back_over_all (final_of p.quints) 1 (p.symbols - 1)) x h) [
+last_apart number p loose tells x h state read = elim (of_two (map own_rule p.quints) (back_over_all (final_of p.quints) 1 (p.symbols - 1)) x h) [
   | inl own ↦
       let q = in_map_cases own_rule p.quints x own in
       own_apart number p loose tells q.0 (leaving (final_of p.quints)) q.1 refl (ap (λ (r : Rule). number r.state) (sym q.2) ∙ state) (ap (λ (r : Rule). r.read) (sym q.2) ∙ read)

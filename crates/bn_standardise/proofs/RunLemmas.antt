@@ -24,7 +24,8 @@ use Rattle.bn_standardise.specs.declared.name.Name.TheVariants.{Own, Last}
 use Rattle.bn_standardise.specs.declared.rule.Rule.{Rule}
 use Rattle.bn_standardise.specs.Standardised.{numbered, standardised_by, Occurs, TellsApart, IsLoose}
 use Rattle.bn_standardise.specs.Loose.{loose_start, Loose, IsWord, HasTail, behind, LooseHalts}
-use Rattle.bn_standardise.proofs.ListLemmas.{Pairwise, nth_in, in_nth, in_append_cases, in_map_cases, Apart, match_found}
+use Rattle.bn_lists.proofs.MemberLemmas.{of_two}
+use Rattle.bn_standardise.proofs.ListLemmas.{Pairwise, nth_in, in_nth, in_map_cases, Apart, match_found}
 use Rattle.bn_standardise.proofs.RuleLemmas.{start_occurs, final_occurs, some_symbol, back_over_cases, renamed_in, back_over_here, leaving_in, quints_apart, quint_in}
 use Rattle.bn_standardise.proofs.FormLemmas.{final_state}
 use Rattle.bn_standardise.proofs.TailLemmas.{tail_exists}
@@ -146,8 +147,8 @@ module _ (number : Name → ℕ) (p : Program) (loose : IsLoose p) (tells : Tell
           stuck.none.none there.0 r there.1 (record { from = tells.states c.state r.state occurs also (m.from ∙ ap (λ (v : Quint). v.state) e); reads = m.reads ∙ ap (λ (v : Quint). v.read) e })
 
       rule : (q : Quint) (r : Rule) → q ≡ numbered number r → Has (middle_of p ++ leaving (final_of p.quints) ∷ []) r → Matches q (number (Own c.state)) (scanned c.tape) → ⊥
-      rule q r e h m = elim (in_append_cases (middle_of p) (leaving (final_of p.quints) ∷ []) r h) [
-        | inl mid ↦ elim (in_append_cases (map own_rule p.quints) (back_over_all (final_of p.quints) 1 (p.symbols - 1)) r mid) [
+      rule q r e h m = elim (of_two (middle_of p) (leaving (final_of p.quints) ∷ []) r h) [
+        | inl mid ↦ elim (of_two (map own_rule p.quints) (back_over_all (final_of p.quints) 1 (p.symbols - 1)) r mid) [
           | inl mine ↦ let from = in_map_cases own_rule p.quints r mine in own q from.0 from.1 (e ∙ ap (numbered number) from.2) m
           | inr back ↦ let x = back_over_cases (final_of p.quints) 1 (p.symbols - 1) r back in halting q (ap (λ (v : Quint). v.state) (e ∙ ap (numbered number) x.2)) m
         ]
