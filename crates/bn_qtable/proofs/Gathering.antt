@@ -1,7 +1,6 @@
 -- Names that are gathered, one after the other.
 use Rattle.std.proofs.Common.{◌≡◌, ◌<◌, ◌≤◌, ◌+◌, ◌∷◌, ◌++◌, ◌∙◌, ℕ, zero, suc, List, [], take, Some, refl, ap, arith, slice_get}
-use Rattle.std.specs.Prelude.{bytes_eq, Contains, true, Result, Ok, Err, OnOk}
-use Rattle.std.specs.Result.{is_ok}
+use Rattle.std.specs.Prelude.{bytes_eq, Contains}
 use Rattle.std.proofs.lemmas.List.{take_more}
 use Rattle.std.proofs.lemmas.Option.{get_or_from_slice_get, slice_get-get_or, slice_get_within}
 use Rattle.std.proofs.lemmas.Slice.Eq.{bytes_eq-Decides}
@@ -43,8 +42,3 @@ symbols-on-tape n zero xs h = absurd (omega arith)
 symbols-on-tape n (suc zero) xs h = refl
 symbols-on-tape n (suc (suc zero)) xs h = refl
 symbols-on-tape n (suc (suc (suc tape))) xs h = refl
-
--- what holds after a call that was no error
-pub on-ok : {T E : Type 0} (P : Type 0) (r : Result T E) → is_ok r ≡ true → OnOk r P → P
-on-ok P (Ok x) e h = h
-on-ok P (Err x) e h = cc e

@@ -138,9 +138,7 @@ fn gather_states(names: &mut QuadNames, list: &Names) -> Result<(), NoMemory>
     ensures { OnOk result (names.new ≡ naming_of list.now names.old.one names.old.two names.old.three) }
 {
     'states: for number in 0..list.len() {
-        if names.add_state(list.get(number)).is_err() {
-            return Err(NoMemory);
-        }
+        names.add_state(list.get(number))?;
     }
     Ok(())
 }
@@ -154,9 +152,7 @@ fn gather_symbols(names: &mut QuadNames, tape: u32, list: &Names) -> Result<(), 
     ensures { OnOk result (names.new ≡ on_tape names.old tape list.now) }
 {
     'symbols: for number in 0..list.len() {
-        if names.add_symbol(tape, list.get(number)).is_err() {
-            return Err(NoMemory);
-        }
+        names.add_symbol(tape, list.get(number))?;
     }
     Ok(())
 }

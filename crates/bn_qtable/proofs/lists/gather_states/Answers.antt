@@ -1,9 +1,8 @@
 -- No name is among those that are there already.
-use Rattle.std.proofs.Common.{◌≡◌, ◌∙◌, rules, true, ap, subst, sym, List, ℕ}
+use Rattle.std.proofs.Common.{◌≡◌, ◌∙◌, ap, subst, sym, List, ℕ}
 use Rattle.std.specs.Prelude.{Contains}
-use Rattle.std.specs.Result.{is_ok}
 use Rattle.bn_quad.specs.Names.{Naming, naming_of, with_state}
-use Rattle.bn_qtable.proofs.Gathering.{on-ok, new-name, one-name}
+use Rattle.bn_qtable.proofs.Gathering.{new-name, one-name}
 use Rattle.bn_qtable.proofs.lists.gather_states.Goals as goal
 
 pub add_state-requires-clause-new : goal.add_state-requires-clause-new
@@ -13,8 +12,7 @@ add_state-requires-clause-new c =
 
 pub states-preserved : goal.states-preserved
 states-preserved c =
-    let good : is_ok c.add_state.result ≡ true = search rules in
-    let added : c.add_state.new.self ≡ with_state c.states.names c.get.result.now = on-ok _ c.add_state.result good c.add_state.ensures.ok in
+    let added : c.add_state.new.self ≡ with_state c.states.names c.get.result.now = c.in_ok-add_state.ensures.ok in
     let old = c.args.names.now in
     added ∙ ap (λ (n : Naming). with_state n c.get.result.now) c.states.invariant
     ∙ ap (λ (xs : List (List ℕ)). naming_of xs old.one old.two old.three) (sym (one-name c.args.list.now c.states.number c.get.result.now c.get.ensures))

@@ -1,10 +1,9 @@
 -- No name is among those before it.
-use Rattle.std.proofs.Common.{◌≡◌, ◌∙◌, rules, true, ap, subst, sym, List, ℕ, take}
+use Rattle.std.proofs.Common.{◌≡◌, ◌∙◌, ap, subst, sym, List, ℕ, take}
 use Rattle.std.specs.Prelude.{Contains}
-use Rattle.std.specs.Result.{is_ok}
 use Rattle.bn_quad.specs.Names.{Naming, symbols_on, with_symbol}
 use Rattle.bn_qtable.specs.Named.{on_tape}
-use Rattle.bn_qtable.proofs.Gathering.{on-ok, new-name, on-tape-more, one-name, symbols-on-tape}
+use Rattle.bn_qtable.proofs.Gathering.{new-name, on-tape-more, one-name, symbols-on-tape}
 use Rattle.bn_qtable.proofs.lists.gather_symbols.Goals as goal
 
 pub add_symbol-requires-clause-new : goal.add_symbol-requires-clause-new
@@ -15,8 +14,7 @@ add_symbol-requires-clause-new c =
 
 pub symbols-preserved : goal.symbols-preserved
 symbols-preserved c =
-    let good : is_ok c.add_symbol.result ≡ true = search rules in
-    let added : c.add_symbol.new.self ≡ with_symbol c.symbols.names c.args.tape c.get.result.now = on-ok _ c.add_symbol.result good c.add_symbol.ensures.ok in
+    let added : c.add_symbol.new.self ≡ with_symbol c.symbols.names c.args.tape c.get.result.now = c.in_ok-add_symbol.ensures.ok in
     let old = c.args.names.now in
     added ∙ ap (λ (n : Naming). with_symbol n c.args.tape c.get.result.now) c.symbols.invariant
     ∙ on-tape-more old c.args.tape (take c.symbols.number c.args.list.now) c.get.result.now
