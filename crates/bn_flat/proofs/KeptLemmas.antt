@@ -7,7 +7,7 @@ use Rattle.bn_quad.specs.Quadruples.{Quadruples, IsQuadMachine}
 use Rattle.bn_network.specs.Controls.{ControlState, Begin, Reads, Tape as to_tape, IsEntry, is_begin, symbol_count, lines_before, out_number, command_offset, control_lines, IsFirstKept, final_kept, sent_kept}
 use Rattle.bn_network.specs.declared.cell_line.CellLine.TheVariants.{Read}
 use Rattle.bn_network.specs.Networks.{elements_by}
-use Rattle.bn_control.specs.Controlled.{Controlled, IsControlOf, IsAwaiting, IsWithinLimits, IsTapeAwaited}
+use Rattle.bn_control.specs.Controlled.{Controlled, IsControlOf, IsAwaiting, IsTapeAwaited}
 use Rattle.bn_board.proofs.ModuleLemmas.{found}
 use Rattle.bn_board.specs.Layouts.{Layout, IsLayout, elements_of}
 use Rattle.bn_board.proofs.CommandLemmas.{command_number, entry-IsCommandMove}

@@ -7,11 +7,17 @@ use Rattle.bn_lists.proofs.RunsLemmas.{runs_join}
 use Rattle.bn_circuits.specs.Circuits.{Circuit, IsCircuit, IsConfig, Goes}
 use Rattle.bn_circuits.specs.Stepping.{back}
 use Rattle.bn_circuits.proofs.RunLemmas.{Reaches-back, back_composes}
+use Rattle.bn_board.specs.Layouts.{Layout}
 use Rattle.bn_circuits.specs.declared.config.Config.{Config}
+use Rattle.bn_circuits.specs.declared.line.Line.{Line}
 use Rattle.bn_circuits.proofs.RunPartLemmas.{runs_split, steps_of_run}
 use Rattle.bn_element.specs.declared.rotary.Rotary.{Rotary}
 use Rattle.bn_net.specs.Parts.{Parts}
 use Rattle.bn_net.specs.RotaryNets.{rotary_circuit}
+use Rattle.bn_packed.specs.PackedNets.{PackedNet}
+use Rattle.bn_packed.specs.Running.{LeadsTo}
+use Rattle.bn_packed.specs.declared.direction.Direction.{Direction}
+use Rattle.bn_packed.specs.declared.direction.Direction.TheVariants.{Forward, Backward}
 use Rattle.bn_flat.specs.Flattened.{Flattened, origin_by, IsReached, IsSameBoard, IsBoardKept}
 
 module _ (k : Circuit) (circuit : IsCircuit k) where
@@ -54,6 +60,10 @@ module _ (k : Circuit) (circuit : IsCircuit k) where
 
 -- ---- boards
 
+-- the board of these parts
+abbrev pub board_with : PackedNet → Line → Line → Layout → Flattened
+board_with p start end layout = record { net = p.net; config = p.config; start = start; end = end; layout = layout }
+
 abbrev pub with_config : Flattened → Parts Rotary → Config → Flattened
 with_config b net d = record { net = net; config = d; start = b.start; end = b.end; layout = b.layout }
 
@@ -71,11 +81,10 @@ module _ (b : Flattened) (net : Parts Rotary) (d : Config) (kept : IsBoardKept b
       } in
       subst (λ n. IsMoved b (with_config b n d)) (sym net_is) at_net
 
-  pub board_ran : (n : ℕ) → Reaches (Goes (rotary_circuit b.net)) n b.config d → IsMoved b (with_config b net d)
-  board_ran n run = board_kept (kept_on (rotary_circuit b.net) kept.circuit n b.config d kept.reached good run)
-
-  pub board_ran_back : (n : ℕ) → Reaches (Goes (rotary_circuit b.net)) n d b.config → IsMoved b (with_config b net d)
-  board_ran_back n run = board_kept (kept_back (rotary_circuit b.net) kept.circuit n b.config d kept.reached good run)
+  -- after steps in this direction
+  pub board_ran : (way : Direction) (n : ℕ) → LeadsTo way (rotary_circuit b.net) n b.config d → IsMoved b (with_config b net d)
+  board_ran Forward n run = board_kept (kept_on (rotary_circuit b.net) kept.circuit n b.config d kept.reached good run)
+  board_ran Backward n run = board_kept (kept_back (rotary_circuit b.net) kept.circuit n b.config d kept.reached good run)
 
   pub board_stepped : (made : Bool) → OnTrue made (Goes (rotary_circuit b.net) b.config d) → OnFalse made (d ≡ b.config) → IsMoved b (with_config b net d)
   board_stepped made goes stays = board_kept (kept_step (rotary_circuit b.net) kept.circuit made b.config d kept.reached good goes stays)

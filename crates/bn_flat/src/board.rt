@@ -1,20 +1,20 @@
 //! Boards, and their runs.
 
-ghost use Rattle.std.specs.Prelude.{◌≡◌, ◌⊎◌, ◌<◌, ◌≤◌, length, IfOk};
+ghost use Rattle.std.specs.Prelude.{◌≡◌, length, IfOk};
 ghost use Rattle.std.specs.Bool.{OnTrue, OnFalse};
-ghost use Rattle.bn_lists.specs.Runs.{Reaches};
 ghost use Rattle.bn_circuits.specs.Circuits.{Goes, IsStuck, IsFirst};
-ghost use Rattle.bn_circuits.specs.Stepping.{run, back, places, places_back};
+ghost use Rattle.bn_circuits.specs.Stepping.{places};
 ghost use Rattle.bn_net.specs.Watching.{Hears};
 ghost use Rattle.bn_net.specs.RotaryNets.{rotary_circuit};
-ghost use Rattle.bn_packed.specs.Stopping.{PassesBy};
+ghost use Rattle.bn_packed.specs.Running.{GoesTo, IsAtEnd, IsLongestRun, places_along};
+ghost use Rattle.bn_packed.specs.Stopping.{IsStoppedRun};
 ghost use Rattle.bn_board.specs.Layouts.{elements_of};
 ghost use Rattle.bn_board.specs.Costs.{bound_of};
 ghost use Rattle.bn_flat.specs.Flattened.{IsBoardKept, IsSameBoard};
 
 use crate::layout::Layout;
 use bn_net::{Line, NoMemory, Place, Watch};
-use bn_packed::{Packed, Stop};
+use bn_packed::{Direction, Packed, Stop};
 use std::alloc::Global;
 use std::marker::Model;
 
@@ -175,14 +175,25 @@ impl Board {
         self.packed.back_step()
     }
 
+    /// Makes one element step in this direction, as `step` and `back_step` do. `false` exactly where none can be made,
+    /// and then nothing changed. It takes no memory.
+    pub fn step_along(&mut self, direction: Direction) -> bool
+        ensures made { OnTrue result (GoesTo direction (rotary_circuit self.old.net) self.old.config self.new.config) }
+        ensures kept { OnFalse result (self.new ≡ self.old) }
+        ensures ended { OnFalse result (IsAtEnd direction (rotary_circuit self.old.net) self.old.config) }
+        ensures same { IsSameBoard self.old self.new }
+    {
+        match direction {
+            Direction::Forward => self.step(),
+            Direction::Backward => self.back_step(),
+        }
+    }
+
     /// Makes at most `e` element steps and answers how many: fewer only where none can be made from where it ends. It
     /// takes no memory.
     pub fn run(&mut self, e: u64) -> u64
-        ensures bound { result ≤ e }
-        ensures made { Reaches (Goes (rotary_circuit self.old.net)) result self.old.config self.new.config }
-        ensures ended { result < e → IsStuck (rotary_circuit self.old.net) self.new.config }
-        ensures run { self.new.config ≡ run (rotary_circuit self.old.net) self.old.config e }
-        ensures undone { back (rotary_circuit self.old.net) self.new.config result ≡ self.old.config }
+        ensures ran { IsLongestRun Direction.Forward (rotary_circuit self.old.net) e result self.old.config
+            self.new.config }
         ensures same { IsSameBoard self.old self.new }
     {
         self.packed.run(e)
@@ -191,11 +202,8 @@ impl Board {
     /// Takes at most `e` element steps back and answers how many: fewer only where no step led to where it ends. It
     /// takes no memory.
     pub fn run_back(&mut self, e: u64) -> u64
-        ensures bound { result ≤ e }
-        ensures made { Reaches (Goes (rotary_circuit self.old.net)) result self.new.config self.old.config }
-        ensures ended { result < e → IsFirst (rotary_circuit self.old.net) self.new.config }
-        ensures back { self.new.config ≡ back (rotary_circuit self.old.net) self.old.config e }
-        ensures undone { run (rotary_circuit self.old.net) self.new.config result ≡ self.old.config }
+        ensures ran { IsLongestRun Direction.Backward (rotary_circuit self.old.net) e result self.old.config
+            self.new.config }
         ensures same { IsSameBoard self.old self.new }
     {
         self.packed.run_back(e)
@@ -204,11 +212,8 @@ impl Board {
     // Makes at most `e` element steps, and stops after a step where the signal is about to enter a line of `stop`;
     // tells the watch the place after each.
     pub(crate) fn run_until<S: Stop, W: Watch>(&mut self, e: u64, stop: &S, watch: &mut W) -> u64
-        ensures bound { result ≤ e }
-        ensures made { Reaches (Goes (rotary_circuit self.old.net)) result self.old.config self.new.config }
-        ensures between { PassesBy (rotary_circuit self.old.net)
-            (S.stops stop.now) result self.old.config self.new.config }
-        ensures moves { 0 < e → (0 < result) ⊎ IsStuck (rotary_circuit self.old.net) self.old.config }
+        ensures ran { IsStoppedRun (rotary_circuit self.old.net) (S.stops stop.now) e result self.old.config
+            self.new.config }
         ensures kept { IsBoardKept self.new }
         ensures same { IsSameBoard self.old self.new }
         ensures told { Hears (W.told watch.old) (places (rotary_circuit self.old.net) result self.old.config)
@@ -219,14 +224,11 @@ impl Board {
 
     /// Makes at most `e` element steps, as `run` does, and tells the watch the place after each. It takes no memory.
     pub fn run_watched<W: Watch>(&mut self, e: u64, watch: &mut W) -> u64
-        ensures bound { result ≤ e }
-        ensures made { Reaches (Goes (rotary_circuit self.old.net)) result self.old.config self.new.config }
-        ensures ended { result < e → IsStuck (rotary_circuit self.old.net) self.new.config }
-        ensures run { self.new.config ≡ run (rotary_circuit self.old.net) self.old.config e }
-        ensures undone { back (rotary_circuit self.old.net) self.new.config result ≡ self.old.config }
+        ensures ran { IsLongestRun Direction.Forward (rotary_circuit self.old.net) e result self.old.config
+            self.new.config }
         ensures same { IsSameBoard self.old self.new }
-        ensures told { Hears (W.told watch.old) (places (rotary_circuit self.old.net) e self.old.config)
-            (W.told watch.new) }
+        ensures told { Hears (W.told watch.old)
+            (places_along Direction.Forward (rotary_circuit self.old.net) e self.old.config) (W.told watch.new) }
     {
         self.packed.run_watched(e, watch)
     }
@@ -234,14 +236,11 @@ impl Board {
     /// Takes at most `e` element steps back, as `run_back` does, and tells the watch the place after each. It takes no
     /// memory.
     pub fn run_back_watched<W: Watch>(&mut self, e: u64, watch: &mut W) -> u64
-        ensures bound { result ≤ e }
-        ensures made { Reaches (Goes (rotary_circuit self.old.net)) result self.new.config self.old.config }
-        ensures ended { result < e → IsFirst (rotary_circuit self.old.net) self.new.config }
-        ensures back { self.new.config ≡ back (rotary_circuit self.old.net) self.old.config e }
-        ensures undone { run (rotary_circuit self.old.net) self.new.config result ≡ self.old.config }
+        ensures ran { IsLongestRun Direction.Backward (rotary_circuit self.old.net) e result self.old.config
+            self.new.config }
         ensures same { IsSameBoard self.old self.new }
-        ensures told { Hears (W.told watch.old) (places_back (rotary_circuit self.old.net) e self.old.config)
-            (W.told watch.new) }
+        ensures told { Hears (W.told watch.old)
+            (places_along Direction.Backward (rotary_circuit self.old.net) e self.old.config) (W.told watch.new) }
     {
         self.packed.run_back_watched(e, watch)
     }

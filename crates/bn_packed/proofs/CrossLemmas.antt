@@ -1,7 +1,7 @@
 -- Crossings by the numbers of lines: the line of the other end of a crossing has a number that differs in its last two bits.
-use Rattle.std.specs.Prelude.{◌≡◌, ℕ, ◌+◌, ◌-◌, ◌*◌, ◌/◌, ◌%◌, ◌^◌, ◌<◌, List, length, Some, slice_get, slice_set, bit_xor, refl, ◌⊎◌}
-use Rattle.std.proofs.Common.{zero, suc, arith, sym, ap, subst, ◌∙◌, inl, inr}
-use Rattle.std.proofs.lemmas.Nat.{xor_shr, xor_mod, xor_comm}
+use Rattle.std.specs.Prelude.{◌≡◌, ℕ, ◌+◌, ◌-◌, ◌*◌, ◌/◌, ◌%◌, ◌<◌, List, Some, slice_get, slice_set, bit_xor, refl}
+use Rattle.std.proofs.Common.{zero, suc, arith, sym, ap, ◌∙◌}
+use Rattle.std.proofs.lemmas.Nat.{xor_shr, xor_mod}
 use lib.Bits.{xor_zero_r}
 use Rattle.bn_net.proofs.RotaryNetLemmas.{set_same}
 use Rattle.bn_packed.specs.Bars.{crossed, turned, crossed_back, HasCrossed, HasCrossedBack}

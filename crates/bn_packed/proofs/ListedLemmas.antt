@@ -1,5 +1,5 @@
 -- The ends of a list of wires, written one wire after another, and the net that they make.
-use Rattle.std.specs.Prelude.{◌≡◌, ℕ, ◌+◌, ◌*◌, ◌/◌, ◌%◌, ◌^◌, ◌<◌, ◌≤◌, List, [], ◌∷◌, ◌++◌, length, replicate, take, Option, Some, None, if◌then◌else◌, slice_get, slice_set, refl}
+use Rattle.std.specs.Prelude.{◌≡◌, ℕ, ◌+◌, ◌*◌, ◌^◌, ◌<◌, List, [], ◌∷◌, ◌++◌, length, replicate, take, Option, Some, None, if◌then◌else◌, slice_get, slice_set, refl}
 use Rattle.std.proofs.Common.{zero, suc, get_or, arith, sym, ap, subst, ◌∙◌, inl, inr}
 use Rattle.std.proofs.lemmas.List.{length-replicate, take_more}
 use Rattle.std.proofs.lemmas.Option.{slice_get-get_or}
@@ -17,7 +17,7 @@ use Rattle.bn_net.proofs.OrderLemmas.{rows_in_order}
 use Rattle.bn_net.specs.RotaryNets.{rotary_circuit, IsNetOf}
 use Rattle.bn_net.specs.Wirings.{AreApart, AreFitting}
 use Rattle.bn_net.proofs.WiringsLemmas.{apart-IsOneToOne, earlier_target, earlier_source}
-use Rattle.bn_packed.specs.Ends.{line_of, IsLineBelow, EndList, AreEnds, AreEndsOf, rows_of, rotaries, net_of, IsWiring}
+use Rattle.bn_packed.specs.Ends.{line_of, IsLineBelow, EndList, AreEndsOf, rows_of, rotaries, net_of, IsWiring}
 use Rattle.bn_packed.proofs.EndLemmas.{line_by_number, below_output, below_input, net-IsWiring, ends_entry}
 
 -- ---- one end

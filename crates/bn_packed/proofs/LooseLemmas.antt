@@ -1,6 +1,6 @@
 -- Numbers that tell of no wire, and a number that is written among others.
-use Rattle.std.specs.Prelude.{◌≡◌, ℕ, ◌+◌, ◌*◌, ◌<◌, ◌≤◌, List, [], ◌∷◌, map, replicate, Option, Some, None, slice_set, refl}
-use Rattle.std.proofs.Common.{zero, suc, arith, sym, ap, ◌∙◌}
+use Rattle.std.specs.Prelude.{◌≡◌, ℕ, ◌≤◌, List, [], ◌∷◌, map, replicate, Option, Some, None, slice_set, refl}
+use Rattle.std.proofs.Common.{zero, suc, arith, ap, ◌∙◌}
 use Rattle.bn_circuits.specs.declared.line.Line.{Line}
 use Rattle.bn_packed.specs.Ends.{narrow_end, wide_end, IsLineBelow}
 

@@ -1,14 +1,14 @@
 -- A crossing of an element is a step of the circuit, forward and backward.
-use Rattle.std.specs.Prelude.{◌≡◌, ℕ, ◌+◌, ◌-◌, ◌<◌, ◌≤◌, ◌==◌, Bool, true, false, List, [], ◌∷◌, length, map, Option, Some, slice_get, slice_set, option_and_then, min, refl, ◌⊎◌}
+use Rattle.std.specs.Prelude.{◌≡◌, ◌≢◌, ℕ, ◌+◌, ◌-◌, ◌<◌, ◌≤◌, ◌==◌, Bool, true, false, List, [], ◌∷◌, length, map, Option, Some, slice_get, slice_set, option_and_then, min, refl, ◌⊎◌}
 use Rattle.std.proofs.Common.{zero, suc, arith, sym, ap, subst, ◌∙◌, inl, inr}
 use Rattle.std.proofs.lemmas.Bool.Decides.{nat_tests, eqb_tells}
 use Rattle.std.proofs.lemmas.Option.{option_and_then_some, slice_get_within}
-use Rattle.std.specs.Bool.{OnFalse}
+use Rattle.std.specs.Bool.{OnTrue, OnFalse}
 use Rattle.bn_element.specs.Tables.{Table}
 use Rattle.bn_lists.specs.Runs.{Reaches}
 use Rattle.bn_lists.proofs.RunsLemmas.{passes_join}
 use Rattle.bn_circuits.specs.Circuits.{Circuit, IsCircuit, IsConfig, IsPlace, IsOutputOf, Goes, IsStuck, IsFirst, clock, go_of, back_of, states_of, place_after}
-use Rattle.bn_circuits.specs.Stepping.{run, back, places, places_back, line_before}
+use Rattle.bn_circuits.specs.Stepping.{line_before}
 use Rattle.bn_circuits.proofs.RunLemmas.{run_stops, back_stops, Reaches-run, Reaches-back}
 use Rattle.bn_circuits.proofs.StepLemmas.{same_config, go_arrives, next-IsConfig, previous-IsConfig}
 use Rattle.bn_circuits.specs.declared.line.Line.{Line}
@@ -25,7 +25,10 @@ use Rattle.bn_net.proofs.NetSteps.{enter-within, output-state, back-Goes, first_
 use Rattle.bn_net.specs.RotaryNets.{rotary_circuit}
 use Rattle.bn_packed.specs.Bars.{AreBars, crossed, crossed_back}
 use Rattle.bn_packed.specs.PackedNets.{PackedNet, config_at}
-use Rattle.bn_packed.specs.Stopping.{PassesBy, passes_by, stops_at}
+use Rattle.bn_packed.specs.Running.{GoesTo, LeadsTo, IsAtEnd, IsLongestRun, places_along}
+use Rattle.bn_packed.specs.declared.direction.Direction.{Direction}
+use Rattle.bn_packed.specs.declared.direction.Direction.TheVariants.{Forward, Backward}
+use Rattle.bn_packed.specs.Stopping.{IsStoppedRun, PassesBy, passes_by, stops_at}
 use Rattle.bn_packed.proofs.EndLemmas.{input_below, output_below}
 
 -- an element's moves are those of the rotary element
@@ -190,21 +193,25 @@ module _ (net : Parts Rotary) (circuit : IsCircuit (rotary_circuit net)) where
 pub left-stuck : (k : Circuit) (c : Config) → ((e i : ℕ) → c.place ≡ Enter e i → ⊥) → IsStuck k c
 left-stuck k c left d goes = left goes.element goes.input goes.enters
 
--- What a walk of as many steps as were asked for comes to, or of as many as the clock has room for.
-pub record IsRun (k : Circuit) (c d : Config) (e made : ℕ) (old new : Option (List Place)) : Type 0 where
-  pub ended : made < e → IsStuck k d
-  pub is_run : d ≡ run k c e
-  pub undone : back k d made ≡ c
-  pub told : Hears old (places k e c) new
+-- What a walk of as many steps as were asked for comes to, or of as many as the clock has room for, and what a watch has
+-- heard of it.
+pub record IsToldRun (way : Direction) (k : Circuit) (c d : Config) (e made : ℕ) (old new : Option (List Place)) : Type 0 where
+  pub ran : IsLongestRun way k e made c d
+  pub told : Hears old (places_along way k e c) new
 
-pub walk-IsRun : (k : Circuit) → IsCircuit k → (c d : Config) (e count made : ℕ) (old new : Option (List Place)) → HasWalked k c d made old new
+pub walk-IsToldRun : (k : Circuit) → IsCircuit k → (c d : Config) (e count made : ℕ) (old new : Option (List Place)) → HasWalked k c d made old new
     → c.steps ≤ clock
-    → made ≤ count → count ≡ min e (clock - c.steps) → d.steps ≡ c.steps + made → (made < count → IsStuck k d) → IsRun k c d e made old new
-walk-IsRun k circuit c d e count made old new walked in_time within least counted stuck =
+    → made ≤ count → count ≡ min e (clock - c.steps) → d.steps ≡ c.steps + made → (made < count → IsStuck k d) → IsToldRun Forward k c d e made old new
+walk-IsToldRun k circuit c d e count made old new walked in_time within least counted stuck =
     record {
-      ended = ended;
-      is_run = sym (run_stops k made e c d walked.reaches below ended);
-      undone = Reaches-back k circuit made c d walked.reaches;
+      ran = record {
+        bound = below;
+        made = walked.reaches;
+        ended = ended;
+        ends = sym (run_stops k made e c d walked.reaches below ended);
+        undone = Reaches-back k circuit made c d walked.reaches;
+        good = walked.good;
+      };
       told = walk_ends k c d made e old new walked below ended;
     }
   where
@@ -221,20 +228,18 @@ walk-IsRun k circuit c d e count made old new walked in_time within least counte
           | inr all ↦ (λ f goes. let in_time = goes.in_time in absurd (omega arith))
         ]
 
--- The same, backward.
-pub record IsRunBack (k : Circuit) (c d : Config) (e made : ℕ) (old new : Option (List Place)) : Type 0 where
-  pub ended : made < e → IsFirst k d
-  pub is_back : d ≡ back k c e
-  pub undone : run k d made ≡ c
-  pub told : Hears old (places_back k e c) new
-
-pub walk-IsRunBack : (k : Circuit) → IsCircuit k → (c d : Config) (e count made : ℕ) (old new : Option (List Place)) → HasWalkedBack k c d made old new
-    → made ≤ count → count ≡ min e c.steps → c.steps ≡ d.steps + made → (made < count → IsFirst k d) → IsRunBack k c d e made old new
-walk-IsRunBack k circuit c d e count made old new walked within least counted first =
+pub walk_back-IsToldRun : (k : Circuit) → IsCircuit k → (c d : Config) (e count made : ℕ) (old new : Option (List Place)) → HasWalkedBack k c d made old new
+    → made ≤ count → count ≡ min e c.steps → c.steps ≡ d.steps + made → (made < count → IsFirst k d) → IsToldRun Backward k c d e made old new
+walk_back-IsToldRun k circuit c d e count made old new walked within least counted first =
     record {
-      ended = ended;
-      is_back = sym (back_stops k circuit made e d c walked.good walked.reaches below ended);
-      undone = Reaches-run k made d c walked.reaches;
+      ran = record {
+        bound = below;
+        made = walked.reaches;
+        ended = ended;
+        ends = sym (back_stops k circuit made e d c walked.good walked.reaches below ended);
+        undone = Reaches-run k made d c walked.reaches;
+        good = walked.good;
+      };
       told = walk_back_ends k circuit c d made e old new walked below ended;
     }
   where
@@ -251,28 +256,50 @@ walk-IsRunBack k circuit c d e count made old new walked within least counted fi
           | inr all ↦ first_by_steps k circuit d (omega arith)
         ]
 
--- a claim on the start where no step of at most one was made
-pub none_made : (k : Circuit) (n : ℕ) (P : Config → Type 0) (c d : Config) → n ≤ 1 → Reaches (Goes k) n c d → (n < 1 → P d) → OnFalse (n == 1) (P c)
-none_made k n P c d few path ended =
-    elim (eqb_tells n 1) [
-      | inl one ↦ rw one.0 tt
-      | inr other ↦ rw other.0 (subst P (sym (at_start n (omega arith) path)) (ended (omega arith)))
-    ]
-  where
-    at_start : (n : ℕ) → n ≡ 0 → Reaches (Goes k) n c d → c ≡ d
-    at_start zero none path = path
-    at_start (suc n) none path = absurd (omega arith)
+-- ---- a run of at most one step
 
-pub none_made_back : (k : Circuit) (n : ℕ) (P : Config → Type 0) (c d : Config) → n ≤ 1 → Reaches (Goes k) n d c → (n < 1 → P d) → OnFalse (n == 1) (P c)
-none_made_back k n P c d few path ended =
-    elim (eqb_tells n 1) [
-      | inl one ↦ rw one.0 tt
-      | inr other ↦ rw other.0 (subst P (at_start n (omega arith) path) (ended (omega arith)))
-    ]
-  where
-    at_start : (n : ℕ) → n ≡ 0 → Reaches (Goes k) n d c → d ≡ c
-    at_start zero none path = path
-    at_start (suc n) none path = absurd (omega arith)
+one_step : (k : Circuit) (n : ℕ) (c d : Config) → n ≡ 1 → Reaches (Goes k) n c d → Goes k c d
+one_step k zero c d one path = absurd (omega arith)
+one_step k (suc zero) c d one path = subst (λ x. Goes k c x) path.2 path.1
+one_step k (suc (suc n)) c d one path = absurd (omega arith)
+
+no_step : (k : Circuit) (n : ℕ) (c d : Config) → n ≡ 0 → Reaches (Goes k) n c d → c ≡ d
+no_step k zero c d none path = path
+no_step k (suc n) c d none path = absurd (omega arith)
+
+one_along : (way : Direction) (k : Circuit) (n : ℕ) (c d : Config) → n ≡ 1 → LeadsTo way k n c d → GoesTo way k c d
+one_along Forward k n c d one path = one_step k n c d one path
+one_along Backward k n c d one path = one_step k n d c one path
+
+none_along : (way : Direction) (k : Circuit) (n : ℕ) (c d : Config) → n ≡ 0 → LeadsTo way k n c d → d ≡ c
+none_along Forward k n c d none path = sym (no_step k n c d none path)
+none_along Backward k n c d none path = no_step k n d c none path
+
+-- whether it made one
+module _ (way : Direction) (k : Circuit) (n : ℕ) (c d : Config) (ran : IsLongestRun way k 1 n c d) where
+  stayed : n ≢ 1 → d ≡ c
+  stayed other = let few = ran.bound in none_along way k n c d (omega arith) ran.made
+
+  pub made_one : OnTrue (n == 1) (GoesTo way k c d)
+  made_one =
+      elim (eqb_tells n 1) [
+        | inl one ↦ rw one.0 (one_along way k n c d one.1 ran.made)
+        | inr other ↦ rw other.0 tt
+      ]
+
+  pub kept_none : OnFalse (n == 1) (d ≡ c)
+  kept_none =
+      elim (eqb_tells n 1) [
+        | inl one ↦ rw one.0 tt
+        | inr other ↦ rw other.0 (stayed other.1)
+      ]
+
+  pub ended_none : OnFalse (n == 1) (IsAtEnd way k c)
+  ended_none =
+      elim (eqb_tells n 1) [
+        | inl one ↦ rw one.0 tt
+        | inr other ↦ rw other.0 (subst (IsAtEnd way k) (stayed other.1) (ran.ended (let few = ran.bound in let apart = other.1 in omega arith)))
+      ]
 
 -- no step yet
 pub walked_none : (k : Circuit) (bars : List ℕ) (from to : Place) (n m made : ℕ) (told : Option (List Place)) → IsConfig k (config_at bars from n) → from ≡ to
@@ -298,25 +325,25 @@ walked_back_none k bars from n m made told good same none =
     (subst (λ x. HasWalkedBack k (config_at bars from n) (config_at bars from x) 0 told told) same (walk_back_starts k (config_at bars from n) told good))
 
 -- what the walk in a packed netlist comes to
-pub packed-IsRun : (now : PackedNet) (wiring : Parts Rotary) (bars after : List ℕ) (from to : Place) (n m e count : ℕ) (old new : Option (List Place))
+pub packed-IsToldRun : (now : PackedNet) (wiring : Parts Rotary) (bars after : List ℕ) (from to : Place) (n m e count : ℕ) (old new : Option (List Place))
     → record { net = wiring; config = config_at bars from n } ≡ now → IsCircuit (rotary_circuit wiring) → n ≤ clock → count ≡ min e (clock - n) → n ≤ m
     → m ≤ n + count
     → HasWalked (rotary_circuit wiring) (config_at bars from n) (config_at after to m) (m - n) old new
     → (m < n + count → IsStuck (rotary_circuit wiring) (config_at after to m))
-    → IsRun (rotary_circuit now.net) now.config (config_at after to m) e (m - n) old new
-packed-IsRun now wiring bars after from to n m e count old new is circuit in_time least forward limit walked stuck =
-    subst (λ (p : PackedNet). IsRun (rotary_circuit p.net) p.config (config_at after to m) e (m - n) old new) is
-    (walk-IsRun (rotary_circuit wiring) circuit (config_at bars from n) (config_at after to m) e count (m - n) old new walked in_time (omega arith) least
+    → IsToldRun Forward (rotary_circuit now.net) now.config (config_at after to m) e (m - n) old new
+packed-IsToldRun now wiring bars after from to n m e count old new is circuit in_time least forward limit walked stuck =
+    subst (λ (p : PackedNet). IsToldRun Forward (rotary_circuit p.net) p.config (config_at after to m) e (m - n) old new) is
+    (walk-IsToldRun (rotary_circuit wiring) circuit (config_at bars from n) (config_at after to m) e count (m - n) old new walked in_time (omega arith) least
     (omega arith) (λ fewer. stuck (omega arith)))
 
-pub packed-IsRunBack : (now : PackedNet) (wiring : Parts Rotary) (bars after : List ℕ) (from to : Place) (n m e count : ℕ) (old new : Option (List Place))
+pub packed_back-IsToldRun : (now : PackedNet) (wiring : Parts Rotary) (bars after : List ℕ) (from to : Place) (n m e count : ℕ) (old new : Option (List Place))
     → record { net = wiring; config = config_at bars from n } ≡ now → IsCircuit (rotary_circuit wiring) → count ≡ min e n → m ≤ n → n ≤ m + count
     → HasWalkedBack (rotary_circuit wiring) (config_at bars from n) (config_at after to m) (n - m) old new
     → (n < m + count → IsFirst (rotary_circuit wiring) (config_at after to m))
-    → IsRunBack (rotary_circuit now.net) now.config (config_at after to m) e (n - m) old new
-packed-IsRunBack now wiring bars after from to n m e count old new is circuit least backward limit walked first =
-    subst (λ (p : PackedNet). IsRunBack (rotary_circuit p.net) p.config (config_at after to m) e (n - m) old new) is
-    (walk-IsRunBack (rotary_circuit wiring) circuit (config_at bars from n) (config_at after to m) e count (n - m) old new walked (omega arith) least
+    → IsToldRun Backward (rotary_circuit now.net) now.config (config_at after to m) e (n - m) old new
+packed_back-IsToldRun now wiring bars after from to n m e count old new is circuit least backward limit walked first =
+    subst (λ (p : PackedNet). IsToldRun Backward (rotary_circuit p.net) p.config (config_at after to m) e (n - m) old new) is
+    (walk_back-IsToldRun (rotary_circuit wiring) circuit (config_at bars from n) (config_at after to m) e count (n - m) old new walked (omega arith) least
     (omega arith) (λ fewer. first (omega arith)))
 
 -- ---- what is packed
@@ -346,26 +373,44 @@ pub no_stop : (p : Place) → stops_at (λ l. false) p ≡ true → ⊥
 no_stop (Enter e l) h = cc
 no_stop (Left e l) h = cc
 
--- it made all steps that were asked for, or it ended early for a reason
-pub until_ended : (k : Circuit) (n m e room count : ℕ) (d : Config) (Reason : Type 0) → d.steps ≡ m → n ≤ clock → room ≡ clock - n → count ≡ min room e → n ≤ m
-    → m ≤ n + count → (m < n + count → IsStuck k d ⊎ Reason) → m - n < e → IsStuck k d ⊎ Reason
-until_ended k n m e room count d Reason steps in_time room_is least forward limit early fewer =
-    elim cases [
-      | inl some ↦ early some
-      | inr all ↦ inl (λ f goes. let late = goes.in_time in absurd (omega arith))
-    ]
-  where
-    cases : (m < n + count) ⊎ (n + count ≤ m)
-    cases = grind (arith, nat_tests)
+-- what such a walk in a packed netlist comes to
+module _ (now : PackedNet) (wiring : Parts Rotary) (stops : Line → Bool) (bars after : List ℕ) (from to : Place) (n m e room count : ℕ)
+    (in_time : n ≤ clock) (room_is : room ≡ clock - n) (least : count ≡ min room e) (forward : n ≤ m) (limit : m ≤ n + count) where
+  -- it made all steps that were asked for, or it ended early for a reason
+  until_ended : (k : Circuit) (d : Config) (Reason : Type 0) → d.steps ≡ m → (m < n + count → IsStuck k d ⊎ Reason) → m - n < e → IsStuck k d ⊎ Reason
+  until_ended k d Reason steps early fewer =
+      elim cases [
+        | inl some ↦ early some
+        | inr all ↦ inl (λ f goes. let late = goes.in_time in absurd (omega arith))
+      ]
+    where
+      cases : (m < n + count) ⊎ (n + count ≤ m)
+      cases = grind (arith, nat_tests)
 
--- where a step was asked for it made one, or none can be made
-pub until_moves : (k : Circuit) (n m e room count : ℕ) (c : Config) → c.steps ≡ n → n ≤ clock → room ≡ clock - n → count ≡ min room e → n ≤ m
-    → (0 < count → (n < m) ⊎ IsStuck k c) → 0 < e → (0 < m - n) ⊎ IsStuck k c
-until_moves k n m e room count c steps in_time room_is least forward moves some =
-    elim cases [
-      | inl none ↦ inr (λ f goes. let late = goes.in_time in absurd (omega arith))
-      | inr more ↦ elim (moves more) [ inl made ↦ inl (omega arith) | inr stuck ↦ inr stuck ]
-    ]
-  where
-    cases : (count ≡ 0) ⊎ (0 < count)
-    cases = grind (arith, nat_tests)
+  -- where a step was asked for it made one, or none can be made
+  until_moves : (k : Circuit) (c : Config) → c.steps ≡ n → (0 < count → (n < m) ⊎ IsStuck k c) → 0 < e → (0 < m - n) ⊎ IsStuck k c
+  until_moves k c steps moves some =
+      elim cases [
+        | inl none ↦ inr (λ f goes. let late = goes.in_time in absurd (omega arith))
+        | inr more ↦ elim (moves more) [ inl made ↦ inl (omega arith) | inr stuck ↦ inr stuck ]
+      ]
+    where
+      cases : (count ≡ 0) ⊎ (0 < count)
+      cases = grind (arith, nat_tests)
+
+  pub packed-IsStoppedRun : (old new : Option (List Place)) → record { net = wiring; config = config_at bars from n } ≡ now
+      → HasWalked (rotary_circuit wiring) (config_at bars from n) (config_at after to m) (m - n) old new
+      → PassesBy (rotary_circuit wiring) stops (m - n) (config_at bars from n) (config_at after to m)
+      → (m < n + count → IsStuck (rotary_circuit wiring) (config_at after to m) ⊎ (stops_at stops to ≡ true))
+      → (0 < count → (n < m) ⊎ IsStuck (rotary_circuit wiring) (config_at bars from n))
+      → IsStoppedRun (rotary_circuit now.net) stops e (m - n) now.config (config_at after to m)
+  packed-IsStoppedRun old new is walked between ended moves =
+      let at_wiring : IsStoppedRun (rotary_circuit wiring) stops e (m - n) (config_at bars from n) (config_at after to m) = record {
+        bound = omega arith;
+        made = walked.reaches;
+        between = between;
+        ended = until_ended (rotary_circuit wiring) (config_at after to m) (stops_at stops to ≡ true) refl ended;
+        moves = until_moves (rotary_circuit wiring) (config_at bars from n) refl moves;
+        good = walked.good;
+      } in
+      subst (λ (p : PackedNet). IsStoppedRun (rotary_circuit p.net) stops e (m - n) p.config (config_at after to m)) is at_wiring

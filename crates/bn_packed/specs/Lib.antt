@@ -1,4 +1,5 @@
 pub mod Ends
 pub mod Bars
 pub mod PackedNets
+pub mod Running
 pub mod Stopping

@@ -4,6 +4,7 @@
 
 mod bars;
 mod cells;
+mod direction;
 mod ends;
 mod packed;
 mod signal;
@@ -13,5 +14,6 @@ mod wires;
 mod wiring;
 
 pub use bn_net::NoMemory;
+pub use direction::Direction;
 pub use packed::Packed;
 pub use stop::Stop;

@@ -1,10 +1,9 @@
 //! Packed netlists.
 
-ghost use Rattle.std.specs.Prelude.{◌≡◌, ◌⊎◌, ◌<◌, ◌≤◌, true, length, Some, IfOk, slice_get};
+ghost use Rattle.std.specs.Prelude.{◌≡◌, ◌<◌, length, Some, IfOk, slice_get};
 ghost use Rattle.std.specs.Bool.{OnTrue, OnFalse};
-ghost use Rattle.bn_lists.specs.Runs.{Reaches};
 ghost use Rattle.bn_circuits.specs.Circuits.{IsCircuit, IsConfig, IsOutputOf, Goes, IsStuck, IsFirst, target};
-ghost use Rattle.bn_circuits.specs.Stepping.{run, back, places, places_back};
+ghost use Rattle.bn_circuits.specs.Stepping.{places};
 ghost use Rattle.bn_net.specs.Watching.{Hears};
 ghost use Rattle.bn_net.specs.RotaryNets.{rotary_circuit};
 ghost use Rattle.bn_element.specs.declared.rotary.Rotary.{Rotary};
@@ -12,9 +11,11 @@ ghost use Rattle.bn_net.specs.Order.{AreInOrder};
 ghost use Rattle.bn_net.specs.Parts.{Parts};
 ghost use Rattle.bn_net.specs.RotaryNets.{IsNetOf};
 ghost use Rattle.bn_net.specs.Wirings.{AreApart, AreFitting};
-ghost use Rattle.bn_packed.specs.Stopping.{PassesBy, stops_at};
+ghost use Rattle.bn_packed.specs.Running.{IsLongestRun, places_along};
+ghost use Rattle.bn_packed.specs.Stopping.{IsStoppedRun};
 
 use crate::bars::Bars;
+use crate::direction::Direction;
 use crate::signal::Signal;
 use crate::stop::Stop;
 use crate::wires::Wires;
@@ -190,12 +191,8 @@ impl Packed {
     /// where it ends. Takes no memory.
     pub fn run(&mut self, e: u64) -> u64
         ensures net { self.new.net ≡ self.old.net }
-        ensures bound { result ≤ e }
-        ensures made { Reaches (Goes (rotary_circuit self.old.net)) result self.old.config self.new.config }
-        ensures ended { result < e → IsStuck (rotary_circuit self.old.net) self.new.config }
-        ensures run { self.new.config ≡ run (rotary_circuit self.old.net) self.old.config e }
-        ensures undone { back (rotary_circuit self.old.net) self.new.config result ≡ self.old.config }
-        ensures good { IsConfig (rotary_circuit self.old.net) self.new.config }
+        ensures ran { IsLongestRun Direction.Forward (rotary_circuit self.old.net) e result self.old.config
+            self.new.config }
     {
         self.run_watched(e, &mut Quiet)
     }
@@ -204,12 +201,8 @@ impl Packed {
     /// where it ends. Takes no memory.
     pub fn run_back(&mut self, e: u64) -> u64
         ensures net { self.new.net ≡ self.old.net }
-        ensures bound { result ≤ e }
-        ensures made { Reaches (Goes (rotary_circuit self.old.net)) result self.new.config self.old.config }
-        ensures ended { result < e → IsFirst (rotary_circuit self.old.net) self.new.config }
-        ensures back { self.new.config ≡ back (rotary_circuit self.old.net) self.old.config e }
-        ensures undone { run (rotary_circuit self.old.net) self.new.config result ≡ self.old.config }
-        ensures good { IsConfig (rotary_circuit self.old.net) self.new.config }
+        ensures ran { IsLongestRun Direction.Backward (rotary_circuit self.old.net) e result self.old.config
+            self.new.config }
     {
         self.run_back_watched(e, &mut Quiet)
     }
@@ -218,14 +211,10 @@ impl Packed {
     /// Takes no memory.
     pub fn run_watched<W: Watch>(&mut self, e: u64, watch: &mut W) -> u64
         ensures net { self.new.net ≡ self.old.net }
-        ensures bound { result ≤ e }
-        ensures made { Reaches (Goes (rotary_circuit self.old.net)) result self.old.config self.new.config }
-        ensures ended { result < e → IsStuck (rotary_circuit self.old.net) self.new.config }
-        ensures run { self.new.config ≡ run (rotary_circuit self.old.net) self.old.config e }
-        ensures undone { back (rotary_circuit self.old.net) self.new.config result ≡ self.old.config }
-        ensures good { IsConfig (rotary_circuit self.old.net) self.new.config }
+        ensures ran { IsLongestRun Direction.Forward (rotary_circuit self.old.net) e result self.old.config
+            self.new.config }
         ensures told { Hears (W.told watch.old)
-            (places (rotary_circuit self.old.net) e self.old.config) (W.told watch.new) }
+            (places_along Direction.Forward (rotary_circuit self.old.net) e self.old.config) (W.told watch.new) }
     {
         // (for the prover: the contract of this call tells what the type keeps. So below.)
         let _elements = self.wires.len();
@@ -235,19 +224,26 @@ impl Packed {
         self.signal.steps - before
     }
 
+    /// Makes at most `e` element steps in this direction, as `run_watched` and `run_back_watched` do, tells the watch
+    /// the place after each, and answers how many. Takes no memory.
+    pub fn run_along<W: Watch>(&mut self, direction: Direction, e: u64, watch: &mut W) -> u64
+        ensures net { self.new.net ≡ self.old.net }
+        ensures ran { IsLongestRun direction (rotary_circuit self.old.net) e result self.old.config self.new.config }
+        ensures told { Hears (W.told watch.old)
+            (places_along direction (rotary_circuit self.old.net) e self.old.config) (W.told watch.new) }
+    {
+        match direction {
+            Direction::Forward => self.run_watched(e, watch),
+            Direction::Backward => self.run_back_watched(e, watch),
+        }
+    }
+
     /// Makes at most `e` element steps, as `run_watched` does, but stops after a step where the signal is about to
     /// enter a line of `stop`, and answers how many it made. Takes no memory.
     pub fn run_until<S: Stop, W: Watch>(&mut self, e: u64, stop: &S, watch: &mut W) -> u64
         ensures net { self.new.net ≡ self.old.net }
-        ensures bound { result ≤ e }
-        ensures made { Reaches (Goes (rotary_circuit self.old.net)) result self.old.config self.new.config }
-        ensures between { PassesBy (rotary_circuit self.old.net) (S.stops stop.now) result self.old.config
+        ensures ran { IsStoppedRun (rotary_circuit self.old.net) (S.stops stop.now) e result self.old.config
             self.new.config }
-        ensures ended { result < e
-            → IsStuck (rotary_circuit self.old.net) self.new.config
-            ⊎ (stops_at (S.stops stop.now) self.new.config.place ≡ true) }
-        ensures moves { 0 < e → (0 < result) ⊎ IsStuck (rotary_circuit self.old.net) self.old.config }
-        ensures good { IsConfig (rotary_circuit self.old.net) self.new.config }
         ensures told { Hears (W.told watch.old)
             (places (rotary_circuit self.old.net) result self.old.config) (W.told watch.new) }
     {
@@ -265,14 +261,10 @@ impl Packed {
     /// each. Takes no memory.
     pub fn run_back_watched<W: Watch>(&mut self, e: u64, watch: &mut W) -> u64
         ensures net { self.new.net ≡ self.old.net }
-        ensures bound { result ≤ e }
-        ensures made { Reaches (Goes (rotary_circuit self.old.net)) result self.new.config self.old.config }
-        ensures ended { result < e → IsFirst (rotary_circuit self.old.net) self.new.config }
-        ensures back { self.new.config ≡ back (rotary_circuit self.old.net) self.old.config e }
-        ensures undone { run (rotary_circuit self.old.net) self.new.config result ≡ self.old.config }
-        ensures good { IsConfig (rotary_circuit self.old.net) self.new.config }
+        ensures ran { IsLongestRun Direction.Backward (rotary_circuit self.old.net) e result self.old.config
+            self.new.config }
         ensures told { Hears (W.told watch.old)
-            (places_back (rotary_circuit self.old.net) e self.old.config) (W.told watch.new) }
+            (places_along Direction.Backward (rotary_circuit self.old.net) e self.old.config) (W.told watch.new) }
     {
         let _elements = self.wires.len();
         let before = self.signal.steps;

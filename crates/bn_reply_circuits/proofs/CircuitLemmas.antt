@@ -1,17 +1,24 @@
 -- What the code replies.
 use Rattle.std.specs.Prelude.{◌≡◌, ℕ, List, [], Option, Result, Ok, Err, IfOk, OnErr, refl}
-use Rattle.std.proofs.Common.{sym, ap, subst, ◌∙◌, append-nil}
-use Rattle.bn_circuits.specs.Circuits.{Circuit, IsConfig}
+use Rattle.std.proofs.Common.{sym, ap, subst, append-nil}
+use Rattle.bn_circuits.specs.Circuits.{IsConfig}
+use Rattle.bn_circuits.specs.Stepping.{run, back}
+use Rattle.bn_circuits.proofs.RunLemmas.{run-IsConfig, back-IsConfig}
 use Rattle.bn_circuits.specs.declared.place.Place.{Place}
-use Rattle.bn_circuits.specs.declared.config.Config.{Config}
 use Rattle.bn_net.specs.RotaryNets.{rotary_circuit}
 use Rattle.bn_lists.specs.declared.memory.NoMemory.{NoMemory as WantOfMemory}
 use Rattle.bn_net.proofs.WalkLemmas.{hears-nothing}
 use Rattle.bn_net.specs.Watching.{Hears}
 use Rattle.bn_netlist_lines.proofs.NetLemmas.{circuits-agree}
-use Rattle.bn_netlist_laws.specs.Spelling.{moved_to}
+use Rattle.bn_netlist_laws.specs.Spelling.{circuit_of, moved_to}
 use Rattle.bn_packed.specs.PackedNets.{PackedNet}
+use Rattle.bn_packed.specs.Running.{run_along, places_along}
+use Rattle.bn_packed.specs.declared.direction.Direction.{Direction}
+use Rattle.bn_packed.specs.declared.direction.Direction.TheVariants.{Forward, Backward}
+use Rattle.bn_reply.specs.Ends.{TextEnds}
 use Rattle.bn_reply.specs.Replying.{IsReplied, IsUnfinished, told_some}
+use Rattle.bn_reply.specs.Streams.{AnswerEnds}
+use Rattle.bn_reply.proofs.ReplyLemmas.{text_ends}
 use Rattle.bn_reply.specs.declared.reply.Reply.{Reply}
 use Rattle.bn_reply.specs.declared.status.Status.{Status}
 use Rattle.bn_reply.specs.declared.status.Status.TheVariants.{Done, Text}
@@ -27,7 +34,8 @@ use Rattle.bn_netlist_lines.specs.declared.net_config.NetConfig.{NetConfig}
 use Rattle.bn_netlist_lines.specs.declared.refusal.NetlistRefusal.{NetlistRefusal}
 use Rattle.bn_netlist_lines.specs.declared.refusal.NetlistRefusal.TheVariants.{Syntax, Order, Target, TwoSources, StartFed, EndWired, LeftWired, TooMany, Spelling, NoMemory}
 use Rattle.bn_reply_circuits.specs.Refused.{IsRefused}
-use Rattle.bn_reply_circuits_laws.specs.CircuitReply.{Walked, CircuitReplies, misspelled, walked}
+use Rattle.bn_reply_circuits.specs.Walking.{HearsFront, WalkReplies, walked_places, walked_to}
+use Rattle.bn_reply_circuits_laws.specs.CircuitReply.{misspelled, walked}
 use Rattle.bn_reply_circuits_laws.specs.MigrateReply.{MigrateReplies, faulty, migrated}
 
 -- ---- a text that is refused
@@ -70,75 +78,84 @@ migrate_read c bytes text spelled is = migrated (record { version = c.version; s
 pub read-IsConfig : (c : NetConfig) (bytes : List ℕ) → Spelled c.version (spelling_of c) bytes → IsConfig (rotary_circuit c.net) c.config
 read-IsConfig c bytes spelled = subst (λ k. IsConfig k c.config) (sym (circuits-agree c)) spelled.admitted.config
 
--- what was read may be spelled in each configuration of a packed netlist of it
-pub moved-Admits : (c : NetConfig) (bytes : List ℕ) (p : PackedNet) (d : Config) → Spelled c.version (spelling_of c) bytes → p.net ≡ c.net →
-    IsConfig (rotary_circuit p.net) d → Admits c.version (moved_to (spelling_of c) d)
-moved-Admits c bytes p d spelled net good =
-    spellings-move c.version (spelling_of c) d spelled.admitted
-    (subst (λ k. IsConfig k d) (ap rotary_circuit net ∙ circuits-agree c) good)
+-- what a packed netlist of it tells in a run
+pub packed_told : (way : Direction) (e : ℕ) (c : NetConfig) (p : PackedNet) (told heard : Option (List Place)) → p.net ≡ c.net → p.config ≡ c.config →
+    Hears told (places_along way (rotary_circuit p.net) e p.config) heard → Hears told (walked_places way e c) heard
+packed_told way e c p told heard net config hears = subst (λ ps. Hears told ps heard) (λ i. places_along way (rotary_circuit (net i)) e (config i)) hears
 
-module _ (goes : Circuit → Config → Config) (tells : Circuit → Config → List Place) where
+-- a watch that has heard all
+pub heard_all : (told heard : Option (List Place)) (places : List Place) → Hears told places heard → HearsFront told places heard
+heard_all told heard places hears = record { front = places; rest = []; split = sym (append-nil places); hears = hears }
+
+module _ (way : Direction) (e : ℕ) (bytes : List ℕ) where
   -- the reply to a text that is refused
-  pub refused : (bytes : List ℕ) (refusal : NetlistRefusal) (result : Result Reply WantOfMemory) (told : Option (List Place)) → IsTextRefusal bytes refusal →
-      IfOk result (λ r. IsRefused refusal r.status r.text.items) → IfOk result (λ r. IsReplied (CircuitReplies goes tells bytes) r told told)
-  refused bytes refusal (Ok r) told first is =
+  pub refused : (refusal : NetlistRefusal) (result : Result Reply WantOfMemory) (told : Option (List Place)) → IsTextRefusal bytes refusal →
+      IfOk result (λ r. IsRefused refusal r.status r.text.items) → IfOk result (λ r. IsReplied (WalkReplies way e bytes) r told told)
+  refused refusal (Ok r) told first is =
       let both = wrong bytes refusal r.status r.text.items first is in
       record { places = []; right = misspelled both.1 both.0 refl; hears = hears-nothing told }
-  refused bytes refusal (Err e) told first is = tt
+  refused refusal (Err e) told first is = tt
 
-  -- the net that was read has gone to this configuration, and the watch has heard the places
-  pub record HasGone (c : NetConfig) (bytes : List ℕ) (d : Config) (told heard : Option (List Place)) : Type 0 where
-    pub spelled : Spelled c.version (spelling_of c) bytes
-    pub admitted : Admits c.version (moved_to (spelling_of c) d)
-    pub gone : d ≡ goes (rotary_circuit c.net) c.config
-    pub hears : Hears told (tells (rotary_circuit c.net) c.config) heard
+  -- what was read has walked
+  module _ (c : NetConfig) (spelled : Spelled c.version (spelling_of c) bytes) where
+    walked-IsConfig : (w : Direction) → IsConfig (circuit_of (spelling_of c)) (run_along w (rotary_circuit c.net) c.config e)
+    walked-IsConfig Forward =
+        subst (λ k. IsConfig (circuit_of (spelling_of c)) (run k c.config e)) (sym (circuits-agree c))
+        (run-IsConfig (circuit_of (spelling_of c)) spelled.admitted.circuit c.config spelled.admitted.config e)
+    walked-IsConfig Backward =
+        subst (λ k. IsConfig (circuit_of (spelling_of c)) (back k c.config e)) (sym (circuits-agree c))
+        (back-IsConfig (circuit_of (spelling_of c)) spelled.admitted.circuit c.config spelled.admitted.config e)
 
-  -- what a packed netlist of it comes to
-  pub packed_gone : (c : NetConfig) (bytes : List ℕ) (p : PackedNet) (d : Config) (told heard : Option (List Place)) → Spelled c.version (spelling_of c) bytes →
-      p.net ≡ c.net → p.config ≡ c.config → d ≡ goes (rotary_circuit p.net) p.config → IsConfig (rotary_circuit p.net) d →
-      Hears told (tells (rotary_circuit p.net) p.config) heard → HasGone c bytes d told heard
-  packed_gone c bytes p d told heard spelled net config gone good hears =
-      record {
-        spelled = spelled;
-        admitted = moved-Admits c bytes p d spelled net good;
-        gone = gone ∙ (λ i. goes (rotary_circuit (net i)) (config i));
-        hears = subst (λ ps. Hears told ps heard) (λ i. tells (rotary_circuit (net i)) (config i)) hears;
+    -- it may be spelled
+    walked-Admits : Admits c.version (spelling_of (walked_to way e c))
+    walked-Admits =
+        spellings-move c.version (spelling_of c) (run_along way (rotary_circuit c.net) c.config e) spelled.admitted (walked-IsConfig way)
+
+    walked_right : (text : List ℕ) → IsTextOf c.version (spelling_of (walked_to way e c)) text → WalkReplies way e bytes Done text (walked_places way e c)
+    walked_right text written =
+        let same = circuits-agree c in
+        walked (record {
+          version = c.version;
+          spelling = spelling_of c;
+          spelled = spelled;
+          written = subst (λ k. IsTextOf c.version (moved_to (spelling_of c) (run_along way k c.config e)) text) same written;
+          places = ap (λ k. places_along way k e c.config) same;
+        }) refl
+
+    -- no reply, after the watch has heard a front
+    pub cut_short : (told heard : Option (List Place)) → HearsFront told (walked_places way e c) heard → IsUnfinished (WalkReplies way e bytes) told heard
+    cut_short told heard cut =
+        let text = has-text c.version (spelling_of (walked_to way e c)) walked-Admits in
+        told_some Done text.0 (walked_places way e c) cut.front cut.rest (walked_right text.0 text.1.is_text) cut.split cut.hears
+
+    pub unreplied : (result : Result Reply WantOfMemory) (told heard : Option (List Place)) → Hears told (walked_places way e c) heard →
+        OnErr result (IsUnfinished (WalkReplies way e bytes) told heard)
+    unreplied (Ok r) told heard hears = tt
+    unreplied (Err x) told heard hears = cut_short told heard (heard_all told heard (walked_places way e c) hears)
+
+    module _ (m : NetConfig) (is : m ≡ walked_to way e c) where
+      pub moved-Admits : Admits m.version (spelling_of m)
+      moved-Admits = subst (λ (x : NetConfig). Admits x.version (spelling_of x)) (sym is) walked-Admits
+
+      -- the reply, whose text is this
+      moved_right : (text : List ℕ) → IsTextOf m.version (spelling_of m) text → WalkReplies way e bytes Done text (walked_places way e c)
+      moved_right text written = walked_right text (subst (λ (x : NetConfig). IsTextOf x.version (spelling_of x) text) is written)
+
+      pub replied : (result : Result Reply WantOfMemory) (told heard : Option (List Place)) → Hears told (walked_places way e c) heard →
+          IfOk result (λ r. r.status ≡ Done) → IfOk result (λ r. IsTextOf m.version (spelling_of m) r.text.items) →
+          IfOk result (λ r. IsReplied (WalkReplies way e bytes) r told heard)
+      replied (Ok r) told heard hears done written = record {
+        places = walked_places way e c;
+        right = subst (λ st. WalkReplies way e bytes st r.text.items (walked_places way e c)) (sym done) (moved_right r.text.items written);
+        hears = hears;
       }
+      replied (Err e) told heard hears done written = tt
 
-  pub gone_walk : (c : NetConfig) (bytes : List ℕ) (d : Config) (told heard : Option (List Place)) (text : List ℕ) → HasGone c bytes d told heard →
-      IsTextOf c.version (moved_to (spelling_of c) d) text → Walked goes tells bytes text (tells (rotary_circuit c.net) c.config)
-  gone_walk c bytes d told heard text gone is =
-      let same = circuits-agree c in
-      record {
-        version = c.version;
-        spelling = spelling_of c;
-        spelled = gone.spelled;
-        written = subst (λ x. IsTextOf c.version (moved_to (spelling_of c) x) text) (gone.gone ∙ ap (λ k. goes k c.config) same) is;
-        places = ap (λ k. tells k c.config) same;
-      }
-
-  -- the reply to a text that is read
-  pub replied : (c : NetConfig) (bytes : List ℕ) (d : Config) (told heard : Option (List Place)) (result : Result Reply WantOfMemory) → HasGone c bytes d told heard →
-      IfOk result (λ r. r.status ≡ Done) → IfOk result (λ r. IsTextOf c.version (moved_to (spelling_of c) d) r.text.items) →
-      IfOk result (λ r. IsReplied (CircuitReplies goes tells bytes) r told heard)
-  replied c bytes d told heard (Ok r) gone done is =
-      record {
-        places = tells (rotary_circuit c.net) c.config;
-        right = walked (gone_walk c bytes d told heard r.text.items gone is) done;
-        hears = gone.hears;
-      }
-  replied c bytes d told heard (Err e) gone done is = tt
-
-  -- no reply, after the watch has heard all
-  unwritten : (c : NetConfig) (bytes : List ℕ) (d : Config) (told heard : Option (List Place)) → HasGone c bytes d told heard →
-      IsUnfinished (CircuitReplies goes tells bytes) told heard
-  unwritten c bytes d told heard gone =
-      let text = has-text c.version (moved_to (spelling_of c) d) gone.admitted in
-      told_some Done text.0 (tells (rotary_circuit c.net) c.config) (tells (rotary_circuit c.net) c.config) []
-      (walked (gone_walk c bytes d told heard text.0 gone text.1.is_text) refl)
-      (sym (append-nil (tells (rotary_circuit c.net) c.config))) gone.hears
-
-  pub unreplied : (c : NetConfig) (bytes : List ℕ) (d : Config) (told heard : Option (List Place)) (result : Result Reply WantOfMemory) → HasGone c bytes d told heard →
-      OnErr result (IsUnfinished (CircuitReplies goes tells bytes) told heard)
-  unreplied c bytes d told heard (Ok r) gone = tt
-  unreplied c bytes d told heard (Err e) gone = unwritten c bytes d told heard gone
+      -- how giving it ends
+      pub moved_ends : (result : Status) (taken took : Option (List ℕ)) (before now : ℕ) (told heard : Option (List Place)) →
+          Hears told (walked_places way e c) heard → TextEnds (IsTextOf m.version (spelling_of m)) result taken took before now →
+          AnswerEnds (WalkReplies way e bytes) result taken took before now told heard
+      moved_ends result taken took before now told heard hears ends =
+          let text = has-text m.version (spelling_of m) moved-Admits in
+          text_ends (WalkReplies way e bytes) (IsTextOf m.version (spelling_of m)) text.0 (walked_places way e c) result taken took
+          before now told heard text.1.is_text (moved_right text.0 text.1.is_text) hears ends

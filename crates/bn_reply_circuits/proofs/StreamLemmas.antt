@@ -1,18 +1,16 @@
 -- How the commands on configuration texts end over a source and a sink.
 use Rattle.std.specs.Prelude.{ℕ, ◌≤◌, List, [], Option, Result, Ok, Err, IfOk, IsErrOf, refl}
-use Rattle.std.proofs.Common.{arith, sym, subst}
-use Rattle.bn_circuits.specs.Circuits.{Circuit}
+use Rattle.std.proofs.Common.{sym, subst}
 use Rattle.bn_circuits.specs.declared.place.Place.{Place}
-use Rattle.bn_circuits.specs.declared.config.Config.{Config}
+use Rattle.bn_packed.specs.declared.direction.Direction.{Direction}
 use Rattle.bn_io.specs.Faults.{Rose}
 use Rattle.bn_io.specs.Told.{ReadsWithin}
 use Rattle.bn_lists.specs.declared.memory.NoMemory.{NoMemory as WantOfMemory}
 use Rattle.bn_net.proofs.WalkLemmas.{hears-nothing}
-use Rattle.bn_net.specs.RotaryNets.{rotary_circuit}
 use Rattle.bn_netlist.specs.FromText.{IsFromRefusal, HasWhole, Ends}
 use Rattle.bn_netlist.specs.declared.refusal.FromRefusal.{FromRefusal}
 use Rattle.bn_netlist.specs.declared.refusal.FromRefusal.TheVariants as reading
-use Rattle.bn_netlist_laws.specs.Spelling.{IsTextOf, Spelled, moved_to}
+use Rattle.bn_netlist_laws.specs.Spelling.{IsTextOf, Spelled}
 use Rattle.bn_netlist_laws.specs.declared.version.Version.TheVariants.{Two}
 use Rattle.bn_netlist_laws.proofs.EntryLemmas.{has-text}
 use Rattle.bn_netlist_laws.proofs.VersionLemmas.{admission-rises}
@@ -31,9 +29,10 @@ use Rattle.bn_reply.proofs.StreamLemmas.{gave_more, gave_within}
 use Rattle.bn_reply_circuits.specs.PlanReply.{PlanReplies}
 use Rattle.bn_reply_circuits.specs.PlanReply as plans
 use Rattle.bn_reply_circuits.specs.Refused.{IsRefused, UnreadEnds}
-use Rattle.bn_reply_circuits_laws.specs.CircuitReply.{Misspelled, CircuitReplies, misspelled, walked}
+use Rattle.bn_reply_circuits.specs.Walking.{WalkReplies}
+use Rattle.bn_reply_circuits_laws.specs.CircuitReply.{Misspelled, misspelled}
 use Rattle.bn_reply_circuits_laws.specs.MigrateReply.{MigrateReplies, faulty}
-use Rattle.bn_reply_circuits.proofs.CircuitLemmas.{HasGone, gone_walk, migrate_read, wrong}
+use Rattle.bn_reply_circuits.proofs.CircuitLemmas.{migrate_read, wrong}
 
 text_not_too_long : (r : NetlistRefusal) → IsErrOf {T = NetConfig} {E = FromRefusal} (Err (reading.Text r)) reading.TooLong → ⊥
 text_not_too_long r e = cc
@@ -93,20 +92,8 @@ module _ (replies : List ℕ → Status → List ℕ → List Place → Type 0) 
     later = record { read = later_source; write = later_sink };
   }
 
--- memory is wanting for what was read
-pub stream_wanting : (replies : List ℕ → Status → List ℕ → List Place → Type 0) (left after : Option (List ℕ)) (failed fails : ℕ) (taken : Option (List ℕ)) (before : ℕ)
-    (told : Option (List Place)) → failed ≤ fails →
-    StreamEnds replies statuses.NoMemory (outside left taken told failed before) (outside after taken told fails before)
-stream_wanting replies left after failed fails taken before told later_source = record {
-  input = Unread;
-  gives = tt;
-  ends = (refl, grows_nothing taken taken refl, hears-nothing told);
-  later = record { read = later_source; write = omega arith };
-}
-
-pub walk_refuses : (goes : Circuit → Config → Config) (tells : Circuit → Config → List Place) (bytes text : List ℕ) → Misspelled bytes text →
-    CircuitReplies goes tells bytes statuses.Text text []
-walk_refuses goes tells bytes text is = misspelled is refl refl
+pub walk_refuses : (way : Direction) (e : ℕ) (bytes text : List ℕ) → Misspelled bytes text → WalkReplies way e bytes statuses.Text text []
+walk_refuses way e bytes text is = misspelled is refl refl
 
 pub migrate_refuses : (bytes text : List ℕ) → Misspelled bytes text → MigrateReplies bytes statuses.Text text []
 migrate_refuses bytes text is = faulty is refl refl
@@ -117,17 +104,7 @@ plan_refuses bytes text is = plans.misspelled is refl refl
 pub not_too_long : (c : NetConfig) → IsErrOf {T = NetConfig} {E = FromRefusal} (Ok c) reading.TooLong → ⊥
 not_too_long c e = cc
 
--- how the answer of `step` and `back` to a text that was read ends
-pub walk_ends : (goes : Circuit → Config → Config) (tells : Circuit → Config → List Place) (c : NetConfig) (bytes : List ℕ) (d : Config) (result : Status)
-    (taken took : Option (List ℕ)) (before now : ℕ) (told heard : Option (List Place)) → HasGone goes tells c bytes d told heard →
-    TextEnds (IsTextOf c.version (moved_to (spelling_of c) d)) result taken took before now →
-    AnswerEnds (CircuitReplies goes tells bytes) result taken took before now told heard
-walk_ends goes tells c bytes d result taken took before now told heard gone ends =
-    let text = has-text c.version (moved_to (spelling_of c) d) gone.admitted in
-    text_ends (CircuitReplies goes tells bytes) (IsTextOf c.version (moved_to (spelling_of c) d)) text.0 (tells (rotary_circuit c.net) c.config) result taken took
-    before now told heard text.1.is_text (walked (gone_walk goes tells c bytes d told heard text.0 gone text.1.is_text) refl) gone.hears ends
-
--- how that of `migrate` does
+-- how the answer of `migrate` to a text that was read ends
 pub migrate_ends : (c : NetConfig) (bytes : List ℕ) (result : Status) (taken took : Option (List ℕ)) (before now : ℕ) (told : Option (List Place)) →
     Spelled c.version (spelling_of c) bytes → TextEnds (IsTextOf Two (spelling_of c)) result taken took before now →
     AnswerEnds (MigrateReplies bytes) result taken took before now told told

@@ -2,3 +2,4 @@ pub mod RealiseReply
 pub mod Refused
 pub mod PlanReply
 pub mod Unwritten
+pub mod Walking

@@ -1,16 +1,17 @@
 //! The commands on configuration texts: `step` and `back`.
 
 ghost use Rattle.std.specs.Prelude.{◌≡◌, IfOk, OnErr};
-ghost use Rattle.bn_netlist_laws.specs.Spelling.{moved_to};
-ghost use Rattle.bn_reply.specs.Replying.{IsReplied, IsUnfinished};
 ghost use Rattle.bn_netlist_laws.specs.Spelling.{Admits, IsTextOf};
 ghost use Rattle.bn_netlist_lines.specs.NetText.{spelling_of};
+ghost use Rattle.bn_reply.specs.Replying.{IsReplied, IsUnfinished};
+ghost use Rattle.bn_reply_circuits.specs.Walking.{WalkReplies};
 ghost use Rattle.bn_reply_circuits_laws.specs.CircuitReply.{BackReplies, StepReplies};
 
 use crate::refuse::refuse_config;
+use crate::walk::walk;
 use bn_net::Watch;
 use bn_netlist::{NetConfig, read_config, write_config};
-use bn_packed::Packed;
+use bn_packed::Direction;
 use bn_reply::{NoMemory, Reply, Status};
 use std::alloc::Global;
 
@@ -27,15 +28,7 @@ pub fn reply_step<W: Watch>(
     ensures interrupted { OnErr result (IsUnfinished (StepReplies count bytes.now) (W.told watch.old)
         (W.told watch.new)) }
 {
-    let read = match read_config(alloc, bytes) {
-        Ok(read) => read,
-        Err(refusal) => return refuse_config(alloc, refusal),
-    };
-    let Ok(mut packed) = Packed::from_net(alloc, &read.net, &read.config) else {
-        return Err(NoMemory);
-    };
-    packed.run_watched(count, watch);
-    reply_moved(alloc, read, packed)
+    reply_walk(alloc, Direction::Forward, count, bytes, watch)
 }
 
 /// What `back` answers: the configuration that the text spells after at most `count` steps back, in the
@@ -51,32 +44,38 @@ pub fn reply_back<W: Watch>(
     ensures interrupted { OnErr result (IsUnfinished (BackReplies count bytes.now) (W.told watch.old)
         (W.told watch.new)) }
 {
+    reply_walk(alloc, Direction::Backward, count, bytes, watch)
+}
+
+// What the one of them answers that makes its steps in this direction.
+fn reply_walk<W: Watch>(
+    alloc: Global,
+    direction: Direction,
+    count: u64,
+    bytes: &[u8],
+    watch: &mut W,
+) -> Result<Reply, NoMemory>
+    ensures replied { IfOk result (λ r. IsReplied (WalkReplies direction count bytes.now) r (W.told watch.old)
+        (W.told watch.new)) }
+    ensures interrupted { OnErr result (IsUnfinished (WalkReplies direction count bytes.now) (W.told watch.old)
+        (W.told watch.new)) }
+{
     let read = match read_config(alloc, bytes) {
         Ok(read) => read,
         Err(refusal) => return refuse_config(alloc, refusal),
     };
-    let Ok(mut packed) = Packed::from_net(alloc, &read.net, &read.config) else {
-        return Err(NoMemory);
-    };
-    packed.run_back_watched(count, watch);
-    reply_moved(alloc, read, packed)
+    let moved = walk(alloc, direction, count, read, watch)?;
+    reply_config(alloc, &moved)
 }
 
-// The text of what was read, in the configuration that the packed netlist has come to.
-fn reply_moved(alloc: Global, read: NetConfig, packed: Packed) -> Result<Reply, NoMemory>
-    requires { Admits read.version (moved_to (spelling_of read) packed.config) }
+// The text of a configuration that may be spelled in its version.
+fn reply_config(alloc: Global, config: &NetConfig) -> Result<Reply, NoMemory>
+    requires { Admits config.now.version (spelling_of config.now) }
     ensures done { IfOk result (λ r. r.status ≡ Status.Done) }
-    ensures text { IfOk result (λ r.
-        IsTextOf read.version (moved_to (spelling_of read) packed.config) r.text.items) }
+    ensures text { IfOk result (λ r. IsTextOf config.now.version (spelling_of config.now) r.text.items) }
 {
-    let Ok(config) = packed.to_config(alloc) else {
-        return Err(NoMemory);
-    };
-    drop(packed);
-    let mut moved = read;
-    moved.config = config;
     Ok(Reply {
-        text: write_config(alloc, &moved)?,
+        text: write_config(alloc, config)?,
         status: Status::Done,
     })
 }

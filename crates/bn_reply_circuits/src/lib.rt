@@ -10,6 +10,7 @@ mod realise;
 mod refuse;
 mod stream;
 mod unwritten;
+mod walk;
 
 pub use circuit::{reply_back, reply_step};
 pub use migrate::reply_migrate;

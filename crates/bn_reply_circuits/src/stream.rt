@@ -3,23 +3,25 @@
 
 ghost use Rattle.std.specs.Prelude.{◌≤◌, Option, List};
 ghost use Rattle.bn_circuits.specs.declared.place.Place.{Place};
-ghost use Rattle.bn_netlist_laws.specs.Spelling.{Admits, IsTextOf, moved_to};
+ghost use Rattle.bn_netlist_laws.specs.Spelling.{Admits, IsTextOf};
 ghost use Rattle.bn_netlist_lines.specs.NetText.{spelling_of};
 ghost use Rattle.bn_reply.specs.Ends.{TextEnds};
 ghost use Rattle.bn_reply.specs.Outside.{outside};
 ghost use Rattle.bn_reply.specs.Streams.{StreamEnds};
 ghost use Rattle.bn_reply_circuits.specs.PlanReply.{PlanReplies};
 ghost use Rattle.bn_reply_circuits.specs.Refused.{UnreadEnds};
+ghost use Rattle.bn_reply_circuits.specs.Walking.{WalkReplies};
 ghost use Rattle.bn_reply_circuits_laws.specs.CircuitReply.{BackReplies, StepReplies};
 ghost use Rattle.bn_reply_circuits_laws.specs.MigrateReply.{MigrateReplies};
 
 use crate::plan::plan_net;
 use crate::refuse::refuse_config;
+use crate::walk::walk;
 use bn_io::{Sink, Source};
 use bn_net::Watch;
 use bn_netlist::{FromRefusal, NetConfig, ToRefusal, Version, read_config_from, write_config_to};
-use bn_packed::Packed;
-use bn_reply::{MOST_INPUT_BYTES, Status, give_reply, tell_long_input, tell_read_fault};
+use bn_packed::Direction;
+use bn_reply::{MOST_INPUT_BYTES, NoMemory, Status, give_reply, tell_long_input, tell_read_fault};
 use std::alloc::Global;
 
 /// Answers `step`: reads a configuration text from the source and gives the sink that of the configuration
@@ -35,15 +37,7 @@ pub fn step_stream<S: Source, K: Sink, W: Watch>(
         (outside (S.left source.old) (K.taken sink.old) (W.told watch.old) (S.faults source.old) (K.faults sink.old))
         (outside (S.left source.new) (K.taken sink.new) (W.told watch.new) (S.faults source.new) (K.faults sink.new)) }
 {
-    let read = match read_config_from(alloc, source, MOST_INPUT_BYTES) {
-        Ok(read) => read,
-        Err(refusal) => return refuse_from(alloc, sink, refusal),
-    };
-    let Ok(mut packed) = Packed::from_net(alloc, &read.net, &read.config) else {
-        return Status::NoMemory;
-    };
-    packed.run_watched(count, watch);
-    give_moved(alloc, sink, read, packed)
+    walk_stream(alloc, Direction::Forward, count, source, sink, watch)
 }
 
 /// Answers `back`: as `step_stream`, after at most `count` steps back.
@@ -58,15 +52,30 @@ pub fn back_stream<S: Source, K: Sink, W: Watch>(
         (outside (S.left source.old) (K.taken sink.old) (W.told watch.old) (S.faults source.old) (K.faults sink.old))
         (outside (S.left source.new) (K.taken sink.new) (W.told watch.new) (S.faults source.new) (K.faults sink.new)) }
 {
+    walk_stream(alloc, Direction::Backward, count, source, sink, watch)
+}
+
+// Answers the one of them that makes its steps in this direction.
+fn walk_stream<S: Source, K: Sink, W: Watch>(
+    alloc: Global,
+    direction: Direction,
+    count: u64,
+    source: &mut S,
+    sink: &mut K,
+    watch: &mut W,
+) -> Status
+    ensures { StreamEnds (WalkReplies direction count) result
+        (outside (S.left source.old) (K.taken sink.old) (W.told watch.old) (S.faults source.old) (K.faults sink.old))
+        (outside (S.left source.new) (K.taken sink.new) (W.told watch.new) (S.faults source.new) (K.faults sink.new)) }
+{
     let read = match read_config_from(alloc, source, MOST_INPUT_BYTES) {
         Ok(read) => read,
         Err(refusal) => return refuse_from(alloc, sink, refusal),
     };
-    let Ok(mut packed) = Packed::from_net(alloc, &read.net, &read.config) else {
-        return Status::NoMemory;
-    };
-    packed.run_back_watched(count, watch);
-    give_moved(alloc, sink, read, packed)
+    match walk(alloc, direction, count, read, watch) {
+        Ok(moved) => give_config(alloc, sink, &moved),
+        Err(NoMemory) => Status::NoMemory,
+    }
 }
 
 /// Answers `migrate`: reads a configuration text of either version from the source and gives the sink that
@@ -95,35 +104,6 @@ pub fn plan_stream<S: Source, K: Sink>(alloc: Global, source: &mut S, sink: &mut
         Ok(read) => give_reply(sink, plan_net(alloc, &read.net)),
         Err(refusal) => refuse_from(alloc, sink, refusal),
     }
-}
-
-// Gives the text of what was read, in the configuration that the packed netlist has come to.
-fn give_moved<K: Sink>(alloc: Global, sink: &mut K, read: NetConfig, packed: Packed) -> Status
-    requires { Admits read.version (moved_to (spelling_of read) packed.config) }
-    ensures ends { TextEnds (IsTextOf read.version (moved_to (spelling_of read) packed.config)) result
-        (K.taken sink.old) (K.taken sink.new) (K.faults sink.old) (K.faults sink.new) }
-    ensures later { K.faults sink.old ≤ K.faults sink.new }
-{
-    let NetConfig {
-        version,
-        net,
-        config: before,
-        start,
-        end,
-    } = read;
-    drop(before);
-    let Ok(config) = packed.to_config(alloc) else {
-        return Status::NoMemory;
-    };
-    drop(packed);
-    let moved = NetConfig {
-        version,
-        net,
-        config,
-        start,
-        end,
-    };
-    give_config(alloc, sink, &moved)
 }
 
 /// Gives the text of a configuration that may be spelled in its version, in pieces; or, where the sink fails or memory

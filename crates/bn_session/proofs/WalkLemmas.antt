@@ -5,14 +5,17 @@ use Rattle.std.proofs.lemmas.Bool.{cases_Bool}
 use Rattle.bn_circuits.specs.Circuits.{Circuit, IsCircuit, IsConfig, Goes, IsStuck, IsFirst}
 use Rattle.bn_circuits.specs.Stepping.{run, back, advance, retreat}
 use Rattle.bn_circuits.proofs.RunLemmas.{run-zero, back-zero, run_composes, back_composes, next-stuck, previous-first}
-use Rattle.bn_circuits.proofs.StepLemmas.{Goes-next, Goes-previous, previous-IsConfig}
+use Rattle.bn_circuits.proofs.StepLemmas.{Goes-next, Goes-previous, next-IsConfig, previous-IsConfig}
 use Rattle.bn_circuits.specs.declared.config.Config.{Config}
 use Rattle.bn_net.specs.RotaryNets.{rotary_circuit}
 use Rattle.bn_board.specs.Layouts.{moment_at}
 use Rattle.bn_flat.specs.Flattened.{Flattened, IsSameBoard}
+use Rattle.bn_packed.specs.Running.{GoesTo, IsAtEnd, run_along}
+use Rattle.bn_packed.specs.declared.direction.Direction.{Direction}
+use Rattle.bn_packed.specs.declared.direction.Direction.TheVariants.{Forward, Backward}
 use Rattle.bn_session.specs.Breakpoints.{Breakpoint}
 use Rattle.bn_session.specs.Plays.{IsStop, at_hit, at_last, stops}
-use Rattle.bn_session.specs.Walks.{walk}
+use Rattle.bn_session.specs.Walks.{once_along, walk}
 
 module _ (test : Config → Bool) (once : Config → Config) where
   pub walk-zero : (c : Config) → walk test once 0 c ≡ c
@@ -97,11 +100,10 @@ back-shifts : (k : Circuit) (c : Config) (j : ℕ) → back k c (suc j) ≡ back
 back-shifts k c j = back_composes k c 1 j (suc j) (omega arith) ∙ ap (λ x. back k x j) (back-once k c)
 
 -- a walk stops where the way does
-pub walk-stops : (k : Circuit) (test : Config → Bool) (e : ℕ) (c d : Config) → d ≡ walk test (advance k) e c → IsStop test (run k c) e d
-walk-stops k test e c d is = subst (IsStop test (run k c) e) (sym is) (walked test (advance k) (run k) (run-zero k) (run-shifts k) e c)
-
-pub walk_back-stops : (k : Circuit) (test : Config → Bool) (e : ℕ) (c d : Config) → d ≡ walk test (retreat k) e c → IsStop test (back k c) e d
-walk_back-stops k test e c d is = subst (IsStop test (back k c) e) (sym is) (walked test (retreat k) (back k) (back-zero k) (back-shifts k) e c)
+pub walk-stops : (way : Direction) (k : Circuit) (test : Config → Bool) (e : ℕ) (c d : Config) → d ≡ walk test (once_along way k) e c →
+    IsStop test (run_along way k c) e d
+walk-stops Forward k test e c d is = subst (IsStop test (run k c) e) (sym is) (walked test (advance k) (run k) (run-zero k) (run-shifts k) e c)
+walk-stops Backward k test e c d is = subst (IsStop test (back k c) e) (sym is) (walked test (retreat k) (back k) (back-zero k) (back-shifts k) e c)
 
 -- ---- on a board that is the same as at the start, but for its configuration
 
@@ -109,20 +111,17 @@ module _ (a b : Flattened) (same : IsSameBoard a b) where
   pub tested_on : (breaks : List Breakpoint) (c : Config) (x : Bool) → x ≡ stops (moment_at b.layout) breaks c → stops (moment_at a.layout) breaks c ≡ x
   tested_on breaks c x is = ap (λ l. stops (moment_at l) breaks c) (sym same.layout) ∙ sym is
 
-  goes_at : (c d : Config) → Goes (rotary_circuit b.net) c d → Goes (rotary_circuit a.net) c d
-  goes_at c d goes = subst (λ n. Goes (rotary_circuit n) c d) same.net goes
+  module _ (circuit : IsCircuit (rotary_circuit a.net)) where
+    -- a step in this direction
+    pub goes_once : (way : Direction) (c d : Config) → GoesTo way (rotary_circuit b.net) c d → once_along way (rotary_circuit a.net) c ≡ d
+    goes_once Forward c d goes = rw (Goes-next (rotary_circuit a.net) c d (subst (λ n. Goes (rotary_circuit n) c d) same.net goes)) refl
+    goes_once Backward c d goes = rw (Goes-previous (rotary_circuit a.net) circuit d c (subst (λ n. Goes (rotary_circuit n) d c) same.net goes)) refl
 
-  pub advanced : (c d : Config) → Goes (rotary_circuit b.net) c d → advance (rotary_circuit a.net) c ≡ d
-  advanced c d goes = rw (Goes-next (rotary_circuit a.net) c d (goes_at c d goes)) refl
+    pub goes_once-good : (way : Direction) (c d : Config) → IsConfig (rotary_circuit a.net) c → GoesTo way (rotary_circuit b.net) c d → IsConfig (rotary_circuit a.net) d
+    goes_once-good Forward c d good goes = next-IsConfig (rotary_circuit a.net) circuit c d good (subst (λ n. Goes (rotary_circuit n) c d) same.net goes)
+    goes_once-good Backward c d good goes = previous-IsConfig (rotary_circuit a.net) circuit d c good (subst (λ n. Goes (rotary_circuit n) d c) same.net goes)
 
-  pub stayed : (c : Config) → IsStuck (rotary_circuit b.net) c → advance (rotary_circuit a.net) c ≡ c
-  stayed c stuck = rw (next-stuck (rotary_circuit a.net) c (subst (λ n. IsStuck (rotary_circuit n) c) same.net stuck)) refl
-
-  pub retreated : IsCircuit (rotary_circuit a.net) → (c d : Config) → Goes (rotary_circuit b.net) c d → retreat (rotary_circuit a.net) d ≡ c
-  retreated circuit c d goes = rw (Goes-previous (rotary_circuit a.net) circuit c d (goes_at c d goes)) refl
-
-  pub retreated-good : IsCircuit (rotary_circuit a.net) → (c d : Config) → IsConfig (rotary_circuit a.net) d → Goes (rotary_circuit b.net) c d → IsConfig (rotary_circuit a.net) c
-  retreated-good circuit c d good goes = previous-IsConfig (rotary_circuit a.net) circuit c d good (goes_at c d goes)
-
-  pub remained : IsCircuit (rotary_circuit a.net) → (c : Config) → IsConfig (rotary_circuit a.net) c → IsFirst (rotary_circuit b.net) c → retreat (rotary_circuit a.net) c ≡ c
-  remained circuit c good first = rw (previous-first (rotary_circuit a.net) circuit c good (subst (λ n. IsFirst (rotary_circuit n) c) same.net first)) refl
+    -- where there is none
+    pub stays_once : (way : Direction) (c : Config) → IsConfig (rotary_circuit a.net) c → IsAtEnd way (rotary_circuit b.net) c → once_along way (rotary_circuit a.net) c ≡ c
+    stays_once Forward c good stuck = rw (next-stuck (rotary_circuit a.net) c (subst (λ n. IsStuck (rotary_circuit n) c) same.net stuck)) refl
+    stays_once Backward c good first = rw (previous-first (rotary_circuit a.net) circuit c good (subst (λ n. IsFirst (rotary_circuit n) c) same.net first)) refl

@@ -13,9 +13,10 @@ use crate::condition::Condition;
 use crate::lines::{write_label, write_place};
 use crate::script::Script;
 use crate::shows::Shows;
-use crate::walk::{go, named, rev};
+use crate::walk::{go, named};
 use bn_base::NoMemory;
 use bn_flat::Board;
+use bn_packed::Direction;
 use std::alloc::Global;
 
 /// Plays a script on a board, from no breakpoint, and appends its answer: a line for each command but the views, for
@@ -71,12 +72,12 @@ fn play_command<W: Shows>(
         }
         Command::Go(count) => {
             let steps = board.steps();
-            go(board, breaks, *count);
+            go(board, breaks, Direction::Forward, *count);
             write_place(alloc, board, named(board, breaks, steps), out)
         }
         Command::Rev(count) => {
             let steps = board.steps();
-            rev(board, breaks, *count);
+            go(board, breaks, Direction::Backward, *count);
             write_place(alloc, board, named(board, breaks, steps), out)
         }
         Command::BreakState { label, state } => {

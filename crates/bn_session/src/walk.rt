@@ -1,58 +1,37 @@
 //! Watched ways on a board.
 
 ghost use Rattle.std.specs.Prelude.{◌≡◌, None, Some, MatchOption};
-ghost use Rattle.bn_circuits.specs.Stepping.{run, back, advance, retreat};
 ghost use Rattle.bn_net.specs.RotaryNets.{rotary_circuit};
 ghost use Rattle.bn_board.specs.Layouts.{moment_at};
 ghost use Rattle.bn_flat.specs.Flattened.{IsSameBoard};
+ghost use Rattle.bn_packed.specs.Running.{run_along};
 ghost use Rattle.bn_session.specs.Plays.{IsStop, stops, label_that_holds};
-ghost use Rattle.bn_session.specs.Walks.{walk};
+ghost use Rattle.bn_session.specs.Walks.{once_along, walk};
 ghost use Rattle.bn_circuits.specs.declared.config.Config.{Config};
 
 use crate::breaks::Breaks;
 use bn_flat::Board;
+use bn_packed::Direction;
 
-// Steps forward until a breakpoint holds, none can be made, or so many are made.
-pub(crate) fn go(board: &mut Board, breaks: &Breaks, count: u64)
+// Steps in this direction until a breakpoint holds, none can be made, or so many are made.
+pub(crate) fn go(board: &mut Board, breaks: &Breaks, direction: Direction, count: u64)
     ensures stop { IsStop (stops (moment_at board.old.layout) breaks.now)
-        (run (rotary_circuit board.old.net) board.old.config) count board.new.config }
+        (run_along direction (rotary_circuit board.old.net) board.old.config) count board.new.config }
     ensures same { IsSameBoard board.old board.new }
 {
-    walk_on(board, breaks, count)
-}
-
-// Steps back until a breakpoint holds, none can be taken back, or so many are taken.
-pub(crate) fn rev(board: &mut Board, breaks: &Breaks, count: u64)
-    ensures stop { IsStop (stops (moment_at board.old.layout) breaks.now)
-        (back (rotary_circuit board.old.net) board.old.config) count board.new.config }
-    ensures same { IsSameBoard board.old board.new }
-{
-    walk_back(board, breaks, count)
+    walk_on(board, breaks, direction, count)
 }
 
 // As `go`.
-fn walk_on(board: &mut Board, breaks: &Breaks, count: u64)
+fn walk_on(board: &mut Board, breaks: &Breaks, direction: Direction, count: u64)
     ensures walked { board.new.config ≡ walk (stops (moment_at board.old.layout) breaks.now)
-        (advance (rotary_circuit board.old.net)) count board.old.config }
-    ensures same { IsSameBoard board.old board.new }
-{
-    for _made in 0..count {
-        if !board.step() || breaks_at(board, breaks) {
-            return;
-        }
-    }
-}
-
-// As `rev`.
-fn walk_back(board: &mut Board, breaks: &Breaks, count: u64)
-    ensures walked { board.new.config ≡ walk (stops (moment_at board.old.layout) breaks.now)
-        (retreat (rotary_circuit board.old.net)) count board.old.config }
+        (once_along direction (rotary_circuit board.old.net)) count board.old.config }
     ensures same { IsSameBoard board.old board.new }
 {
     // What every board keeps.
     let _elements = board.len();
     for _made in 0..count {
-        if !board.back_step() || breaks_at(board, breaks) {
+        if !board.step_along(direction) || breaks_at(board, breaks) {
             return;
         }
     }

@@ -1,11 +1,8 @@
-use Rattle.std.proofs.Common.{◌∙◌, subst, sym}
-use Rattle.bn_net.specs.Wirings.{AreWiresOf, AreFitting}
-use Rattle.bn_net.specs.RotaryNets.{IsNetOf, rotary_circuit}
+use Rattle.std.proofs.Common.{◌∙◌, subst}
+use Rattle.bn_net.specs.Wirings.{AreWiresOf}
+use Rattle.bn_net.specs.RotaryNets.{IsNetOf}
 use Rattle.bn_board.specs.Boards.{IsBoardWire, size}
 use Rattle.bn_board.proofs.GrownLemmas.{board-fitting, net-IsBoard}
-use Rattle.bn_circuits.specs.Circuits.{IsConfig}
-use Rattle.bn_net.specs.Parts.{Parts}
-use Rattle.bn_element.specs.declared.rotary.Rotary.{Rotary}
 use Rattle.bn_assembly.specs.Assembled.{network_of}
 use Rattle.bn_flat.specs.BoardWires.{module_circuit}
 use Rattle.bn_flat.proofs.StartLemmas.{kept-modules, kept-few, kept-some, states-counted, states-within, start-IsConfig}

@@ -1,4 +1,4 @@
-use Rattle.std.proofs.Common.{length, map, Some, None, ◌≡◌, ◌<◌, ◌*◌, ◌/◌, ◌%◌, ◌^◌, ◌-◌, ◌+◌, ◌∷◌, [], refl, sym, ap, subst, ◌∙◌, arith, rules}
+use Rattle.std.proofs.Common.{length, map, Some, None, ◌≡◌, ◌<◌, ◌^◌, ◌-◌, ◌∷◌, [], refl, sym, ap, subst, ◌∙◌, arith, rules}
 use Rattle.std.specs.Option.{option_map}
 use Rattle.std.proofs.lemmas.List.{length-map}
 use Rattle.bn_circuits.specs.Circuits.{source}
@@ -12,7 +12,7 @@ use Rattle.bn_packed.specs.Ends.{line_of}
 use Rattle.bn_packed.specs.PackedNets.{config_at}
 use Rattle.bn_packed.proofs.EndLemmas.{input_below}
 use Rattle.bn_packed.proofs.StepLemmas.{walked_back_none}
-use Rattle.bn_packed.proofs.NumberLemmas.{entered, entered_line, entered_by, number_read, entered_low, fed_low, back_low, number_back_more}
+use Rattle.bn_packed.proofs.NumberLemmas.{entered_line, entered_by, number_read, entered_low, fed_low, back_low, number_back_more}
 use Rattle.bn_packed.proofs.walk.walk_back_from.Goals as goal
 
 pub number_at-requires : goal.number_at-requires

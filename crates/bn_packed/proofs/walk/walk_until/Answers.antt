@@ -1,12 +1,10 @@
 use Rattle.std.proofs.Common.{length, map, Some, None, ◌≡◌, ◌<◌, ◌*◌, ◌/◌, ◌%◌, ◌^◌, ◌+◌, ◌-◌, ◌∷◌, [], refl, sym, ap, subst, ◌∙◌, arith, not, rules}
 use Rattle.std.specs.Option.{option_map}
 use Rattle.bn_circuits.specs.Circuits.{place_at, target}
-use Rattle.bn_circuits.specs.declared.place.Place.TheVariants.{Enter, Left}
+use Rattle.bn_circuits.specs.declared.place.Place.TheVariants.{Left}
 use Rattle.bn_net.specs.Watching.{Hears}
 use Rattle.bn_net.specs.RotaryNets.{rotary_circuit}
 use Rattle.bn_packed.specs.PackedNets.{config_at}
-use Rattle.bn_circuits.specs.declared.line.Line.{Line}
-use Rattle.bn_circuits.specs.declared.place.Place.{Place}
 use Rattle.std.proofs.lemmas.List.{length-map}
 use Rattle.bn_packed.specs.Ends.{line_of}
 use Rattle.bn_packed.proofs.EndLemmas.{input_below}

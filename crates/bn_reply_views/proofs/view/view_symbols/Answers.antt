@@ -21,7 +21,7 @@ layers_text-requires c =
     let l = limits_of c.args.windows.now in
     let opened = subst (IsOpenedBoard t.machine l c.args.symbols.now) c.in-Made.is c.in_ok-reply.ensures in
     let may = accepts t l c.args.symbols.now c.in-Made.translated c.in-Made.board tables_machines c.machine-machine.ensures.valid c.requires.fit c.requires.windows c.requires.symbols opened in
-    table_board t l c.args.symbols.now opened.0 c.in-Made.translated c.in-Made.board c.run.new.self opened.1 may c.run.ensures.same c.args.steps c.run.ensures.run
+    table_board t l c.args.symbols.now opened.0 c.in-Made.translated c.in-Made.board c.run.new.self opened.1 may c.run.ensures.same c.args.steps c.run.ensures.ran.ends
     exits-one run_to_exit
 
 pub returns-in_ok-layers_text-in-Made : goal.returns-in_ok-layers_text-in-Made
@@ -30,7 +30,7 @@ returns-in_ok-layers_text-in-Made c =
     let l = limits_of c.args.windows.now in
     let opened = subst (IsOpenedBoard t.machine l c.args.symbols.now) c.in-Made.is c.in_ok-reply.ensures in
     let may = accepts t l c.args.symbols.now c.in-Made.translated c.in-Made.board tables_machines c.machine-machine.ensures.valid c.requires.fit c.requires.windows c.requires.symbols opened in
-    view_replies t l c.args.symbols.now opened.0 c.in-Made.translated c.in-Made.board c.run.new.self opened.1 may c.run.ensures.same c.args.steps c.run.ensures.run (exits-named run_to_exit)
+    view_replies t l c.args.symbols.now opened.0 c.in-Made.translated c.in-Made.board c.run.new.self opened.1 may c.run.ensures.same c.args.steps c.run.ensures.ran.ends (exits-named run_to_exit)
     c.in_ok-layers_text-in-Made.field-0.items
     (c.in_ok-layers_text-in-Made.ensures c.args.symbols.now l opened.0
-    (made_for t l c.args.symbols.now opened.0 c.in-Made.translated c.in-Made.board c.run.new.self opened.1 may c.run.ensures.same c.args.steps c.run.ensures.run))
+    (made_for t l c.args.symbols.now opened.0 c.in-Made.translated c.in-Made.board c.run.new.self opened.1 may c.run.ensures.same c.args.steps c.run.ensures.ran.ends))

@@ -14,11 +14,11 @@ use Rattle.bn_session.proofs.player.play_command.Goals as goal
 
 pub returns-in-Step-clause-left : goal.returns-in-Step-clause-left
 returns-in-Step-clause-left g c =
-    on_err_weaker c.write_place.result (λ kept. left_unwritten (g.W.Shows.text c.args.shows.now) c.args.board.now c.args.breaks.now c.args.command.now (Step c.in-Step.count) (session (run (rotary_circuit c.args.board.now.net) c.args.board.now.config c.in-Step.count) c.args.breaks.now) (place_line (run (rotary_circuit c.args.board.now.net) c.args.board.now.config c.in-Step.count) None) c.run.new.self.config c.args.out.now.items c.write_place.new.out.items c.in-Step.is (refl, refl) c.run.ensures.run kept) c.write_place.ensures.err
+    on_err_weaker c.write_place.result (λ kept. left_unwritten (g.W.Shows.text c.args.shows.now) c.args.board.now c.args.breaks.now c.args.command.now (Step c.in-Step.count) (session (run (rotary_circuit c.args.board.now.net) c.args.board.now.config c.in-Step.count) c.args.breaks.now) (place_line (run (rotary_circuit c.args.board.now.net) c.args.board.now.config c.in-Step.count) None) c.run.new.self.config c.args.out.now.items c.write_place.new.out.items c.in-Step.is (refl, refl) c.run.ensures.ran.ends kept) c.write_place.ensures.err
 
 pub returns-in-Back-clause-left : goal.returns-in-Back-clause-left
 returns-in-Back-clause-left g c =
-    on_err_weaker c.write_place-in-Back.result (λ kept. left_unwritten (g.W.Shows.text c.args.shows.now) c.args.board.now c.args.breaks.now c.args.command.now (Back c.in-Back.count) (session (back (rotary_circuit c.args.board.now.net) c.args.board.now.config c.in-Back.count) c.args.breaks.now) (place_line (back (rotary_circuit c.args.board.now.net) c.args.board.now.config c.in-Back.count) None) c.run_back.new.self.config c.args.out.now.items c.write_place-in-Back.new.out.items c.in-Back.is (refl, refl) c.run_back.ensures.back kept) c.write_place-in-Back.ensures.err
+    on_err_weaker c.write_place-in-Back.result (λ kept. left_unwritten (g.W.Shows.text c.args.shows.now) c.args.board.now c.args.breaks.now c.args.command.now (Back c.in-Back.count) (session (back (rotary_circuit c.args.board.now.net) c.args.board.now.config c.in-Back.count) c.args.breaks.now) (place_line (back (rotary_circuit c.args.board.now.net) c.args.board.now.config c.in-Back.count) None) c.run_back.new.self.config c.args.out.now.items c.write_place-in-Back.new.out.items c.in-Back.is (refl, refl) c.run_back.ensures.ran.ends kept) c.write_place-in-Back.ensures.err
 
 pub returns-in-Go-clause-played : goal.returns-in-Go-clause-played
 returns-in-Go-clause-played g c =
@@ -31,12 +31,12 @@ returns-in-Go-clause-left g c =
 
 pub returns-in-Rev-clause-played : goal.returns-in-Rev-clause-played
 returns-in-Rev-clause-played g c =
-    on_ok_weaker c.write_place-in-Rev.result (λ written. place_written (g.W.Shows.text c.args.shows.now) c.args.board.now c.args.breaks.now c.args.command.now (Rev c.in-Rev.count) (session c.rev.new.board.config c.args.breaks.now) (option_copied c.named-in-Rev.result) (label_that_holds (moment_at c.args.board.now.layout) c.args.breaks.now c.args.board.now.config c.rev.new.board.config) c.args.out.now.items c.write_place-in-Rev.new.out.items
-    c.in-Rev.is (c.rev.ensures.stop, refl, refl) (named_is c.args.board.now c.rev.new.board c.rev.ensures.same c.args.breaks.now c.args.board.now.config c.named-in-Rev.result (c.named-in-Rev.ensures c.args.board.now.config c.steps-steps-in-Rev.ensures)) written) c.write_place-in-Rev.ensures.ok
+    on_ok_weaker c.write_place-in-Rev.result (λ written. place_written (g.W.Shows.text c.args.shows.now) c.args.board.now c.args.breaks.now c.args.command.now (Rev c.in-Rev.count) (session c.go-in-Rev.new.board.config c.args.breaks.now) (option_copied c.named-in-Rev.result) (label_that_holds (moment_at c.args.board.now.layout) c.args.breaks.now c.args.board.now.config c.go-in-Rev.new.board.config) c.args.out.now.items c.write_place-in-Rev.new.out.items
+    c.in-Rev.is (c.go-in-Rev.ensures.stop, refl, refl) (named_is c.args.board.now c.go-in-Rev.new.board c.go-in-Rev.ensures.same c.args.breaks.now c.args.board.now.config c.named-in-Rev.result (c.named-in-Rev.ensures c.args.board.now.config c.steps-steps-in-Rev.ensures)) written) c.write_place-in-Rev.ensures.ok
 
 pub returns-in-Rev-clause-left : goal.returns-in-Rev-clause-left
 returns-in-Rev-clause-left g c =
-    on_err_weaker c.write_place-in-Rev.result (λ kept. left_unwritten (g.W.Shows.text c.args.shows.now) c.args.board.now c.args.breaks.now c.args.command.now (Rev c.in-Rev.count) (session c.rev.new.board.config c.args.breaks.now) (place_line c.rev.new.board.config (label_that_holds (moment_at c.args.board.now.layout) c.args.breaks.now c.args.board.now.config c.rev.new.board.config)) c.rev.new.board.config c.args.out.now.items c.write_place-in-Rev.new.out.items c.in-Rev.is (c.rev.ensures.stop, refl, refl) refl kept) c.write_place-in-Rev.ensures.err
+    on_err_weaker c.write_place-in-Rev.result (λ kept. left_unwritten (g.W.Shows.text c.args.shows.now) c.args.board.now c.args.breaks.now c.args.command.now (Rev c.in-Rev.count) (session c.go-in-Rev.new.board.config c.args.breaks.now) (place_line c.go-in-Rev.new.board.config (label_that_holds (moment_at c.args.board.now.layout) c.args.breaks.now c.args.board.now.config c.go-in-Rev.new.board.config)) c.go-in-Rev.new.board.config c.args.out.now.items c.write_place-in-Rev.new.out.items c.in-Rev.is (c.go-in-Rev.ensures.stop, refl, refl) refl kept) c.write_place-in-Rev.ensures.err
 
 pub returns-in-BreakState-clause-left : goal.returns-in-BreakState-clause-left
 returns-in-BreakState-clause-left g c =

@@ -20,10 +20,10 @@ stopped g c =
     let run = c.run_until-steps.ensures in
     let none : c.run_until-steps.result ≡ 0 = search rules in
     let some : 0 < c.args.e - c.loop-made.made = (let more = c.loop-made-test.true in omega arith) in
-    let stuck : IsStuck (rotary_circuit c.loop-made.self.net) c.loop-made.self.config = elim (run.moves some) [ inl made ↦ absurd (omega arith) | inr end ↦ end ] in
+    let stuck : IsStuck (rotary_circuit c.loop-made.self.net) c.loop-made.self.config = elim (run.ran.moves some) [ inl made ↦ absurd (omega arith) | inr end ↦ end ] in
     counted_still c.args.self.now c.loop-made.self c.run_until-steps.new.self c.run_until-steps.result c.loop-made.made c.loop-made.moments c.args.e
     (g.W.Watch.told c.args.watch.now) (g.W.Watch.told c.loop-made.watch) (g.W.Watch.told c.run_until-steps.new.watch)
-    c.loop-made.invariant.counted run.same none run.made run.told c.loop-made.invariant.within stuck
+    c.loop-made.invariant.counted run.same none run.ran.made run.told c.loop-made.invariant.within stuck
 
 pub returns-then-steps-eq0-clause-moments : goal.returns-then-steps-eq0-clause-moments
 returns-then-steps-eq0-clause-moments g c = (stopped g c).counted
@@ -42,8 +42,8 @@ loop-made-preserved g c =
     record {
       counted = counted_leap c.args.self.now c.loop-made.self c.run_until-steps.new.self c.first_rows-rows.result c.run_until-steps.result c.loop-made.made (c.loop-made.made + c.run_until-steps.result)
           c.loop-made.moments c.count_moment-moments.result (g.W.Watch.told c.args.watch.now) (g.W.Watch.told c.loop-made.watch) (g.W.Watch.told c.run_until-steps.new.watch)
-          c.len-elements.ensures.kept c.loop-made.invariant.counted run.same run.kept rows some run.between run.told refl c.count_moment-moments.ensures;
-      within = (let most = run.bound in let before = c.loop-made.invariant.within in omega arith);
+          c.len-elements.ensures.kept c.loop-made.invariant.counted run.same run.kept rows some run.ran.between run.told refl c.count_moment-moments.ensures;
+      within = (let most = run.ran.bound in let before = c.loop-made.invariant.within in omega arith);
     }
 
 ended : (g : Over) (c : goal.After-loop-made g)

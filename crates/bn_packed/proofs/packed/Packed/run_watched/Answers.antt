@@ -1,16 +1,17 @@
 use Rattle.std.proofs.Common.{◌-◌}
 use Rattle.bn_net.specs.RotaryNets.{rotary_circuit}
 use Rattle.bn_packed.specs.PackedNets.{net_in, config_at}
-use Rattle.bn_packed.proofs.StepLemmas.{IsRun, packed-IsRun}
+use Rattle.bn_packed.specs.declared.direction.Direction.TheVariants.{Forward}
+use Rattle.bn_packed.proofs.StepLemmas.{IsToldRun, packed-IsToldRun}
 use Rattle.bn_packed.proofs.packed.Packed.run_watched.Given.{Over}
 use Rattle.bn_packed.proofs.packed.Packed.run_watched.Goals as goal
 
 all : (g : Over) (c : goal.After-self-1 g)
-    → IsRun (rotary_circuit c.args.self.now.net) c.args.self.now.config (config_at c.walk-self-inside.new.bars c.walk-self-inside.result.place
+    → IsToldRun Forward (rotary_circuit c.args.self.now.net) c.args.self.now.config (config_at c.walk-self-inside.new.bars c.walk-self-inside.result.place
     c.walk-self-inside.result.steps)
     c.args.e (c.walk-self-inside.result.steps - c.self.inside.signal.steps) (g.W.Watch.told c.args.watch.now) (g.W.Watch.told c.walk-self-inside.new.watch)
 all g c =
-    packed-IsRun c.args.self.now (net_in c.self.inside.wires) c.self.inside.bars c.walk-self-inside.new.bars c.self.inside.signal.place
+    packed-IsToldRun c.args.self.now (net_in c.self.inside.wires) c.self.inside.bars c.walk-self-inside.new.bars c.self.inside.signal.place
     c.walk-self-inside.result.place
     c.self.inside.signal.steps c.walk-self-inside.result.steps c.args.e c.min-count.result (g.W.Watch.told c.args.watch.now)
     (g.W.Watch.told c.walk-self-inside.new.watch)
@@ -18,14 +19,8 @@ all g c =
     c.walk-self-inside.ensures.limit
     c.walk-self-inside.ensures.walked c.walk-self-inside.ensures.ended
 
-pub returns-clause-ended : goal.returns-clause-ended
-returns-clause-ended g c = (all g c).ended
-
-pub returns-clause-run : goal.returns-clause-run
-returns-clause-run g c = (all g c).is_run
-
-pub returns-clause-undone : goal.returns-clause-undone
-returns-clause-undone g c = (all g c).undone
+pub returns-clause-ran : goal.returns-clause-ran
+returns-clause-ran g c = (all g c).ran
 
 pub returns-clause-told : goal.returns-clause-told
 returns-clause-told g c = (all g c).told

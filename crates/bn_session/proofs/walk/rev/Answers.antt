@@ -1,9 +1,0 @@
-use Rattle.bn_net.specs.RotaryNets.{rotary_circuit}
-use Rattle.bn_board.specs.Layouts.{moment_at}
-use Rattle.bn_session.specs.Plays.{stops}
-use Rattle.bn_session.proofs.WalkLemmas.{walk_back-stops}
-use Rattle.bn_session.proofs.walk.rev.Goals as goal
-
-pub returns-clause-stop : goal.returns-clause-stop
-returns-clause-stop c =
-    walk_back-stops (rotary_circuit c.args.board.now.net) (stops (moment_at c.args.board.now.layout) c.args.breaks.now) c.args.count c.args.board.now.config c.walk_back.new.board.config c.walk_back.ensures.walked
