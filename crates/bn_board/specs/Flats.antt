@@ -4,7 +4,6 @@ use Rattle.std.specs.Prelude.{◌≡◌, ◌≢◌, ℕ, ◌≤◌, List, length
 use Rattle.bn_circuits.specs.Alike.{AreAlike}
 use Rattle.bn_circuits.specs.Circuits.{Circuit}
 use Rattle.bn_circuits.specs.declared.config.Config.{Config}
-use Rattle.bn_base.specs.declared.limits.TheConstants.{MOST_COUNT}
 use Rattle.bn_net.specs.declared.net.TheConstants.{MOST_ELEMENTS}
 use Rattle.bn_machine.specs.Machine.{Program}
 use Rattle.bn_machine.specs.Outcome.{Limits}
@@ -13,6 +12,7 @@ use Rattle.bn_bennett_laws.specs.Stages.{IsStandardMachine, IsSpelledBy}
 use Rattle.bn_bennett.specs.Translation.{Translation, IsTranslation}
 use Rattle.bn_circuits.specs.Situations.{Situation}
 use Rattle.bn_network.specs.Controls.{ControlState, IsNumbering}
+use Rattle.bn_network.specs.Limits.{AreSmall}
 use Rattle.bn_network.specs.Networks.{IsNetwork, network_start}
 use Rattle.bn_board.specs.Boards.{IsBoard, board_start, size}
 use Rattle.bn_board.specs.Layouts.{Layout, IsLayout}
@@ -53,7 +53,7 @@ pub record IsAccepted (p : Program) (word : List ℕ) (l : Limits) (f : Flat) : 
   pub letters : IsSpelledBy p word
   pub nonblank : All (λ s. s ≢ 0) word
   pub fits : length word ≤ l.right
-  pub small : (l.left ≤ MOST_COUNT) × (l.right ≤ MOST_COUNT) × (l.steps ≤ MOST_COUNT) × (l.output ≤ MOST_COUNT)
+  pub small : AreSmall l
   pub few : size f.network.tables ≤ MOST_ELEMENTS
 
 -- two boards of one machine, word and limits: the same up to the order of wires

@@ -49,7 +49,7 @@ before_end k n e c d path low =
   where
     first_step : (r : ℕ) (x y : Config) → 0 < r → Reaches (Goes k) r x y → (m : ℕ) × (i : ℕ) × (x.place ≡ Enter m i)
     first_step zero x y some path = absurd (omega arith)
-    first_step (suc r) x y some path = (path.1.element, path.1.input, path.1.enters)
+    first_step (suc r) x y some path = (path.1.crosses.element, path.1.crosses.input, path.1.crosses.enters)
 
     at : (x : Config) → Reaches (Goes k) e c x → Reaches (Goes k) (n - e) x d → (m : ℕ) × (i : ℕ) × ((run k c e).place ≡ Enter m i)
     at x front rest =

@@ -61,7 +61,7 @@ quad_run f test zero s t c d path = ap (λ (z : Situation × Configuration ℕ).
 quad_run f test (suc n) s t c d path = (path.0.1, path.1.goes, quad_run f test n path.0.0 t path.0.1 d path.2)
 
 stuck_at : (k : Circuit) (d : Config) (e l : ℕ) → d.place ≡ Left e l → IsStuck k d
-stuck_at k d e l h = λ x g. let both : Left e l ≡ Enter g.element g.input = sym h ∙ g.enters in cc
+stuck_at k d e l h = λ x g. let both : Left e l ≡ Enter g.crosses.element g.crosses.input = sym h ∙ g.crosses.enters in cc
 
 -- ---- numbers
 

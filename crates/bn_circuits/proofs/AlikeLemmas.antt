@@ -1,9 +1,10 @@
 -- Circuits with the same tables and the same wires, listed in whatever order, run alike.
-use Rattle.std.specs.Prelude.{◌≡◌, ℕ, ◌+◌, nat_le, List, ◌∷◌, Option, Some, None, slice_get, unwrap_or, option_and_then, if◌then◌else◌, refl}
+use Rattle.std.specs.Prelude.{◌≡◌, ℕ, ◌+◌, List, ◌∷◌, Option, Some, None, slice_get, unwrap_or, option_and_then, slice_set, refl}
 use Rattle.std.proofs.Common.{zero, suc, sym, ap, ◌∙◌}
 use Rattle.bn_element.specs.Tables.{Table}
 use Rattle.bn_circuits.specs.Circuits.{Circuit, IsOneToOne, target, source, clock, go_of, back_of, place_at}
-use Rattle.bn_circuits.specs.Stepping.{next, next_from, moved_on, moved_back, previous, previous_by, line_before, run, back, placed, places, places_back}
+use Rattle.bn_circuits.specs.Situations.{situation, crossed, turn_from}
+use Rattle.bn_circuits.specs.Stepping.{next, next_by, moved_back, previous, previous_by, line_before, run, back, placed, places, places_back}
 use Rattle.bn_circuits.specs.declared.line.Line.{Line}
 use Rattle.bn_circuits.specs.declared.line.Wire.{Wire}
 use Rattle.bn_circuits.specs.declared.place.Place.{Place}
@@ -23,25 +24,24 @@ sources_one ws vs one also same to = options_one (source ws to) (source vs to)
     (λ y h. (also y to).0 (sym (same y) ∙ (one y to).1 h)) (λ y h. (one y to).0 (same y ∙ (also y to).1 h))
 
 module _ (k m : Circuit) (alike : AreAlike k m) where
-  moved-alike : (c : Config) (e : ℕ) (r : ℕ × ℕ) → moved_on k c e r ≡ moved_on m c e r
-  moved-alike c e r = ap (λ (t : Option Line). let d : Config = record { states = (moved_on k c e r).states; place = place_at t (record { element = e; line = r.1 }); steps = c.steps + 1 } in d) (alike.targets (record { element = e; line = r.1 }))
+  crossed-alike : (states : List ℕ) (e : ℕ) (r : ℕ × ℕ) → crossed k states e r ≡ crossed m states e r
+  crossed-alike states e r = ap (λ (t : Option Line). situation (slice_set states e r.0) (place_at t (record { element = e; line = r.1 }))) (alike.targets (record { element = e; line = r.1 }))
 
-  moves-alike : (c : Config) (e : ℕ) (o : Option (ℕ × ℕ)) → option_and_then (λ r. if nat_le (c.steps + 1) clock then Some (moved_on k c e r) else None) o ≡ option_and_then (λ r. if nat_le (c.steps + 1) clock then Some (moved_on m c e r) else None) o
-  moves-alike c e None = refl
-  moves-alike c e (Some r) = ap (λ d. if nat_le (c.steps + 1) clock then Some d else None) (moved-alike c e r)
+  moves-alike : (states : List ℕ) (e : ℕ) (o : Option (ℕ × ℕ)) → option_and_then (λ r. Some (crossed k states e r)) o ≡ option_and_then (λ r. Some (crossed m states e r)) o
+  moves-alike states e None = refl
+  moves-alike states e (Some r) = ap Some (crossed-alike states e r)
 
-  states-alike : (c : Config) (e i : ℕ) (o : Option ℕ) → option_and_then (λ q. option_and_then (λ r. if nat_le (c.steps + 1) clock then Some (moved_on k c e r) else None) (go_of k.tables e q i)) o ≡ option_and_then (λ q. option_and_then (λ r. if nat_le (c.steps + 1) clock then Some (moved_on m c e r) else None) (go_of m.tables e q i)) o
-  states-alike c e i None = refl
-  states-alike c e i (Some q) =
-      ap (λ ts. option_and_then (λ r. if nat_le (c.steps + 1) clock then Some (moved_on k c e r) else None) (go_of ts e q i)) alike.tables
-      ∙ moves-alike c e (go_of m.tables e q i)
+  states-alike : (states : List ℕ) (e i : ℕ) (o : Option ℕ) → option_and_then (λ q. option_and_then (λ r. Some (crossed k states e r)) (go_of k.tables e q i)) o ≡ option_and_then (λ q. option_and_then (λ r. Some (crossed m states e r)) (go_of m.tables e q i)) o
+  states-alike states e i None = refl
+  states-alike states e i (Some q) =
+      ap (λ ts. option_and_then (λ r. Some (crossed k states e r)) (go_of ts e q i)) alike.tables ∙ moves-alike states e (go_of m.tables e q i)
 
-  next_from-alike : (c : Config) (p : Place) → next_from k c p ≡ next_from m c p
-  next_from-alike c (Left e o) = refl
-  next_from-alike c (Enter e i) = states-alike c e i (slice_get c.states e)
+  turn_from-alike : (states : List ℕ) (p : Place) → turn_from k states p ≡ turn_from m states p
+  turn_from-alike states (Left e o) = refl
+  turn_from-alike states (Enter e i) = states-alike states e i (slice_get states e)
 
   next-alike : (c : Config) → next k c ≡ next m c
-  next-alike c = next_from-alike c c.place
+  next-alike c = ap (option_and_then (next_by c.steps)) (turn_from-alike c.states c.place)
 
   line_before-alike : (p : Place) → line_before k.wires p ≡ line_before m.wires p
   line_before-alike (Left e o) = refl

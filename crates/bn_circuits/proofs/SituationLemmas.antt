@@ -3,43 +3,15 @@ use Rattle.std.specs.Prelude.{◌≡◌, ℕ, ◌+◌, ◌≤◌, Bool, Some, sl
 use Rattle.std.proofs.Common.{zero, suc, arith, sym, ap, subst, ◌∙◌}
 use Rattle.bn_lists.specs.Runs.{Passes}
 use Rattle.bn_circuits.specs.Circuits.{Circuit, clock, place_after, Goes}
-use Rattle.bn_circuits.proofs.StepLemmas.{same_config}
 use Rattle.bn_circuits.specs.declared.place.Place.TheVariants.{Enter}
 use Rattle.bn_circuits.specs.declared.config.Config.{Config}
-use Rattle.bn_circuits.specs.Situations.{Situation, situation, situation_of, counted, Turns, turn, turn_from, StepsAreCounted}
-
-goes_turns : (k : Circuit) (c d : Config) → Goes k c d → Turns k (situation_of c) (situation_of d)
-goes_turns k c d g = record {
-  element = g.element;
-  input = g.input;
-  output = g.output;
-  before = g.before;
-  after = g.after;
-  enters = g.enters;
-  has_state = g.has_state;
-  moves = g.moves;
-  states = g.states;
-  place = g.place;
-}
+use Rattle.bn_circuits.specs.Situations.{Situation, situation_of, counted, Turns, crossed, turn, turn_from, StepsAreCounted}
 
 turns_goes : (k : Circuit) (s t : Situation) (n : ℕ) → Turns k s t → n + 1 ≤ clock → Goes k (counted s n) (counted t (n + 1))
-turns_goes k s t n g in_time = record {
-  element = g.element;
-  input = g.input;
-  output = g.output;
-  before = g.before;
-  after = g.after;
-  enters = g.enters;
-  has_state = g.has_state;
-  moves = g.moves;
-  states = g.states;
-  place = g.place;
-  steps = refl;
-  in_time = in_time;
-}
+turns_goes k s t n g in_time = record { crosses = g; steps = refl; in_time = in_time }
 
 pub steps-counted : StepsAreCounted
-steps-counted = (λ k c d g. (goes_turns k c d g, g.steps, g.in_time), turns_goes)
+steps-counted = (λ k c d g. (g.crosses, g.steps, g.in_time), turns_goes)
 
 module _ (k : Circuit) (test : Situation → Bool) where
   paths : (n : ℕ) (s t : Situation) (p q : ℕ) → q ≡ p + n → Passes (Turns k) test n s t → q ≤ clock → Passes (Goes k) (λ d. test (situation_of d)) n (counted s p) (counted t q)
@@ -52,7 +24,7 @@ module _ (k : Circuit) (test : Situation → Bool) where
 
   pub paths-counted : (n : ℕ) (s t : Situation) (c : Config) → situation_of c ≡ s → Passes (Turns k) test n s t → c.steps + n ≤ clock → Passes (Goes k) (λ d. test (situation_of d)) n c (counted t (c.steps + n))
   paths-counted n s t c is path in_time =
-      let start : c ≡ counted s c.steps = same_config c (counted s c.steps) (ap (λ (x : Situation). x.states) is) (ap (λ (x : Situation). x.place) is) refl in
+      let start : c ≡ counted s c.steps = ap (λ (x : Situation). counted x c.steps) is in
       subst (λ x. Passes (Goes k) (λ d. test (situation_of d)) n x (counted t (c.steps + n))) (sym start) (paths n s t c.steps (c.steps + n) refl path in_time)
 
 -- two situations with the same parts are the same
@@ -62,8 +34,7 @@ same_situation s t states place = λ i. record { states = states i; place = plac
 -- a step is what the function gives
 pub turns-turn : (k : Circuit) (s t : Situation) → Turns k s t → turn k s ≡ Some t
 turns-turn k s t g =
-    let next : Situation = situation (slice_set s.states g.element g.after) (place_after k.wires (record { element = g.element; line = g.output })) in
-    let whole : next ≡ t = same_situation next t (sym g.states) (sym g.place) in
+    let whole : crossed k s.states g.element (g.after, g.output) ≡ t = same_situation (crossed k s.states g.element (g.after, g.output)) t (sym g.states) (sym g.place) in
     let by_place : turn k s ≡ turn_from k s.states (Enter g.element g.input) = ap (turn_from k s.states) g.enters in
     by_place ∙ rw (g.has_state, g.moves) (ap Some whole)
 

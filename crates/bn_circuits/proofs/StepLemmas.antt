@@ -8,7 +8,9 @@ use Rattle.std.proofs.lemmas.Option.{option_and_then_some, cond_some, slice_get_
 use Rattle.bn_element.specs.Tables.{Table}
 use Rattle.bn_lists.specs.Runs.{IsFunction}
 use Rattle.bn_circuits.specs.Circuits.{Circuit, clock, target, go_of, back_of, states_of, inputs_of, outputs_of, place_after, place_at, IsCircuit, IsPlace, IsOutputOf, IsConfig, Goes}
-use Rattle.bn_circuits.specs.Stepping.{moved_on, next_from, next, line_before, moved_back, previous_by, previous}
+use Rattle.bn_circuits.specs.Situations.{Situation, situation_of, counted, Turns, crossed, turn, turn_from}
+use Rattle.bn_circuits.specs.Stepping.{next_by, next, line_before, moved_back, previous_by, previous}
+use Rattle.bn_circuits.proofs.SituationLemmas.{turns-turn}
 use Rattle.bn_circuits.specs.declared.line.Line.{Line}
 use Rattle.bn_circuits.specs.declared.place.Place.{Place}
 use Rattle.bn_circuits.specs.declared.place.Place.TheVariants.{Enter, Left}
@@ -49,8 +51,8 @@ set-set_back (x ∷ xs) zero v w h = ap (λ y. y ∷ xs) (cc)
 set-set_back (x ∷ xs) (suc i) v w h = ap (λ ys. x ∷ ys) (set-set_back xs i v w h)
 
 module _ (k : Circuit) where
-  goes_by : (c d : Config) (e i q : ℕ) (m : ℕ × ℕ) → c.place ≡ Enter e i → slice_get c.states e ≡ Some q → go_of k.tables e q i ≡ Some m → nat_le (c.steps + 1) clock ≡ true → moved_on k c e m ≡ d → Goes k c d
-  goes_by c d e i q m enters has_state moves in_time is =
+  crosses_by : (s t : Situation) (e i q : ℕ) (m : ℕ × ℕ) → s.place ≡ Enter e i → slice_get s.states e ≡ Some q → go_of k.tables e q i ≡ Some m → crossed k s.states e m ≡ t → Turns k s t
+  crosses_by s t e i q m enters has_state moves is =
       record {
         element = e;
         input = i;
@@ -60,31 +62,35 @@ module _ (k : Circuit) where
         enters = enters;
         has_state = has_state;
         moves = moves;
-        states = sym (ap (λ (x : Config). x.states) is);
-        place = sym (ap (λ (x : Config). x.place) is);
-        steps = sym (ap (λ (x : Config). x.steps) is);
-        in_time = leb-true (c.steps + 1) clock in_time;
+        states = sym (ap (λ (x : Situation). x.states) is);
+        place = sym (ap (λ (x : Situation). x.place) is);
       }
 
-  next_from-Goes : (c d : Config) (p : Place) → c.place ≡ p → next_from k c p ≡ Some d → Goes k c d
-  next_from-Goes c d (Left e o) at_p h = absurd (cc)
-  next_from-Goes c d (Enter e i) at_p h =
-      option_and_then_some (λ q. option_and_then (λ m. if nat_le (c.steps + 1) clock then Some (moved_on k c e m) else None) (go_of k.tables e q i)) (slice_get c.states e) d h (λ q has_state h1.
-      option_and_then_some (λ m. if nat_le (c.steps + 1) clock then Some (moved_on k c e m) else None) (go_of k.tables e q i) d h1 (λ m moves h2.
-      let both = cond_some (nat_le (c.steps + 1) clock) (moved_on k c e m) d h2 in
-      goes_by c d e i q m at_p has_state moves both.0 both.1))
+  turn_from-Turns : (s t : Situation) (p : Place) → s.place ≡ p → turn_from k s.states p ≡ Some t → Turns k s t
+  turn_from-Turns s t (Left e o) at_p h = absurd (cc)
+  turn_from-Turns s t (Enter e i) at_p h =
+      option_and_then_some (λ q. option_and_then (λ m. Some (crossed k s.states e m)) (go_of k.tables e q i)) (slice_get s.states e) t h (λ q has_state h1.
+      option_and_then_some (λ m. Some (crossed k s.states e m)) (go_of k.tables e q i) t h1 (λ m moves h2.
+      let is : crossed k s.states e m ≡ t = cc in
+      crosses_by s t e i q m at_p has_state moves is))
 
   -- what the function gives is a step
   pub next-Goes : (c d : Config) → next k c ≡ Some d → Goes k c d
-  next-Goes c d h = next_from-Goes c d c.place refl h
+  next-Goes c d h =
+      option_and_then_some (next_by c.steps) (turn k (situation_of c)) d h (λ s turned h1.
+      let both = cond_some (nat_le (c.steps + 1) clock) (counted s (c.steps + 1)) d h1 in
+      subst (Goes k c) both.1 (record {
+        crosses = turn_from-Turns (situation_of c) s c.place refl turned;
+        steps = refl;
+        in_time = leb-true (c.steps + 1) clock both.0;
+      }))
 
   -- a step is what the function gives
   pub Goes-next : (c d : Config) → Goes k c d → next k c ≡ Some d
   Goes-next c d g =
       let in_time : nat_le (c.steps + 1) clock ≡ true = le-leb (c.steps + 1) clock g.in_time in
-      let whole : moved_on k c g.element (g.after, g.output) ≡ d = same_config (moved_on k c g.element (g.after, g.output)) d (sym g.states) (sym g.place) (sym g.steps) in
-      let by_place : next k c ≡ next_from k c (Enter g.element g.input) = ap (next_from k c) g.enters in
-      by_place ∙ rw (g.has_state, g.moves, in_time) (ap Some whole)
+      let whole : counted (situation_of d) (c.steps + 1) ≡ d = same_config (counted (situation_of d) (c.steps + 1)) d refl refl (sym g.steps) in
+      ap (option_and_then (next_by c.steps)) (turns-turn k (situation_of c) (situation_of d) g.crosses) ∙ rw in_time (ap Some whole)
 
   -- the step forward is a function
   pub forward_once : IsFunction (Goes k)
@@ -129,39 +135,39 @@ module _ (k : Circuit) where
 
     after_range : (c d : Config) → IsConfig k c → (g : Goes k c d) → (e q : ℕ) → slice_get d.states e ≡ Some q → q < states_of k.tables e
     after_range c d config g e q has =
-        let has' : slice_get (slice_set c.states g.element g.after) e ≡ Some q = rw g.states at has in
-        elim (eqb_tells e g.element) [
+        let has' : slice_get (slice_set c.states g.crosses.element g.crosses.after) e ≡ Some q = rw g.crosses.states at has in
+        elim (eqb_tells e g.crosses.element) [
           | inl same ↦
-              (let within : g.element < length c.states = slice_get_within c.states g.element g.before g.has_state in
-              let written : slice_get (slice_set c.states g.element g.after) g.element ≡ Some g.after = slice_get-set_same c.states g.element g.after within in
-              let at_e : slice_get (slice_set c.states g.element g.after) g.element ≡ Some q = subst (λ x. slice_get (slice_set c.states g.element g.after) x ≡ Some q) same.1 has' in
-              let is : g.after ≡ q = cc in
-              let arrives = (go_arrives g.element g.before g.input g.after g.output g.moves).0 in
-              subst (λ x. x < states_of k.tables e) is (subst (λ x. g.after < states_of k.tables x) (sym same.1) arrives))
-          | inr other ↦ config.range e q (sym (slice_get-set_other c.states g.element e g.after other.1) ∙ has')
+              (let within : g.crosses.element < length c.states = slice_get_within c.states g.crosses.element g.crosses.before g.crosses.has_state in
+              let written : slice_get (slice_set c.states g.crosses.element g.crosses.after) g.crosses.element ≡ Some g.crosses.after = slice_get-set_same c.states g.crosses.element g.crosses.after within in
+              let at_e : slice_get (slice_set c.states g.crosses.element g.crosses.after) g.crosses.element ≡ Some q = subst (λ x. slice_get (slice_set c.states g.crosses.element g.crosses.after) x ≡ Some q) same.1 has' in
+              let is : g.crosses.after ≡ q = cc in
+              let arrives = (go_arrives g.crosses.element g.crosses.before g.crosses.input g.crosses.after g.crosses.output g.crosses.moves).0 in
+              subst (λ x. x < states_of k.tables e) is (subst (λ x. g.crosses.after < states_of k.tables x) (sym same.1) arrives))
+          | inr other ↦ config.range e q (sym (slice_get-set_other c.states g.crosses.element e g.crosses.after other.1) ∙ has')
         ]
 
     -- a step leads from a configuration to a configuration
     pub next-IsConfig : (c d : Config) → IsConfig k c → Goes k c d → IsConfig k d
     next-IsConfig c d config g =
         record {
-          count = ap length g.states ∙ length-set c.states g.element g.after ∙ config.count;
+          count = ap length g.crosses.states ∙ length-set c.states g.crosses.element g.crosses.after ∙ config.count;
           range = after_range c d config g;
-          place = subst (IsPlace k) (sym g.place) (place_after-IsPlace (record { element = g.element; line = g.output }) (go_arrives g.element g.before g.input g.after g.output g.moves).1);
+          place = subst (IsPlace k) (sym g.crosses.place) (place_after-IsPlace (record { element = g.crosses.element; line = g.crosses.output }) (go_arrives g.crosses.element g.crosses.before g.crosses.input g.crosses.after g.crosses.output g.crosses.moves).1);
           in_time = subst (λ n. n ≤ clock) (sym g.steps) g.in_time;
         }
 
     before_range : (c d : Config) → IsConfig k d → (g : Goes k c d) → (e q : ℕ) → slice_get c.states e ≡ Some q → q < states_of k.tables e
     before_range c d config g e q has =
-        elim (eqb_tells e g.element) [
+        elim (eqb_tells e g.crosses.element) [
           | inl same ↦
-              (let at_e : slice_get c.states g.element ≡ Some q = subst (λ x. slice_get c.states x ≡ Some q) same.1 has in
-              let before : slice_get c.states g.element ≡ Some g.before = g.has_state in
-              let is : g.before ≡ q = cc in
-              let departs = (go_departs g.element g.before g.input g.after g.output g.moves).0 in
-              subst (λ x. x < states_of k.tables e) is (subst (λ x. g.before < states_of k.tables x) (sym same.1) departs))
+              (let at_e : slice_get c.states g.crosses.element ≡ Some q = subst (λ x. slice_get c.states x ≡ Some q) same.1 has in
+              let before : slice_get c.states g.crosses.element ≡ Some g.crosses.before = g.crosses.has_state in
+              let is : g.crosses.before ≡ q = cc in
+              let departs = (go_departs g.crosses.element g.crosses.before g.crosses.input g.crosses.after g.crosses.output g.crosses.moves).0 in
+              subst (λ x. x < states_of k.tables e) is (subst (λ x. g.crosses.before < states_of k.tables x) (sym same.1) departs))
           | inr other ↦
-              (let kept : slice_get d.states e ≡ slice_get c.states e = ap (λ xs. slice_get xs e) g.states ∙ slice_get-set_other c.states g.element e g.after other.1 in
+              (let kept : slice_get d.states e ≡ slice_get c.states e = ap (λ xs. slice_get xs e) g.crosses.states ∙ slice_get-set_other c.states g.crosses.element e g.crosses.after other.1 in
               config.range e q (kept ∙ has))
         ]
 
@@ -169,9 +175,9 @@ module _ (k : Circuit) where
     pub previous-IsConfig : (c d : Config) → IsConfig k d → Goes k c d → IsConfig k c
     previous-IsConfig c d config g =
         record {
-          count = sym (length-set c.states g.element g.after) ∙ sym (ap length g.states) ∙ config.count;
+          count = sym (length-set c.states g.crosses.element g.crosses.after) ∙ sym (ap length g.crosses.states) ∙ config.count;
           range = before_range c d config g;
-          place = subst (IsPlace k) (sym g.enters) (go_departs g.element g.before g.input g.after g.output g.moves).1;
+          place = subst (IsPlace k) (sym g.crosses.enters) (go_departs g.crosses.element g.crosses.before g.crosses.input g.crosses.after g.crosses.output g.crosses.moves).1;
           in_time = let counted : d.steps ≡ c.steps + 1 = g.steps in let limit : d.steps ≤ clock = config.in_time in omega arith;
         }
 
@@ -193,16 +199,18 @@ module _ (k : Circuit) where
     parts-Goes d config n counted o r q i came has moves =
         let within : o.element < length d.states = slice_get_within d.states o.element r has in
         record {
-          element = o.element;
-          input = i;
-          output = o.line;
-          before = q;
-          after = r;
-          enters = refl;
-          has_state = slice_get-set_same d.states o.element q within;
-          moves = back_go o.element q i r o.line moves;
-          states = sym (set-set_back d.states o.element q r has);
-          place = place_at-line_before d.place o config.place came;
+          crosses = record {
+            element = o.element;
+            input = i;
+            output = o.line;
+            before = q;
+            after = r;
+            enters = refl;
+            has_state = slice_get-set_same d.states o.element q within;
+            moves = back_go o.element q i r o.line moves;
+            states = sym (set-set_back d.states o.element q r has);
+            place = place_at-line_before d.place o config.place came;
+          };
           steps = omega arith;
           in_time = let limit : d.steps ≤ clock = config.in_time in omega arith;
         }
@@ -233,16 +241,16 @@ module _ (k : Circuit) where
 
     pub Goes-Came : (c d : Config) → Goes k c d → Came c d
     Goes-Came c d g =
-        let within : g.element < length c.states = slice_get_within c.states g.element g.before g.has_state in
+        let within : g.crosses.element < length c.states = slice_get_within c.states g.crosses.element g.crosses.before g.crosses.has_state in
         record {
-          from = record { element = g.element; line = g.output };
-          before = g.before;
-          after = g.after;
-          input = g.input;
+          from = record { element = g.crosses.element; line = g.crosses.output };
+          before = g.crosses.before;
+          after = g.crosses.after;
+          input = g.crosses.input;
           counted = omega (arith, g.steps);
-          came = ap (line_before k.wires) g.place ∙ line_before-place_at (record { element = g.element; line = g.output }) (target k.wires (record { element = g.element; line = g.output })) refl;
-          has_state = ap (λ xs. slice_get xs g.element) g.states ∙ slice_get-set_same c.states g.element g.after within;
-          moves = go_back g.element g.before g.input g.after g.output g.moves;
+          came = ap (line_before k.wires) g.crosses.place ∙ line_before-place_at (record { element = g.crosses.element; line = g.crosses.output }) (target k.wires (record { element = g.crosses.element; line = g.crosses.output })) refl;
+          has_state = ap (λ xs. slice_get xs g.crosses.element) g.crosses.states ∙ slice_get-set_same c.states g.crosses.element g.crosses.after within;
+          moves = go_back g.crosses.element g.crosses.before g.crosses.input g.crosses.after g.crosses.output g.crosses.moves;
         }
 
     -- where a step came from is what the function back gives
@@ -250,8 +258,8 @@ module _ (k : Circuit) where
     unfolding Goes-Came
     Goes-previous c d g =
         let back = Goes-Came c d g in
-        let restored : slice_set d.states g.element g.before ≡ c.states = ap (λ xs. slice_set xs g.element g.before) g.states ∙ set-set_back c.states g.element g.after g.before g.has_state in
-        let whole : moved_back d c.steps g.element (g.before, g.input) ≡ c = same_config (moved_back d c.steps g.element (g.before, g.input)) c restored (sym g.enters) refl in
+        let restored : slice_set d.states g.crosses.element g.crosses.before ≡ c.states = ap (λ xs. slice_set xs g.crosses.element g.crosses.before) g.crosses.states ∙ set-set_back c.states g.crosses.element g.crosses.after g.crosses.before g.crosses.has_state in
+        let whole : moved_back d c.steps g.crosses.element (g.crosses.before, g.crosses.input) ≡ c = same_config (moved_back d c.steps g.crosses.element (g.crosses.before, g.crosses.input)) c restored (sym g.crosses.enters) refl in
         let by_count : previous k d ≡ previous_by k d (suc c.steps) = ap (previous_by k d) back.counted in
         by_count ∙ rw (back.came, back.has_state, back.moves) (ap Some whole)
 

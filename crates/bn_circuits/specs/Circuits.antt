@@ -90,20 +90,23 @@ place_at (Some to) from = Enter to.element to.line
 abbrev pub place_after : List Wire → Line → Place
 place_after ws from = place_at (target ws from) from
 
--- One element step leads from c to d: the signal enters the element, its table has a move from its state and that line,
--- the state changes there and nowhere else, the signal goes on from the output line, and one step more is counted,
--- within the clock.
-pub record Goes (k : Circuit) (c d : Config) : Type 0 where
+-- One element step leads from these states and this place to those: the signal enters the element, its table has a move
+-- from its state and that line, the state changes there and nowhere else, and the signal goes on from the output line.
+pub record Crosses (k : Circuit) (old : List ℕ) (from : Place) (new : List ℕ) (to : Place) : Type 0 where
   pub element : ℕ
   pub input : ℕ
   pub output : ℕ
   pub before : ℕ
   pub after : ℕ
-  pub enters : c.place ≡ Enter element input
-  pub has_state : slice_get c.states element ≡ Some before
+  pub enters : from ≡ Enter element input
+  pub has_state : slice_get old element ≡ Some before
   pub moves : go_of k.tables element before input ≡ Some (after, output)
-  pub states : d.states ≡ slice_set c.states element after
-  pub place : d.place ≡ place_after k.wires (record { element = element; line = output })
+  pub states : new ≡ slice_set old element after
+  pub place : to ≡ place_after k.wires (record { element = element; line = output })
+
+-- One element step leads from c to d, and one step more is counted, within the clock.
+pub record Goes (k : Circuit) (c d : Config) : Type 0 where
+  pub crosses : Crosses k c.states c.place d.states d.place
   pub steps : d.steps ≡ c.steps + 1
   pub in_time : c.steps + 1 ≤ clock
 

@@ -2,7 +2,7 @@
 -- number of steps made before, so laws on long runs speak of situations.
 use Rattle.std.specs.Prelude.{◌≡◌, ℕ, ◌+◌, ◌≤◌, Bool, List, Option, Some, None, slice_get, slice_set, option_and_then}
 use Rattle.bn_lists.specs.Runs.{Passes}
-use Rattle.bn_circuits.specs.Circuits.{Circuit, clock, go_of, place_after, Goes}
+use Rattle.bn_circuits.specs.Circuits.{Circuit, clock, go_of, place_after, Crosses, Goes}
 use Rattle.bn_circuits.specs.declared.place.Place.{Place}
 use Rattle.bn_circuits.specs.declared.place.Place.TheVariants.{Enter, Left}
 use Rattle.bn_circuits.specs.declared.config.Config.{Config}
@@ -22,27 +22,19 @@ situation_of c = situation c.states c.place
 abbrev pub counted : Situation → ℕ → Config
 counted s n = record { states = s.states; place = s.place; steps = n }
 
--- One step leads from s to t: what a counted step says, but for the count and the clock.
-pub record Turns (k : Circuit) (s t : Situation) : Type 0 where
-  pub element : ℕ
-  pub input : ℕ
-  pub output : ℕ
-  pub before : ℕ
-  pub after : ℕ
-  pub enters : s.place ≡ Enter element input
-  pub has_state : slice_get s.states element ≡ Some before
-  pub moves : go_of k.tables element before input ≡ Some (after, output)
-  pub states : t.states ≡ slice_set s.states element after
-  pub place : t.place ≡ place_after k.wires (record { element = element; line = output })
+-- one element step leads from s to t
+abbrev pub Turns : Circuit → Situation → Situation → Type 0
+Turns k s t = Crosses k s.states s.place t.states t.place
+
+-- the situation after a move of this element to a state and an output line
+abbrev pub crossed : Circuit → List ℕ → ℕ → (ℕ × ℕ) → Situation
+crossed k states e m = situation (slice_set states e m.0) (place_after k.wires (record { element = e; line = m.1 }))
 
 -- the same as a function
 abbrev pub turn_from : Circuit → List ℕ → Place → Option Situation
 turn_from k states (Left e o) = None
 turn_from k states (Enter e i) =
-    option_and_then (λ q. option_and_then (λ (m : ℕ × ℕ).
-    Some (situation (slice_set states e m.0) (place_after k.wires (record { element = e; line = m.1 }))))
-    (go_of k.tables e q i))
-    (slice_get states e)
+    option_and_then (λ q. option_and_then (λ m. Some (crossed k states e m)) (go_of k.tables e q i)) (slice_get states e)
 
 abbrev pub turn : Circuit → Situation → Option Situation
 turn k s = turn_from k s.states s.place

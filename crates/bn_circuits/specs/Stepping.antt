@@ -2,31 +2,21 @@
 use Rattle.std.specs.Prelude.{ℕ, ◌+◌, nat_le, List, [], ◌∷◌, Option, Some, None, if◌then◌else◌, slice_get, slice_set}
 use Rattle.std.specs.Prelude.{option_and_then, unwrap_or}
 use Rattle.std.proofs.Common.{zero, suc}
-use Rattle.bn_circuits.specs.Circuits.{Circuit, clock, source, go_of, back_of, place_after}
+use Rattle.bn_circuits.specs.Circuits.{Circuit, clock, source, back_of}
+use Rattle.bn_circuits.specs.Situations.{Situation, situation_of, counted, turn}
 use Rattle.bn_circuits.specs.declared.line.Line.{Line}
 use Rattle.bn_circuits.specs.declared.line.Wire.{Wire}
 use Rattle.bn_circuits.specs.declared.place.Place.{Place}
 use Rattle.bn_circuits.specs.declared.place.Place.TheVariants.{Enter, Left}
 use Rattle.bn_circuits.specs.declared.config.Config.{Config}
 
--- the configuration after a move of this element to a state and an output line
-abbrev pub moved_on : Circuit → Config → ℕ → (ℕ × ℕ) → Config
-moved_on k c e m = record {
-  states = slice_set c.states e m.0;
-  place = place_after k.wires (record { element = e; line = m.1 });
-  steps = c.steps + 1;
-}
+-- the configuration of this situation after one step more, where the clock has room for it
+abbrev pub next_by : ℕ → Situation → Option Config
+next_by steps s = if nat_le (steps + 1) clock then Some (counted s (steps + 1)) else None
 
 -- the one configuration that follows, if there is one
-abbrev pub next_from : Circuit → Config → Place → Option Config
-next_from k c (Left e o) = None
-next_from k c (Enter e i) =
-    option_and_then (λ q. option_and_then
-    (λ m. if nat_le (c.steps + 1) clock then Some (moved_on k c e m) else None)
-    (go_of k.tables e q i)) (slice_get c.states e)
-
 abbrev pub next : Circuit → Config → Option Config
-next k c = next_from k c c.place
+next k c = option_and_then (next_by c.steps) (turn k (situation_of c))
 
 -- the output line by which the signal came to this place
 abbrev pub line_before : List Wire → Place → Option Line

@@ -36,16 +36,18 @@ module _ (c : Circuit) where
   turns : (s s' : List ℕ) (p : Place) (e i q r o n : ℕ) → slice_get c.tables e ≡ Some rotary → slice_get s e ≡ Some q → rotary.go q i ≡ Some (r, o) → slice_set s e r ≡ s' → place_after c.wires (line_at e o) ≡ p → n + 1 ≤ clock → Goes c (at_place s (Enter e i) n) (at_place s' p (n + 1))
   turns s s' p e i q r o n table state moves states place in_time =
       record {
-        element = e;
-        input = i;
-        output = o;
-        before = q;
-        after = r;
-        enters = refl;
-        has_state = state;
-        moves = rw table moves;
-        states = sym states;
-        place = sym place;
+        crosses = record {
+          element = e;
+          input = i;
+          output = o;
+          before = q;
+          after = r;
+          enters = refl;
+          has_state = state;
+          moves = rw table moves;
+          states = sym states;
+          place = sym place;
+        };
         steps = refl;
         in_time = in_time;
       }

@@ -246,15 +246,15 @@ record IsEntering (k : Circuit) (many lines : ℕ) (c : Config) : Type 0 where
 
 entering : (k : Circuit) (t : Table) (many : ℕ) → IsCircuit k → k.tables ≡ replicate many t → (c d : Config) → Goes k c d → IsEntering k many t.inputs c
 entering k t many circuit tables c d g =
-    option_and_then_some (λ (u : Table). u.go g.before g.input) (slice_get k.tables g.element) (g.after, g.output) g.moves
+    option_and_then_some (λ (u : Table). u.go g.crosses.before g.crosses.input) (slice_get k.tables g.crosses.element) (g.crosses.after, g.crosses.output) g.crosses.moves
     (λ u stands moves.
-    let at = replicated t u many g.element (sym (ap (λ ts. slice_get ts g.element) tables) ∙ stands) in
-    let range = (circuit.reversible g.element u stands).departs g.before g.input g.after g.output moves in
+    let at = replicated t u many g.crosses.element (sym (ap (λ ts. slice_get ts g.crosses.element) tables) ∙ stands) in
+    let range = (circuit.reversible g.crosses.element u stands).departs g.crosses.before g.crosses.input g.crosses.after g.crosses.output moves in
     record {
-      line = record { element = g.element; line = g.input };
-      is = g.enters;
+      line = record { element = g.crosses.element; line = g.crosses.input };
+      is = g.crosses.enters;
       element = at.0;
-      side = subst (λ (v : Table). g.input < v.inputs) (sym at.1) range.1;
+      side = subst (λ (v : Table). g.crosses.input < v.inputs) (sym at.1) range.1;
     })
 
 entering_within : (k : Circuit) (t : Table) (many n e : ℕ) (c d : Config) → IsCircuit k → k.tables ≡ replicate many t → Reaches (Goes k) n c d → e < n →

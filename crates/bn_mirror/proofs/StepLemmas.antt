@@ -66,19 +66,21 @@ module _ (ws vs : List Wire) (wires : AreMirrored ws vs) where
 module _ (k j : Circuit) (tables : j.tables ≡ k.tables) (rotaries : AreAllRotary k.tables) (wires : AreMirrored k.wires j.wires) (one : IsOneToOne k.wires) where
   turned_Goes : (c d : Config) (n : ℕ) → Goes k c d → n + 1 ≤ clock → Goes j (mirrored_config k.wires n d) (mirrored_config k.wires (n + 1) c)
   turned_Goes c d n g within =
-      let inside : g.element < length c.states = slice_get_within c.states g.element g.before g.has_state in
-      let at_k : go_of k.tables g.element g.after (exchanged g.output) ≡ Some (g.before, exchanged g.input) = go_of_turned k.tables rotaries g.element g.before g.input g.after g.output g.moves in
+      let inside : g.crosses.element < length c.states = slice_get_within c.states g.crosses.element g.crosses.before g.crosses.has_state in
+      let at_k : go_of k.tables g.crosses.element g.crosses.after (exchanged g.crosses.output) ≡ Some (g.crosses.before, exchanged g.crosses.input) = go_of_turned k.tables rotaries g.crosses.element g.crosses.before g.crosses.input g.crosses.after g.crosses.output g.crosses.moves in
       record {
-        element = g.element;
-        input = exchanged g.output;
-        output = exchanged g.input;
-        before = g.after;
-        after = g.before;
-        enters = ap (mirrored_place k.wires) g.place ∙ mirrored_after k.wires j.wires wires one (line_at g.element g.output);
-        has_state = ap (λ xs. slice_get xs g.element) g.states ∙ slice_get-set_same c.states g.element g.after inside;
-        moves = subst (λ (ts : List Table). go_of ts g.element g.after (exchanged g.output) ≡ Some (g.before, exchanged g.input)) (sym tables) at_k;
-        states = sym (ap (λ xs. slice_set xs g.element g.before) g.states ∙ set-set_back c.states g.element g.after g.before g.has_state);
-        place = ap (mirrored_place k.wires) g.enters ∙ sym (place_after_turned k.wires j.wires wires one (line_at g.element g.input));
+        crosses = record {
+          element = g.crosses.element;
+          input = exchanged g.crosses.output;
+          output = exchanged g.crosses.input;
+          before = g.crosses.after;
+          after = g.crosses.before;
+          enters = ap (mirrored_place k.wires) g.crosses.place ∙ mirrored_after k.wires j.wires wires one (line_at g.crosses.element g.crosses.output);
+          has_state = ap (λ xs. slice_get xs g.crosses.element) g.crosses.states ∙ slice_get-set_same c.states g.crosses.element g.crosses.after inside;
+          moves = subst (λ (ts : List Table). go_of ts g.crosses.element g.crosses.after (exchanged g.crosses.output) ≡ Some (g.crosses.before, exchanged g.crosses.input)) (sym tables) at_k;
+          states = sym (ap (λ xs. slice_set xs g.crosses.element g.crosses.before) g.crosses.states ∙ set-set_back c.states g.crosses.element g.crosses.after g.crosses.before g.crosses.has_state);
+          place = ap (mirrored_place k.wires) g.crosses.enters ∙ sym (place_after_turned k.wires j.wires wires one (line_at g.crosses.element g.crosses.input));
+        };
         steps = refl;
         in_time = within;
       }

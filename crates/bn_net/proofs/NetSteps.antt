@@ -29,16 +29,18 @@ state-range k c e q config has = config.range e q has
 pub step-Goes : (k : Circuit) (c d : Config) (e i q r o : ℕ) → c.place ≡ Enter e i → slice_get c.states e ≡ Some q → go_of k.tables e q i ≡ Some (r, o) → d.states ≡ slice_set c.states e r → d.place ≡ place_after k.wires (record { element = e; line = o }) → d.steps ≡ c.steps + 1 → c.steps + 1 ≤ clock → Goes k c d
 step-Goes k c d e i q r o at has moves states place steps in_time =
     record {
-      element = e;
-      input = i;
-      output = o;
-      before = q;
-      after = r;
-      enters = at;
-      has_state = has;
-      moves = moves;
-      states = states;
-      place = place;
+      crosses = record {
+        element = e;
+        input = i;
+        output = o;
+        before = q;
+        after = r;
+        enters = at;
+        has_state = has;
+        moves = moves;
+        states = states;
+        place = place;
+      };
       steps = steps;
       in_time = in_time;
     }

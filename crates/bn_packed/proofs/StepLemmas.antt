@@ -94,16 +94,18 @@ module _ (net : Parts Rotary) (circuit : IsCircuit (rotary_circuit net)) where
     crossed-Goes then p leads counted in_time =
         let move = move_of bars after e o (λ q. rotary.go q i) cross in
         record {
-          element = e;
-          input = i;
-          output = o;
-          before = move.state;
-          after = move.next;
-          enters = at_place;
-          has_state = move.has_state;
-          moves = go-rotary net.elements e move.state i element_there ∙ move.goes;
-          states = sym move.written;
-          place = leads;
+          crosses = record {
+            element = e;
+            input = i;
+            output = o;
+            before = move.state;
+            after = move.next;
+            enters = at_place;
+            has_state = move.has_state;
+            moves = go-rotary net.elements e move.state i element_there ∙ move.goes;
+            states = sym move.written;
+            place = leads;
+          };
           steps = counted;
           in_time = omega arith;
         }
@@ -191,7 +193,7 @@ module _ (net : Parts Rotary) (circuit : IsCircuit (rotary_circuit net)) where
 
 -- a signal that has left makes no step
 pub left-stuck : (k : Circuit) (c : Config) → ((e i : ℕ) → c.place ≡ Enter e i → ⊥) → IsStuck k c
-left-stuck k c left d goes = left goes.element goes.input goes.enters
+left-stuck k c left d goes = left goes.crosses.element goes.crosses.input goes.crosses.enters
 
 -- What a walk of as many steps as were asked for comes to, or of as many as the clock has room for, and what a watch has
 -- heard of it.

@@ -129,7 +129,7 @@ none_of None h = refl
 none_of (Some to) h = absurd (h to refl)
 
 pub stuck_outside : (k : Circuit) (d : Config) (e l : ℕ) → d.place ≡ Left e l → IsStuck k d
-stuck_outside k d e l left x goes = (let enters = goes.enters in cc)
+stuck_outside k d e l left x goes = (let enters = goes.crosses.enters in cc)
 
 -- no wire of a bank by itself leaves where the signal comes out
 exit-loose : (net : Parts Rotary) (t : Table) (q i : ℕ) (c : Config) → IsReversible t → t.outputs ≡ t.inputs → IsBankNet net t → IsBankEntering 0 t q i c → target net.wires (exit_after 0 t q i (t.go q i)) ≡ None

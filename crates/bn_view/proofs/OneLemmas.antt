@@ -148,12 +148,12 @@ goes_within : (k : Circuit) → IsCircuit k → (c d : Config) → Goes k c d �
 goes_within k circuit c d g e l at = by (target k.wires from) refl
   where
     from : Line
-    from = record { element = g.element; line = g.output }
+    from = record { element = g.crosses.element; line = g.crosses.output }
 
     by : (o : Option Line) → target k.wires from ≡ o → e < length k.tables
-    by None is = let both : Left g.element g.output ≡ Enter e l = sym (g.place ∙ ap (λ o. place_at o from) is) ∙ at in absurd (cc)
+    by None is = let both : Left g.crosses.element g.crosses.output ≡ Enter e l = sym (g.crosses.place ∙ ap (λ o. place_at o from) is) ∙ at in absurd (cc)
     by (Some to) is =
-        let both : Enter to.element to.line ≡ Enter e l = sym (g.place ∙ ap (λ o. place_at o from) is) ∙ at in
+        let both : Enter to.element to.line ≡ Enter e l = sym (g.crosses.place ∙ ap (λ o. place_at o from) is) ∙ at in
         let same : to.element ≡ e = cc in
         let there : to.element < length k.tables = input_within k.tables to.element to.line (circuit.wired from to is).1 in
         omega arith

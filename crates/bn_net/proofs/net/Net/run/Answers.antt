@@ -1,6 +1,6 @@
-use Rattle.std.proofs.Common.{◌≡◌, sym, ap, ◌∙◌, arith}
+use Rattle.std.proofs.Common.{◌≡◌, sym, ap, subst, ◌∙◌, arith}
 use Rattle.bn_lists.proofs.RunsLemmas.{runs_more}
-use Rattle.bn_circuits.specs.Circuits.{Goes}
+use Rattle.bn_circuits.specs.Circuits.{Goes, IsStuck}
 use Rattle.bn_circuits.specs.Stepping.{back}
 use Rattle.bn_circuits.proofs.RunLemmas.{run_stops, Reaches-back}
 use Rattle.bn_net.specs.Parts.{circuit}
@@ -29,3 +29,6 @@ returns-clause-undone g c =
     let whole = view-IsCircuit g.E.Element.table g.met.E.Element.reversible c.self.inside.elements.items c.self.inside.targets c.self.inside.sources c.args.self.now c.self.invariant c.self.view_is in
     let all : c.loop-made.made ≡ c.args.e = omega (arith, c.loop-made-test.false, c.loop-made.auto.made-end) in
     ap (λ n. back (circuit g.E.Element.table c.args.self.now) c.loop-made.config n) (sym all) ∙ Reaches-back (circuit g.E.Element.table c.args.self.now) whole c.loop-made.made c.args.config.now c.loop-made.config c.loop-made.invariant.0
+
+pub returns-then-not-step-clause-ended : goal.returns-then-not-step-clause-ended
+returns-then-not-step-clause-ended g c = λ fewer. subst (IsStuck (circuit g.E.Element.table c.args.self.now)) (sym c.if-not-step.ensures.kept) c.if-not-step.ensures.stuck

@@ -1,6 +1,6 @@
-use Rattle.std.proofs.Common.{◌≡◌, ◌+◌, sym, ap, ◌∙◌, refl, arith}
+use Rattle.std.proofs.Common.{◌≡◌, ◌+◌, sym, ap, subst, ◌∙◌, refl, arith}
 use Rattle.bn_lists.proofs.RunsLemmas.{runs_join}
-use Rattle.bn_circuits.specs.Circuits.{Goes}
+use Rattle.bn_circuits.specs.Circuits.{Goes, IsFirst}
 use Rattle.bn_circuits.specs.Stepping.{run}
 use Rattle.bn_circuits.proofs.RunLemmas.{back_stops, Reaches-run}
 use Rattle.bn_net.specs.Parts.{circuit}
@@ -29,3 +29,6 @@ pub returns-clause-undone : goal.returns-clause-undone
 returns-clause-undone g c =
     let all : c.loop-made.made ≡ c.args.e = omega (arith, c.loop-made-test.false, c.loop-made.auto.made-end) in
     ap (λ n. run (circuit g.E.Element.table c.args.self.now) c.loop-made.config n) (sym all) ∙ Reaches-run (circuit g.E.Element.table c.args.self.now) c.loop-made.made c.loop-made.config c.args.config.now c.loop-made.invariant.0
+
+pub returns-then-not-back_step-clause-ended : goal.returns-then-not-back_step-clause-ended
+returns-then-not-back_step-clause-ended g c = λ fewer. subst (IsFirst (circuit g.E.Element.table c.args.self.now)) (sym c.if-not-back_step.ensures.kept) c.if-not-back_step.ensures.first
