@@ -7,15 +7,16 @@ use Rattle.bn_quad.proofs.QuadStepLemmas.{goes_leads}
 use Rattle.bn_machine.specs.Tape.{blank_tape, scanned, word_tape}
 use Rattle.bn_machine.specs.Outcome as outcome
 use Rattle.bn_machine.specs.Outcome.{HasOutcome, Limits, Outcome}
+use Rattle.bn_machine.specs.declared.quint.Side.{Side}
 use Rattle.std.specs.Prelude.{◌↔◌}
 use Rattle.bn_lists.specs.Lists.{IsIn}
 use Rattle.bn_bennett_laws.proofs.InsideLemmas.{begins_in, ends_in, state_below}
-use Rattle.bn_bennett_laws.specs.Laws.{BennettsTheorem, BoundedRunsAgree, HaltsAfter, NumbersPassTests, NumbersRunAlike}
+use Rattle.bn_bennett_laws.specs.Laws.{BennettsTheorem, BoundedRunsAgree, HaltsAfter, NumbersPassTests, NumbersRunAlike, RunsHaveNoRoom}
 use Rattle.bn_bennett_laws.specs.List.{bennett, initial_name, final_name}
 use Rattle.bn_bennett_laws.specs.Names.{states_in}
 use Rattle.bn_bennett_laws.specs.Renamed.{KeepsApart, in_state, rename}
 use Rattle.bn_bennett_laws.proofs.RenamedLemmas.{first_read_before, from_in, names_kept_apart, nth_before, reached_in}
-use Rattle.bn_bennett_laws.specs.Stages.{Comes as NamedComes, EndsAs, IsAfter, IsSpelledBy, IsStandardMachine, StepsOf, beginning, ending, rooms_of}
+use Rattle.bn_bennett_laws.specs.Stages.{Comes as NamedComes, EndsAs, HasNoRoom, IsAfter, IsSpelledBy, IsStandardMachine, StepsOf, beginning, ending, rooms_of}
 use Rattle.bn_bennett_laws.specs.Steps.{EndsAt, Exit, Finished, HasNoFirstRead, Leaving, Stopped}
 use Rattle.bn_bennett_laws.specs.declared.name.Name.{Name}
 use Rattle.bn_bennett_laws.specs.declared.name.Name.TheVariants.{GoRight}
@@ -143,6 +144,10 @@ module _ (p : Program) (t : Translation) (h : IsTranslation p t) where
           (all, subst (λ x. NamedComes p word l n x Finished) (ending_named word y) (comes_named l n (ending_of t word y) Finished c))
       ends_back l i (outcome.Stuck state symbol) (d, c, at, symbols, none) = (named d, comes_named l (2 * i) d Stopped c, at, symbols, no_read_named l (2 * i) d Stopped c none)
       ends_back l i (outcome.Outside tape side) (n, d, c, after) = (n, named d, comes_named l n d (Leaving tape side) c, after)
+
+      pub no_room : RunsHaveNoRoom → IsSpelledBy p word → (l : Limits) (i tape : ℕ) (end : Side) → HasOutcome p word l i (outcome.Outside tape end) → (n : ℕ) (d : Configuration ℕ) → Comes t word l n d (Leaving tape end)
+          → HasNoRoom p word l i tape end (named d)
+      no_room law letters l i tape end h n d comes = law p word standard letters l i tape end h n (named d) (comes_named l n d (Leaving tape end) comes)
 
       pub ends_alike : BoundedRunsAgree → IsSpelledBy p word → (l : Limits) (i : ℕ) (o : Outcome) → HasOutcome p word l i o ↔ MachineEndsAs t word l i o
       ends_alike agree letters l i o =

@@ -1,19 +1,21 @@
 -- What the laws of this crate say, each the contract of a function with an empty body.
 use Rattle.std.specs.Prelude.{◌≡◌, ◌↔◌, ℕ, ◌+◌, ◌*◌, ◌≤◌, List, length}
 use Rattle.bn_machine.specs.Machine.{IsMachine, Program}
-use Rattle.bn_machine.specs.Outcome.{Limits, Outcome, HasOutcome}
+use Rattle.bn_machine.specs.Outcome.{Limits, Outcome, HasOutcome, Outside}
+use Rattle.bn_machine.specs.declared.quint.Side.{Side}
 use Rattle.bn_quad.specs.Quadruples.{Configuration, Rooms, everywhere, final_state_of, initial_of}
 use Rattle.bn_quad.specs.Calls.{IsUniformMachine}
 use Rattle.bn_bennett_laws.specs.Laws.{HaltsAfter}
 use Rattle.bn_bennett_laws.specs.List.{initial_name, final_name}
 use Rattle.bn_bennett_laws.specs.Renamed.{KeepsApart, in_state}
-use Rattle.bn_bennett_laws.specs.Stages.{IsStandardMachine, IsSpelledBy, Stands, rooms_of}
+use Rattle.bn_bennett_laws.specs.Stages.{IsStandardMachine, IsSpelledBy, HasNoRoom, Stands, rooms_of}
+use Rattle.bn_bennett_laws.specs.Steps.{Leaving}
 use Rattle.bn_qtable.specs.Named.{HasNames}
 use Rattle.bn_qtable.specs.Rows as QuadTables
 use Rattle.bn_table.specs.Rows.{FitsTable, IsTable, Named}
 use Rattle.bn_bennett.specs.Printed.{translation_names}
 use Rattle.bn_bennett.specs.Translation.{IsTranslation, Translation, name_of}
-use Rattle.bn_bennett.specs.Runs.{CallsEndAs, MachineEndsAs, Runs, ending_of}
+use Rattle.bn_bennett.specs.Runs.{CallsEndAs, Comes, MachineEndsAs, Runs, ending_of}
 
 -- a machine has one translation at most
 abbrev pub TranslationsAreOne : Type 0
@@ -48,6 +50,14 @@ abbrev pub TranslationsEndAlike : Type 0
 TranslationsEndAlike =
     (p : Program) (t : Translation) (word : List ℕ) → IsStandardMachine p → IsTranslation p t → IsSpelledBy p word
     → (l : Limits) (i : ℕ) (o : Outcome) → HasOutcome p word l i o ↔ MachineEndsAs t word l i o
+
+-- where the one-tape machine's own run has no room, its translation's machine leaves where the definition of that says
+abbrev pub TranslationsHaveNoRoom : Type 0
+TranslationsHaveNoRoom =
+    (p : Program) (t : Translation) (word : List ℕ) → IsStandardMachine p → IsTranslation p t → IsSpelledBy p word
+    → (l : Limits) (i tape : ℕ) (end : Side) → HasOutcome p word l i (Outside tape end)
+    → (n : ℕ) (d : Configuration ℕ) → Comes t word l n d (Leaving tape end)
+    → HasNoRoom p word l i tape end (in_state (name_of t) d)
 
 -- the same call by call: exactly where the calls of `step` come out as that outcome says
 abbrev pub CallsEndAlike : Type 0

@@ -1,11 +1,12 @@
 //! Laws on the machine of a translation. Each function only names the laws below it; its contract is the law.
 ghost use Rattle.bn_bennett.specs.Laws.{CallsEndAlike, TranslationsAreOne, TranslationsAreTables, TranslationsAreThere};
 ghost use Rattle.bn_bennett.specs.Laws.{TranslationsAreUniform, TranslationsEndAlike, TranslationsHaltAlike};
-ghost use Rattle.bn_bennett.specs.Laws.{TranslationsHaveNames, TranslationsStand};
+ghost use Rattle.bn_bennett.specs.Laws.{TranslationsHaveNames, TranslationsHaveNoRoom, TranslationsStand};
 
 use bn_bennett_laws::{
     bennetts_theorem, bounded_runs_agree, bounded_runs_are_short, every_moment_stands,
     list_has_length, list_has_names, list_is_in_range, numbers_pass_tests, numbers_run_alike,
+    runs_have_no_room,
 };
 
 /// A machine has one translation at most.
@@ -56,6 +57,16 @@ pub fn calls_end_alike()
 {
     translations_are_uniform();
     translations_end_alike();
+}
+
+/// What a translation's machine is at where a head would leave its tape: before or within the next step
+/// of the one-tape machine's own run, or while its output is copied.
+pub fn translations_have_no_room()
+    ensures { TranslationsHaveNoRoom }
+{
+    numbers_pass_tests();
+    numbers_run_alike();
+    runs_have_no_room();
 }
 
 /// What stands on the tapes of a translation's machine at every moment of its run, and how long a run

@@ -9,7 +9,7 @@ use Rattle.bn_lists.specs.Runs.{Reaches}
 use Rattle.bn_lists.proofs.RunsLemmas.{runs_join, runs_more}
 use Rattle.bn_machine.specs.Tape.{scanned, word_tape, blank_tape, ahead}
 use Rattle.bn_machine.proofs.TapeLemmas.{scanned-ahead}
-use Rattle.bn_machine.specs.Window.{anywhere, within, IsBetween, IsBeyond}
+use Rattle.bn_machine.specs.Window.{Room, anywhere, within, IsBetween, IsBeyond}
 use Rattle.bn_machine.specs.Machine.{Program, Moment, MachineRunsTo, IsFinal, IsMachineStuck, start}
 use Rattle.bn_machine.specs.Run.{Follows, IsOutput}
 use Rattle.bn_machine.specs.Outcome.{Limits, Outcome, HasOutcome, HasRoom, IsFirstShort, Copies, copied, work_short, output_short, ComesOut, halts, sticks, runs_out, leaves}
@@ -24,8 +24,8 @@ use Rattle.bn_bennett_laws.proofs.ListLemmas.{has_writes_ahead, has_shifts_ahead
 use Rattle.bn_bennett_laws.specs.Steps.{Steps, IsFirstOutside, HasNoFirstRead, Exit, Finished, Stopped, Leaving, HasExit}
 use Rattle.bn_bennett_laws.specs.Steps as quads
 use Rattle.bn_bennett_laws.proofs.StageStepLemmas.{no_first_read, exits_once}
-use Rattle.bn_bennett_laws.specs.Stages.{IsStandardMachine, IsSpelledBy, history, computing, computing_within, copying, beginning, StepsOf, rooms_of, Comes, IsAfter, EndsAs}
-use Rattle.bn_bennett_laws.specs.Laws.{AllowsUpTo, IsReady, BoundedRunsAgree}
+use Rattle.bn_bennett_laws.specs.Stages.{IsStandardMachine, IsSpelledBy, history, computing, computing_within, copying, beginning, StepsOf, rooms_of, Comes, IsAfter, EndsAs, Halts, HasNoRoom, for_number, for_shift, to_read, to_write}
+use Rattle.bn_bennett_laws.specs.Laws.{AllowsUpTo, IsReady, BoundedRunsAgree, RunsHaveNoRoom}
 use Rattle.bn_bennett_laws.proofs.Tapes.{scanned-word}
 use Rattle.bn_bennett_laws.proofs.Moves.{computes_leads, computes_on_leads, right_leads}
 use Rattle.bn_bennett_laws.proofs.Runs.{follows_allowed, follow_by, compute_run, compute_first, copy_right}
@@ -34,6 +34,13 @@ use Rattle.bn_bennett_laws.proofs.Theorem.{stuck_reads, halting_run}
 use Rattle.bn_bennett_laws.proofs.Tests.{list_deterministic}
 use Rattle.bn_bennett_laws.specs.declared.name.Name.{Name}
 use Rattle.bn_bennett_laws.specs.declared.name.Name.TheVariants.{Compute, ComputeWithin, GoRight, CopyLetter, GoLeft, PassLetter, Retrace, RetraceWithin}
+
+-- a run in a room is one without
+follows_anywhere : (room : Room) (p : Program) (ns : List ℕ) (c d : Moment) → Follows room p ns c d → Follows anywhere p ns c d
+follows_anywhere room p [] c d h = h
+follows_anywhere room p (n ∷ ns) c d h =
+    let by = h.2 in
+    (h.0, follows_anywhere room p ns c h.0 h.1, record { going = by.going; quint = by.quint; match = by.match; applies = by.applies; stays = tt })
 
 -- ---- rooms
 
@@ -62,6 +69,24 @@ module _ (p : Program) (word : List ℕ) (standard : IsStandardMachine p) (lette
   history_head : (history ns).head ≡ pos (length ns)
   history_head = omega (arith, ints)
 
+  -- a run that has no room: where the reversible machine leaves, and what it is at then
+  record IsCut (tape : ℕ) (side : Side) : Type 0 where
+    n : ℕ
+    x : Configuration Name
+    comes : Comes p word l n x (Leaving tape side)
+    after : IsAfter (length ns) n x.state x.two.head x.three.head
+    stands : HasNoRoom p word l (length ns) tape side x
+
+  ends_cut : (tape : ℕ) (side : Side) → IsCut tape side → EndsAs p word l (length ns) (outcome.Outside tape side)
+  ends_cut tape side k = (k.n, k.x, k.comes, k.after)
+
+  -- by the outcome's own tape and side
+  cut_so_named : (tape : ℕ) (side : Side) (t : ℕ) → outcome.Outside tape side ≡ outcome.Outside t Right → IsCut t Right → IsCut tape side
+  cut_so_named tape side t why cut =
+      let tapes : tape ≡ t = cc in
+      let sides : side ≡ Right = cc in
+      subst (IsCut tape) (sym sides) (subst (λ v. IsCut v Right) (sym tapes) cut)
+
   -- ---- halted
 
   module _ (y : List ℕ) (final : IsFinal p c) (out : IsOutput c.tape y) where
@@ -81,40 +106,71 @@ module _ (p : Program) (word : List ℕ) (standard : IsStandardMachine p) (lette
         )
 
     -- the cell k + 1 of the output is missing on the work tape or on the output tape
-    ends_short : (k tape : ℕ) → k ≤ length y → ((j : ℕ) → 0 < j → j < suc k → HasRoom l c.tape.head j) → IsFirstOutside (rooms_of l) (copying CopyLetter c ns (take k y) (suc k)) tape Right → EndsAs p word l (length ns) (outcome.Outside tape Right)
-    ends_short k tape low room out_there =
+    cut_short : (k tape : ℕ) → k ≤ length y → ((j : ℕ) → 0 < j → j < suc k → HasRoom l c.tape.head j) → IsFirstOutside (rooms_of l) (copying CopyLetter c ns (take k y) (suc k)) tape Right
+        → HasNoRoom p word l (length ns) tape Right (copying GoRight c ns (take k y) k) → IsCut tape Right
+    cut_short k tape low room out_there stands =
         let work = up_from l.left l.right c.tape.head k inside (λ j some high. (room j some (omega arith)).work) in
         let output = up_to 0 l.output k (reached k (λ some. (room k some (omega arith)).output)) in
         let two = in_history (length ns) (omega arith) in
         let copied_so_far = copy_right p (rooms_of l) c ns y ready two k low work output in
         let n : ℕ = 2 * length ns + 2 * k + 1 in
-        let there : Reaches (StepsOf p (rooms_of l)) n (beginning p word) (copying GoRight c ns (take k y) k) = runs_join (StepsOf p (rooms_of l)) n (2 * length ns) (2 * k + 1) _ _ _ (omega arith) made copied_so_far in (
-          n,
-          copying GoRight c ns (take k y) k,
-          record {
+        let there : Reaches (StepsOf p (rooms_of l)) n (beginning p word) (copying GoRight c ns (take k y) k) = runs_join (StepsOf p (rooms_of l)) n (2 * length ns) (2 * k + 1) _ _ _ (omega arith) made copied_so_far in
+        record {
+          n = n;
+          x = copying GoRight c ns (take k y) k;
+          comes = record {
             run = there;
             ends = quads.leaves tape Right (copying CopyLetter c ns (take k y) (suc k)) (λ same. cc) (follow_by p goes_right _ _ (has_goes_right p) (right_leads c ns (length p.quints) ready.last (take k y) k)) out_there refl;
-          },
-          (history_head, (k, omega (arith, ints), refl)),
-        )
+          };
+          after = (history_head, (k, omega (arith, ints), refl));
+          stands = stands;
+        }
       where
         reached : (k : ℕ) → (0 < k → k ≤ l.output) → k ≤ l.output
         reached zero h = omega arith
         reached (suc k) h = h (omega arith)
 
-    ends_copying : (o : Outcome) → Copies l c.tape.head y o → EndsAs p word l (length ns) o
-    ends_copying o (copied room why) = subst (EndsAs p word l (length ns)) (sym why) (ends_halted room)
-    ends_copying o (work_short zero short beyond why) = let some : 0 < 0 = short.starts in absurd (omega arith)
-    ends_copying o (work_short (suc k) short beyond why) =
+    halts_so : Halts p word c ns y
+    halts_so = record { run = follows_anywhere (within l.left l.right) p ns (start p word) c run; final = final; output = out }
+
+    -- cell k is the last one that the work tape has
+    cut_work : (k : ℕ) → IsFirstShort l c.tape.head (length y) (suc k) → pos l.right <ℤ (c.tape.head +ℤ pos (suc k)) → IsCut 1 Right
+    cut_work k short beyond =
         let last : suc k ≤ length y + 1 = short.reached in
-        subst (EndsAs p word l (length ns)) (sym why) (ends_short k 1 (omega arith) short.before beyond)
-    ends_copying o (output_short zero short fits past why) = let some : 0 < 0 = short.starts in absurd (omega arith)
-    ends_copying o (output_short (suc k) short fits past why) =
+        let high : (c.tape.head +ℤ pos k) ≤ℤ pos l.right = before k (λ some. (short.before k some (omega arith)).work) in
+        cut_short k 1 (omega arith) short.before beyond (to_read c ns y k halts_so refl refl refl (omega (arith, ints)) refl)
+      where
+        before : (k : ℕ) → (0 < k → (c.tape.head +ℤ pos k) ≤ℤ pos l.right) → (c.tape.head +ℤ pos k) ≤ℤ pos l.right
+        before zero h = let within_right : c.tape.head ≤ℤ pos l.right = inside.below in omega (arith, ints)
+        before (suc k) h = h (omega arith)
+
+    -- and here the output tape
+    cut_output : (k : ℕ) → IsFirstShort l c.tape.head (length y) (suc k) → (c.tape.head +ℤ pos (suc k)) ≤ℤ pos l.right → l.output < suc k → IsCut 3 Right
+    cut_output k short fits past =
         let last : suc k ≤ length y + 1 = short.reached in
         let low : (pos 0 -ℤ pos l.left) ≤ℤ c.tape.head = inside.above in
         let on_work : IsBetween l.left l.right (c.tape.head +ℤ pos (suc k)) = record { above = omega (arith, ints); below = fits } in
         let beyond : pos l.output <ℤ (pos 0 +ℤ pos (suc k)) = omega (arith, ints) in
-        subst (EndsAs p word l (length ns)) (sym why) (ends_short k 3 (omega arith) short.before (on_work, in_history (length ns) (omega arith), beyond))
+        let high : k ≤ l.output = before k (λ some. (short.before k some (omega arith)).output) in
+        cut_short k 3 (omega arith) short.before (on_work, in_history (length ns) (omega arith), beyond) (to_write c ns y k halts_so refl refl refl (omega arith) refl)
+      where
+        before : (k : ℕ) → (0 < k → k ≤ l.output) → k ≤ l.output
+        before zero h = omega arith
+        before (suc k) h = h (omega arith)
+
+    cut_copying : (tape : ℕ) (side : Side) → Copies l c.tape.head y (outcome.Outside tape side) → IsCut tape side
+    cut_copying tape side (copied room why) = absurd (let both : outcome.Outside tape side ≡ outcome.Halted y = why in cc)
+    cut_copying tape side (work_short zero short beyond why) = let some : 0 < 0 = short.starts in absurd (omega arith)
+    cut_copying tape side (work_short (suc k) short beyond why) = cut_so_named tape side 1 why (cut_work k short beyond)
+    cut_copying tape side (output_short zero short fits past why) = let some : 0 < 0 = short.starts in absurd (omega arith)
+    cut_copying tape side (output_short (suc k) short fits past why) = cut_so_named tape side 3 why (cut_output k short fits past)
+
+    ends_copying : (o : Outcome) → Copies l c.tape.head y o → EndsAs p word l (length ns) o
+    ends_copying o (copied room why) = subst (EndsAs p word l (length ns)) (sym why) (ends_halted room)
+    ends_copying o (work_short zero short beyond why) = let some : 0 < 0 = short.starts in absurd (omega arith)
+    ends_copying o (work_short (suc k) short beyond why) = subst (EndsAs p word l (length ns)) (sym why) (ends_cut 1 Right (cut_work k short beyond))
+    ends_copying o (output_short zero short fits past why) = let some : 0 < 0 = short.starts in absurd (omega arith)
+    ends_copying o (output_short (suc k) short fits past why) = subst (EndsAs p word l (length ns)) (sym why) (ends_cut 3 Right (cut_output k short fits past))
 
   -- ---- stuck
 
@@ -125,42 +181,58 @@ module _ (p : Program) (word : List ℕ) (standard : IsStandardMachine p) (lette
 
   -- ---- out of the history, and out of the work tape
 
-  ends_full : (d : Moment) → MachineRunsTo anywhere p c d → length ns ≡ l.steps → EndsAs p word l (length ns) (outcome.Outside 2 Right)
-  ends_full d goes full =
+  follows_so : Follows anywhere p ns (start p word) c
+  follows_so = follows_anywhere (within l.left l.right) p ns (start p word) c run
+
+  cut_full : (d : Moment) → MachineRunsTo anywhere p c d → length ns ≡ l.steps → IsCut 2 Right
+  cut_full d goes full =
       let by = goes.1 in
-      let beyond : pos l.steps <ℤ ((pos 0 +ℤ pos (length ns)) +ℤ pos 1) = omega (arith, ints) in (
-        2 * length ns,
-        computing c ns blank_tape,
-        record {
+      let beyond : pos l.steps <ℤ ((pos 0 +ℤ pos (length ns)) +ℤ pos 1) = omega (arith, ints) in
+      record {
+        n = 2 * length ns;
+        x = computing c ns blank_tape;
+        comes = record {
           run = made;
           ends = quads.leaves 2 Right (computing_within c ns goes.0 by.quint blank_tape) (λ same. cc)
               (follow_by p (writes_ahead goes.0 by.quint) _ _ (has_writes_ahead p goes.0 by.quint by.match.stands) (computes_leads goes.0 by.quint c ns blank_tape by.match.holds.from by.match.holds.reads (scanned-word [])))
               (inside, beyond) refl;
-        },
-        (history_head, refl),
-      )
+        };
+        after = (history_head, refl);
+        stands = for_number c d ns follows_so refl goes refl refl refl;
+      }
 
-  ends_leaving : (d : Moment) (side : Side) → MachineRunsTo anywhere p c d → length ns < l.steps → IsBeyond l.left l.right side d.tape.head → EndsAs p word l (length ns) (outcome.Outside 1 side)
-  ends_leaving d side goes early beyond =
+  cut_leaving : (d : Moment) (side : Side) → MachineRunsTo anywhere p c d → length ns < l.steps → IsBeyond l.left l.right side d.tape.head → IsCut 1 side
+  cut_leaving d side goes early beyond =
       let by = goes.1 in
       let next = up_to 0 l.steps (length ns + 1) (omega arith) (length ns + 1) (omega arith) in
-      let begun = compute_first p (rooms_of l) anywhere goes.0 c d ns by inside next (at_zero 0 l.output) in (
-        2 * length ns + 1,
-        computing_within c ns goes.0 by.quint blank_tape,
-        record {
+      let begun = compute_first p (rooms_of l) anywhere goes.0 c d ns by inside next (at_zero 0 l.output) in
+      record {
+        n = 2 * length ns + 1;
+        x = computing_within c ns goes.0 by.quint blank_tape;
+        comes = record {
           run = runs_more (StepsOf p (rooms_of l)) (2 * length ns) _ _ _ made begun;
           ends = quads.leaves 1 side (computing d (goes.0 ∷ ns) blank_tape) (λ same. cc)
               (follow_by p (shifts_ahead goes.0 by.quint) _ _ (has_shifts_ahead p goes.0 by.quint by.match.stands) (computes_on_leads goes.0 by.quint c d ns blank_tape by.applies.writes by.applies.to))
               beyond refl;
-        },
-        (omega (arith, ints), refl),
-      )
+        };
+        after = (omega (arith, ints), refl);
+        stands = for_shift c d ns goes.0 by follows_so refl refl refl;
+      }
+
+  cut_so : (tape : ℕ) (side : Side) → ComesOut p l (length ns) c (outcome.Outside tape side) → IsCut tape side
+  cut_so tape side (halts y final out copies) = cut_copying y final out tape side copies
+  cut_so tape side (sticks stuck why) = absurd (let both : outcome.Outside tape side ≡ outcome.Stuck c.state (scanned c.tape) = why in cc)
+  cut_so tape side (runs_out d goes full why) = cut_so_named tape side 2 why (cut_full d goes full)
+  cut_so tape side (leaves d to goes early beyond why) =
+      let tapes : tape ≡ 1 = cc in
+      let sides : side ≡ to = cc in
+      subst (IsCut tape) (sym sides) (subst (λ v. IsCut v to) (sym tapes) (cut_leaving d to goes early beyond))
 
   ends_so : (o : Outcome) → ComesOut p l (length ns) c o → EndsAs p word l (length ns) o
   ends_so o (halts y final out copies) = ends_copying y final out o copies
   ends_so o (sticks stuck why) = subst (EndsAs p word l (length ns)) (sym why) (ends_stuck stuck)
-  ends_so o (runs_out d goes full why) = subst (EndsAs p word l (length ns)) (sym why) (ends_full d goes full)
-  ends_so o (leaves d side goes early beyond why) = subst (EndsAs p word l (length ns)) (sym why) (ends_leaving d side goes early beyond)
+  ends_so o (runs_out d goes full why) = subst (EndsAs p word l (length ns)) (sym why) (ends_cut 2 Right (cut_full d goes full))
+  ends_so o (leaves d side goes early beyond why) = subst (EndsAs p word l (length ns)) (sym why) (ends_cut 1 side (cut_leaving d side goes early beyond))
 
 -- ---- the machine's outcome is how the run ends
 
@@ -234,3 +306,13 @@ bounded_runs_agree p word standard letters l i o = (
       let same = ends_as_once p word standard l found.0 i found.1 o (bounded_forth p word standard letters l found.0 found.1 found.2) ends in
       subst (HasOutcome p word l i) same.1 (subst (λ k. HasOutcome p word l k found.1) same.0 found.2),
 )
+
+-- ---- where it has no room
+
+pub runs_have_no_room : RunsHaveNoRoom
+runs_have_no_room p word standard letters l i tape side h n x comes =
+    let ns = run_follows (within l.left l.right) p i (start p word) h.moment h.run in
+    let in_time : length ns.0 ≤ l.steps = subst (λ k. k ≤ l.steps) (sym ns.1) h.in_time in
+    let cut = cut_so p word standard letters l ns.0 h.moment ns.2 in_time tape side (subst (λ k. ComesOut p l k h.moment (outcome.Outside tape side)) (sym ns.1) h.ends) in
+    let same = comes_once p word standard l n cut.n x cut.x (Leaving tape side) (Leaving tape side) comes cut.comes in
+    subst (λ k. HasNoRoom p word l k tape side x) ns.1 (subst (HasNoRoom p word l (length ns.0) tape side) (sym same.1) cut.stands)

@@ -4,20 +4,21 @@ use Rattle.bn_lists.specs.Runs.{Reaches}
 use Rattle.bn_machine.specs.Tape.{scanned, word_tape, blank_tape}
 use Rattle.bn_machine.specs.Window.{Room, anywhere, Allows}
 use Rattle.bn_machine.specs.declared.quint.Shift.TheVariants.{Left, Stay, Right}
+use Rattle.bn_machine.specs.declared.quint.Side.{Side}
 use Rattle.bn_machine.specs.Machine.{Program, program_of, Moment, GoesBy, IsFinal, IsMachine, start}
 use Rattle.bn_lists.specs.Lists.{nth, IsIn}
 use Rattle.bn_machine.specs.Run.{After, Follows, IsOutput}
-use Rattle.bn_machine.specs.Outcome.{Limits, Outcome, HasOutcome}
+use Rattle.bn_machine.specs.Outcome.{Limits, Outcome, HasOutcome, Outside}
 use Rattle.bn_standard.specs.Standard.{IsStandard}
 use Rattle.bn_quad.specs.Quadruples.{Rewrite, Move, Rule, Configuration, Quadruples, QuadruplesRunTo, Rooms, everywhere, deeds_of}
 use Rattle.bn_quad.specs.Quadruples.{AreDeedsInRange, initial_of, final_state_of}
 use Rattle.bn_quad.specs.Overlap.{IsDeterministic, IsReversible, IsUniform}
 use Rattle.bn_bennett_laws.specs.List.{tape_rule, bennett, initial_name, final_name, symbols_of}
-use Rattle.bn_bennett_laws.specs.Steps.{Exit, EndsAt}
+use Rattle.bn_bennett_laws.specs.Steps.{Exit, EndsAt, Leaving}
 use Rattle.bn_bennett_laws.specs.Renamed.{rename, in_state, KeepsApart}
 use Rattle.bn_bennett_laws.specs.Names.{states_in, NumbersStates, IsUniformFrom, Mentions, IsNameOf}
 use Rattle.bn_bennett_laws.specs.Stages.{IsStandardMachine, IsSpelledBy, history, computing, computing_within, retracing}
-use Rattle.bn_bennett_laws.specs.Stages.{copying, beginning, ending, Stands, StepsOf, rooms_of, EndsAs}
+use Rattle.bn_bennett_laws.specs.Stages.{copying, beginning, ending, Stands, StepsOf, rooms_of, Comes, EndsAs, HasNoRoom}
 use Rattle.bn_bennett_laws.specs.declared.name.Name.{Name}
 use Rattle.bn_bennett_laws.specs.declared.name.Name.TheVariants.{Compute, ComputeWithin, GoRight, CopyLetter, GoLeft}
 use Rattle.bn_bennett_laws.specs.declared.name.Name.TheVariants.{PassLetter, Retrace, RetraceWithin}
@@ -156,6 +157,12 @@ BennettsTheorem =
 abbrev pub BoundedRunsAgree : Type 0
 BoundedRunsAgree = (p : Program) (word : List ℕ) → IsStandardMachine p → IsSpelledBy p word
     → (l : Limits) (i : ℕ) (o : Outcome) → HasOutcome p word l i o ↔ EndsAs p word l i o
+
+-- Where the machine's own run has no room, the reversible machine leaves where its definition says.
+abbrev pub RunsHaveNoRoom : Type 0
+RunsHaveNoRoom = (p : Program) (word : List ℕ) → IsStandardMachine p → IsSpelledBy p word
+    → (l : Limits) (i tape : ℕ) (end : Side) → HasOutcome p word l i (Outside tape end)
+    → (n : ℕ) (x : Configuration Name) → Comes p word l n x (Leaving tape end) → HasNoRoom p word l i tape end x
 
 -- every moment of a run from a word stands for a moment of the machine's own run
 abbrev pub EveryMomentStands : Type 0

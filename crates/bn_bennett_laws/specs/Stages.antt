@@ -1,13 +1,15 @@
 -- What stands on the three tapes at each moment of the run of Bennett's reversible machine (Bennett 1973).
-use Rattle.std.specs.Prelude.{◌≡◌, ◌≢◌, ℕ, suc, ◌+◌, ◌*◌, ◌<◌, ◌≤◌, ℤ, pos, List, [], length, reverse, take, All}
+use Rattle.std.specs.Prelude.{◌≡◌, ◌≢◌, ℕ, suc, ◌+◌, ◌*◌, ◌<◌, ◌≤◌, ℤ, pos, ◌+ℤ◌, List, [], length, reverse, take, All}
 use Rattle.bn_machine.specs.Tape.{Tape, scanned, write, shift, ahead, word_tape, blank_tape}
 use Rattle.bn_machine.specs.Window.{anywhere, within}
-use Rattle.bn_machine.specs.Machine.{Program, Moment, GoesBy, IsFinal, IsMachine, start}
+use Rattle.bn_machine.specs.Machine.{Program, Moment, GoesBy, MachineRunsTo, IsFinal, IsMachine, start}
 use Rattle.bn_machine.specs.Run.{Follows, IsOutput}
 use Rattle.bn_machine.specs.Outcome as outcome
 use Rattle.bn_machine.specs.Outcome.{Limits, Outcome}
 use Rattle.bn_machine.specs.declared.quint.Quint.{Quint}
 use Rattle.bn_machine.specs.declared.quint.Shift.TheVariants.{Right}
+use Rattle.bn_machine.specs.declared.quint.Side.{Side}
+use Rattle.bn_machine.specs.declared.quint.Side.TheVariants as side
 use Rattle.bn_standard.specs.Standard.{IsStandard}
 use Rattle.bn_quad.specs.Quadruples.{Configuration, Rooms}
 use Rattle.bn_bennett_laws.specs.List.{bennett, final_name}
@@ -127,3 +129,20 @@ EndsAs p word l i (outcome.Stuck state symbol) = (d : Configuration Name) × Com
     × (d.state ≡ Compute state) × (scanned d.one ≡ symbol) × HasNoFirstRead (bennett p) d
 EndsAs p word l i (outcome.Outside tape side) = (n : ℕ) × (d : Configuration Name)
     × Comes p word l n d (Leaving tape side) × IsAfter i n d.state d.two.head d.three.head
+
+-- What the reversible machine is at where the machine's own run has no room after i steps: before the number of the next
+-- step, for which the history has no cell; within that step, whose shift would leave the work tape; or, while the output
+-- y of the halted moment is copied, behind k letters, of which the last one came from the last cell of the work tape, or
+-- went to the last cell of the output tape.
+pub data HasNoRoom (p : Program) (word : List ℕ) (l : Limits) (i tape : ℕ) (end : Side) (x : Configuration Name) :
+    Type 0 where
+  for_number : (c d : Moment) (ns : List ℕ) → Follows anywhere p ns (start p word) c → length ns ≡ i
+      → MachineRunsTo anywhere p c d → tape ≡ 2 → end ≡ side.Right → x ≡ computing c ns blank_tape
+      → HasNoRoom p word l i tape end x
+  for_shift : (c d : Moment) (ns : List ℕ) (m : ℕ) (by : GoesBy anywhere p m c d)
+      → Follows anywhere p ns (start p word) c → length ns ≡ i → tape ≡ 1
+      → x ≡ computing_within c ns m by.quint blank_tape → HasNoRoom p word l i tape end x
+  to_read : (c : Moment) (ns y : List ℕ) (k : ℕ) → Halts p word c ns y → length ns ≡ i → tape ≡ 1 → end ≡ side.Right
+      → c.tape.head +ℤ pos k ≡ pos l.right → x ≡ copying GoRight c ns (take k y) k → HasNoRoom p word l i tape end x
+  to_write : (c : Moment) (ns y : List ℕ) (k : ℕ) → Halts p word c ns y → length ns ≡ i → tape ≡ 3
+      → end ≡ side.Right → k ≡ l.output → x ≡ copying GoRight c ns (take k y) k → HasNoRoom p word l i tape end x

@@ -2,7 +2,7 @@
 ghost use Rattle.bn_bennett_laws.specs.Laws.{BennettsTheorem, BoundedRunsAgree, BoundedRunsAreShort, ComputesTwoSteps};
 ghost use Rattle.bn_bennett_laws.specs.Laws.{CopiesOutput, EveryMomentStands, HaltedIsReady, LeastIsListed, ListCountsNames};
 ghost use Rattle.bn_bennett_laws.specs.Laws.{ListHasEnds, ListHasLength, ListHasNames, ListIsInRange, ListPassesTests};
-ghost use Rattle.bn_bennett_laws.specs.Laws.{NumbersPassTests, NumbersRunAlike, RetracesTwoSteps};
+ghost use Rattle.bn_bennett_laws.specs.Laws.{NumbersPassTests, NumbersRunAlike, RetracesTwoSteps, RunsHaveNoRoom};
 
 /// A step of the machine is two steps of the reversible machine, which keeps its number in the
 /// history (Bennett 1973, compute).
@@ -77,6 +77,12 @@ pub fn bennetts_theorem()
 /// out: with the output, stuck, or where a head would leave its tape.
 pub fn bounded_runs_agree()
     ensures { BoundedRunsAgree }
+{}
+
+/// What the reversible machine is at where a head would leave its tape: before or within the next step
+/// of the machine's own run, or while its output is copied.
+pub fn runs_have_no_room()
+    ensures { RunsHaveNoRoom }
 {}
 
 /// What stands on the tapes at every moment of a run.

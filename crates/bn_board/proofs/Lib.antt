@@ -17,5 +17,6 @@ pub mod AgreedLemmas
 pub mod StartedLemmas
 pub mod StartingLemmas
 pub mod SpellingLemmas
+pub mod ShownHeadLemmas
 pub mod ReadingLemmas
 pub mod WordLemmas

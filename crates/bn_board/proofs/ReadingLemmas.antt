@@ -16,7 +16,7 @@ use Rattle.bn_circuits.specs.Situations.{Situation}
 use Rattle.bn_network.specs.Cells.{cell_table}
 use Rattle.bn_network.specs.Controls.{ControlState, IsNumbering, symbol_count}
 use Rattle.bn_network.specs.ControlLaws.{HasEntries, StatesHaveEntries}
-use Rattle.bn_network.specs.Networks.{IsNetwork, IsTape, ShowsTapes, cells_in, first_cell, network_start, elements_by}
+use Rattle.bn_network.specs.Networks.{IsNetwork, IsTape, ShowsAllCells, cells_in, first_cell, network_start, elements_by}
 use Rattle.bn_network.specs.Moments.{IsMoment, IsMomentOf, TellsMoments, HasHeads}
 use Rattle.bn_board.specs.Boards.{AreModules, StandsFor, IsAmid, IsLoose, board_start, base, size}
 use Rattle.bn_board.specs.Layouts.{Layout, IsLayout, is_moment, moment_at, elements_of, lines_at, cell_element, end_place, cell_output, spelled_by, spelled_config}
@@ -51,10 +51,10 @@ pub record Readings (m : Quadruples) (l : Limits) (word : List ℕ) (names : Lis
       → d.place ≡ cell_output b t p o
   pub loose_is : (s : Situation) (d : Config) (i q : ℕ) → IsLoose n s d → s.place ≡ Enter 0 i → slice_get s.states 0 ≡ Some q
       → d.place ≡ Left (column_at 0 (lines_at b) q + i) west
-  pub spells_as : (s : Situation) (d : Config) (c : Configuration ℕ) → StandsFor n s d → ShowsTapes m l s.states c
+  pub spells_as : (s : Situation) (d : Config) (c : Configuration ℕ) → StandsFor n s d → ShowsAllCells m l s.states c
       → spelled_by b d.states ≡ spelled_config l c
   pub spells_at_loose : (s : Situation) (d : Config) (i : ℕ) (c : Configuration ℕ) → IsLoose n s d → s.place ≡ Enter 0 i
-      → ShowsTapes m l s.states c → spelled_by b d.states ≡ spelled_config l c
+      → ShowsAllCells m l s.states c → spelled_by b d.states ≡ spelled_config l c
 
 module _ (p : Program) (l : Limits) (word : List ℕ) (names : List ControlState) (n : Circuit) where
   -- the readings, from what is known of the machine, its network and its layout

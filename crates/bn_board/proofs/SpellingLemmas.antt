@@ -1,11 +1,10 @@
 -- What a board's cells spell is what its network's cells show.
-use Rattle.std.specs.Prelude.{◌≡◌, ◌≢◌, ℕ, ◌+◌, ◌-◌, ◌*◌, ◌<◌, ◌==◌, ℤ, pos, negsuc, ◌-ℤ◌, Bool, true, false, List, ◌∷◌, map, position, Option, Some, slice_get, if◌then◌else◌, refl}
-use Rattle.std.specs.List.{range_with_len}
+use Rattle.std.specs.Prelude.{◌≡◌, ◌≢◌, ℕ, ◌+◌, ◌-◌, ◌*◌, ◌<◌, ◌==◌, nat_lt, pos, ◌-ℤ◌, Bool, true, false, not, List, ◌∷◌, length, map, position, Option, Some, None, slice_get, if◌then◌else◌, refl}
+use Rattle.std.specs.List.{range_with_len, position_or_len}
 use Rattle.std.specs.Option.{option_map}
 use Rattle.std.specs.Ordering.{int_eq}
 use Rattle.std.proofs.Common.{zero, suc, arith, sym, ap, subst, ◌∙◌, inl, inr}
-use Rattle.std.proofs.lemmas.Bool.Decides.{eqb_tells, Decides-int_eq}
-use Rattle.std.proofs.lemmas.Int.{ints}
+use Rattle.std.proofs.lemmas.Bool.Decides.{eqb_tells}
 use Rattle.std.proofs.lemmas.Option.{get_or_from_slice_get}
 use Rattle.bn_circuits.specs.Circuits.{Circuit}
 use Rattle.bn_circuits.specs.declared.config.Config.{Config}
@@ -13,16 +12,15 @@ use Rattle.bn_circuits.specs.declared.place.Place.TheVariants.{Enter}
 use Rattle.bn_element.specs.Tables.{Table}
 use Rattle.bn_column.specs.Columns.{bar}
 use Rattle.bn_machine.specs.Tape.{Tape, cell}
-use Rattle.bn_machine.specs.Window.{IsBetween}
 use Rattle.bn_machine.specs.Outcome.{Limits}
 use Rattle.bn_quad.specs.Quadruples.{Rule, Quadruples, Configuration}
 use Rattle.bn_realise.specs.Banks.{bottom_at, IsResting}
 use Rattle.bn_circuits.specs.Situations.{Situation}
 use Rattle.bn_network.specs.Cells.{Plain, Head, cell_table, state_number, cell_line_count}
 use Rattle.bn_network.specs.Controls.{ControlState, symbol_count}
-use Rattle.bn_network.specs.Networks.{IsNetwork, IsTape, ShowsTape, ShowsTapes, cells_in, first_cell, left_of, cell_of}
+use Rattle.bn_network.specs.Networks.{IsNetwork, IsTape, ShowsCells, ShowsAllCells, cells_in, first_cell, left_of, cell_of}
 use Rattle.bn_board.specs.Boards.{StandsFor, IsLoose, base}
-use Rattle.bn_board.specs.Layouts.{Layout, cell_element, is_marked_at, cell_state_at, symbol_by, has_head, cells_shown, head_shown, spelled_tape, spelled_by, config_tape, spelled_config}
+use Rattle.bn_board.specs.Layouts.{Layout, cell_element, is_marked_at, cell_state_at, symbol_by, has_head, cells_shown, head_shown, spelled_tape, spelled_by, tape_in, spelled_config}
 use Rattle.bn_board.proofs.AgreedLemmas.{first_low}
 use Rattle.bn_board.proofs.FirstLemmas.{position_at, below, not_below, bar_zero}
 use Rattle.bn_board.proofs.TabledLemmas.{machine, layout, has_cell, cell_base}
@@ -30,13 +28,13 @@ use Rattle.bn_board.proofs.TabledLemmas.{machine, layout, has_cell, cell_base}
 -- ---- numbers in their order
 
 -- the number at a place
-range_get : (a n i e : ℕ) → i < n → e ≡ a + i → slice_get (range_with_len a n) i ≡ Some e
+pub range_get : (a n i e : ℕ) → i < n → e ≡ a + i → slice_get (range_with_len a n) i ≡ Some e
 range_get a zero i e low same = absurd (omega arith)
 range_get a (suc n) zero e low same = let is : a ≡ e = omega arith in ap (λ v. Some v) is
 range_get a (suc n) (suc i) e low same = range_get (a + 1) n i e (omega arith) (omega arith)
 
 -- what stands at a place
-range_holds : (a n k e : ℕ) → slice_get (range_with_len a n) k ≡ Some e → e ≡ a + k
+pub range_holds : (a n k e : ℕ) → slice_get (range_with_len a n) k ≡ Some e → e ≡ a + k
 range_holds a zero k e h = absurd (cc)
 range_holds a (suc n) zero e h = let is : a ≡ e = cc in omega arith
 range_holds a (suc n) (suc k) e h = let rest = range_holds (a + 1) n k e h in omega arith
@@ -48,6 +46,18 @@ map_same f g a (suc n) h =
     let here = h a (omega arith) in
     let rest = map_same f g (a + 1) n (λ j low. h j (omega arith)) in
     λ i. here i ∷ rest i
+
+-- two tests that agree on the numbers first hold at one place
+first_same : (f g : ℕ → Bool) (a n : ℕ) → ((j : ℕ) → j < a + n → f j ≡ g j) → position_or_len f (range_with_len a n) ≡ position_or_len g (range_with_len a n)
+first_same f g a zero h = refl
+first_same f g a (suc n) h =
+    let here = h a (omega arith) in
+    let rest = first_same f g (a + 1) n (λ j low. h j (omega arith)) in
+    λ i. if not (here i) then 1 + rest i else 0
+
+position_same : (f g : ℕ → Bool) (n : ℕ) → ((j : ℕ) → j < n → f j ≡ g j) → position f (range_with_len 0 n) ≡ position g (range_with_len 0 n)
+position_same f g n h =
+    ap (λ k. if nat_lt k (length (range_with_len 0 n)) then Some k else None) (first_same f g 0 n (λ j low. h j (omega arith)))
 
 -- ---- cells
 
@@ -78,15 +88,6 @@ state_marked states c k n q low rests = position_at (λ j. is_marked_at states (
         let place : v < n = omega arith in
         mark v place ∙ elim (eqb_tells q v) [ inl alike ↦ absurd (let e = alike.1 in omega arith) | inr apart ↦ apart.0 ]
 
--- a position's cell
-index_of : (left right : ℕ) (p : ℤ) → IsBetween left right p → (j : ℕ) × (j < left + right + 1) × (pos j -ℤ pos left ≡ p)
-index_of left right (pos k) between = let low = between.below in (k + left, omega (arith, ints), omega (arith, ints))
-index_of left right (negsuc k) between = let low = between.above in (left - suc k, omega (arith, ints), omega (arith, ints))
-
--- a position has one cell
-same_index : (left j k : ℕ) → pos j -ℤ pos left ≡ pos k -ℤ pos left → j ≡ k
-same_index left j k h = omega (arith, ints)
-
 module _ (rules : List (Rule ℕ)) (states x y z : ℕ) (l : Limits) (names : List ControlState) (n : Circuit) (firsts awaited : List (Option (ℕ × ℕ))) where
   -- the machine, by its parts
   abbrev m : Quadruples
@@ -100,7 +101,7 @@ module _ (rules : List (Rule ℕ)) (states x y z : ℕ) (l : Limits) (names : Li
   module _ (network : IsNetwork m l names n) (s : Situation) (d : Config)
       (rests : (e : ℕ) (u : Table) (q : ℕ) → 0 < e → slice_get n.tables e ≡ Some u → slice_get s.states e ≡ Some q
       → (q < u.states) × IsResting d.states (base n.tables e) u.states u.inputs (Some q)) where
-    module _ (t right : ℕ) (tape : IsTape (suc t)) (room : cells_in l (suc t) ≡ left_of l (suc t) + right + 1) (c : Tape) (shows : ShowsTape s.states (first_cell l (suc t)) (symbol_count m (suc t)) (left_of l (suc t)) right c) where
+    module _ (t right : ℕ) (tape : IsTape (suc t)) (room : cells_in l (suc t) ≡ left_of l (suc t) + right + 1) (c : Tape) (shows : ShowsCells s.states (first_cell l (suc t)) (symbol_count m (suc t)) (left_of l (suc t)) right c) where
       abbrev left : ℕ
       left = left_of l (suc t)
 
@@ -127,30 +128,16 @@ module _ (rules : List (Rule ℕ)) (states x y z : ℕ) (l : Limits) (names : Li
       told : (j : ℕ) → j < cells_in l (suc t) → has_head symbols (cell_state_at b d.states (suc t) j) ≡ at_head j
       told j low = ap (has_head symbols) (cell_state j low) ∙ head_told symbols (cell c (pos j -ℤ pos left)) (at_head j) (shows.symbols (pos j -ℤ pos left))
 
-      head_same : head_shown b d.states (suc t) ≡ Some c.head
+      head_same : head_shown b d.states (suc t) ≡ (tape_in left (cells_in l (suc t)) c).head
       head_same =
-          let here = index_of left right c.head shows.head in
-          let low : here.0 < cells_in l (suc t) = omega (arith, here.1) in
-          let is = (Decides-int_eq (pos here.0 -ℤ pos left) c.head).1 here.2 in
-          let found = position_at (λ j. has_head symbols (cell_state_at b d.states (suc t) j)) (range_with_len 0 (cells_in l (suc t))) here.0 here.0 (range_get 0 (cells_in l (suc t)) here.0 here.0 low (omega arith)) (told here.0 low ∙ is) (never here.0 low here.2) in
-          ap (option_map (λ j. pos j -ℤ pos left)) found ∙ ap (λ v. Some v) here.2
-        where
-          never : (h : ℕ) → h < cells_in l (suc t) → pos h -ℤ pos left ≡ c.head → (k v : ℕ) → k < h
-              → slice_get (range_with_len 0 (cells_in l (suc t))) k ≡ Some v → has_head symbols (cell_state_at b d.states (suc t) v) ≡ false
-          never h low place k v less there =
-              let same = range_holds 0 (cells_in l (suc t)) k v there in
-              let row : v < cells_in l (suc t) = omega arith in
-              told v row ∙ by_test (at_head v) refl
-            where
-              by_test : (e : Bool) → at_head v ≡ e → at_head v ≡ false
-              by_test false is = is
-              by_test true is = absurd (let head = (Decides-int_eq (pos v -ℤ pos left) c.head).0 is in let one = same_index left v h (head ∙ sym place) in let e = range_holds 0 (cells_in l (suc t)) k v there in omega arith)
+          ap (option_map (λ j. pos j -ℤ pos left))
+          (position_same (λ j. has_head symbols (cell_state_at b d.states (suc t) j)) at_head (cells_in l (suc t)) told)
 
-      tape_same : spelled_tape b d.states (suc t) ≡ config_tape l (suc t) c
+      tape_same : spelled_tape b d.states (suc t) ≡ tape_in left (cells_in l (suc t)) c
       tape_same = λ i. record { first = pos 0 -ℤ pos left; head = head_same i; cells = cells_same i }
 
     -- all three tapes
-    spells_by : (c : Configuration ℕ) → ShowsTapes m l s.states c → spelled_by b d.states ≡ spelled_config l c
+    spells_by : (c : Configuration ℕ) → ShowsAllCells m l s.states c → spelled_by b d.states ≡ spelled_config l c
     spells_by c shows =
         let one = tape_same 0 l.right (record { low = omega arith; high = omega arith }) refl c.one shows.one in
         let two = tape_same 1 l.steps (record { low = omega arith; high = omega arith }) (omega arith) c.two shows.two in
@@ -159,12 +146,12 @@ module _ (rules : List (Rule ℕ)) (states x y z : ℕ) (l : Limits) (names : Li
 
   -- of a board that is between two modules
   pub spells : IsNetwork m l names n → (s : Situation) (d : Config) → StandsFor n s d → (c : Configuration ℕ)
-      → ShowsTapes m l s.states c → spelled_by b d.states ≡ spelled_config l c
+      → ShowsAllCells m l s.states c → spelled_by b d.states ≡ spelled_config l c
   spells network s d stands c shows = spells_by network s d (λ e u q some has at. stands.rests e u q has at) c shows
 
   -- of one whose signal has left by a loose line of the control
   pub spells_loose : IsNetwork m l names n → (s : Situation) (d : Config) (i : ℕ) → IsLoose n s d → s.place ≡ Enter 0 i
-      → (c : Configuration ℕ) → ShowsTapes m l s.states c → spelled_by b d.states ≡ spelled_config l c
+      → (c : Configuration ℕ) → ShowsAllCells m l s.states c → spelled_by b d.states ≡ spelled_config l c
   spells_loose network s d i loose place c shows =
       spells_by network s d (λ e u q some has at. loose.rests e u q (apart e some) has at) c shows
     where

@@ -4,6 +4,7 @@ use Rattle.std.specs.Prelude.{List, [], length, map, position, Option, Some, Non
 use Rattle.std.specs.Prelude.{nat_lt, is_some}
 use Rattle.std.specs.List.{range_with_len, slice_index_or}
 use Rattle.std.specs.Option.{option_map}
+use Rattle.std.specs.Ordering.{int_eq}
 use Rattle.bn_circuits.specs.Circuits.{Circuit}
 use Rattle.bn_circuits.specs.declared.place.Place.{Place}
 use Rattle.bn_circuits.specs.declared.place.Place.TheVariants.{Enter, Left}
@@ -159,20 +160,25 @@ spelled_by b states = record {
   three = spelled_tape b states 3;
 }
 
--- what the cells spell of a configuration of the machine whose tapes lie inside the limits
-abbrev pub config_tape : Limits → ℕ → Tape → SpelledTape
-config_tape l t tape = record {
-  first = pos 0 -ℤ pos (left_of l t);
-  head = Some tape.head;
-  cells = map (λ j. Some (cell tape (pos j -ℤ pos (left_of l t)))) (range_with_len 0 (cells_in l t));
+-- What n cells, of which `below` lie below 0, spell of a tape: the position of its head, where it is in one of them, and
+-- the symbols.
+abbrev pub tape_in : ℕ → ℕ → Tape → SpelledTape
+tape_in below n x = record {
+  first = pos 0 -ℤ pos below;
+  head = option_map (λ j. pos j -ℤ pos below) (position (λ j. int_eq (pos j -ℤ pos below) x.head) (range_with_len 0 n));
+  cells = map (λ j. Some (cell x (pos j -ℤ pos below))) (range_with_len 0 n);
+}
+
+-- what the cells spell of three tapes
+abbrev pub spelled_tapes : Limits → (Tape × Tape × Tape) → Spelled
+spelled_tapes l x = record {
+  one = tape_in l.left (l.left + l.right + 1) x.0;
+  two = tape_in 0 (l.steps + 1) x.1;
+  three = tape_in 0 (l.output + 1) x.2;
 }
 
 abbrev pub spelled_config : Limits → Configuration ℕ → Spelled
-spelled_config l c = record {
-  one = config_tape l 1 c.one;
-  two = config_tape l 2 c.two;
-  three = config_tape l 3 c.three;
-}
+spelled_config l c = spelled_tapes l (c.one, c.two, c.three)
 
 -- ---- the layout of a machine's board
 

@@ -5,7 +5,7 @@ use Rattle.bn_circuits.specs.declared.config.Config.{Config}
 use Rattle.bn_quad.specs.Quadruples.{Configuration}
 use Rattle.bn_circuits.specs.Situations.{Situation}
 use Rattle.bn_network.specs.Controls.{symbol_count}
-use Rattle.bn_network.specs.Networks.{elements_by, first_cell, cells_in, IsTape, ShowsTapes}
+use Rattle.bn_network.specs.Networks.{elements_by, first_cell, cells_in, IsTape, ShowsAllCells}
 use Rattle.bn_network.specs.Moments.{TellsMoments}
 use Rattle.bn_board.specs.Boards.{AreModules, StandsFor, IsAmid, IsLoose, size}
 use Rattle.bn_element.specs.Rotary.{west}
@@ -41,7 +41,7 @@ pub record BoardReads (f : Flat) (test : Situation → Bool) : Type 0 where
   pub loose : (s : Situation) (d : Config) (i q : ℕ) → IsLoose f.network s d → s.place ≡ Enter 0 i
       → slice_get s.states 0 ≡ Some q → d.place ≡ Left (column_at 0 (lines_at f.layout) q + i) west
   pub spells : (s : Situation) (d : Config) (c : Configuration ℕ) → StandsFor f.network s d
-      → ShowsTapes (machine_of f) f.limits s.states c → spelled_by f.layout d.states ≡ spelled_config f.limits c
+      → ShowsAllCells (machine_of f) f.limits s.states c → spelled_by f.layout d.states ≡ spelled_config f.limits c
   pub spells_loose : (s : Situation) (d : Config) (i : ℕ) (c : Configuration ℕ) → IsLoose f.network s d
-      → s.place ≡ Enter 0 i → ShowsTapes (machine_of f) f.limits s.states c
+      → s.place ≡ Enter 0 i → ShowsAllCells (machine_of f) f.limits s.states c
       → spelled_by f.layout d.states ≡ spelled_config f.limits c

@@ -16,6 +16,7 @@ use Rattle.bn_board.proofs.ReadingLemmas.{own_flat, own_accepted}
 use Rattle.bn_board_laws.proofs.ClosedLemmas.{uniform}
 use Rattle.bn_board_laws.specs.NetworkMoments.{IsUniformNetwork, StartsSpellWords, machine_start}
 use Rattle.bn_network_laws.proofs.FirstLemmas.{start_shown}
+use Rattle.bn_network_laws.proofs.ShownLemmas.{all_cells}
 use Rattle.bn_board_laws.proofs.NetworkReadLemmas.{networks-read}
 
 -- each tape of a translation has a symbol
@@ -74,5 +75,5 @@ starts-spell p word l f is may =
     let low = word_low p f.translation f.word flat.translation accepts.letters in
     let read = networks-read (machine_of f) f.limits f.word f.names f.network f.layout (uniform_of p f.word f.limits f flat accepts.standard) flat.is_layout low in
     let shown = start_shown (machine_of f) f.limits f.word (has_letters p f.translation accepts.standard.machine flat.translation) low accepts.fits in
-    let own = read.1.spells (network_start (machine_of f) f.limits f.word) (flat_start f) (machine_start (machine_of f) f.word) read.1.starts shown in
+    let own = read.1.spells (network_start (machine_of f) f.limits f.word) (flat_start f) (machine_start (machine_of f) f.word) read.1.starts (all_cells (machine_of f) f.limits _ _ shown) in
     own ∙ (λ i. spelled_config (is.limits_are i) (machine_start (machine_of f) (is.word_is i)))

@@ -3,14 +3,14 @@ use Rattle.std.specs.Prelude.{◌-◌}
 use Rattle.bn_machine.proofs.OutcomeLemmas.{outcome_exists, outcome_once}
 use Rattle.bn_bennett_laws.specs.Renamed.{in_state}
 use Rattle.bn_bennett_laws.specs.Stages.{rooms_of}
-use Rattle.bn_bennett_laws.proofs.Bounded.{bounded_runs_agree}
+use Rattle.bn_bennett_laws.proofs.Bounded.{bounded_runs_agree, runs_have_no_room}
 use Rattle.bn_bennett_laws.proofs.Counts.{list_has_length, list_is_in_range}
 use Rattle.bn_bennett_laws.proofs.Moments.{every_moment_stands}
 use Rattle.bn_bennett_laws.proofs.Numbering.{numbers_pass_tests, numbers_run_alike}
 use Rattle.bn_bennett_laws.proofs.Short.{bounded_runs_are_short}
-use Rattle.bn_bennett.specs.Laws.{TranslationsAreUniform, TranslationsEndAlike, TranslationsStand}
+use Rattle.bn_bennett.specs.Laws.{TranslationsAreUniform, TranslationsEndAlike, TranslationsHaveNoRoom, TranslationsStand}
 use Rattle.bn_bennett.specs.Translation.{name_of}
-use Rattle.bn_bennett.proofs.Alike.{begins_named, ends_alike, ends_named, names_apart, run_named}
+use Rattle.bn_bennett.proofs.Alike.{begins_named, ends_alike, ends_named, names_apart, no_room, run_named}
 use Rattle.bn_bennett.proofs.Once.{translations_are_one}
 use Rattle.bn_bennett.proofs.ThereLemmas.{there}
 use Rattle.bn_network.specs.ControlLaws.{ControlsAreOne}
@@ -56,6 +56,9 @@ stand p t word standard h letters = (
       (run_named p t h standard numbers_pass_tests numbers_run_alike word (rooms_of l) n d run),
 )
 
+pub have_no_room : TranslationsHaveNoRoom
+have_no_room p t word standard h letters = no_room p t h standard numbers_pass_tests numbers_run_alike word runs_have_no_room letters
+
 -- ---- the board
 
 pub controls : ControlsAreOne
@@ -65,12 +68,12 @@ pub read_off : BoardsRead
 read_off = boards-read uniform have-entries
 
 pub run_to_exit : BoardsRunToTheirExit
-run_to_exit = boards-run alike uniform stand (first-moment costs-bounded have-entries) (next-moment costs-bounded (commands-walk costs-bounded) have-entries)
+run_to_exit = boards-run alike uniform stand have_no_room (first-moment costs-bounded have-entries) (next-moment costs-bounded (commands-walk costs-bounded) have-entries)
     (last-moment costs-bounded (commands-walk costs-bounded) have-entries) read_off
 
 pub have_moments : BoardsHaveMoments
 have_moments =
-    boards-moments uniform have-entries alike stand (outcome_exists, outcome_once) (first-moment costs-bounded have-entries)
+    boards-moments uniform have-entries alike stand have_no_room (outcome_exists, outcome_once) (first-moment costs-bounded have-entries)
     (next-moment costs-bounded (commands-walk costs-bounded) have-entries)
     (last-moment costs-bounded (commands-walk costs-bounded) have-entries) heads-stay
 

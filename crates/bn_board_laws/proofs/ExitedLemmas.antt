@@ -14,12 +14,14 @@ use Rattle.bn_machine.specs.Tape.{scanned, write}
 use Rattle.bn_machine.specs.Machine.{Program}
 use Rattle.bn_machine.specs.Outcome as outcome
 use Rattle.bn_machine.specs.Outcome.{HasOutcome, Limits, Outcome}
+use Rattle.bn_machine.specs.declared.quint.Side.{Side}
 use Rattle.bn_machine.specs.declared.quint.Side.TheVariants as side
-use Rattle.bn_quad.specs.Quadruples.{Configuration, QuadruplesRunTo as QuadGoes}
-use Rattle.bn_bennett_laws.specs.Stages.{rooms_of}
+use Rattle.bn_quad.specs.Quadruples.{Configuration, Follows, QuadruplesRunTo as QuadGoes}
+use Rattle.bn_bennett_laws.specs.Renamed.{in_state}
+use Rattle.bn_bennett_laws.specs.Stages.{HasNoRoom, rooms_of}
 use Rattle.bn_bennett_laws.specs.Steps.{Exit as Reason, Finished, Stopped, Leaving, HasNoFirstRead}
 use Rattle.bn_bennett_laws.specs.declared.name.Name.TheVariants.{Compute}
-use Rattle.bn_bennett.specs.Laws.{TranslationsEndAlike, TranslationsAreUniform, TranslationsStand}
+use Rattle.bn_bennett.specs.Laws.{TranslationsEndAlike, TranslationsAreUniform, TranslationsHaveNoRoom, TranslationsStand}
 use Rattle.bn_bennett.specs.Translation.{name_of}
 use Rattle.bn_bennett.specs.Runs.{beginning_of, ending_of}
 use Rattle.bn_realise.specs.Banks.{IsResting, column_at}
@@ -32,15 +34,17 @@ use Rattle.bn_circuits.specs.Counting.{tally, one_if}
 use Rattle.bn_network.specs.Cells.{line_number}
 use Rattle.bn_network.specs.Controls.{End, symbol_count, lines_before}
 use Rattle.bn_network.specs.Networks.{cells_in, first_cell, IsControlAt, ShowsTapes}
-use Rattle.bn_network_laws.specs.Ends.{EndsBy, by_end, by_stop, by_right, by_left, IsStoppedAt, tape_of, taken_from}
+use Rattle.bn_network_laws.specs.Ends.{EndsBy, by_end, by_stop, by_right, by_left, IsStoppedAt, left_at, tape_of, taken_from}
+use Rattle.bn_network_laws.proofs.ShownLemmas.{all_cells}
 use Rattle.bn_network_laws.specs.NetworkLaws.{FirstMoment, NextMoment, LastMoment}
 use Rattle.bn_board.specs.Boards.{StandsFor, IsLoose}
-use Rattle.bn_board.specs.Layouts.{IsExit, named, ends, stuck, right, left, cell_output, is_moment, symbol_count_at, spelled_by, spelled_config, config_tape, lines_at}
+use Rattle.bn_board.specs.Layouts.{IsExit, named, ends, stuck, right, left, cell_output, is_moment, symbol_count_at, spelled_by, spelled_config, lines_at}
 use Rattle.bn_board.specs.Flats.{Flat, machine_of, IsFlatOf, IsAccepted, situation_at_start, flat_start}
 use Rattle.bn_board.proofs.AgreedLemmas.{some_cells}
 use Rattle.bn_board.specs.Costs.{bound_of}
-use Rattle.bn_board_laws.specs.Headline.{IsExitFor, EndsWith, RunsToExit, SpellsRestored, SpellsStuck}
+use Rattle.bn_board_laws.specs.Headline.{IsExitFor, EndsWith, RunsToExit, SpellsRestored, SpellsEnd}
 use Rattle.bn_board_laws.proofs.StuckLemmas.{HoldsStuck, holds_stuck}
+use Rattle.bn_board_laws.proofs.NoRoomLemmas.{leaves, stuck_ends}
 use Rattle.bn_board.specs.Readings.{elements_in, BoardReads}
 use Rattle.bn_board_laws.specs.Journeys.{Strides, NetworkComes, NetworkEndsAs}
 use Rattle.bn_board_laws.proofs.JourneysLemmas.{BoardComes}
@@ -93,7 +97,7 @@ module _ (p : Program) (f : Flat) (test : Situation
   Fits i n (outcome.Halted y) d Finished = (d ≡ ending_of f.translation f.word y) × (n ≡ 4 * i + 4 * length y + 5)
   Fits i n (outcome.Stuck j c) d Stopped = (name_of f.translation d.state ≡ Compute j) × (scanned d.one ≡ c) × HasNoFirstRead (machine_of f).rules d
       × HoldsStuck p f.word i j c d
-  Fits i n (outcome.Outside u v) d (Leaving t s) = (t ≡ u) × (s ≡ v)
+  Fits i n (outcome.Outside u v) d (Leaving t s) = (t ≡ u) × (s ≡ v) × HasNoRoom p f.word f.limits i u v (in_state (name_of f.translation) d)
   Fits i n o d e = ⊥
 
   pub record Exited (d : Configuration ℕ) (e : Reason) (b : Config) : Type 0 where
@@ -129,17 +133,17 @@ module _ (p : Program) (f : Flat) (test : Situation
           let line : x.place ≡ Left (column_at 0 (lines_at f.layout) control.number + (lines_before f.layout.symbols (t - 1) + scanned (tape_of d t))) west =
           there ∙ ap (λ zs. Left (column_at 0 (lines_at f.layout) control.number + (lines_before zs (t - 1) + scanned (tape_of d t))) west) (sym flat.is_layout.symbols) in
           record { exit_is = exit.Stuck d.state (scanned (tape_of d t)); is = (t, stop, refl); has = named (stuck control.number d.state t (scanned (tape_of d t)) kept letters_low line); element = _; line = _; left_by = line }
-      by_reason (Leaving t side.Right) s x (by_right _ tape place) (inl stands) =
+      by_reason (Leaving t side.Right) s x (by_right _ tape place to step shows) (inl stands) =
           let some = some_cells f.limits t tape in
           let there = reads.cell s x t (cells_in f.limits t - 1) _ stands.0 tape (omega (arith, some)) place in
           record { exit_is = exit.Window t side.Right; is = refl; has = named (right t tape.low tape.high (there ∙ same_right t)); element = _; line = _; left_by = there }
-      by_reason (Leaving t side.Right) s x (by_right _ tape place) (inr loose) = absurd (let both : Left _ _ ≡ Enter loose.at_module loose.line = sym place ∙ loose.enters in cc)
-      by_reason (Leaving t side.Left) s x (by_left _ tape place) (inl stands) =
+      by_reason (Leaving t side.Right) s x (by_right _ tape place to step shows) (inr loose) = absurd (let both : Left _ _ ≡ Enter loose.at_module loose.line = sym place ∙ loose.enters in cc)
+      by_reason (Leaving t side.Left) s x (by_left _ tape place to step shows) (inl stands) =
           let some = some_cells f.limits t tape in
           let first : first_cell f.limits t ≡ first_cell f.limits t + 0 = omega arith in
           let there = reads.cell s x t 0 _ stands.0 tape some (place ∙ ap (λ e. Left e (line_number (symbol_count (machine_of f) t) TakeLeft)) first) in
           record { exit_is = exit.Window t side.Left; is = refl; has = named (left t tape.low tape.high (there ∙ same_left t)); element = _; line = _; left_by = there }
-      by_reason (Leaving t side.Left) s x (by_left _ tape place) (inr loose) = absurd (let both : Left _ _ ≡ Enter loose.at_module loose.line = sym place ∙ loose.enters in cc)
+      by_reason (Leaving t side.Left) s x (by_left _ tape place to step shows) (inr loose) = absurd (let both : Left _ _ ≡ Enter loose.at_module loose.line = sym place ∙ loose.enters in cc)
 
   -- ---- the cost
 
@@ -173,7 +177,7 @@ module _ (p : Program) (f : Flat) (test : Situation
   restored : (s : Situation) (x : Config) (d : Configuration ℕ) (y : List ℕ) → StandsFor f.network s x → IsControlAt f.names s.states End
       → ShowsTapes (machine_of f) f.limits s.states d → d ≡ ending_of f.translation f.word y → SpellsRestored f x.states y
   restored s x d y stands control shows is = record {
-    spells = subst (λ z. spelled_by f.layout x.states ≡ spelled_config f.limits z) is (reads.spells s x d stands shows);
+    spells = subst (λ z. spelled_by f.layout x.states ≡ spelled_config f.limits z) is (reads.spells s x d stands (all_cells (machine_of f) f.limits s.states d shows));
     control = λ u q has at.
         let same : q ≡ control.number = number_once (machine_of f) f.names flat.numbering End q control.number at control.named in
         subst (λ z. IsResting x.states 0 u.states u.inputs (Some z)) (sym same) (stands.rests 0 u control.number has control.is).1;
@@ -184,19 +188,20 @@ module _ (p : Program) (f : Flat) (test : Situation
 
   -- the board of a machine that is stuck
   spells_stuck : (states : List ℕ) (i j c : ℕ) (d : Configuration ℕ) → HoldsStuck p f.word i j c d
-      → spelled_by f.layout states ≡ spelled_config f.limits (taken_from d 1) → SpellsStuck p f states i j c
+      → spelled_by f.layout states ≡ spelled_config f.limits (taken_from d 1) → SpellsEnd p f states i (outcome.Stuck j c)
   spells_stuck states i j c d holds spelled = record {
-    moment = holds.moment;
-    numbers = holds.numbers;
-    follows = holds.follows;
-    counted = holds.counted;
-    state_is = holds.state_is;
-    symbol_is = holds.symbol_is;
-    spells = spelled ∙ (λ k. record {
-      one = config_tape f.limits 1 (write (holds.one k) 0);
-      two = config_tape f.limits 2 (holds.two k);
-      three = config_tape f.limits 3 (holds.three k);
-    });
+    tapes = (write d.one 0, d.two, d.three);
+    has = stuck_ends p f.word f.limits i j c d holds;
+    spells = spelled;
+  }
+
+  -- and of one that has no room
+  spells_left : (states : List ℕ) (i t : ℕ) (s : Side) (d to : Configuration ℕ) (step : Follows (machine_of f).rules d to) → HasNoRoom p f.word f.limits i t s (in_state (name_of f.translation) d)
+      → spelled_by f.layout states ≡ spelled_config f.limits (left_at t step.leads.rule d) → SpellsEnd p f states i (outcome.Outside t s)
+  spells_left states i t s d to step stands spelled = record {
+    tapes = ((left_at t step.leads.rule d).one, (left_at t step.leads.rule d).two, (left_at t step.leads.rule d).three);
+    has = leaves p f.word f.limits i (name_of f.translation) (machine_of f).rules flat.translation.rules d to step t s stands;
+    spells = spelled;
   }
 
   ends_with : (i n : ℕ) (o : Outcome) (d : Configuration ℕ) (e : Reason) (b : BoardComes f n d e) (x : Config) → x ≡ b.at_end
@@ -208,14 +213,29 @@ module _ (p : Program) (f : Flat) (test : Situation
   ends_with i n (outcome.Stuck j c) d Stopped b x is steps fits = by_stop_of b.last b.at_end b.ends b.stands refl
     where
       by_stop_of : (s : Situation) (z : Config) → EndsBy (machine_of f) f.limits f.names s d Stopped
-          → (StandsFor f.network s z × ((i j : ℕ) → s.place ≢ Enter i j)) ⊎ IsLoose f.network s z → z ≡ b.at_end → SpellsStuck p f x.states i j c
+          → (StandsFor f.network s z × ((i j : ℕ) → s.place ≢ Enter i j)) ⊎ IsLoose f.network s z → z ≡ b.at_end → SpellsEnd p f x.states i (outcome.Stuck j c)
       by_stop_of s z (by_stop t stop place control low shows) (inl stands) same = absurd (stands.1 _ _ place)
       by_stop_of s z (by_stop t stop place control low shows) (inr loose) same =
           let one : t ≡ 1 = one_tape (machine_of f) d t fits.2 stop in
           let first : ShowsTapes (machine_of f) f.limits s.states (taken_from d 1) = subst (λ v. ShowsTapes (machine_of f) f.limits s.states (taken_from d v)) one shows in
-          let spelled = reads.spells_loose s z _ (taken_from d 1) loose place first in
-          subst (λ (w : Config). SpellsStuck p f w.states i j c) (same ∙ sym is) (spells_stuck z.states i j c d fits.3 spelled)
-  ends_with i n (outcome.Outside u v) d e b x is steps fits = tt
+          let spelled = reads.spells_loose s z _ (taken_from d 1) loose place (all_cells (machine_of f) f.limits s.states (taken_from d 1) first) in
+          subst (λ (w : Config). SpellsEnd p f w.states i (outcome.Stuck j c)) (same ∙ sym is) (spells_stuck z.states i j c d fits.3 spelled)
+  ends_with i n (outcome.Outside u v) d Finished b x is steps fits = absurd fits
+  ends_with i n (outcome.Outside u v) d Stopped b x is steps fits = absurd fits
+  ends_with i n (outcome.Outside u v) d (Leaving t s) b x is steps fits =
+      by_leaving u v b.last b.at_end (subst (EndsBy (machine_of f) f.limits f.names b.last d) (λ k. Leaving (fits.0 k) (fits.1 k)) b.ends) b.stands refl fits.2
+    where
+      by_leaving : (t : ℕ) (w : Side) (s : Situation) (z : Config) → EndsBy (machine_of f) f.limits f.names s d (Leaving t w)
+          → (StandsFor f.network s z × ((i j : ℕ) → s.place ≢ Enter i j)) ⊎ IsLoose f.network s z → z ≡ b.at_end
+          → HasNoRoom p f.word f.limits i t w (in_state (name_of f.translation) d) → SpellsEnd p f x.states i (outcome.Outside t w)
+      by_leaving t side.Right s z (by_right _ tape place to step shows) (inl stands) same room =
+          subst (λ (w : Config). SpellsEnd p f w.states i (outcome.Outside t side.Right)) (same ∙ sym is)
+          (spells_left z.states i t side.Right d to step room (reads.spells s z (left_at t step.leads.rule d) stands.0 shows))
+      by_leaving t side.Right s z (by_right _ tape place to step shows) (inr loose) same room = absurd (let both : Left _ _ ≡ Enter loose.at_module loose.line = sym place ∙ loose.enters in cc)
+      by_leaving t side.Left s z (by_left _ tape place to step shows) (inl stands) same room =
+          subst (λ (w : Config). SpellsEnd p f w.states i (outcome.Outside t side.Left)) (same ∙ sym is)
+          (spells_left z.states i t side.Left d to step room (reads.spells s z (left_at t step.leads.rule d) stands.0 shows))
+      by_leaving t side.Left s z (by_left _ tape place to step shows) (inr loose) same room = absurd (let both : Left _ _ ≡ Enter loose.at_module loose.line = sym place ∙ loose.enters in cc)
   ends_with i n (outcome.Halted y) d Finished b x is steps fits =
       let quiet : is_moment f.layout (flat_start f) ≡ false = reads.agree.between (situation_at_start f) (flat_start f) reads.starts ∙ reads.quiet in
       let none : one_if (is_moment f.layout (flat_start f)) ≡ 0 = ap one_if quiet in
@@ -255,23 +275,25 @@ module _ (p : Program) (f : Flat) (test : Situation
       let covers = few_steps n few in
       with_board i n o d e (boards-come p f.word f.limits f test flat reads.modules reads.starts reads.agree n d e comes (le_trans covers (le_of_lt in_time))) covers fits
 
-  by_outcome : TranslationsStand → (i : ℕ) (o : Outcome) → HasOutcome p f.word f.limits i o → NetworkEndsAs f test i o → RunsToExit p f i o
-  by_outcome stand i (outcome.Halted y) own h = runs_to stand i (4 * i + 4 * length y + 5) (outcome.Halted y) (ending_of f.translation f.word y) Finished h (refl, refl)
-  by_outcome stand i (outcome.Stuck j c) own h =
+  by_outcome : TranslationsStand → TranslationsHaveNoRoom → (i : ℕ) (o : Outcome) → HasOutcome p f.word f.limits i o → NetworkEndsAs f test i o → RunsToExit p f i o
+  by_outcome stand no_room i (outcome.Halted y) own h = runs_to stand i (4 * i + 4 * length y + 5) (outcome.Halted y) (ending_of f.translation f.word y) Finished h (refl, refl)
+  by_outcome stand no_room i (outcome.Stuck j c) own h =
       let ran = quad_run f test (2 * i) h.1.first h.1.moment (beginning_of f.translation f.word) h.0 h.1.strides in
       let stands = (stand p f.translation f.word accepted.standard flat.translation accepted.letters).0 (rooms_of f.limits) (2 * i) h.0 ran in
       runs_to stand i (2 * i) (outcome.Stuck j c) h.0 Stopped h.1 (h.2, h.3, h.4, holds_stuck p f.translation f.word f.limits i j c h.0 own h.2 h.3 stands)
-  by_outcome stand i (outcome.Outside t s) own h = runs_to stand i h.0 (outcome.Outside t s) h.1 (Leaving t s) h.2 (refl, refl)
+  by_outcome stand no_room i (outcome.Outside t s) own h =
+      let stands = no_room p f.translation f.word accepted.standard flat.translation accepted.letters f.limits i t s own h.0 h.1 h.3 in
+      runs_to stand i h.0 (outcome.Outside t s) h.1 (Leaving t s) h.2 (refl, refl, stands)
 
 -- an outcome from the board's own word and in its own limits
 own_outcome : (p : Program) (word : List ℕ) (l : Limits) (f : Flat) → IsFlatOf p word l f → (i : ℕ) (o : Outcome) → HasOutcome p word l i o → HasOutcome p f.word f.limits i o
 own_outcome p word l f flat i o h = subst (λ w. HasOutcome p w f.limits i o) (sym flat.word_is) (subst (λ x. HasOutcome p word x i o) (sym flat.limits_are) h)
 
-pub boards-run : TranslationsEndAlike → TranslationsAreUniform → TranslationsStand → FirstMoment → NextMoment → LastMoment → BoardsRead → BoardsRunToTheirExit
-boards-run alike uniform stand first next last read p word l f flat accepted i o outcome =
+pub boards-run : TranslationsEndAlike → TranslationsAreUniform → TranslationsStand → TranslationsHaveNoRoom → FirstMoment → NextMoment → LastMoment → BoardsRead → BoardsRunToTheirExit
+boards-run alike uniform stand no_room first next last read p word l f flat accepted i o outcome =
     let word_is = sym flat.word_is in
     let limits_are = sym flat.limits_are in
     let flat_own : IsFlatOf p f.word f.limits f = subst (λ w. IsFlatOf p w f.limits f) word_is (subst (λ x. IsFlatOf p word x f) limits_are flat) in
     let accepted_own : IsAccepted p f.word f.limits f = subst (λ w. IsAccepted p w f.limits f) word_is (subst (λ x. IsAccepted p word x f) limits_are accepted) in
     let test = read p word l f flat accepted in
-    by_outcome p f test.0 flat_own accepted_own test.1 stand i o (own_outcome p word l f flat i o outcome) (networks-end alike uniform first next last p word l f test.0 flat accepted test.1.tells i o outcome)
+    by_outcome p f test.0 flat_own accepted_own test.1 stand no_room i o (own_outcome p word l f flat i o outcome) (networks-end alike uniform first next last p word l f test.0 flat accepted test.1.tells i o outcome)

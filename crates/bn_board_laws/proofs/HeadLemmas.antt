@@ -83,8 +83,8 @@ has_head z s false low high = absurd (omega arith)
 head_place : (states : List ℕ) (first z left right : ℕ) (tape : Tape) → ShowsTape states first z left right tape → (p i : ℕ) → p < left + right + 1
     → slice_get states (first + p) ≡ Some i → z ≤ i → pos p -ℤ pos left ≡ tape.head
 head_place states first z left right tape shows p i low is high =
-    let same : state_number z (cell_of tape (pos p -ℤ pos left)) ≡ i = same_Some _ _ (sym (shows.cells p low) ∙ is) in
-    let told = has_head z (cell tape (pos p -ℤ pos left)) (int_eq (pos p -ℤ pos left) tape.head) (shows.symbols (pos p -ℤ pos left)) (subst (λ v. z ≤ v) (sym same) high) in
+    let same : state_number z (cell_of tape (pos p -ℤ pos left)) ≡ i = same_Some _ _ (sym (shows.shown.cells p low) ∙ is) in
+    let told = has_head z (cell tape (pos p -ℤ pos left)) (int_eq (pos p -ℤ pos left) tape.head) (shows.shown.symbols (pos p -ℤ pos left)) (subst (λ v. z ≤ v) (sym same) high) in
     (Decides-int_eq (pos p -ℤ pos left) tape.head).0 told
 
 -- two places with one head are one

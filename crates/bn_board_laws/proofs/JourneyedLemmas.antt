@@ -70,7 +70,7 @@ module _ (first_moment : FirstMoment) (next_moment : NextMoment) (last_moment : 
   ends i (outcome.Halted y) h = comes (4 * i + 4 * length y + 5) (ending_of f.translation f.word y) Finished h.1 (λ _ _. tt)
   ends i (outcome.Stuck j c) h =
       (h.0, comes (2 * i) h.0 Stopped h.1 (λ k entry. (1, stopped_at_one (machine_of f) h.0 h.4 k entry (still_going _ _ _ h.0 h.1.ends))), h.2, h.3, h.4)
-  ends i (outcome.Outside t side) h = (h.0, h.1, comes h.0 h.1 (Leaving t side) h.2 (λ _ _. tt))
+  ends i (outcome.Outside t side) h = (h.0, h.1, comes h.0 h.1 (Leaving t side) h.2 (λ _ _. tt), h.2)
 
 pub networks-end : TranslationsEndAlike → TranslationsAreUniform → FirstMoment → NextMoment → LastMoment → NetworksEndAlike
 networks-end alike uniform first next last p word l f test flat accepted tells i o outcome =

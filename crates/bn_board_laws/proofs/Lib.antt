@@ -23,3 +23,4 @@ pub mod FirstReadLemmas
 pub mod NetworkMomentLemmas
 pub mod BoardReadLemmas
 pub mod StuckLemmas
+pub mod NoRoomLemmas

@@ -16,6 +16,7 @@ use Rattle.bn_rsm.specs.RunCosts.{run_cost}
 use Rattle.bn_circuits.specs.Counting.{tally, one_if}
 use Rattle.bn_network.specs.ControlLaws.{HasEntries}
 use Rattle.bn_network.specs.Moments.{IsMoment, at_end, sent, IsMomentOf}
+use Rattle.bn_network_laws.proofs.ShownLemmas.{all_cells}
 use Rattle.bn_board.specs.Boards.{IsBoard, StandsFor}
 use Rattle.bn_board.specs.Layouts.{is_moment, moment_at}
 use Rattle.bn_board.specs.Flats.{Flat, machine_of, situation_at_start, flat_start}
@@ -121,7 +122,7 @@ module _ (f : Flat) (board : IsBoard f.network f.circuit) (test : Situation
             runs = strides_run f test read.modules_are board agree walked.steps comes.first x (beginning_of f.translation f.word) walked.config walked.strides;
             state = moment_state x (at_step t) a walked.config stands moment shows;
             shows = shows;
-            spells = read.spells_as x (at_step t) walked.config stands shows.shows;
+            spells = read.spells_as x (at_step t) walked.config stands (all_cells (machine_of f) f.limits x.states walked.config shows.shows);
           }
 
       -- a moment on the board is one of the network's

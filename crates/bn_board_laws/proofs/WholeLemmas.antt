@@ -9,7 +9,7 @@ use Rattle.bn_circuits.proofs.RunLemmas.{run_composes, run-stuck}
 use Rattle.bn_circuits.specs.declared.config.Config.{Config}
 use Rattle.bn_element.specs.Rotary.{horizontal}
 use Rattle.bn_machine.specs.Laws.{HasOneOutcome}
-use Rattle.bn_bennett.specs.Laws.{TranslationsAreUniform, TranslationsEndAlike, TranslationsStand}
+use Rattle.bn_bennett.specs.Laws.{TranslationsAreUniform, TranslationsEndAlike, TranslationsHaveNoRoom, TranslationsStand}
 use Rattle.bn_realise.specs.Banks.{bottom_at}
 use Rattle.bn_circuits.specs.Situations.{Situation, Turns}
 use Rattle.bn_rsm.specs.RunCosts.{run_cost}
@@ -85,7 +85,7 @@ module _ (uniform : TranslationsAreUniform) (entries : StatesHaveEntries) where
           → slice_get (run f.circuit (flat_start f) t).states (bottom_at (base f.network.tables 0) flat.is_network.control.inputs q) ≡ Some horizontal
       in_rows q h = subst (λ v. slice_get (run f.circuit (flat_start f) t).states (bottom_at 0 v q) ≡ Some horizontal) (sym flat.is_network.is_control.inputs) h
 
-  module _ (alike : TranslationsEndAlike) (stand : TranslationsStand) (outcomes : HasOneOutcome) where
+  module _ (alike : TranslationsEndAlike) (stand : TranslationsStand) (no_room : TranslationsHaveNoRoom) (outcomes : HasOneOutcome) where
     -- a board's moments in its own words stand at the sums
     pub board_moments-sums : FirstMoment → NextMoment → LastMoment → BoardMomentsAreSums
     board_moments-sums first next last p word l f cost flat accepted has room t a low =
@@ -97,7 +97,7 @@ module _ (uniform : TranslationsAreUniform) (entries : StatesHaveEntries) where
     pub boards-moments : FirstMoment → NextMoment → LastMoment → HeadsStayOne → BoardsHaveMoments
     boards-moments first next last stay p word l f flat accepted =
         let ends = outcomes.0 p word l in
-        let way : RunsToExit p f ends.0 ends.1 = boards-run alike uniform stand first next last (boards-read uniform entries) p word l f flat accepted ends.0 ends.1 ends.2 in
+        let way : RunsToExit p f ends.0 ends.1 = boards-run alike uniform stand no_room first next last (boards-read uniform entries) p word l f flat accepted ends.0 ends.1 ends.2 in
         let bounded = way.bounded in
         let in_time = way.in_time in
         let room : way.cost ≤ clock = omega arith in

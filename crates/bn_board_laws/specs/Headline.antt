@@ -1,17 +1,20 @@
 -- The headline over the definitions: a board runs to the exit that the machine's own bounded run names, in exactly its
 -- cost.
-use Rattle.std.specs.Prelude.{◌≡◌, ℕ, ◌+◌, ◌*◌, ◌<◌, ◌≤◌, List, length, Some, slice_get}
+use Rattle.std.specs.Prelude.{◌≡◌, ℕ, ◌+◌, ◌*◌, ◌<◌, ◌≤◌, pos, ◌+ℤ◌, List, length, take, Some, slice_get}
 use Rattle.bn_element.specs.Tables.{Table}
 use Rattle.bn_lists.specs.Runs.{Reaches}
 use Rattle.bn_circuits.specs.Circuits.{clock, Goes, IsStuck}
 use Rattle.bn_circuits.specs.Stepping.{run}
 use Rattle.bn_circuits.specs.declared.config.Config.{Config}
-use Rattle.bn_machine.specs.Machine.{Moment, Program, start}
-use Rattle.bn_machine.specs.Run.{Follows}
-use Rattle.bn_machine.specs.Tape.{blank_tape, scanned, write}
+use Rattle.bn_machine.specs.Machine.{IsFinal, MachineRunsTo, Moment, Program, start}
+use Rattle.bn_machine.specs.Run.{Follows, IsOutput}
+use Rattle.bn_machine.specs.Tape.{Tape, ahead, blank_tape, scanned, shift, word_tape, write}
 use Rattle.bn_machine.specs.Window.{anywhere}
 use Rattle.bn_machine.specs.Outcome as outcome
-use Rattle.bn_machine.specs.Outcome.{Outcome}
+use Rattle.bn_machine.specs.Outcome.{Limits, Outcome}
+use Rattle.bn_machine.specs.declared.quint.Shift.TheVariants.{Right}
+use Rattle.bn_machine.specs.declared.quint.Side.{Side}
+use Rattle.bn_machine.specs.declared.quint.Side.TheVariants as side
 use Rattle.bn_quad.specs.Quadruples.{Configuration}
 use Rattle.bn_bennett_laws.specs.Stages.{history}
 use Rattle.bn_bennett_laws.specs.declared.name.Name.TheVariants.{Compute}
@@ -22,7 +25,7 @@ use Rattle.bn_board.specs.declared.exit.Exit.{Exit}
 use Rattle.bn_board.specs.declared.exit.Exit.TheVariants as exit
 use Rattle.bn_network.specs.Controls.{End}
 use Rattle.bn_board.specs.Boards.{base}
-use Rattle.bn_board.specs.Layouts.{IsExit, config_tape, moments, spelled_by, spelled_config}
+use Rattle.bn_board.specs.Layouts.{IsExit, moments, spelled_by, spelled_config, spelled_tapes}
 use Rattle.bn_board.specs.Flats.{Flat, flat_start}
 use Rattle.bn_board.specs.Costs.{HasCost, bound_of}
 
@@ -45,27 +48,48 @@ pub record SpellsRestored (f : Flat) (states : List ℕ) (y : List ℕ) : Type 0
   pub rows : (m : ℕ) (u : Table) → slice_get f.network.tables m ≡ Some u → (q : ℕ)
       × (q < u.states) × IsResting states (base f.network.tables m) u.states u.inputs (Some q)
 
--- Where the machine is stuck after i steps, in this state at this symbol: its tape at that moment on tape 1, but for
--- the scanned symbol, which has been taken off it; the numbers of the quintuples of its steps on tape 2; tape 3 blank.
-pub record SpellsStuck (p : Program) (f : Flat) (states : List ℕ) (i state symbol : ℕ) : Type 0 where
+-- The three tapes where the machine's own run comes out so at c, after steps by the quintuples with these numbers, the
+-- last first, and doesn't halt with an output that has room. It is stuck: its tape, but for the scanned symbol, which has
+-- been taken off it; the numbers in the order of the steps, with the head at the last; a blank output. The history has no
+-- cell for the number of the next step: the same, but that its head is past the end. The next step's shift leaves the
+-- work tape: that step's tape; the numbers so far, with the head behind the last; a blank output. The output y of the
+-- halted moment is copied, and behind k letters the work tape ends: its head past the end, the numbers, and the letters,
+-- with the head at the last. Or the output tape ends there: the same, but that its head is past the end too.
+pub data AreEndTapes (p : Program) (l : Limits) (ns : List ℕ) (c : Moment) (o : Outcome) (x : Tape × Tape × Tape) :
+    Type 0 where
+  at_stop : o ≡ outcome.Stuck c.state (scanned c.tape) → x ≡ (write c.tape 0, history ns, blank_tape)
+      → AreEndTapes p l ns c o x
+  for_number : (d : Moment) → MachineRunsTo anywhere p c d → o ≡ outcome.Outside 2 side.Right
+      → x ≡ (write c.tape 0, shift (history ns) Right, blank_tape) → AreEndTapes p l ns c o x
+  for_shift : (d : Moment) (end : Side) → MachineRunsTo anywhere p c d → o ≡ outcome.Outside 1 end
+      → x ≡ (d.tape, shift (history ns) Right, blank_tape) → AreEndTapes p l ns c o x
+  to_read : (y : List ℕ) (k : ℕ) → IsFinal p c → IsOutput c.tape y → o ≡ outcome.Outside 1 side.Right
+      → c.tape.head +ℤ pos k ≡ pos l.right
+      → x ≡ (shift (ahead k c.tape) Right, history ns, ahead k (word_tape (take k y))) → AreEndTapes p l ns c o x
+  to_write : (y : List ℕ) (k : ℕ) → IsFinal p c → IsOutput c.tape y → o ≡ outcome.Outside 3 side.Right
+      → k ≡ l.output → x ≡ (shift (ahead k c.tape) Right, history ns, shift (ahead k (word_tape (take k y))) Right)
+      → AreEndTapes p l ns c o x
+
+-- the three tapes at the end of the machine's own run from the word, which comes out so after i steps
+pub record HasEndTapes (p : Program) (word : List ℕ) (l : Limits) (i : ℕ) (o : Outcome) (x : Tape × Tape × Tape) :
+    Type 0 where
   pub moment : Moment
   pub numbers : List ℕ
-  pub follows : Follows anywhere p numbers (start p f.word) moment
-  pub counted : length numbers ≡ i
-  pub state_is : moment.state ≡ state
-  pub symbol_is : scanned moment.tape ≡ symbol
-  pub spells : spelled_by f.layout states ≡ record {
-    one = config_tape f.limits 1 (write moment.tape 0);
-    two = config_tape f.limits 2 (history numbers);
-    three = config_tape f.limits 3 blank_tape;
-  }
+  pub run : Follows anywhere p numbers (start p word) moment
+  pub steps : length numbers ≡ i
+  pub tapes : AreEndTapes p l numbers moment o x
+
+-- the cells spell these tapes
+pub record SpellsEnd (p : Program) (f : Flat) (states : List ℕ) (i : ℕ) (o : Outcome) : Type 0 where
+  pub tapes : Tape × Tape × Tape
+  pub has : HasEndTapes p f.word f.limits i o tapes
+  pub spells : spelled_by f.layout states ≡ spelled_tapes f.limits tapes
 
 -- what is said at an end
 abbrev pub EndsWith : Program → Flat → Config → ℕ → Outcome → Type 0
 EndsWith p f d i (outcome.Halted y) = SpellsRestored f d.states y
     × (moments f.layout f.circuit d.steps (flat_start f) ≡ 4 * i + 4 * length y + 6)
-EndsWith p f d i (outcome.Stuck state symbol) = SpellsStuck p f d.states i state symbol
-EndsWith p f d i (outcome.Outside tape side) = Unit {0}
+EndsWith p f d i o = SpellsEnd p f d.states i o
 
 -- The board of a machine whose bounded run comes out so after i steps: in exactly its cost, which is within the bound,
 -- the signal comes to its exit, by which the outcome is named.

@@ -9,7 +9,7 @@ use Rattle.bn_bennett_laws.specs.Stages.{rooms_of}
 use Rattle.bn_bennett_laws.specs.Steps.{HasNoFirstRead, Exit, Finished, Stopped, Leaving}
 use Rattle.bn_bennett_laws.specs.declared.name.Name.TheVariants.{Compute}
 use Rattle.bn_bennett.specs.Translation.{name_of}
-use Rattle.bn_bennett.specs.Runs.{beginning_of, ending_of}
+use Rattle.bn_bennett.specs.Runs.{Comes, beginning_of, ending_of}
 use Rattle.bn_circuits.specs.Situations.{Situation, IsAtEnd}
 use Rattle.bn_rsm.specs.RunCosts.{run_cost}
 use Rattle.bn_network.specs.Moments.{IsMomentOf, Travels}
@@ -51,4 +51,4 @@ NetworkEndsAs f test i (outcome.Stuck j c) = (d : Configuration ℕ) × NetworkC
     × (name_of f.translation d.state ≡ Compute j) × (scanned d.one ≡ c)
     × HasNoFirstRead (machine_of f).rules d
 NetworkEndsAs f test i (outcome.Outside t side) = (n : ℕ) × (d : Configuration ℕ)
-    × NetworkComes f test n d (Leaving t side)
+    × NetworkComes f test n d (Leaving t side) × Comes f.translation f.word f.limits n d (Leaving t side)

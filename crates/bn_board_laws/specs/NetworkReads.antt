@@ -10,7 +10,7 @@ use Rattle.bn_quad.specs.Quadruples.{Quadruples, Configuration}
 use Rattle.bn_realise.specs.Banks.{column_at}
 use Rattle.bn_network.specs.Cells.{cell_table}
 use Rattle.bn_network.specs.Controls.{ControlState, symbol_count}
-use Rattle.bn_network.specs.Networks.{IsTape, ShowsTapes, cells_in, first_cell, network_start, elements_by}
+use Rattle.bn_network.specs.Networks.{IsTape, ShowsAllCells, cells_in, first_cell, network_start, elements_by}
 use Rattle.bn_network.specs.Moments.{IsMoment, IsMomentOf, TellsMoments, HasHeads}
 use Rattle.bn_board.specs.Boards.{AreModules, StandsFor, IsAmid, IsLoose, board_start, base, size}
 use Rattle.bn_board.specs.Layouts.{Layout, is_moment, moment_at, elements_of, symbol_count_at, lines_at, cell_element}
@@ -43,7 +43,7 @@ pub record NetworkReads (m : Quadruples) (l : Limits) (word : List ℕ) (names :
       → s.place ≡ Left (first_cell l t + p) o → d.place ≡ cell_output b t p o
   pub loose : (s : Situation) (d : Config) (i q : ℕ) → IsLoose n s d → s.place ≡ Enter 0 i
       → slice_get s.states 0 ≡ Some q → d.place ≡ Left (column_at 0 (lines_at b) q + i) west
-  pub spells : (s : Situation) (d : Config) (c : Configuration ℕ) → StandsFor n s d → ShowsTapes m l s.states c
+  pub spells : (s : Situation) (d : Config) (c : Configuration ℕ) → StandsFor n s d → ShowsAllCells m l s.states c
       → spelled_by b d.states ≡ spelled_config l c
   pub spells_loose : (s : Situation) (d : Config) (i : ℕ) (c : Configuration ℕ) → IsLoose n s d → s.place ≡ Enter 0 i
-      → ShowsTapes m l s.states c → spelled_by b d.states ≡ spelled_config l c
+      → ShowsAllCells m l s.states c → spelled_by b d.states ≡ spelled_config l c

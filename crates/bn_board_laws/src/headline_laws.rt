@@ -3,7 +3,9 @@ ghost use Rattle.bn_board_laws.specs.HeadlineLaws.{BoardsAreRestored, BoardsEndI
 ghost use Rattle.bn_board_laws.specs.HeadlineLaws.{BoardsRunToTheirExit, CostsAreOne, ExitsTellOutcomes, NetworksEndAlike};
 ghost use Rattle.bn_board_laws.specs.Moments.{BoardsHaveMoments, MomentsAreByMarks, MomentsAreTold};
 
-use bn_bennett::{translations_are_uniform, translations_end_alike, translations_stand};
+use bn_bennett::{
+    translations_are_uniform, translations_end_alike, translations_have_no_room, translations_stand,
+};
 use bn_board::{boards_are_read, exits_are_one};
 use bn_machine::outcome_is_one;
 use bn_network::states_have_entries;
@@ -27,6 +29,7 @@ pub fn boards_run_to_their_exit()
     translations_end_alike();
     translations_are_uniform();
     translations_stand();
+    translations_have_no_room();
     first_moment_comes();
     next_moment_comes();
     last_moment_ends();
@@ -103,6 +106,7 @@ pub fn boards_have_moments()
     states_have_entries();
     translations_end_alike();
     translations_stand();
+    translations_have_no_room();
     outcome_is_one();
     first_moment_comes();
     next_moment_comes();

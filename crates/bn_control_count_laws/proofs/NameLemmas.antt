@@ -17,8 +17,8 @@ use Rattle.bn_bennett_laws.proofs.Halted.{quint_in_range}
 use Rattle.bn_table.specs.Rows.{FitsTable}
 use Rattle.bn_bennett.proofs.Counting.{each_mentioned}
 use Rattle.bn_lists.proofs.MemberLemmas.{place_of, member_at, in_front, behind, of_two}
-use Rattle.bn_control_count_laws.specs.Laws.{is_left, is_entered, never_left, never_entered}
-use Rattle.bn_control_count_laws.proofs.Told.{is_reader, is_written}
+use Rattle.bn_control_count_laws.specs.Laws.{never_left, never_entered}
+use Rattle.bn_control_count_laws.proofs.Told.{is_reader, is_written, is_left, is_entered}
 use Rattle.bn_lists.proofs.ApartLemmas.{IsApart, IsWithin, same_length, joined, mapped, from_mapped, apart_mapped, filtered, from_filtered, apart_filtered, apart_places, range_member, from_range, range_apart}
 use Rattle.bn_control_count_laws.proofs.CountLemmas.{passing, passing_append, passing_mapped, all_pass, halves, either, just_one}
 use Rattle.bn_control_count_laws.proofs.ToldLemmas.{any_found, next_not_start}

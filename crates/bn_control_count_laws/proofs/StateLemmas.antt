@@ -28,12 +28,11 @@ use Rattle.bn_bennett_laws.proofs.RenamedLemmas.{nth_renamed, nth_before}
 use Rattle.bn_bennett_laws.specs.Stages.{IsStandardMachine}
 use Rattle.bn_bennett_laws.specs.declared.name.Name.{Name}
 use Rattle.bn_bennett_laws.specs.declared.name.Name.TheVariants.{Compute, ComputeWithin, GoRight, CopyLetter, GoLeft, PassLetter, Retrace, RetraceWithin}
-use Rattle.bn_control_count_laws.proofs.Told.{is_reader, is_written, low, later, earlier, ReadsTell, WritesTell, Tells}
+use Rattle.bn_control_count_laws.proofs.Told.{is_reader, is_written, low, later, earlier, ReadsTell, WritesTell, Tells, is_left}
 use Rattle.bn_lists.proofs.ApartLemmas.{IsApart, split_at, joined, mapped, from_mapped, apart_mapped, filtered, from_filtered, apart_filtered, range_member, from_range, range_apart}
 use Rattle.bn_control_count_laws.proofs.AlongLemmas.{along, along_member, from_along, apart_along}
 use Rattle.bn_control_count_laws.proofs.PrefixLemmas.{inits, inits_apart, init_member, from_init, tails, tail_member, from_tail, tails_apart}
 use Rattle.bn_control_count_laws.proofs.ToldLemmas.{rules_tell, any_found}
-use Rattle.bn_control_count_laws.specs.Laws.{is_left}
 
 -- ---- the states of one quadruple
 

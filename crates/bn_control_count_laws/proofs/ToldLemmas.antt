@@ -10,8 +10,7 @@ use Rattle.bn_bennett_laws.specs.List.{bennett}
 use Rattle.bn_bennett_laws.proofs.ListLemmas.{each_rule}
 use Rattle.bn_bennett_laws.specs.Stages.{IsStandardMachine}
 use Rattle.bn_bennett_laws.specs.declared.name.Name.{Name}
-use Rattle.bn_control_count_laws.specs.Laws.{is_left, is_entered}
-use Rattle.bn_control_count_laws.proofs.Told.{Tells}
+use Rattle.bn_control_count_laws.proofs.Told.{Tells, is_left, is_entered}
 
 pub not_equal : (a b : ℕ) → a ≢ b → (a == b) ≡ false
 not_equal a b h = elim (eqb_tells a b) [ inl same ↦ absurd (h same.1) | inr other ↦ other.0 ]

@@ -16,14 +16,6 @@ stays Left = false
 stays Stay = true
 stays Right = false
 
--- the state is some quintuple's state
-abbrev pub is_left : List Quint → ℕ → Bool
-is_left qs j = list_any (λ q. q.state == j) qs
-
--- the state is some quintuple's next
-abbrev pub is_entered : List Quint → ℕ → Bool
-is_entered qs j = list_any (λ q. q.next == j) qs
-
 -- how many quintuples don't shift
 abbrev pub without_shift : Program → ℕ
 without_shift p = count_by (λ q. stays q.shift) p.quints
@@ -31,12 +23,14 @@ without_shift p = count_by (λ q. stays q.shift) p.quints
 -- how many states other than the start are no quintuple's next
 abbrev pub never_entered : Program → ℕ
 never_entered p =
-    count_by (λ j. not (j == start_of p.quints) && not (is_entered p.quints j)) (range_with_len 0 p.states)
+    count_by (λ j. not (j == start_of p.quints) && not (list_any (λ q. q.next == j) p.quints))
+    (range_with_len 0 p.states)
 
 -- how many states other than the final are no quintuple's state
 abbrev pub never_left : Program → ℕ
 never_left p =
-    count_by (λ j. not (j == final_of p.quints) && not (is_left p.quints j)) (range_with_len 0 p.states)
+    count_by (λ j. not (j == final_of p.quints) && not (list_any (λ q. q.state == j) p.quints))
+    (range_with_len 0 p.states)
 
 -- the states of the control of a machine's translation are so many
 abbrev pub ControlsAreCounted : Type 0

@@ -5,7 +5,7 @@ ghost use Rattle.bn_csv.specs.Lines.{line_of};
 ghost use Rattle.bn_machine.specs.Machine.{IsInRange};
 ghost use Rattle.bn_table.specs.Entry.{entry_of};
 ghost use Rattle.bn_table.specs.Reading.{Reads};
-ghost use Rattle.bn_table.specs.Rows.{said_of};
+ghost use Rattle.bn_table.specs.Rows.{quintuple_entry};
 ghost use Rattle.bn_gen.specs.Increments.{IsRoundCount};
 ghost use Rattle.bn_gen.specs.Text as text;
 
@@ -61,7 +61,7 @@ fn write_quint(writer: &mut EntryWriter, k: u32, quint: &Quint) -> Result<(), No
     requires count { IsRoundCount k }
     requires range { IsInRange (3 * k + 2) 3 quint.now }
     ensures { OnOk result (writer.new ≡ writer.old
-        ++ line_of (entry_of (said_of (text.increment_names k) text.increment_letters quint.now))) }
+        ++ line_of (quintuple_entry (text.increment_names k) text.increment_letters quint.now)) }
 {
     write_row(
         writer,

@@ -1,7 +1,11 @@
 -- Tries of the clause: what it says of one command, word for word, and answers that it refuses.
-use Rattle.std.specs.Prelude.{◌≡◌, ◌≢◌, ℕ, ◌<◌, ◌≤◌, List, [], ◌∷◌, ◌++◌, Some, codes, decimal, slice_index, refl}
+use Rattle.std.specs.Prelude.{◌≡◌, ◌≢◌, ℕ, ◌+◌, ◌-◌, ◌<◌, ◌≤◌, pos, ◌-ℤ◌, List, [], ◌∷◌, ◌++◌, length, map, replicate, Some, codes, decimal, slice_index, refl}
 use Rattle.std.specs.Fmt.{digits}
 use Rattle.std.proofs.Common.{arith, lit<, lit≤, sym, ap, ◌∙◌}
+use Rattle.std.proofs.lemmas.Int.{ints}
+use Rattle.bn_machine.specs.Tape.{word_tape}
+use Rattle.bn_board.specs.Layouts.{tape_in}
+use Rattle.bn_board.proofs.ShownHeadLemmas.{shown_inside}
 use Rattle.bn_machine.specs.Outcome.{Halted}
 use Rattle.bn_csv.specs.Lines.{line_of, lines_of}
 use Rattle.bn_gen.specs.Text.{increments_table, increments_text}
@@ -10,9 +14,11 @@ use Rattle.bn_reply.specs.Lines.{line}
 use Rattle.bn_reply.specs.declared.status.Status.{Status}
 use Rattle.bn_reply.specs.declared.status.Status.TheVariants.{Done, Size, Stuck}
 use Rattle.bn_reply_boards_laws.specs.Headline.{run_words}
+use Rattle.bn_reply_boards_laws.specs.RunText.{output_line, quadruple_line, tape_lines}
 use Rattle.bn_headline_laws.specs.Generated.{binary}
 use Rattle.bn_headline_laws.specs.MachineHeadline.{MachineHeadline, AreLastLines}
 use Rattle.bn_headline_laws.specs.Laws.{IncrementsRun}
+use Rattle.bn_headline_laws.proofs.CellLemmas.{cells-word}
 
 -- the words `run =1011 0 5 11 5`
 words_are : run_words number (window 1) [] ≡ codes "run" ∷ codes "=1011" ∷ codes "0" ∷ codes "5" ∷ codes "11" ∷ codes "5" ∷ []
@@ -39,9 +45,25 @@ pub record IsPrinted (status : Status) (text : List ℕ) : Type 0 where
   pub done : status ≡ Done
   pub text_is : text ≡ printed cost
 
+-- what the cells of a window spell of a word: blanks, the word, blanks, and the head at 0
+word_in : (below right : ℕ) (word : List ℕ) → length word ≤ right
+    → tape_in below (below + right + 1) (word_tape word) ≡ record {
+      first = pos 0 -ℤ pos below;
+      head = Some (pos 0);
+      cells = map Some (replicate (below + 1) 0 ++ (word ++ replicate (right - length word) 0));
+    }
+word_in below right word fits = λ i. record {
+  first = pos 0 -ℤ pos below;
+  head = shown_inside below right (below + right + 1) (word_tape word) refl (record { above = omega (arith, ints); below = omega (arith, ints) }) i;
+  cells = cells-word below right word fits i;
+}
+
 last_is : (last : List ℕ) → AreLastLines (increments_table 1) (window 1) (binary 11) 11 (Halted (binary 12)) last → last ≡ behind
 unfolding digits
-last_is last h = h
+last_is last h =
+    h ∙ (λ i. quadruple_line 65
+    ++ (tape_lines (increments_table 1) (word_in 0 5 (binary 11) (lit≤ tt) i) (word_in 0 11 [] (lit≤ tt) i) (word_in 0 5 (binary 12) (lit≤ tt) i)
+    ++ output_line (increments_table 1) (binary 12)))
 
 pub says : IncrementsRun → (status : Status) (text : List ℕ) →
     MachineHeadline (run_words number (window 1) []) (increments_text 1) status (Some []) (Some text) → IsPrinted status text

@@ -28,10 +28,9 @@ use Rattle.bn_circuits.specs.Counting.{one_if, tally}
 use Rattle.bn_circuits.specs.declared.config.Config.{Config}
 use Rattle.bn_circuits.proofs.RunLemmas.{Reaches-run}
 use Rattle.bn_circuits.proofs.RunPartLemmas.{runs_split, steps_of_run}
-use Rattle.bn_machine.specs.Tape.{cell, word_tape, blank_tape, write}
+use Rattle.bn_machine.specs.Tape.{Tape}
 use Rattle.bn_machine.specs.Machine.{start}
 use Rattle.bn_machine.specs.Run.{Follows}
-use Rattle.bn_bennett_laws.specs.Stages.{history}
 use Rattle.bn_board.specs.declared.spelled.Spelled.{Spelled}
 use Rattle.bn_machine.specs.Outcome as outcome
 use Rattle.bn_machine.specs.Outcome.{Limits, Outcome, HasOutcome}
@@ -43,10 +42,10 @@ use Rattle.bn_table.specs.Rows.{Named}
 use Rattle.bn_network.specs.Controls.{ControlState, lines_before}
 use Rattle.bn_network.specs.Networks.{bank_size, cell_size, cells_in, elements_by, left_of}
 use Rattle.bn_board.specs.declared.exit.Exit.TheVariants as exit
-use Rattle.bn_board.specs.Layouts.{Layout, IsLayout, config_tape, elements_of, is_moment, spelled_tape, cell_element, cell_state_at, cells_shown, has_head, head_shown, is_marked_at, symbol_count_at, symbol_by}
+use Rattle.bn_board.specs.Layouts.{Layout, IsLayout, elements_of, is_moment, spelled_tape, cell_element, cell_state_at, cells_shown, has_head, head_shown, is_marked_at, symbol_count_at, symbol_by}
 use Rattle.bn_board.specs.Flats.{IsFlatOf, Flat, flat_start}
 use Rattle.bn_board.specs.Costs.{HasCost, bound_of}
-use Rattle.bn_board_laws.specs.Headline.{RunsToExit, SpellsStuck}
+use Rattle.bn_board_laws.specs.Headline.{HasEndTapes, RunsToExit, SpellsEnd}
 use Rattle.bn_board_laws.specs.HeadlineLaws.{CostsAreOne}
 use Rattle.bn_reply.specs.declared.status.Status.{Status}
 use Rattle.bn_reply.specs.declared.status.Status.TheVariants as statuses
@@ -57,73 +56,30 @@ use Rattle.bn_board.specs.Boards.{size}
 use Rattle.bn_base.specs.Number.{greatest}
 use Rattle.bn_reply.specs.declared.limits.TheConstants.{MOST_INPUT_BYTES}
 use Rattle.bn_reply_boards_laws.specs.Windows.{BoardReplies, long, large, board, ComesTo, CountsElements, large_line}
-use Rattle.bn_reply_boards_laws.specs.RunText.{elements_line, exit_line, output_line, quadruple_line, shown_lines, steps_line, tape_lines}
+use Rattle.bn_reply_boards_laws.specs.RunText.{elements_line, exit_line, output_line, quadruple_line, shown_lines, steps_line, tape_lines, tapes_text}
 use Rattle.bn_reply_boards_laws.specs.RunReply.{RunReplies, TellsRun, board_after}
 use Rattle.bn_reply_boards_laws.specs.Headline as within
 use Rattle.bn_reply_boards_laws.specs.Headline.{ComesOutOn, TellsOutcome, outcome_line, outcome_rest, run_words}
 use Rattle.bn_reply_boards_laws.specs.Laws.{AnswersTellHeadline, BoardsAreCounted, RunsHaveOneOfEach}
-use Rattle.bn_reply_boards_laws.proofs.OutputLemmas.{halted_fits}
 use Rattle.bn_reply_boards_laws.proofs.WindowLemmas.{standard_machine}
 use Rattle.bn_headline_laws.specs.Elements.{elements, most_steps}
-use Rattle.bn_headline_laws.specs.MachineHeadline.{AreLastLines, AreTapes, IsOwnRun, MachineHeadline, MachineHeadlineWithin, Spans, TellsExit, TellsInside, TellsExitWithin, TookAnswer, least_steps, word_cells, tape_cells, AreStuckTapes}
+use Rattle.bn_headline_laws.specs.MachineHeadline.{AreLastLines, AreTapes, IsOwnRun, MachineHeadline, MachineHeadlineWithin, Spans, TellsExit, TellsInside, TellsExitWithin, TookAnswer, least_steps}
 use Rattle.bn_headline_laws.specs.Laws.{ElementsAreCounted, RepliesTellMachine}
-use Rattle.bn_headline_laws.proofs.CellLemmas.{cells-word}
 
 -- ---- tapes
 
--- what the cells spell of a word on a tape
-one_cells : (l : Limits) (symbols : List ℕ) → length symbols ≤ l.right → config_tape l 1 (word_tape symbols) ≡ word_cells l.left l.right symbols 0
-one_cells l symbols fits = λ i. record {
-  first = pos 0 -ℤ pos l.left;
-  head = Some (pos 0);
-  cells = cells-word l.left l.right symbols fits i;
-}
+-- the lines where a run doesn't halt
+abbrev EndLines : Named → Limits → List ℕ → ℕ → Outcome → List ℕ → Type 0
+EndLines t l symbols i o text = (x : Tape × Tape × Tape) × HasEndTapes t.machine symbols l i o x × (text ≡ tapes_text t l x)
 
-right_cells : (right : ℕ) (word : List ℕ) → length word ≤ right →
-    map (λ j. Some (cell (word_tape word) (pos j -ℤ pos 0))) (range_with_len 0 (right + 1)) ≡ (word_cells 0 right word 0).cells
-right_cells right word fits =
-    let same : right + 1 ≡ 0 + right + 1 = omega arith in
-    ap (λ n. map (λ j. Some (cell (word_tape word) (pos j -ℤ pos 0))) (range_with_len 0 n)) same ∙ cells-word 0 right word fits
-
-two_cells : (l : Limits) → config_tape l 2 blank_tape ≡ word_cells 0 l.steps [] 0
-two_cells l = λ i. record {
-  first = pos 0 -ℤ pos 0;
-  head = Some (pos 0);
-  cells = right_cells l.steps [] (omega arith) i;
-}
-
-three_cells : (l : Limits) (y : List ℕ) → length y ≤ l.output → config_tape l 3 (word_tape y) ≡ word_cells 0 l.output y 0
-three_cells l y fits = λ i. record {
-  first = pos 0 -ℤ pos 0;
-  head = Some (pos 0);
-  cells = right_cells l.output y fits i;
-}
-
--- the numbers of the quintuples that have been applied, the last first
-history_cells : (l : Limits) (numbers : List ℕ) (i : ℕ) → length numbers ≡ i → i ≤ l.steps → config_tape l 2 (history numbers) ≡ word_cells 0 l.steps (reverse numbers) i
-history_cells l numbers i count few =
-    let same = length-reverse numbers in
-    let head : pos 0 +ℤ pos (length numbers) ≡ pos i = omega (arith, ints, count) in
-    λ k. record {
-      first = pos 0 -ℤ pos 0;
-      head = Some (head k);
-      cells = right_cells l.steps (reverse numbers) (omega (arith, same, count, few)) k;
-    }
-
--- the tapes of a machine that is stuck
-stuck_tapes : (t : Named) (l : Limits) (symbols : List ℕ) (f : Flat) (states : List ℕ) (i state symbol : ℕ) → f.limits ≡ l → f.word ≡ symbols → i ≤ l.steps
-    → SpellsStuck t.machine f states i state symbol → AreStuckTapes t l symbols i (shown_lines t f states)
-stuck_tapes t l symbols f states i state symbol limits word few stuck = record {
-  moment = stuck.moment;
-  numbers = stuck.numbers;
-  run = subst (λ w. Follows anywhere t.machine stuck.numbers (start t.machine w) stuck.moment) word stuck.follows;
-  steps = stuck.counted;
-  text_is =
-      let one : config_tape f.limits 1 (write stuck.moment.tape 0) ≡ tape_cells l.left l.right (write stuck.moment.tape 0) = ap (λ (m : Limits). config_tape m 1 (write stuck.moment.tape 0)) limits in
-      let two : config_tape f.limits 2 (history stuck.numbers) ≡ word_cells 0 l.steps (reverse stuck.numbers) i = ap (λ (m : Limits). config_tape m 2 (history stuck.numbers)) limits ∙ history_cells l stuck.numbers i stuck.counted few in
-      let three : config_tape f.limits 3 blank_tape ≡ word_cells 0 l.output [] 0 = ap (λ (m : Limits). config_tape m 3 blank_tape) limits ∙ three_cells l [] (omega arith) in
-      ap (λ (s : Spelled). tape_lines t s.one s.two s.three) stuck.spells ∙ (λ k. tape_lines t (one k) (two k) (three k));
-}
+-- those of a board at the end
+end_lines : (t : Named) (l : Limits) (symbols : List ℕ) (f : Flat) (states : List ℕ) (i : ℕ) (o : Outcome) → f.limits ≡ l → f.word ≡ symbols → SpellsEnd t.machine f states i o
+    → EndLines t l symbols i o (shown_lines t f states)
+end_lines t l symbols f states i o limits word ends = (
+  ends.tapes,
+  subst (λ w. HasEndTapes t.machine w l i o ends.tapes) word (subst (λ m. HasEndTapes t.machine f.word m i o ends.tapes) limits ends.has),
+  ap (λ (s : Spelled). tape_lines t s.one s.two s.three) ends.spells ∙ ap (λ m. tapes_text t m ends.tapes) limits,
+)
 
 -- a symbol by a cell's state is one of the tape's
 symbol_known : (z q : ℕ) → q < 2 * z → symbol_by z q < z
@@ -319,18 +275,15 @@ module _ (machines : TablesAreMachines) (elements_are : ElementsAreCounted) (cou
       last_lines : (cost : ℕ) → HasCost f cost → RunsToExit t.machine f i o → AreLastLines t l symbols i o (outcome_rest t l symbols f cost i o)
       last_lines cost has ran = by o own.outcome ran
         where
+          at_end : (x : Outcome) (n : ℕ) → HasCost f n → SpellsEnd t.machine f (run f.circuit (flat_start f) n).states i x → EndLines t l symbols i x (shown_lines t f (board_after f cost).states)
+          at_end x n own_cost ends =
+              end_lines t l symbols f (board_after f cost).states i x comes.flat.limits_are comes.flat.word_is
+              (subst (λ m. SpellsEnd t.machine f (run f.circuit (flat_start f) m).states i x) (one_cost f n cost own_cost has) ends)
+
           by : (x : Outcome) → HasOutcome t.machine symbols l i x → RunsToExit t.machine f i x → AreLastLines t l symbols i x (outcome_rest t l symbols f cost i x)
-          by (outcome.Halted y) h ran =
-              let fits = halted_fits t.machine symbols l i y h in
-              let one = one_cells l symbols own.fits in
-              let two = two_cells l in
-              let three = three_cells l y fits.0 in
-              λ j. quadruple_line (4 * i + 4 * length y + 5) ++ (tape_lines t (one j) (two j) (three j) ++ output_line t y)
-          by (outcome.Stuck a c) h ran =
-              let same : ran.cost ≡ cost = one_cost f ran.cost cost ran.has_cost has in
-              let shown = subst (λ n. SpellsStuck t.machine f (run f.circuit (flat_start f) n).states i a c) same ran.with_tapes in
-              stuck_tapes t l symbols f (board_after f cost).states i a c comes.flat.limits_are comes.flat.word_is h.in_time shown
-          by (outcome.Outside n s) h ran = shown_tapes t symbols l f (board_after f cost).states comes.flat
+          by (outcome.Halted y) h ran = refl
+          by (outcome.Stuck a c) h ran = at_end (outcome.Stuck a c) ran.cost ran.has_cost ran.with_tapes
+          by (outcome.Outside n s) h ran = at_end (outcome.Outside n s) ran.cost ran.has_cost ran.with_tapes
 
       -- what tells the outcome tells the exit
       pub exit_told : (status : Status) (text : List ℕ) → RunsToExit t.machine f i o → (tells : TellsOutcome t l symbols f i o status text) →

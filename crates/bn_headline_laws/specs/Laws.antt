@@ -10,7 +10,7 @@ use Rattle.bn_reply_boards_laws.specs.Headline.{IsGiven, run_words}
 use Rattle.bn_reply_boards_laws.specs.RunText.{steps_line}
 use Rattle.bn_reply.specs.declared.limits.TheConstants.{MOST_INPUT_BYTES}
 use Rattle.bn_reply_boards_laws.specs.Windows.{ComesTo}
-use Rattle.bn_machine.specs.Outcome.{Limits, Outcome, Halted, Outside, Stuck}
+use Rattle.bn_machine.specs.Outcome.{Limits, Outcome, Halted}
 use Rattle.bn_net.specs.declared.net.TheConstants.{MOST_ELEMENTS}
 use Rattle.bn_gen.specs.Increments.{IsRoundCount, incrementer}
 use Rattle.bn_gen.specs.Text.{increments_table, increments_text}
@@ -65,12 +65,10 @@ pub record DifferInSteps (text other : List ℕ) : Type 0 where
   pub one : text ≡ front ++ (steps_line cost ++ behind)
   pub two : other ≡ front ++ (steps_line second ++ behind)
 
--- Two answers of which the headline holds, to the same words and bytes from the same sink on, have one status; and
--- where the machine halts or is stuck they have one text, or two that differ in the number of element steps alone.
-abbrev pub AgreeAs : Outcome → List ℕ → List ℕ → Type 0
-AgreeAs (Halted y) text other = (text ≡ other) ⊎ DifferInSteps text other
-AgreeAs (Stuck state symbol) text other = (text ≡ other) ⊎ DifferInSteps text other
-AgreeAs (Outside tape side) text other = Unit {0}
+-- Two answers of which the headline holds, to the same words and bytes from the same sink on, have one status, and one
+-- text, or two that differ in the number of element steps alone.
+abbrev pub AgreeAs : List ℕ → List ℕ → Type 0
+AgreeAs text other = (text ≡ other) ⊎ DifferInSteps text other
 
 abbrev pub HeadlinesAgree : Type 0
 HeadlinesAgree =
@@ -79,7 +77,7 @@ HeadlinesAgree =
     → (t : Named) (symbols : List ℕ) (i : ℕ) (o : Outcome) → IsOwnRun bytes word l t symbols i o
     → (status other : Status) (taken took taken_too : List ℕ)
     → MachineHeadline words bytes status (Some taken) (Some took)
-    → MachineHeadline words bytes other (Some taken) (Some taken_too) → (status ≡ other) × AgreeAs o took taken_too
+    → MachineHeadline words bytes other (Some taken) (Some taken_too) → (status ≡ other) × AgreeAs took taken_too
 
 -- ---- the machines of increments
 

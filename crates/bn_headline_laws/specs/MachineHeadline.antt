@@ -1,26 +1,26 @@
 -- The headline by the machine alone: what `run` prints for a machine, a word and a window is what the machine's own
 -- bounded run names (Bennett 1973 for the machine; window and text are this project's own profile).
-use Rattle.std.specs.Prelude.{◌≡◌, ℕ, ◌+◌, ◌-◌, ◌*◌, ◌<◌, ◌≤◌, ℤ, pos, ◌-ℤ◌, List, [], ◌∷◌, ◌++◌, length, map, replicate}
-use Rattle.std.specs.Prelude.{Option, Some, reverse, slice_get, codes, decimal}
-use Rattle.std.specs.List.{range_with_len}
+use Rattle.std.specs.Prelude.{◌≡◌, ℕ, ◌+◌, ◌*◌, ◌<◌, ◌≤◌, ℤ, pos, ◌-ℤ◌, List, [], ◌∷◌, ◌++◌, length}
+use Rattle.std.specs.Prelude.{Option, Some, slice_get, codes, decimal}
 use Rattle.bn_base.specs.Number.{greatest}
 use Rattle.bn_io.specs.Told.{Grows}
 use Rattle.bn_circuits.specs.declared.line.Line.{Line}
-use Rattle.bn_machine.specs.Tape.{Tape, cell, write}
-use Rattle.bn_machine.specs.Window.{IsBetween, anywhere}
-use Rattle.bn_machine.specs.Machine.{Moment, Program, start}
-use Rattle.bn_machine.specs.Outcome.{Limits, Outcome, Halted, HasOutcome, Outside, Stuck}
-use Rattle.bn_machine.specs.Run.{Follows}
+use Rattle.bn_machine.specs.Tape.{Tape, blank_tape, word_tape}
+use Rattle.bn_machine.specs.Window.{IsBetween}
+use Rattle.bn_machine.specs.Machine.{Program}
+use Rattle.bn_machine.specs.Outcome.{Limits, Outcome, Halted, HasOutcome}
 use Rattle.bn_net.specs.declared.net.TheConstants.{MOST_ELEMENTS}
 use Rattle.bn_netlist_laws.specs.Sentences.{line_text}
 use Rattle.bn_table.specs.Rows.{Named}
 use Rattle.bn_board.specs.declared.spelled.SpelledTape.{SpelledTape}
+use Rattle.bn_board_laws.specs.Headline.{HasEndTapes}
 use Rattle.bn_reply.specs.Lines.{line}
 use Rattle.bn_reply.specs.declared.limits.TheConstants.{MOST_INPUT_BYTES}
 use Rattle.bn_reply.specs.declared.status.Status.{Status}
 use Rattle.bn_reply.specs.declared.status.Status.TheVariants.{Size, Inside}
 use Rattle.bn_reply_boards_laws.specs.Windows.{large_line}
-use Rattle.bn_reply_boards_laws.specs.RunText.{elements_line, output_line, quadruple_line, steps_line, tape_lines}
+use Rattle.bn_reply_boards_laws.specs.RunText.{elements_line, output_line, quadruple_line, steps_line, tape_line}
+use Rattle.bn_reply_boards_laws.specs.RunText.{tapes_text}
 use Rattle.bn_reply_boards_laws.specs.Headline.{IsGiven, outcome_line, outcome_status, run_words}
 use Rattle.bn_headline_laws.specs.Elements.{elements, most_steps}
 
@@ -36,20 +36,6 @@ pub record IsOwnRun (bytes word : List ℕ) (l : Limits) (t : Named) (symbols : 
 
 -- ---- what is printed
 
--- A tape from -left on, with the head at this position and these cells.
-abbrev pub tape_from : ℕ → ℤ → List (Option ℕ) → SpelledTape
-tape_from left head cells = record { first = pos 0 -ℤ pos left; head = Some head; cells = cells }
-
--- A tape from -left to right with this word from cell 1 on, blanks elsewhere, and the head at this cell.
-abbrev pub word_cells : ℕ → ℕ → List ℕ → ℕ → SpelledTape
-word_cells left right word head = tape_from left (pos head)
-    (map Some (replicate (left + 1) 0 ++ (word ++ replicate (right - length word) 0)))
-
--- The cells of this tape from -left to right, and its head.
-abbrev pub tape_cells : ℕ → ℕ → Tape → SpelledTape
-tape_cells left right tape = tape_from left tape.head
-    (map (λ j. Some (cell tape (pos j -ℤ pos left))) (range_with_len 0 (left + right + 1)))
-
 -- A tape from -left to right: its head, where a cell shows it, is there, and each symbol that a cell shows is one of so
 -- many.
 pub record Spans (left right symbols : ℕ) (tape : SpelledTape) : Type 0 where
@@ -63,29 +49,17 @@ pub record Spans (left right symbols : ℕ) (tape : SpelledTape) : Type 0 where
 abbrev pub AreTapes : Named → Limits → List ℕ → Type 0
 AreTapes t l text = (one : SpelledTape) × (two : SpelledTape) × (three : SpelledTape)
     × Spans l.left l.right t.machine.symbols one × Spans 0 l.steps (length t.machine.quints + 1) two
-    × Spans 0 l.output t.machine.symbols three × (text ≡ tape_lines t one two three)
-
--- The tapes where the machine is stuck after i steps: its own tape then, but for the scanned symbol, which has been
--- read off it; the numbers of the quintuples of its steps, in their order, with the head at the last one; a blank
--- output.
-pub record AreStuckTapes (t : Named) (l : Limits) (symbols : List ℕ) (i : ℕ) (text : List ℕ) : Type 0 where
-  pub moment : Moment
-  pub numbers : List ℕ
-  pub run : Follows anywhere t.machine numbers (start t.machine symbols) moment
-  pub steps : length numbers ≡ i
-  pub text_is : text ≡ tape_lines t (tape_cells l.left l.right (write moment.tape 0))
-      (word_cells 0 l.steps (reverse numbers) i) (word_cells 0 l.output [] 0)
+    × Spans 0 l.output t.machine.symbols three × (text ≡ tape_line t 1 one ++ tape_line t 2 two ++ tape_line t 3 three)
 
 -- The lines behind that of the steps. Where the machine halts after i steps with the output y, they are 4i + 4L + 5
 -- steps of the reversible machine, for the L letters of y; the word again on tape 1, a blank history, y alone on tape
--- 3, each head at cell 0; and the output. Where it is stuck they are its tapes; elsewhere, three tapes of the window.
+-- 3, each head at cell 0; and the output. Where it is stuck or has no room, they are the tapes then.
 abbrev pub AreLastLines : Named → Limits → List ℕ → ℕ → Outcome → List ℕ → Type 0
 AreLastLines t l symbols i (Halted y) text =
     text ≡ quadruple_line (4 * i + 4 * length y + 5)
-    ++ (tape_lines t (word_cells l.left l.right symbols 0) (word_cells 0 l.steps [] 0) (word_cells 0 l.output y 0)
-    ++ output_line t y)
-AreLastLines t l symbols i (Stuck state symbol) text = AreStuckTapes t l symbols i text
-AreLastLines t l symbols i (Outside tape side) text = AreTapes t l text
+    ++ (tapes_text t l (word_tape symbols, blank_tape, word_tape y) ++ output_line t y)
+AreLastLines t l symbols i o text =
+    (x : Tape × Tape × Tape) × HasEndTapes t.machine symbols l i o x × (text ≡ tapes_text t l x)
 
 -- The signal makes at least so many element steps: where the machine halts, one for each step of the reversible
 -- machine; elsewhere at least 0, which says nothing.

@@ -117,18 +117,29 @@ elements_by m l control_states = bank_size control_states (control_lines m) + ce
 abbrev pub cell_of : Tape → ℤ → CellState
 cell_of t p = if int_eq p t.head then Head (cell t p) else Plain (cell t p)
 
--- the cells from this module on, for z symbols, show the tape from -left to right
-pub record ShowsTape (states : List ℕ) (first z left right : ℕ) (t : Tape) : Type 0 where
-  pub head : IsBetween left right t.head
+-- The cells from this module on, for z symbols, show the tape from -left to right: no other letter stands on it, and each
+-- cell has its symbol, and the head where it is there. A head that is elsewhere is in no cell.
+pub record ShowsCells (states : List ℕ) (first z left right : ℕ) (t : Tape) : Type 0 where
   pub inside : (p : ℤ) → cell t p ≢ 0 → IsBetween left right p
   pub symbols : (p : ℤ) → cell t p < z
   pub cells : (j : ℕ) → j < left + right + 1
       → slice_get states (first + j) ≡ Some (state_number z (cell_of t (pos j -ℤ pos left)))
 
+-- they show the tape, and its head is there
+pub record ShowsTape (states : List ℕ) (first z left right : ℕ) (t : Tape) : Type 0 where
+  pub head : IsBetween left right t.head
+  pub shown : ShowsCells states first z left right t
+
 pub record ShowsTapes (m : Quadruples) (l : Limits) (states : List ℕ) (c : Configuration ℕ) : Type 0 where
   pub one : ShowsTape states (first_cell l 1) (symbol_count m 1) l.left l.right c.one
   pub two : ShowsTape states (first_cell l 2) (symbol_count m 2) 0 l.steps c.two
   pub three : ShowsTape states (first_cell l 3) (symbol_count m 3) 0 l.output c.three
+
+-- the cells of the three tapes show these tapes, wherever their heads are
+pub record ShowsAllCells (m : Quadruples) (l : Limits) (states : List ℕ) (c : Configuration ℕ) : Type 0 where
+  pub one : ShowsCells states (first_cell l 1) (symbol_count m 1) l.left l.right c.one
+  pub two : ShowsCells states (first_cell l 2) (symbol_count m 2) 0 l.steps c.two
+  pub three : ShowsCells states (first_cell l 3) (symbol_count m 3) 0 l.output c.three
 
 -- the control is in this state
 pub record IsControlAt (names : List ControlState) (states : List ℕ) (q : ControlState) : Type 0 where

@@ -167,7 +167,7 @@ module _ (costs : CostsAreBounded) (m : Quadruples) (l : Limits) (names : List C
     -- a shift that leaves the window
     pub part : (s : Situation) (q : ControlState) (t : ℕ) (to : Side) (c : Configuration ℕ) → IsTape t
         → IsBeyond (left_of l t) (right_of l t) to (moved (tape_of c t).head (way_to to)) → Stands m l names k s (q, to_tape t (shift_line to)) c
-        → Parted m l k test t s to
+        → Parted m l k test t s (tape_of c t) to
     part s q t to c is beyond at =
         (command_law m l names k test t s (tape_of c t) net is (cells_calm m l names k net test tells t is) (shown_at m l s.states c t is at.shows)).1 to beyond
         (at.place ∙ command_place m l names k net t (shift_line to) is (shift_command to) (shift_is_line (symbol_count m t) to))

@@ -24,13 +24,13 @@ use Rattle.bn_network.specs.Cells.{Head, written, line_number}
 use Rattle.bn_network.specs.Controls.{ControlState, Tape as to_tape, symbol_count, in_number, shift_line}
 use Rattle.bn_network.specs.Networks.{IsNetwork, IsTape, first_cell, cells_in, left_of, cell_size, GoesLeft}
 use Rattle.bn_network.specs.Moments.{head_cell}
-use Rattle.bn_network_laws.specs.Commands.{Commands, Does, does_read, does_write, does_right, does_left, right_of, ShowsAt, tape_elements, way_to, loose_place, IsCalm, Answered}
+use Rattle.bn_network_laws.specs.Commands.{Commands, Does, does_read, does_write, does_right, does_left, right_of, ShowsAt, ShowsCellsAt, tape_elements, way_to, loose_place, IsCalm, Answered}
 use Rattle.bn_network_laws.specs.Departures.{Departures, Departs, leaving_moves}
 use Rattle.bn_circuits.proofs.SituationLemmas.{same_situation}
 use Rattle.bn_network_laws.proofs.WalkLemmas.{Walk, cost-left}
 use Rattle.bn_network_laws.proofs.RowLemmas.{IsRow, IsQuiet, Holds, into, there_and_back, marked, rehead, moved_head, goes_right, goes_left, leaves_right, leaves_left}
 use Rattle.bn_network_laws.proofs.CarriedLemmas.{tape_row}
-use Rattle.bn_network_laws.proofs.TapeShownLemmas.{symbol_in, head_place, scanned_in, written_here, written_beside, shows-holds, holds-shows, written-shows}
+use Rattle.bn_network_laws.proofs.TapeShownLemmas.{symbol_in, head_place, scanned_in, written_here, written_beside, shows-holds, holds-shows, left-shows, written-shows}
 
 -- a tape's cells are those of its window
 count_cells : (l : Limits) (t : ℕ) → IsTape t → cells_in l t ≡ left_of l t + right_of l t + 1
@@ -137,14 +137,16 @@ module _ (bounded : CostsAreBounded) (m : Quadruples) (l : Limits) (names : List
   -- a walk to a loose line
   parted : (command : CellLine) (to : Side) (moves e o : ℕ) (new : List ℕ) → s.place ≡ Enter b (line_number z command) → moves ≤ 2 * n
       → Left e o ≡ loose_place m l t to → moves ≡ leaving_moves l t tape to
-      → Walk k quiet_test (4 * cell_size z) moves (into b z s.states 0 command) (situation new (Left e o)) → Departs m l k test t s tape to
-  parted command to moves e o new start few is exact walk =
+      → Walk k quiet_test (4 * cell_size z) moves (into b z s.states 0 command) (situation new (Left e o))
+      → ShowsCellsAt m l t new (shift tape (way_to to))
+      → ((e : ℕ) → (e < b) ⊎ (b + n ≤ e) → slice_get new e ≡ slice_get s.states e) → Departs m l k test t s tape to
+  parted command to moves e o new start few is exact walk shown others =
       let gone = situation new (Left e o) in
       let from_s = subst (λ x. Walk k quiet_test (4 * cell_size z) moves x gone) (starts command start) walk in
       let cost = cheap moves s gone few from_s in
       let more = cost-left k moves e o s gone (passes_run (Turns k) quiet_test moves s gone from_s.path) refl in
       record {
-        parted = record { moves = moves; last = gone; path = from_s.path; cost = cost; place = is };
+        parted = record { moves = moves; last = gone; path = from_s.path; cost = cost; place = is; shows = shown; others = others };
         moves = exact;
         whole = omega arith;
       }
@@ -169,7 +171,7 @@ module _ (bounded : CostsAreBounded) (m : Quadruples) (l : Limits) (names : List
       → ShowsAt m l t (rehead bounded k quiet_test b n z reply row quiet s.states h (symbol_in left tape) holds g) (shift tape way)
   reheaded g way lt ne place =
       holds-shows b z left right n count (rehead bounded k quiet_test b n z reply row quiet s.states h (symbol_in left tape) holds g) (shift tape way) g place
-      (moved_head bounded k quiet_test b n z reply row quiet s.states h (symbol_in left tape) holds g lt ne) shows.inside shows.symbols
+      (moved_head bounded k quiet_test b n z reply row quiet s.states h (symbol_in left tape) holds g lt ne) shows.shown.inside shows.shown.symbols
 
   -- a read puts a blank under the head and answers with the symbol
   reads : s.place ≡ Enter b (line_number z Read) → Answered m l k test t s (Answer (scanned tape)) (write tape 0) (2 * h + 1)
@@ -234,8 +236,10 @@ module _ (bounded : CostsAreBounded) (m : Quadruples) (l : Limits) (names : List
       let head = holds.head in
       let last : suc h ≡ n = omega (arith, ints) in
       let end : b + h ≡ b + (n - 1) = omega arith in
-      parted ShiftRight side.Right (suc h) (b + h) (line_number z TakeRight) _ place (omega arith) (ap (λ x. Left x (line_number z TakeRight)) end) (omega arith)
+      parted ShiftRight side.Right (suc h) (b + h) (line_number z TakeRight) (slice_set s.states (b + h) (symbol_in left tape h)) place (omega arith) (ap (λ x. Left x (line_number z TakeRight)) end) (omega arith)
       (leaves_right bounded k quiet_test b n z reply row quiet s.states h (symbol_in left tape) holds last)
+      (left-shows b z left right n count s.states tape way.Right shows (λ j low here. let past = beyond in omega (arith, ints)))
+      (λ e out. beside s.states h (symbol_in left tape h) e head out)
 
   -- a shift to the left out of the window
   leaves_by_left : IsBeyond left right side.Left (moved tape.head way.Left) → s.place ≡ Enter b (line_number z ShiftLeft)
@@ -245,8 +249,10 @@ module _ (bounded : CostsAreBounded) (m : Quadruples) (l : Limits) (names : List
       let head = holds.head in
       let first : h ≡ 0 = omega (arith, ints) in
       let end : b + 0 ≡ b = omega arith in
-      parted ShiftLeft side.Left (suc h) (b + 0) (line_number z TakeLeft) _ place (omega arith) (ap (λ x. Left x (line_number z TakeLeft)) end) (omega arith)
+      parted ShiftLeft side.Left (suc h) (b + 0) (line_number z TakeLeft) (slice_set s.states (b + h) (symbol_in left tape h)) place (omega arith) (ap (λ x. Left x (line_number z TakeLeft)) end) (omega arith)
       (leaves_left bounded k quiet_test b n z reply row quiet s.states h (symbol_in left tape) holds first)
+      (left-shows b z left right n count s.states tape way.Left shows (λ j low here. let past = beyond in omega (arith, ints)))
+      (λ e out. beside s.states h (symbol_in left tape h) e head out)
 
   -- each command that stays in the window is answered
   does : (command answer : CellLine) (after : Tape) (moves : ℕ) → Does m l t tape command answer after moves → s.place ≡ Enter b (line_number z command)

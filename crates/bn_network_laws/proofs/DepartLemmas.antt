@@ -2,7 +2,7 @@
 use Rattle.std.specs.Prelude.{◌≡◌, ℕ, ◌+◌, ◌<◌, ◌≤◌, List, [], ◌∷◌, ◌++◌, length, refl}
 use Rattle.std.proofs.Common.{suc, arith, sym, ap, subst, ◌∙◌}
 use Rattle.std.proofs.lemmas.Int.{ints}
-use Rattle.bn_machine.specs.Tape.{Tape, moved}
+use Rattle.bn_machine.specs.Tape.{Tape, moved, shift}
 use Rattle.bn_machine.specs.Window.{IsBetween, IsBeyond}
 use Rattle.bn_machine.specs.Outcome.{Limits}
 use Rattle.bn_machine.specs.declared.quint.Shift.TheVariants as way
@@ -14,10 +14,10 @@ use Rattle.bn_network.specs.Controls.{ControlMove, Reads, Shifts, Tape as to_tap
 use Rattle.bn_network.specs.Networks.{IsTape, left_of}
 use Rattle.bn_network_laws.specs.Commands.{right_of, way_to}
 use Rattle.bn_network.proofs.OrderLemmas.{IsMiddle}
-use Rattle.bn_network_laws.specs.Ends.{tape_of, put_tape}
+use Rattle.bn_network_laws.specs.Ends.{tape_of, put_tape, read_by, shift_by, left_at}
 use Rattle.bn_network_laws.proofs.ChainLemmas.{Stop, lead, AreStops, AllDo}
 use Rattle.bn_network_laws.proofs.StopLemmas.{stop_at, write_stops, shift_stops, read_stops, stops_of}
-use Rattle.bn_network_laws.proofs.ObeyLemmas.{read_by, shift_by, Fits, obey_shift, obey_reads, after_reads}
+use Rattle.bn_network_laws.proofs.ObeyLemmas.{Fits, obey_shift, obey_reads, after_reads}
 
 -- only a shift to that side leaves the window there
 pub which_deed : (d : Deed) (left right : ℕ) (to : Side) (x : Tape) → IsBetween left right x.head → IsBeyond left right to (done d x).head
@@ -110,6 +110,7 @@ module _ (m : Quadruples) (l : Limits) (n : ℕ) (r : Rule ℕ) (c : Configurati
     pub moves : ℕ
     pub obey : AllDo m l (stops_until n r before) c at moves
     pub beyond : IsBeyond (left_of l t) (right_of l t) to (moved (tape_of at t).head (way_to to))
+    pub gone : put_tape at t (shift (tape_of at t) (way_to to)) ≡ left_at t r c
 
   -- the three tapes
   tape_is : (t : ℕ) → 0 < t → t ≤ 3 → IsTape t
@@ -119,6 +120,10 @@ module _ (m : Quadruples) (l : Limits) (n : ℕ) (r : Rule ℕ) (c : Configurati
   kept_head : (d : Deed) (x : Tape) → d ≡ Move (way_to to) → (read_by d x).head ≡ x.head
   kept_head (Rewrite a b) x e = absurd cc
   kept_head (Move s) x e = refl
+
+  -- the shift that leaves is its deed's
+  shift_is : (d : Deed) (x : Tape) → d ≡ Move (way_to to) → shift (read_by d x) (way_to to) ≡ shift_by d (read_by d x)
+  shift_is d x e = ap (λ v. shift_by v (read_by d x)) (sym e)
 
   -- so its head leaves as before
   beyond_kept : (d : Deed) (x : Tape) (left right : ℕ) → d ≡ Move (way_to to) → IsBeyond left right to (moved x.head (way_to to))
@@ -136,6 +141,7 @@ module _ (m : Quadruples) (l : Limits) (n : ℕ) (r : Rule ℕ) (c : Configurati
     moves = _;
     obey = obey_reads m l n r c (after_reads m l n r c) [] 0 a b d (refl, refl);
     beyond = beyond_kept r.one c.one l.left l.right is beyond;
+    gone = λ i. record { state = c.state; one = shift_is r.one c.one is i; two = read_by r.two c.two; three = read_by r.three c.three };
   }
 
   -- where tape 2 leaves, and tape 1 does not
@@ -152,6 +158,7 @@ module _ (m : Quadruples) (l : Limits) (n : ℕ) (r : Rule ℕ) (c : Configurati
         moves = _;
         obey = obey_reads m l n r c w1 (shift_stops n (shifts 1 (r.one ∷ [])) []) _ a b d (obey_shift m l n [] r.one [] 1 w w1 0 (tape_is 1 (omega arith) (omega arith)) fits (refl, refl));
         beyond = beyond_kept r.two c.two 0 l.steps is beyond;
+        gone = λ i. record { state = c.state; one = shift_by r.one (read_by r.one c.one); two = shift_is r.two c.two is i; three = read_by r.three c.three };
       }
 
   -- where tape 3 leaves, and the others do not
@@ -170,4 +177,5 @@ module _ (m : Quadruples) (l : Limits) (n : ℕ) (r : Rule ℕ) (c : Configurati
         obey = obey_reads m l n r c w2 (shift_stops n (shifts 1 (r.one ∷ r.two ∷ [])) []) _ a b d
             (obey_shift m l n [] r.one (r.two ∷ []) 1 w w2 _ (tape_is 1 (omega arith) (omega arith)) first (obey_shift m l n [] r.two [] 2 w1 w2 0 (tape_is 2 (omega arith) (omega arith)) second (refl, refl)));
         beyond = beyond_kept r.three c.three 0 l.output is beyond;
+        gone = λ i. record { state = c.state; one = shift_by r.one (read_by r.one c.one); two = shift_by r.two (read_by r.two c.two); three = shift_is r.three c.three is i };
       }

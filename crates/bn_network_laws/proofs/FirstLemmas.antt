@@ -110,9 +110,11 @@ shows_word : (states : List ℕ) (first z left right : ℕ) (word : List ℕ) �
     → ShowsTape states first z left right (word_tape word)
 shows_word states first z left right word some all fits cells = record {
   head = record { above = omega (arith, ints); below = omega (arith, ints) };
-  inside = λ p filled. word_between word left right fits p (λ none. filled (cell-word word p ∙ none));
-  symbols = λ p. subst (λ v. v < z) (sym (cell-word word p)) (word_letters word z some all p);
-  cells = cells;
+  shown = record {
+    inside = λ p filled. word_between word left right fits p (λ none. filled (cell-word word p ∙ none));
+    symbols = λ p. subst (λ v. v < z) (sym (cell-word word p)) (word_letters word z some all p);
+    cells = cells;
+  };
 }
 
 -- no letter is out of range where there is none

@@ -9,7 +9,7 @@ use Rattle.bn_circuits.specs.declared.place.Place.TheVariants.{Enter, Left}
 use Rattle.bn_rsm.specs.Costs.{table_cost, cost_by}
 use Rattle.bn_rsm.specs.Laws.{CostsAreBounded}
 use Rattle.bn_lists.specs.Lists.{nth}
-use Rattle.bn_machine.specs.Tape.{scanned, write}
+use Rattle.bn_machine.specs.Tape.{scanned, shift, write}
 use Rattle.bn_machine.specs.Window.{IsBetween, IsBeyond}
 use Rattle.bn_machine.specs.Outcome.{Limits}
 use Rattle.bn_machine.specs.declared.quint.Side.{Side}
@@ -24,14 +24,14 @@ use Rattle.bn_rsm.specs.RunCosts.{run_cost, step_cost, entry_cost}
 use Rattle.bn_network.specs.Cells.{line_number}
 use Rattle.bn_network.specs.Controls.{ControlState, ControlMove, ControlLine, ControlGoes, begins, reads_on, shifts_on, writes_on, End, Reads, Outside, Tape as to_tape, IsEntry, finishes, leaves, waits, IsFirstOf, IsNumbering, symbol_count, in_number, out_number, control_lines, lines_before, reads, reads_of, shifts_of, writes_of, to_read, shift_line}
 use Rattle.bn_network.specs.ControlLaws.{StatesHaveEntries}
-use Rattle.bn_network.specs.Networks.{IsNetwork, IsControlAt, IsTape, first_cell, elements_by, bank_size}
+use Rattle.bn_network.specs.Networks.{IsNetwork, ShowsAllCells, IsControlAt, IsTape, first_cell, elements_by, bank_size}
 use Rattle.bn_circuits.specs.Circuits.{line_at}
 use Rattle.bn_network.specs.Moments.{IsMomentOf, TellsMoments, Travels}
-use Rattle.bn_network_laws.specs.Ends.{tape_of, IsStoppedAt, EndsBy, by_end, by_stop, by_right, by_left, IsEarlyStop}
+use Rattle.bn_network_laws.specs.Ends.{tape_of, left_at, IsStoppedAt, EndsBy, by_end, by_stop, by_right, by_left, IsEarlyStop}
 use Rattle.bn_network_laws.specs.NetworkLaws.{LastMoment}
-use Rattle.bn_network_laws.specs.Commands.{Commands, does_read, loose_place, head_of, tape_elements}
+use Rattle.bn_network_laws.specs.Commands.{Commands, does_read, loose_place, head_of, tape_elements, way_to}
 use Rattle.bn_rsm.proofs.RunCostLemmas.{one_cost, cost-joins, left_cost}
-use Rattle.bn_network_laws.proofs.ShownLemmas.{shown_at, shown_with}
+use Rattle.bn_network_laws.proofs.ShownLemmas.{shown_at, shown_with, cells_with}
 use Rattle.bn_network_laws.proofs.PathLemmas.{stays, travels_join}
 use Rattle.bn_network_laws.proofs.PlaceLemmas.{after_control, outside_place, command_place, cells_calm, taken_calm, left_calm, middle_calm}
 use Rattle.bn_network_laws.proofs.ChainLemmas.{Stop, lead, AreStops, Stands, chain, part, few_elements, shift_command, shift_is_line}
@@ -152,7 +152,7 @@ module _ (costs : CostsAreBounded) (commands : Commands) (has : StatesHaveEntrie
         let done = (commands m l names k test t s (tape_of c t) net is (cells_calm m l names k net test tells t is) (shown_at m l s.states c t is now.shows)).0 Read (Answer (scanned (tape_of c t))) (write (tape_of c t) 0) (2 * head_of l t (tape_of c t) + 1) (does_read refl refl refl refl) start in
         let still : IsControlAt names done.last.states (Reads c.state []) = record { number = waits.number; is = done.others 0 (inl (after_control l t is)) ∙ waits.is; named = waits.named } in
         let none : IsAtEnd k done.last = stuck has m l names k machine uniform net c t stop done.last still done.place in
-        let symbol : scanned (tape_of c t) < symbol_count m t = (shown_at m l s.states c t is now.shows).symbols (tape_of c t).head in
+        let symbol : scanned (tape_of c t) < symbol_count m t = (shown_at m l s.states c t is now.shows).shown.symbols (tape_of c t).head in
         let last = loose done.last still done.place symbol in
         let whole = cost-joins k (2 * head_of l t (tape_of c t) + 1) 1 s done.last (passes_run (Turns k) (λ x. not (test x)) (2 * head_of l t (tape_of c t) + 1) s done.last done.path) in
         let one = one_cost k done.last in
@@ -195,14 +195,18 @@ module _ (costs : CostsAreBounded) (commands : Commands) (has : StatesHaveEntrie
   -- ---- where a shift leaves the window
 
   -- what is owed at a loose line
-  loose_ends : (t : ℕ) (to : Side) → IsTape t → (x : Situation) → x.place ≡ loose_place m l t to → IsAtEnd k x × EndsBy m l names x c (Leaving t to)
+  loose_ends : (t : ℕ) (to : Side) → IsTape t → (x : Situation) → x.place ≡ loose_place m l t to → (d : Configuration ℕ) (step : Follows m.rules c d)
+      → ShowsAllCells m l x.states (left_at t step.leads.rule c) → IsAtEnd k x × EndsBy m l names x c (Leaving t to)
       × (test x ≡ false) × (step_cost k x ≡ 0)
-  loose_ends t side.Left is x here = (left_ends k x _ _ here, by_left t is here, left_calm m l names k net test tells x _ _ (after_control l t is) here, left_cost k x _ _ here)
-  loose_ends t side.Right is x here = (left_ends k x _ _ here, by_right t is here, (let low = after_control l t is in left_calm m l names k net test tells x _ _ (omega arith) here), left_cost k x _ _ here)
+  loose_ends t side.Left is x here d step shows = (left_ends k x _ _ here, by_left t is here d step shows, left_calm m l names k net test tells x _ _ (after_control l t is) here, left_cost k x _ _ here)
+  loose_ends t side.Right is x here d step shows = (left_ends k x _ _ here, by_right t is here d step shows, (let low = after_control l t is in left_calm m l names k net test tells x _ _ (omega arith) here), left_cost k x _ _ here)
 
   -- a quadruple whose shift leaves
-  ended_by : (n : ℕ) (r : Rule ℕ) → nth m.rules n ≡ Some r → r.from ≡ c.state → (t : ℕ) (to : Side) → IsTape t → Departs m l n r c to t → Ended (Leaving t to)
-  ended_by n r stands from t to is dep =
+  ended_by : (d : Configuration ℕ) (step : Follows m.rules c d) (t : ℕ) (to : Side) → IsTape t → Departs m l step.number step.leads.rule c to t → Ended (Leaving t to)
+  ended_by d step t to is dep =
+      let n = step.number in
+      let r = step.leads.rule in
+      let stands = step.leads.stands in
       let E = elements_by m l (length names) in
       let e = (has m machine uniform).some r.to (rule_range m machine n r stands).to in
       let xs = stops_until n r dep.before in
@@ -211,10 +215,11 @@ module _ (costs : CostsAreBounded) (commands : Commands) (has : StatesHaveEntrie
       let cut = cut_stops n r dep.before dep.tail t to dep.split in
       let are : AreStops m e.0 (xs ++ (y ∷ ys)) = subst (λ zs. AreStops m e.0 zs) cut (stops_are m n r stands e.0 e.1) in
       let led : lead e.0 (stops_of n r) ≡ lead (y.state, to_tape t (shift_line to)) xs = ap (lead e.0) cut ∙ lead_until e.0 xs y ys in
-      let at : Stands m l names k s (lead (y.state, to_tape t (shift_line to)) xs) c = subst (λ (v : ControlMove). Stands m l names k s v c) led (begun costs commands has m l names k test machine uniform numbering net tells s c now n r stands from e.0) in
+      let at : Stands m l names k s (lead (y.state, to_tape t (shift_line to)) xs) c = subst (λ (v : ControlMove). Stands m l names k s v c) led (begun costs commands has m l names k test machine uniform numbering net tells s c now n r stands (sym step.leads.leads.applies.from) e.0) in
       let come = chain costs m l names k numbering net test tells commands xs (y.state, to_tape t (shift_line to)) c dep.at dep.moves s (stops_before m e.0 xs y ys are) dep.obey at in
       let gone = part costs m l names k numbering net test tells commands come.0 y.state t to dep.at is dep.beyond come.2 in
-      let end = loose_ends t to is gone.last gone.place in
+      let shows = cells_with m l come.0.states gone.last.states dep.at t (shift (tape_of dep.at t) (way_to to)) is come.2.shows gone.shows gone.others in
+      let end = loose_ends t to is gone.last gone.place d step (subst (ShowsAllCells m l gone.last.states) dep.gone shows) in
       let six : length xs + 1 ≤ 6 = counted xs y ys (stops_of n r) cut (six_stops n r) in
       let path = travels_join k test (dep.moves + gone.moves) dep.moves gone.moves (48 * E) (length xs * (8 * E)) (8 * tape_elements m l t) s come.0 gone.last (refl {a = dep.moves + gone.moves}) (few (length xs) E (tape_elements m l t) (bank_size (length names) (control_lines m)) six (few_elements m l (length names) t is))
       (λ some more. middle_calm m l names k net test tells come.0 y.state (first_cell l t) (line_number (symbol_count m t) (shift_line to)) come.2.waits (later_stop m e.0 xs y ys (no_stops m l xs c dep.at dep.moves dep.obey some) are) (come.2.place ∙ command_place m l names k net t (shift_line to) is (shift_command to) (shift_is_line (symbol_count m t) to)))
@@ -243,14 +248,14 @@ module _ (costs : CostsAreBounded) (commands : Commands) (has : StatesHaveEntrie
       let applies = by.leads.applies in
       let beyond = subst (λ (x : Configuration ℕ). IsBeyond l.left l.right to x.one.head) by.leads.gives out in
       let deed = which_deed by.rule.one l.left l.right to c.one now.shows.one.head beyond in
-      ended_by n by.rule by.stands (sym applies.from) 1 to (record { low = omega arith; high = omega arith }) (departs_one m l n by.rule c to applies.one applies.two applies.three deed.0 deed.1)
+      ended_by d follows 1 to (record { low = omega arith; high = omega arith }) (departs_one m l n by.rule c to applies.one applies.two applies.three deed.0 deed.1)
   ended_leaving d follows (suc (suc zero)) to out =
       let n = follows.number in
       let by = follows.leads in
       let applies = by.leads.applies in
       let there = subst (λ (x : Configuration ℕ). IsBetween l.left l.right x.one.head × IsBeyond 0 l.steps to x.two.head) by.leads.gives out in
       let deed = which_deed by.rule.two 0 l.steps to c.two now.shows.two.head there.1 in
-      ended_by n by.rule by.stands (sym applies.from) 2 to (record { low = omega arith; high = omega arith }) (departs_two m l n by.rule c to applies.one applies.two applies.three (fits_of l 1 by.rule.one c.one there.0) deed.0 deed.1)
+      ended_by d follows 2 to (record { low = omega arith; high = omega arith }) (departs_two m l n by.rule c to applies.one applies.two applies.three (fits_of l 1 by.rule.one c.one there.0) deed.0 deed.1)
   ended_leaving d follows (suc (suc (suc zero))) to out =
       let n = follows.number in
       let by = follows.leads in
@@ -258,7 +263,7 @@ module _ (costs : CostsAreBounded) (commands : Commands) (has : StatesHaveEntrie
       let there = subst (λ (x : Configuration ℕ). IsBetween l.left l.right x.one.head × IsBetween 0 l.steps x.two.head
       × IsBeyond 0 l.output to x.three.head) by.leads.gives out in
       let deed = which_deed by.rule.three 0 l.output to c.three now.shows.three.head there.2 in
-      ended_by n by.rule by.stands (sym applies.from) 3 to (record { low = omega arith; high = omega arith }) (departs_three m l n by.rule c to applies.one applies.two applies.three (fits_of l 1 by.rule.one c.one there.0) (fits_of l 2 by.rule.two c.two there.1) deed.0 deed.1)
+      ended_by d follows 3 to (record { low = omega arith; high = omega arith }) (departs_three m l n by.rule c to applies.one applies.two applies.three (fits_of l 1 by.rule.one c.one there.0) (fits_of l 2 by.rule.two c.two there.1) deed.0 deed.1)
   ended_leaving d follows (suc (suc (suc (suc t)))) to out = absurd out
 
   -- by the reason for the end

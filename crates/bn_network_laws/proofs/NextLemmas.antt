@@ -23,7 +23,8 @@ use Rattle.bn_network_laws.specs.Commands.{Commands, right_of}
 use Rattle.bn_network_laws.proofs.PlaceLemmas.{outside_place}
 use Rattle.bn_network_laws.proofs.ChainLemmas.{lead, Stands, chain}
 use Rattle.bn_network_laws.proofs.StopLemmas.{stops_of, stops_are, lead_reads}
-use Rattle.bn_network_laws.proofs.ObeyLemmas.{Fits, MayWrite, Applies, obey_all, after_writes, all_parts, read_by, shift_by, blanked}
+use Rattle.bn_network_laws.specs.Ends.{read_by, shift_by}
+use Rattle.bn_network_laws.proofs.ObeyLemmas.{Fits, MayWrite, Applies, obey_all, after_writes, all_parts, blanked}
 use Rattle.bn_network_laws.proofs.RangeLemmas.{rule_range, deeds_range, opening, some_moves, six_stops}
 
 -- at a moment of a configuration the test says yes

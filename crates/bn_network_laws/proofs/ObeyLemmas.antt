@@ -12,22 +12,12 @@ use Rattle.bn_network.specs.Controls.{symbol_count, reads, shifts, rising, reads
 use Rattle.bn_network.specs.Networks.{IsTape, left_of}
 use Rattle.bn_network.specs.Moments.{deed_moves, shift_moves, quad_moves}
 use Rattle.bn_network_laws.specs.Commands.{does_read, does_write, does_right, does_left, head_of, right_of}
-use Rattle.bn_network_laws.specs.Ends.{tape_of, put_tape}
+use Rattle.bn_network_laws.specs.Ends.{tape_of, put_tape, read_by, shift_by}
 use Rattle.bn_network_laws.proofs.ShownLemmas.{same_tape}
 use Rattle.bn_network_laws.proofs.ChainLemmas.{Stop, AllDo}
 use Rattle.bn_network_laws.proofs.StopLemmas.{write_stops, shift_stops, read_stops, stops_of}
 
 -- ---- what a deed does to its tape in each of the three parts
-
--- the tape after its read
-abbrev pub read_by : Deed → Tape → Tape
-read_by (Rewrite read written) x = write x 0
-read_by (Move s) x = x
-
--- the tape after its shift
-abbrev pub shift_by : Deed → Tape → Tape
-shift_by (Rewrite read written) x = x
-shift_by (Move s) x = shift x s
 
 -- the tape after its write
 abbrev pub write_by : Deed → Tape → Tape

@@ -1,14 +1,17 @@
 -- The cells that show a tape, as a row with a head.
-use Rattle.std.specs.Prelude.{◌≡◌, ◌≢◌, ◌==◌, ◌⊎◌, ℕ, ◌+◌, ◌<◌, ℤ, pos, ◌-ℤ◌, Bool, true, false, List, Some, slice_get, refl}
+use Rattle.std.specs.Prelude.{◌≡◌, ◌≢◌, ◌==◌, ◌⊎◌, ℕ, ◌+◌, ◌<◌, ℤ, pos, ◌-ℤ◌, Bool, true, false, List, Some, slice_get, slice_set, refl}
 use Rattle.std.specs.Ordering.{int_eq}
 use Rattle.std.proofs.Common.{arith, sym, ap, subst, ◌∙◌, inl, inr, true≢false}
 use Rattle.std.proofs.lemmas.Int.{ints}
 use Rattle.std.proofs.lemmas.Bool.Decides.{Decides-int_eq, eqb_tells}
-use Rattle.bn_machine.specs.Tape.{Tape, cell, scanned, write}
+use Rattle.std.proofs.lemmas.Option.{slice_get_within}
+use Rattle.bn_circuits.proofs.StepLemmas.{slice_get-set_same, slice_get-set_other}
+use Rattle.bn_machine.specs.Tape.{Tape, cell, moved, scanned, shift, write}
+use Rattle.bn_machine.specs.declared.quint.Shift.{Shift}
 use Rattle.bn_machine.proofs.TapeLemmas.{scanned-write, cell-write_beside}
 use Rattle.bn_machine.specs.Window.{IsBetween}
 use Rattle.bn_network.specs.Cells.{Plain, Head, state_number}
-use Rattle.bn_network.specs.Networks.{ShowsTape, cell_of}
+use Rattle.bn_network.specs.Networks.{ShowsCells, ShowsTape, cell_of}
 use Rattle.bn_network.specs.Moments.{head_cell}
 use Rattle.bn_network_laws.proofs.RowLemmas.{Holds}
 
@@ -58,9 +61,9 @@ module _ (b z left right n : ℕ) (count : n ≡ left + right + 1) where
       let within = head_within left right n t count shows.head in
       record {
         head = within;
-        small = λ p lt. shows.symbols (pos p -ℤ pos left);
-        plain = λ p lt ne. shows.cells p (omega arith) ∙ ap (λ q. Some (state_number z q)) (without_head t (pos p -ℤ pos left) (λ e. ne (omega (arith, ints))));
-        headed = shows.cells h (omega arith) ∙ ap (λ q. Some (state_number z q)) (with_head t (pos h -ℤ pos left) (sym place));
+        small = λ p lt. shows.shown.symbols (pos p -ℤ pos left);
+        plain = λ p lt ne. shows.shown.cells p (omega arith) ∙ ap (λ q. Some (state_number z q)) (without_head t (pos p -ℤ pos left) (λ e. ne (omega (arith, ints))));
+        headed = shows.shown.cells h (omega arith) ∙ ap (λ q. Some (state_number z q)) (with_head t (pos h -ℤ pos left) (sym place));
       }
 
   -- and the other way round
@@ -70,9 +73,7 @@ module _ (b z left right n : ℕ) (count : n ≡ left + right + 1) where
       let within = holds.head in
       record {
         head = record { above = omega (arith, ints); below = omega (arith, ints) };
-        inside = inside;
-        symbols = symbols;
-        cells = λ j lt. by_cell j (omega arith) (eqb_tells j h);
+        shown = record { inside = inside; symbols = symbols; cells = λ j lt. by_cell j (omega arith) (eqb_tells j h) };
       }
     where
       by_cell : (j : ℕ) → j < n → ((j == h) ≡ true) × (j ≡ h) ⊎ ((j == h) ≡ false) × (j ≢ h)
@@ -83,6 +84,26 @@ module _ (b z left right n : ℕ) (count : n ≡ left + right + 1) where
       by_cell j lt (inr other) =
           let apart : (pos j -ℤ pos left) ≢ t.head = λ e. other.1 (omega (arith, ints)) in
           holds.plain j lt other.1 ∙ ap (λ q. Some (state_number z q)) (sym (without_head t (pos j -ℤ pos left) apart))
+
+  -- cells from which the head was taken show the shifted tape, where its head is in none of them
+  pub left-shows : (states : List ℕ) (t : Tape) (way : Shift) → ShowsTape states b z left right t → ((j : ℕ) → j < n → pos j -ℤ pos left ≢ moved t.head way)
+      → ShowsCells (slice_set states (b + head_cell left t) (symbol_in left t (head_cell left t))) b z left right (shift t way)
+  left-shows states t way shows gone = record {
+    inside = shows.shown.inside;
+    symbols = shows.shown.symbols;
+    cells = λ j lt. by_cell j (omega arith) (eqb_tells j h) ∙ ap (λ q. Some (state_number z q)) (sym (without_head (shift t way) (pos j -ℤ pos left) (gone j (omega arith))));
+  }
+    where
+      h : ℕ
+      h = head_cell left t
+
+      holds : Holds states b n z h (symbol_in left t)
+      holds = shows-holds states t shows
+
+      by_cell : (j : ℕ) → j < n → ((j == h) ≡ true) × (j ≡ h) ⊎ ((j == h) ≡ false) × (j ≢ h)
+          → slice_get (slice_set states (b + h) (symbol_in left t h)) (b + j) ≡ Some (symbol_in left t j)
+      by_cell j lt (inl same) = subst (λ x. slice_get (slice_set states (b + h) (symbol_in left t h)) (b + x) ≡ Some (symbol_in left t x)) (sym same.1) (slice_get-set_same states (b + h) (symbol_in left t h) (slice_get_within states (b + h) (z + symbol_in left t h) holds.headed))
+      by_cell j lt (inr other) = slice_get-set_other states (b + h) (b + j) (symbol_in left t h) (λ e. other.1 (omega arith)) ∙ holds.plain j lt other.1
 
   -- after a symbol was written
   pub written-shows : (states new : List ℕ) (t : Tape) (u : ℕ) → ShowsTape states b z left right t → u < z
@@ -97,9 +118,9 @@ module _ (b z left right n : ℕ) (count : n ≡ left + right + 1) where
       -- no symbol stands outside the window
       inside : (p : ℤ) → cell (write t u) p ≢ 0 → (test : Bool) → int_eq p t.head ≡ test → IsBetween left right p
       inside p ne true is = subst (λ x. IsBetween left right x) (sym ((Decides-int_eq p t.head).0 is)) shows.head
-      inside p ne false is = shows.inside p (λ e. ne (cell-write_beside t u p (apart p is) ∙ e))
+      inside p ne false is = shows.shown.inside p (λ e. ne (cell-write_beside t u p (apart p is) ∙ e))
 
       -- each symbol is below z
       symbols : (p : ℤ) (test : Bool) → int_eq p t.head ≡ test → cell (write t u) p < z
       symbols p true is = let here : cell (write t u) p ≡ u = ap (λ x. cell (write t u) x) ((Decides-int_eq p t.head).0 is) ∙ scanned-write t u in omega arith
-      symbols p false is = let same = cell-write_beside t u p (apart p is) in let less = shows.symbols p in omega arith
+      symbols p false is = let same = cell-write_beside t u p (apart p is) in let less = shows.shown.symbols p in omega arith

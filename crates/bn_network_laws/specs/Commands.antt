@@ -20,7 +20,7 @@ use Rattle.bn_circuits.specs.Situations.{Situation, Turns}
 use Rattle.bn_rsm.specs.RunCosts.{run_cost}
 use Rattle.bn_network.specs.Cells.{line_number}
 use Rattle.bn_network.specs.Controls.{ControlState, Tape as to_tape, symbol_count, in_number, shift_line}
-use Rattle.bn_network.specs.Networks.{IsNetwork, ShowsTape, IsTape, first_cell, cells_in, left_of, cell_size}
+use Rattle.bn_network.specs.Networks.{IsNetwork, ShowsCells, ShowsTape, IsTape, first_cell, cells_in, left_of, cell_size}
 use Rattle.bn_network.specs.Moments.{head_cell}
 
 -- the right side of a tape's window; `left_of` is the left one
@@ -33,6 +33,10 @@ right_of l (suc (suc (suc t))) = l.output
 -- the cells of tape t show this tape
 abbrev pub ShowsAt : Quadruples → Limits → ℕ → List ℕ → Tape → Type 0
 ShowsAt m l t states tape = ShowsTape states (first_cell l t) (symbol_count m t) (left_of l t) (right_of l t) tape
+
+-- they show it, wherever its head is
+abbrev pub ShowsCellsAt : Quadruples → Limits → ℕ → List ℕ → Tape → Type 0
+ShowsCellsAt m l t states tape = ShowsCells states (first_cell l t) (symbol_count m t) (left_of l t) (right_of l t) tape
 
 -- the cell of its head, counted from 0
 abbrev pub head_of : Limits → ℕ → Tape → ℕ
@@ -85,14 +89,18 @@ pub record Answered (m : Quadruples) (l : Limits) (k : Circuit) (test : Situatio
   pub others : (e : ℕ) → (e < first_cell l t) ⊎ (first_cell l t + cells_in l t ≤ e)
       → slice_get last.states e ≡ slice_get s.states e
 
--- from s the signal leaves by the loose line at this side
+-- from s the signal leaves by the loose line at this side; the cells show the shifted tape, whose head has left them, and
+-- all other modules are as before
 pub record Parted (m : Quadruples) (l : Limits) (k : Circuit) (test : Situation
-    → Bool) (t : ℕ) (s : Situation) (to : Side) : Type 0 where
+    → Bool) (t : ℕ) (s : Situation) (tape : Tape) (to : Side) : Type 0 where
   pub moves : ℕ
   pub last : Situation
   pub path : Passes (Turns k) (λ x. not (test x)) moves s last
   pub cost : run_cost k moves s ≤ 8 * tape_elements m l t
   pub place : last.place ≡ loose_place m l t to
+  pub shows : ShowsCellsAt m l t last.states (shift tape (way_to to))
+  pub others : (e : ℕ) → (e < first_cell l t) ⊎ (first_cell l t + cells_in l t ≤ e)
+      → slice_get last.states e ≡ slice_get s.states e
 
 abbrev pub Commands : Type 0
 Commands =
@@ -103,4 +111,4 @@ Commands =
     → s.place ≡ Enter (first_cell l t) (line_number (symbol_count m t) command)
     → Answered m l k test t s answer after n)
     × ((to : Side) → IsBeyond (left_of l t) (right_of l t) to (moved tape.head (way_to to))
-    → s.place ≡ Enter (first_cell l t) (line_number (symbol_count m t) (shift_line to)) → Parted m l k test t s to)
+    → s.place ≡ Enter (first_cell l t) (line_number (symbol_count m t) (shift_line to)) → Parted m l k test t s tape to)

@@ -24,7 +24,7 @@ leaving_moves l t tape side.Right = head_of l t tape + 1
 -- nothing.
 pub record Departs (m : Quadruples) (l : Limits) (k : Circuit) (test : Situation
     → Bool) (t : ℕ) (s : Situation) (tape : Tape) (to : Side) : Type 0 where
-  pub parted : Parted m l k test t s to
+  pub parted : Parted m l k test t s tape to
   pub moves : parted.moves ≡ leaving_moves l t tape to
   pub whole : run_cost k (parted.moves + 1) s ≤ 8 * tape_elements m l t
 

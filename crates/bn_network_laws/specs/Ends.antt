@@ -1,17 +1,17 @@
 -- How a run of the network ends, for each reason for which the machine of quadruples goes on no more.
-use Rattle.std.specs.Prelude.{◌≡◌, ℕ, zero, suc, ◌+◌, ◌-◌, ◌<◌, List, [], ◌∷◌, Some}
+use Rattle.std.specs.Prelude.{◌≡◌, ℕ, zero, suc, ◌+◌, ◌-◌, ◌<◌, nat_le, if◌then◌else◌, List, [], ◌∷◌, Some}
 use Rattle.bn_circuits.specs.declared.place.Place.TheVariants.{Enter, Left}
-use Rattle.bn_machine.specs.Tape.{Tape, scanned, write}
+use Rattle.bn_machine.specs.Tape.{Tape, scanned, shift, write}
 use Rattle.bn_machine.specs.Outcome.{Limits}
 use Rattle.bn_machine.specs.declared.quint.Side.TheVariants as side
 use Rattle.bn_lists.specs.Lists.{nth}
-use Rattle.bn_quad.specs.Quadruples.{Rule, Configuration, Quadruples}
+use Rattle.bn_quad.specs.Quadruples.{Deed, Move, Rewrite, Rule, Configuration, Quadruples, Follows}
 use Rattle.bn_bennett_laws.specs.Steps.{Exit, Finished, Stopped, Leaving}
 use Rattle.bn_network.specs.declared.cell_line.CellLine.TheVariants.{TakeRight, TakeLeft, Answer, Read}
 use Rattle.bn_circuits.specs.Situations.{Situation}
 use Rattle.bn_network.specs.Cells.{line_number}
 use Rattle.bn_network.specs.Controls.{reads_of, ControlState, End, Reads, Tape as to_tape, IsEntry, symbol_count, in_number}
-use Rattle.bn_network.specs.Networks.{ShowsTapes, IsControlAt, first_cell, cells_in, IsTape}
+use Rattle.bn_network.specs.Networks.{ShowsTapes, ShowsAllCells, IsControlAt, first_cell, cells_in, IsTape}
 
 -- a configuration's tape, counted from 1
 abbrev pub tape_of : Configuration ℕ → ℕ → Tape
@@ -31,6 +31,30 @@ put_tape c (suc (suc (suc t))) x = record { state = c.state; one = c.one; two = 
 abbrev pub taken_from : Configuration ℕ → ℕ → Configuration ℕ
 taken_from c t = put_tape c t (write (tape_of c t) 0)
 
+-- a tape after a deed's read: the symbol that it reads has been taken off
+abbrev pub read_by : Deed → Tape → Tape
+read_by (Rewrite read written) x = write x 0
+read_by (Move s) x = x
+
+-- a tape after a deed's shift
+abbrev pub shift_by : Deed → Tape → Tape
+shift_by (Rewrite read written) x = x
+shift_by (Move s) x = shift x s
+
+-- tape t after the reads of a step, and after the shifts of the tapes up to this one
+abbrev pub shifted_to : ℕ → ℕ → Deed → Tape → Tape
+shifted_to last t d x = if nat_le t last then shift_by d (read_by d x) else read_by d x
+
+-- The tapes where the head of tape t leaves its window within a step by this quadruple: all that it reads has been
+-- taken off, the tapes up to t have been shifted, and nothing has been written.
+abbrev pub left_at : ℕ → Rule ℕ → Configuration ℕ → Configuration ℕ
+left_at t r c = record {
+  state = c.state;
+  one = shifted_to t 1 r.one c.one;
+  two = shifted_to t 2 r.two c.two;
+  three = shifted_to t 3 r.three c.three;
+}
+
 -- The machine is stuck at its first read: the first command of the state reads tape t, and no quadruple that leaves the
 -- state reads there first what stands there. Nothing is said of a stop at a later read.
 pub record IsStoppedAt (m : Quadruples) (c : Configuration ℕ) (t : ℕ) : Type 0 where
@@ -39,9 +63,10 @@ pub record IsStoppedAt (m : Quadruples) (c : Configuration ℕ) (t : ℕ) : Type
   pub none : (n : ℕ) (r : Rule ℕ) (rest : List (ℕ × ℕ)) → nth m.rules n ≡ Some r → r.from ≡ c.state
       → reads_of r ≡ (t, scanned (tape_of c t)) ∷ rest → ⊥
 
--- how the network's run ends: by the control's line to the outside, with the tapes shown; at the control, with an
--- answer to its first read for which it has no move, and the tapes shown but for the symbol that was read; by the last
--- or by the first cell of a tape
+-- How the network's run ends: by the control's line to the outside, with the tapes shown; at the control, with an answer
+-- to its first read for which it has no move, and the tapes shown but for the symbol that was read; by the last or by the
+-- first cell of a tape, with the tapes shown as they are within the step of which that shift is a part, so that the head
+-- of this tape is in no cell.
 pub data EndsBy (m : Quadruples) (l : Limits) (names : List ControlState) (s : Situation) (c : Configuration ℕ) : Exit
     → Type 0 where
   by_end : s.place ≡ Left 0 0 → IsControlAt names s.states End → ShowsTapes m l s.states c
@@ -51,8 +76,10 @@ pub data EndsBy (m : Quadruples) (l : Limits) (names : List ControlState) (s : S
       → ShowsTapes m l s.states (taken_from c t) → EndsBy m l names s c Stopped
   by_right : (t : ℕ) → IsTape t
       → s.place ≡ Left (first_cell l t + (cells_in l t - 1)) (line_number (symbol_count m t) TakeRight)
+      → (d : Configuration ℕ) (step : Follows m.rules c d) → ShowsAllCells m l s.states (left_at t step.leads.rule c)
       → EndsBy m l names s c (Leaving t side.Right)
   by_left : (t : ℕ) → IsTape t → s.place ≡ Left (first_cell l t) (line_number (symbol_count m t) TakeLeft)
+      → (d : Configuration ℕ) (step : Follows m.rules c d) → ShowsAllCells m l s.states (left_at t step.leads.rule c)
       → EndsBy m l names s c (Leaving t side.Left)
 
 -- the reasons of which the law on the last moment speaks: all but a stop at a later read

@@ -18,7 +18,7 @@ use Rattle.bn_board.specs.declared.exit.Exit.{Exit}
 use Rattle.bn_board.specs.declared.exit.Exit.TheVariants as exit
 use Rattle.bn_board.specs.declared.spelled.Spelled.{Spelled}
 use Rattle.bn_board.specs.declared.spelled.SpelledTape.{SpelledTape}
-use Rattle.bn_board.specs.Layouts.{IsNamedExit, moments, spelled_tape, config_tape, inside}
+use Rattle.bn_board.specs.Layouts.{IsNamedExit, moments, spelled_by, spelled_tape, spelled_tapes, tape_in, inside}
 use Rattle.bn_board.specs.Flats.{Flat, IsFlatOf, flat_start}
 use Rattle.bn_board.specs.LayoutLaws.{ExitsAreOne}
 use Rattle.bn_board.specs.Boards.{size}
@@ -73,17 +73,14 @@ module _ (t : Named) (p : Program) (symbols : List ℕ) (l : Limits) (f : Flat) 
       k ≡ moments f.layout f.circuit d.steps (flat_start f) → rest_text t f d (k - 1) exit.End ≡ outcome_rest t l symbols f cost i (outcome.Halted y)
   end_told i y cost k d shown comes count =
       let spells = shown.0.spells in
-      let one : spelled_tape f.layout d.states 1 ≡ config_tape l 1 (word_tape symbols) = ap (λ (s : Spelled). s.one) spells
-      ∙ (λ j. config_tape (flat.limits_are j) 1 (word_tape (flat.word_is j))) in
-      let two : spelled_tape f.layout d.states 2 ≡ config_tape l 2 blank_tape = ap (λ (s : Spelled). s.two) spells
-      ∙ (λ j. config_tape (flat.limits_are j) 2 blank_tape) in
-      let three : spelled_tape f.layout d.states 3 ≡ config_tape l 3 (word_tape y) = ap (λ (s : Spelled). s.three) spells
-      ∙ (λ j. config_tape (flat.limits_are j) 3 (word_tape y)) in
+      let tapes : spelled_by f.layout d.states ≡ spelled_tapes l (word_tape symbols, blank_tape, word_tape y) = spells
+      ∙ (λ j. spelled_tapes (flat.limits_are j) (word_tape (flat.word_is j), blank_tape, word_tape y)) in
+      let three : spelled_tape f.layout d.states 3 ≡ tape_in 0 (l.output + 1) (word_tape y) = ap (λ (s : Spelled). s.three) tapes in
       let fits = halted_fits p symbols l i y comes in
       let output : output_from (drop 1 (spelled_tape f.layout d.states 3).cells) ≡ y = ap (λ (s : SpelledTape). output_from (drop 1 s.cells)) three
       ∙ output-read l y fits.0 fits.1 in
       let steps : k - 1 ≡ 4 * i + 4 * length y + 5 = one_less k (4 * i + 4 * length y) (count ∙ shown.1) in
-      λ j. quadruple_line (steps j) ++ (tape_lines t (one j) (two j) (three j) ++ output_line t (output j))
+      λ j. quadruple_line (steps j) ++ (tape_lines t (tapes j).one (tapes j).two (tapes j).three ++ output_line t (output j))
     where
       one_less : (a b : ℕ) → a ≡ b + 6 → a - 1 ≡ b + 5
       one_less a b e = omega arith

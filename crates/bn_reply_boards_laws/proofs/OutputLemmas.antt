@@ -9,7 +9,7 @@ use Rattle.bn_machine.proofs.TapeLemmas.{cell-word}
 use Rattle.bn_machine.specs.Machine.{Program, Moment}
 use Rattle.bn_machine.specs.Outcome as outcome
 use Rattle.bn_machine.specs.Outcome.{Limits, HasOutcome, ComesOut, halts, sticks, runs_out, leaves, copied, work_short, output_short}
-use Rattle.bn_board.specs.Layouts.{config_tape}
+use Rattle.bn_board.specs.Layouts.{tape_in}
 use Rattle.bn_reply_boards_laws.specs.RunText.{output_from}
 
 blank_first : (v : ℕ) (cs : List (Option ℕ)) → v ≡ 0 → output_from (Some v ∷ cs) ≡ []
@@ -43,7 +43,7 @@ output_shown g (y ∷ ys) a (suc n) within each some blank =
 
 -- the output on tape 3 is read off its cells
 pub output-read : (l : Limits) (y : List ℕ) → length y ≤ l.output → ((k : ℕ) → k < length y → slice_index y k ≢ 0) →
-    output_from (drop 1 (config_tape l 3 (word_tape y)).cells) ≡ y
+    output_from (drop 1 (tape_in 0 (l.output + 1) (word_tape y)).cells) ≡ y
 output-read l y within some =
     let more : l.output + 1 ≡ suc l.output = omega arith in
     ap (λ n. output_from (drop 1 (map (λ j. Some (shown j)) (range_with_len 0 n)))) more

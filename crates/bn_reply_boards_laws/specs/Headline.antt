@@ -11,7 +11,6 @@ use Rattle.bn_net.specs.declared.net.TheConstants.{MOST_ELEMENTS}
 use Rattle.bn_table.specs.Rows.{Named}
 use Rattle.bn_board.specs.Boards.{size}
 use Rattle.bn_board.specs.declared.exit.Exit.TheVariants as exit
-use Rattle.bn_board.specs.Layouts.{config_tape}
 use Rattle.bn_board.specs.Flats.{Flat}
 use Rattle.bn_board.specs.Costs.{HasCost, bound_of}
 use Rattle.bn_board_laws.specs.Headline.{RunsToExit}
@@ -23,7 +22,7 @@ use Rattle.bn_reply.specs.declared.status.Status.TheVariants as statuses
 use Rattle.bn_network.specs.Limits.{AreSmall}
 use Rattle.bn_reply_boards_laws.specs.Windows.{ComesTo, CountsElements}
 use Rattle.bn_reply_boards_laws.specs.RunText.{elements_line, output_line, quadruple_line, run_text, shown_lines}
-use Rattle.bn_reply_boards_laws.specs.RunText.{steps_line, stuck_line, tape_lines, window_line}
+use Rattle.bn_reply_boards_laws.specs.RunText.{steps_line, stuck_line, tapes_text, window_line}
 use Rattle.bn_reply_boards_laws.specs.RunReply.{board_after}
 use Rattle.bn_reply.specs.declared.limits.TheConstants.{MOST_INPUT_BYTES}
 
@@ -47,8 +46,7 @@ outcome_status (outcome.Outside n s) = statuses.Window
 abbrev pub outcome_rest : Named → Limits → List ℕ → Flat → ℕ → ℕ → Outcome → List ℕ
 outcome_rest t l symbols f cost i (outcome.Halted y) =
     quadruple_line (4 * i + 4 * length y + 5)
-    ++ (tape_lines t (config_tape l 1 (word_tape symbols)) (config_tape l 2 blank_tape) (config_tape l 3 (word_tape y))
-    ++ output_line t y)
+    ++ (tapes_text t l (word_tape symbols, blank_tape, word_tape y) ++ output_line t y)
 outcome_rest t l symbols f cost i _ = shown_lines t f (board_after f cost).states
 
 -- The text and the status are those of the outcome, and the steps are the board's cost, which is within its bound.

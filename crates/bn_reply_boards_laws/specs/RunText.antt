@@ -1,8 +1,10 @@
 -- The text of a run of a board (this project's own profile): what the configuration shows to which the run has come.
-use Rattle.std.specs.Prelude.{ℕ, zero, suc, ◌==◌, if◌then◌else◌, drop, ℤ, pos, negsuc, List, [], ◌∷◌, ◌++◌}
+use Rattle.std.specs.Prelude.{ℕ, ◌+◌, zero, suc, ◌==◌, if◌then◌else◌, drop, ℤ, pos, negsuc, List, [], ◌∷◌, ◌++◌}
 use Rattle.std.specs.Prelude.{Option, Some, None, codes, decimal, slice_index_or}
 use Rattle.bn_circuits.specs.declared.place.Place.{Place}
 use Rattle.bn_circuits.specs.declared.config.Config.{Config}
+use Rattle.bn_machine.specs.Outcome.{Limits}
+use Rattle.bn_machine.specs.Tape.{Tape}
 use Rattle.bn_machine.specs.declared.quint.Side.{Side}
 use Rattle.bn_machine.specs.declared.quint.Side.TheVariants as side
 use Rattle.bn_netlist_laws.specs.Sentences.{line_of_place, line_text}
@@ -15,7 +17,7 @@ use Rattle.bn_board.specs.Boards.{size}
 use Rattle.bn_board.specs.declared.exit.Exit.{Exit}
 use Rattle.bn_board.specs.declared.exit.Exit.TheVariants.{Inside, End, Stuck, Window, Unnamed}
 use Rattle.bn_board.specs.declared.spelled.SpelledTape.{SpelledTape}
-use Rattle.bn_board.specs.Layouts.{spelled_tape}
+use Rattle.bn_board.specs.Layouts.{spelled_tape, tape_in}
 use Rattle.bn_board.specs.Flats.{Flat}
 use Rattle.bn_reply.specs.Lines.{line}
 use Rattle.bn_reply.specs.Words.{letters_of}
@@ -85,6 +87,12 @@ tape_line t tape s =
 -- the lines of three tapes
 abbrev pub tape_lines : Named → SpelledTape → SpelledTape → SpelledTape → List ℕ
 tape_lines t one two three = tape_line t 1 one ++ tape_line t 2 two ++ tape_line t 3 three
+
+-- the lines of three tapes, as the cells of a window spell them
+abbrev pub tapes_text : Named → Limits → (Tape × Tape × Tape) → List ℕ
+tapes_text t l x =
+    tape_line t 1 (tape_in l.left (l.left + l.right + 1) x.0) ++ tape_line t 2 (tape_in 0 (l.steps + 1) x.1)
+    ++ tape_line t 3 (tape_in 0 (l.output + 1) x.2)
 
 -- the longest word without blanks at the front of these cells
 abbrev pub output_from : List (Option ℕ) → List ℕ

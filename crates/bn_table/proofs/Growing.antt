@@ -13,7 +13,8 @@ use Rattle.bn_csv.proofs.AddedLemmas.{front, new_all, new_grows}
 use Rattle.bn_machine.specs.Machine.{IsInRange}
 use Rattle.bn_machine.specs.declared.quint.Quint.{Quint}
 use Rattle.bn_table.specs.Entry.{HasForms, Said, entry_of}
-use Rattle.bn_table.specs.Rows.{SpellsQuintuples, blank, letters_in, names_in, rows_by, said_of, with_letter}
+use Rattle.bn_table.specs.Rows.{SpellsQuintuples, blank, letters_in, names_in, rows_by, with_letter}
+use Rattle.bn_table.proofs.SaidLemmas.{said_of}
 use Rattle.bn_csv.specs.Entries.{field_at}
 
 -- the entries of quintuples stay when names and letters are added

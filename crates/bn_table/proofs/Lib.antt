@@ -1,3 +1,4 @@
+pub mod SaidLemmas
 pub mod RowsLemmas
 pub mod Bounds
 pub mod Growing

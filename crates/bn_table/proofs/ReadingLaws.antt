@@ -18,7 +18,8 @@ use Rattle.bn_machine.specs.declared.quint.Quint.{Quint}
 use Rattle.bn_table.specs.Entry.{Said, HasForms, entry_of}
 use Rattle.bn_machine.specs.Shifts.{shift_text}
 use Rattle.bn_table.specs.Faults.{entry_fault, table_fault}
-use Rattle.bn_table.specs.Rows.{IsTableOf, Named, SpellsQuintuples, blank, letters_in, named_program, names_in, rows_by, said_of, with_letter}
+use Rattle.bn_table.specs.Rows.{IsTableOf, Named, SpellsQuintuples, blank, letters_in, named_program, names_in, rows_by, with_letter}
+use Rattle.bn_table.proofs.SaidLemmas.{said_of}
 use Rattle.bn_table.specs.declared.entry.TheConstants.{MOST_ENTRIES}
 use Rattle.bn_table.specs.declared.refusal.TableRefusal.TheVariants as refusal
 use Rattle.bn_table.proofs.Growing.{Adds, spells-more, spells-none}

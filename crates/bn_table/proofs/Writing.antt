@@ -13,7 +13,8 @@ use Rattle.bn_machine.specs.declared.quint.Shift.TheVariants.{Left, Stay, Right}
 use Rattle.bn_table.specs.Entry.{Said, HasForms, entry_of}
 use Rattle.bn_machine.specs.Shifts.{shift_text}
 use Rattle.bn_table.specs.Reading.{Reads}
-use Rattle.bn_table.specs.Rows.{IsTable, IsTableOf, Named, rows_by, rows_of, said_of}
+use Rattle.bn_table.specs.Rows.{IsTable, IsTableOf, Named, rows_by, rows_of}
+use Rattle.bn_table.proofs.SaidLemmas.{said_of}
 use Rattle.bn_table.proofs.ReadingLaws.{row-forms}
 
 pub plain_shift : (s : Shift) → is_plain (shift_text s) ≡ true

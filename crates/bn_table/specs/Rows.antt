@@ -1,14 +1,13 @@
 -- Tables of quintuples and their entries (this project's own profile).
 use Rattle.std.specs.Prelude.{◌≡◌, ℕ, ◌<◌, ◌≤◌, ◌∷◌, ◌++◌, [], List, true, length, map, All, if◌then◌else◌}
-use Rattle.std.specs.Prelude.{◌*◌, nat_eq, slice_index, slice_index_or}
+use Rattle.std.specs.Prelude.{◌*◌, bytes_eq, nat_eq, slice_index, slice_index_or}
 use Rattle.std.specs.List.{flat_map, list_all, list_any}
 use Rattle.bn_csv.specs.Forms.{is_state_name, is_symbol_byte}
-use Rattle.bn_csv.specs.Numbering.{AreNumberedByFirst, firsts, firsts_by}
+use Rattle.bn_csv.specs.Numbering.{AreNumberedByFirst, firsts_by}
 use Rattle.bn_machine.specs.Machine.{IsInRange, Program}
 use Rattle.bn_machine.specs.declared.quint.Quint.{Quint}
-use Rattle.bn_table.specs.Entry.{Said, entry_of}
+use Rattle.bn_machine.specs.Shifts.{shift_text}
 use Rattle.bn_table.specs.declared.entry.TheConstants.{MOST_ENTRIES}
-use Rattle.bn_csv.specs.Entries.{field_at}
 
 -- a machine whose states have names and whose symbols have letters, each by its number
 pub record Named : Type 0 where
@@ -19,19 +18,15 @@ pub record Named : Type 0 where
 abbrev pub named_program : Program → List (List ℕ) → List ℕ → Named
 named_program p names letters = record { machine = p; names = names; letters = letters }
 
--- what a quintuple's entry says, by the names of its states and the letters of its symbols
-abbrev pub said_of : List (List ℕ) → List ℕ → Quint → Said
-said_of names letters q = record {
-  state = slice_index_or names q.state [];
-  read = slice_index letters q.read;
-  write = slice_index letters q.write;
-  shift = q.shift;
-  next = slice_index_or names q.next [];
-}
+-- the entry of a quintuple, in five fields, by the names of its states and the letters of its symbols
+abbrev pub quintuple_entry : List (List ℕ) → List ℕ → Quint → List (List ℕ)
+quintuple_entry names letters q =
+    slice_index_or names q.state [] ∷ (slice_index letters q.read ∷ []) ∷ (slice_index letters q.write ∷ [])
+    ∷ shift_text q.shift ∷ slice_index_or names q.next [] ∷ []
 
 -- the entries of quintuples, one for each, in their order
 abbrev pub rows_by : List (List ℕ) → List ℕ → List Quint → List (List (List ℕ))
-rows_by names letters quints = map (λ q. entry_of (said_of names letters q)) quints
+rows_by names letters quints = map (quintuple_entry names letters) quints
 
 -- the entries of a table
 abbrev pub rows_of : Named → List (List (List ℕ))
@@ -39,11 +34,11 @@ rows_of t = rows_by t.names t.letters t.machine.quints
 
 -- the names of states in entries, in the order in which they appear: in each entry its first field, then its last
 abbrev pub names_in : List (List (List ℕ)) → List (List ℕ)
-names_in entries = flat_map (λ fields. field_at fields 0 ∷ field_at fields 4 ∷ []) entries
+names_in entries = flat_map (λ e. slice_index_or e 0 [] ∷ slice_index_or e 4 [] ∷ []) entries
 
 -- the letters in entries, in the order in which they appear: in each entry its second field, then its third
 abbrev pub letters_in : List (List (List ℕ)) → List ℕ
-letters_in entries = flat_map (λ fields. field_at fields 1 ++ field_at fields 2) entries
+letters_in entries = flat_map (λ e. slice_index_or e 1 [] ++ slice_index_or e 2 []) entries
 
 -- the blank's letter, `_`
 abbrev pub blank : ℕ
@@ -56,7 +51,7 @@ pub record SpellsQuintuples
     (names : List (List ℕ)) (letters : List ℕ) (quints : List Quint) (entries : List (List (List ℕ))) : Type 0 where
   pub rows : rows_by names letters quints ≡ entries
   pub in_range : All (IsInRange (length names) (length letters)) quints
-  pub names_by_first : names ≡ firsts (names_in entries)
+  pub names_by_first : names ≡ firsts_by bytes_eq (names_in entries)
   pub letters_by_first : letters ≡ firsts_by nat_eq (blank ∷ letters_in entries)
   pub names_form : list_all is_state_name names ≡ true
   pub letters_form : list_all is_symbol_byte letters ≡ true

@@ -7,7 +7,7 @@ ghost use Rattle.bn_machine.specs.Machine.{IsInRange};
 ghost use Rattle.bn_table.specs.Entry.{HasForms, entry_of, said};
 ghost use Rattle.bn_table.specs.Faults.{table_fault};
 ghost use Rattle.bn_table.specs.Reading.{Reads};
-ghost use Rattle.bn_table.specs.Rows.{IsTable, rows_of, said_of};
+ghost use Rattle.bn_table.specs.Rows.{IsTable, quintuple_entry, rows_of};
 ghost use Rattle.bn_table.specs.declared.refusal.TableRefusal.TheVariants as refusal;
 
 use crate::draft::{into_table, new_draft};
@@ -65,7 +65,7 @@ fn write_quint(writer: &mut EntryWriter, table: &Table, quint: &Quint) -> Result
     requires table { IsTable table.now }
     requires range { IsInRange table.now.machine.states table.now.machine.symbols quint.now }
     ensures { OnOk result (writer.new
-        ≡ writer.old ++ line_of (entry_of (said_of table.now.names table.now.letters quint.now))) }
+        ≡ writer.old ++ line_of (quintuple_entry table.now.names table.now.letters quint.now)) }
 {
     write_row(
         writer,

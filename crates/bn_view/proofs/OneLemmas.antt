@@ -43,7 +43,7 @@ use Rattle.bn_view.specs.Viewed.{Comes}
 use Rattle.bn_view.specs.Laws.{ShownIsFound, ViewsAreOne, ViewsAreThere, ViewsStand}
 use Rattle.bn_view.proofs.ModuleLemmas.{modules-one}
 use Rattle.bn_view.proofs.ShownLemmas.{neither_less, shown-one, shown-there}
-use Rattle.bn_view.proofs.StandingLemmas.{no_longer}
+use Rattle.bn_view.proofs.StandingLemmas.{history_head, no_longer}
 use Rattle.bn_view.proofs.ViewLemmas.{one_position}
 
 -- ---- one view
@@ -195,7 +195,7 @@ module _ (exits : ExitsAreOne) (read : BoardsRead) (boards : BoardsRunToTheirExi
           tapes = refl;
           stage = refl;
           machine = refl;
-          machine_step = ap (λ (s : Spelled). s.two.head) m.spells ∙ ap Some m.head;
+          machine_step = ap (λ (s : Spelled). s.two.head) m.spells ∙ history_head f.limits m.config m.step m.head m.inside;
         },
       )
     where

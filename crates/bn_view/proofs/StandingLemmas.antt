@@ -1,7 +1,8 @@
 -- What is shown stands for the machine, and is found by the layout.
-use Rattle.std.specs.Prelude.{◌≡◌, ℕ, ◌<◌, ◌≤◌, All, List, slice_get, slice_index, ◌⊎◌, refl}
+use Rattle.std.specs.Prelude.{◌≡◌, ℕ, ◌+◌, ◌<◌, ◌≤◌, pos, All, List, Some, slice_get, slice_index, ◌⊎◌, refl}
 use Rattle.std.proofs.Common.{arith, sym, ap, subst, ◌∙◌, inl, inr}
 use Rattle.std.proofs.lemmas.Bool.{cases_lt}
+use Rattle.std.proofs.lemmas.Int.{ints}
 use Rattle.bn_lists.specs.Runs.{Reaches}
 use Rattle.bn_circuits.specs.Circuits.{Circuit, Goes, IsStuck}
 use Rattle.bn_circuits.proofs.StepLemmas.{slice_get-set_other}
@@ -12,6 +13,7 @@ use Rattle.bn_circuits.specs.declared.place.Place.TheVariants.{Enter}
 use Rattle.bn_circuits.specs.declared.config.Config.{Config}
 use Rattle.bn_circuits.proofs.RunPartLemmas.{steps_of_run}
 use Rattle.bn_machine.specs.Machine.{Program}
+use Rattle.bn_machine.specs.Window.{IsBetween}
 use Rattle.bn_machine.specs.Outcome.{Limits, Outcome}
 use Rattle.bn_machine.proofs.OutcomeLemmas.{outcome_exists}
 use Rattle.bn_quad.specs.Quadruples.{Configuration, initial_of}
@@ -24,12 +26,14 @@ use Rattle.bn_bennett.specs.Translation.{name_of}
 use Rattle.bn_network.specs.Controls.{symbol_count}
 use Rattle.bn_network.specs.Moments.{HasLetters}
 use Rattle.bn_network.specs.Networks.{ShowsTapes}
-use Rattle.bn_network_laws.proofs.ShownLemmas.{shown_beside}
+use Rattle.bn_network_laws.proofs.ShownLemmas.{all_cells, shown_beside}
 use Rattle.bn_network_laws.specs.NetworkLaws.{FirstMoment}
 use Rattle.bn_board.proofs.LetterLemmas.{letters_are, some_letters}
 use Rattle.bn_board.proofs.ReadingLemmas.{own_accepted, own_flat}
 use Rattle.bn_board.specs.Flats.{Flat, IsAccepted, IsFlatOf, flat_start, machine_of, situation_at_start}
 use Rattle.bn_board.specs.LayoutLaws.{BoardsRead}
+use Rattle.bn_board.specs.Layouts.{spelled_config}
+use Rattle.bn_board.proofs.ShownHeadLemmas.{shown_inside}
 use Rattle.bn_board_laws.specs.Headline.{RunsToExit, BoardSpells}
 use Rattle.bn_board_laws.specs.HeadlineLaws.{BoardsRunToTheirExit}
 use Rattle.bn_board_laws.specs.Moments.{BoardsHaveMoments, HasMoments}
@@ -38,6 +42,13 @@ use Rattle.bn_view.specs.Viewed.{Comes, Finds, MachineIsAt}
 use Rattle.bn_view.specs.Laws.{ShownIsFound, StandsForMachine, ViewsStand}
 use Rattle.bn_view.proofs.MachineLemmas.{IsCounted, counted}
 use Rattle.bn_view.proofs.ShownLemmas.{shown-agrees}
+
+-- ---- where the head of the history is shown
+
+pub history_head : (l : Limits) (c : Configuration ℕ) (i : ℕ) → c.two.head ≡ pos i → i ≤ l.steps → (spelled_config l c).two.head ≡ Some (pos i)
+history_head l c i is low =
+    shown_inside 0 l.steps (l.steps + 1) c.two (omega arith) (record { above = omega (arith, ints); below = omega (arith, ints) })
+    ∙ ap (λ p. Some p) is
 
 -- ---- runs that end
 
@@ -86,7 +97,8 @@ module _ (uniform : TranslationsAreUniform) (first : FirstMoment) (boards : Boar
       let end : path.0 ≡ found.0 = path.3 in
       let shows : ShowsTapes m f.limits path.0.states (beginning_of f.translation f.word) = subst (λ (s : Situation). ShowsTapes m f.limits s.states (beginning_of f.translation f.word)) (sym end) found.2.shows in
       read.1.spells (situation_at_start f) (flat_start f) (beginning_of f.translation f.word) read.1.starts
-      (shown_beside m f.limits path.0.states (situation_at_start f).states (beginning_of f.translation f.word) shows (others_stay f.network (situation_at_start f) path.0 0 path.1 refl))
+      (all_cells m f.limits (situation_at_start f).states (beginning_of f.translation f.word)
+      (shown_beside m f.limits path.0.states (situation_at_start f).states (beginning_of f.translation f.word) shows (others_stay f.network (situation_at_start f) path.0 0 path.1 refl)))
 
 -- ---- what is shown
 
@@ -132,8 +144,8 @@ shown-found boards have p word l f flat accepted t s a d path = (
 
 module _ (stand : TranslationsStand) (p : Program) (word : List ℕ) (l : Limits) (f : Flat) (flat : IsFlatOf p word l f) (accepted : IsAccepted p word l f) where
   shows : (s a n : ℕ) (c : Configuration ℕ) → Runs f.translation f.word (rooms_of f.limits) n c → c.state ≡ a → BoardSpells f (run f.circuit (flat_start f) s).states c
-      → StandsForMachine p word f s a
-  shows s a n c runs state spells =
+      → IsBetween 0 f.limits.steps c.two.head → StandsForMachine p word f s a
+  shows s a n c runs state spells inside =
       let by_word : Runs f.translation word (rooms_of f.limits) n c = subst (λ (w : List ℕ). Runs f.translation w (rooms_of f.limits) n c) flat.word_is runs in
       let stands : Stands p word (in_state (name_of f.translation) c) = (stand p f.translation word accepted.standard flat.translation accepted.letters).0 (rooms_of f.limits) n c by_word in
       let count : IsCounted p word f.translation.final_state (in_state (name_of f.translation) c) = counted p word f.translation.final_state flat.translation.final_state (in_state (name_of f.translation) c) stands in
@@ -144,6 +156,7 @@ module _ (stand : TranslationsStand) (p : Program) (word : List ℕ) (l : Limits
         stands = stands;
         step = count.step;
         head = count.head;
+        inside = let below = inside.below in let at = count.head in omega (arith, ints);
         at = subst (λ x. MachineIsAt p word count.step (machine_state_by f.translation.final_state (name_of f.translation x))) state count.at;
       }
 
@@ -152,8 +165,9 @@ views-stand uniform stand first read boards have p word l f flat accepted t s a 
     let most = in_run boards have p word l f flat accepted t d path in
     let ran = (the_run boards have p word l f flat accepted).runs in
     let m = ((own_moments boards have p word l f flat accepted).sums ran.cost s a ran.has_cost (omega arith)).0 here in
-    shows stand p word l f flat accepted s a m.steps m.config m.runs m.state m.spells
+    shows stand p word l f flat accepted s a m.steps m.config m.runs m.state m.spells m.shows.shows.two.head
 views-stand uniform stand first read boards have p word l f flat accepted t s a d path (start is begins none) =
     let there : flat_start f ≡ run f.circuit (flat_start f) s = sym (run-zero f.circuit (flat_start f)) ∙ ap (run f.circuit (flat_start f)) (sym is) in
     shows stand p word l f flat accepted s a 0 (beginning_of f.translation f.word) refl (sym begins)
     (subst (λ (x : Config). BoardSpells f x.states (beginning_of f.translation f.word)) there (starts_spell uniform first read p word l f flat accepted))
+    (record { above = omega (arith, ints); below = omega (arith, ints) })

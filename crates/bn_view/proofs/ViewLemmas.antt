@@ -30,6 +30,7 @@ use Rattle.bn_view.specs.Laws.{ShownIsFound, StandsForMachine, ViewsStand}
 use Rattle.bn_view.specs.declared.viewer.LastMoment.{LastMoment}
 use Rattle.bn_view.specs.declared.layers.Layers.{Layers}
 use Rattle.bn_view.proofs.BackLemmas.{FindsOn, board_ran}
+use Rattle.bn_view.proofs.StandingLemmas.{history_head}
 
 -- the initial state is one of the machine's
 initial_low : (m : Quadruples) → IsQuadMachine m → (rs : List (Rule ℕ)) → m.rules ≡ rs → initial_of rs < m.states
@@ -83,13 +84,13 @@ module _ (p : Program) (word : List ℕ) (l : Limits) (f : Flat) (t : Translatio
           → (i : ℕ) × ((spelled_by b.layout (run (rotary_circuit b.net) (origin b) s).states).two.head ≡ Some (pos i))
       head_there s a h =
           let m = machine_at s a h in
-          (m.step, ap (λ (x : Spelled). x.two.head) (spelled_is s ∙ m.spells) ∙ ap Some m.head)
+          (m.step, ap (λ (x : Spelled). x.two.head) (spelled_is s ∙ m.spells) ∙ history_head f.limits m.config m.step m.head m.inside)
 
       pub shows_machine : (v : Layers) → IsView t b v → ShowsMachine p word l t v
       shows_machine v view =
           let m = machine_at view.step v.state view.shown in
           let step : m.step ≡ v.machine_step = one_position v.tapes.two.head m.step v.machine_step
-          (ap (λ (x : Spelled). x.two.head) (view.tapes ∙ spelled_is view.step ∙ m.spells) ∙ ap Some m.head) view.machine_step in
+          (ap (λ (x : Spelled). x.two.head) (view.tapes ∙ spelled_is view.step ∙ m.spells) ∙ history_head f.limits m.config m.step m.head m.inside) view.machine_step in
           let state : machine_state_by f.translation.final_state (name_of f.translation v.state) ≡ v.machine =
           ap (λ (x : Translation). machine_state_by x.final_state (name_of x v.state)) is.translation ∙ sym view.machine in
           record {

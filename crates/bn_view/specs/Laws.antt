@@ -1,5 +1,5 @@
 -- What the laws of this crate say, each the contract of a function that only names the laws below it.
-use Rattle.std.specs.Prelude.{◌≡◌, ◌↔◌, ℕ, pos, List}
+use Rattle.std.specs.Prelude.{◌≤◌, ◌≡◌, ◌↔◌, ℕ, pos, List}
 use Rattle.bn_lists.specs.Runs.{Reaches}
 use Rattle.bn_circuits.specs.Circuits.{Circuit, Goes}
 use Rattle.bn_circuits.specs.Stepping.{run}
@@ -59,6 +59,7 @@ pub record StandsForMachine (p : Program) (word : List ℕ) (f : Flat) (s a : �
   pub stands : Stands p word (in_state (name_of f.translation) config)
   pub step : ℕ
   pub head : config.two.head ≡ pos step
+  pub inside : step ≤ f.limits.steps
   pub at : MachineIsAt p word step (machine_state_by f.translation.final_state (name_of f.translation a))
 
 -- in every configuration reached from the start, what is shown stands for the machine

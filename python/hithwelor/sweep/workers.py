@@ -6,6 +6,7 @@ hands out batches that take about its `target` of seconds, so that handing them 
 the answers in order.
 """
 import contextlib
+import ctypes
 import logging
 import math
 import multiprocessing
@@ -26,6 +27,10 @@ GROWTH = 8
 MOST_GROUPS = 50_000
 MOST_BREAKS = 3
 PATIENCE, EVERY, LOOK = 20, 2, 1
+# Two settings of the C library's malloc by their numbers, and what they are given: the greatest that the first one takes,
+# and enough for the second one not to matter.
+M_TRIM_THRESHOLD, M_MMAP_THRESHOLD = -1, -3
+LARGE, KEPT = 1 << 25, 1 << 30
 
 
 class Local:
@@ -93,6 +98,21 @@ class Local:
                 end.close()
 
 
+def keep_memory():
+    """Lets the C library keep what is freed for the next answer, as it does by itself. Dask starts its workers with a variable
+    by which it gives back all above 64 KB, so that each answer would be given its memory anew, page by page."""
+    with contextlib.suppress(AttributeError, OSError):
+        mallopt = ctypes.CDLL(None).mallopt
+        mallopt(M_MMAP_THRESHOLD, LARGE)
+        mallopt(M_TRIM_THRESHOLD, KEPT)
+
+
+def work_there(batch):
+    """Answers a batch: what a worker of a cluster does."""
+    keep_memory()
+    return work(batch)
+
+
 class Cluster:
     """The workers of a Dask scheduler. One that dies has its batches made by the others: the scheduler sees to that."""
 
@@ -127,7 +147,7 @@ class Cluster:
 
     def submit(self, batch):
         with self.there():
-            return self.client.submit(work, batch, pure=False)
+            return self.client.submit(work_there, batch, pure=False)
 
     def result(self, future):
         return future.result()
