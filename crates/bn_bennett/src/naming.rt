@@ -5,7 +5,8 @@ ghost use Rattle.bn_quad.specs.Names.{nameless, symbols_on};
 ghost use Rattle.bn_qtable.specs.Named.{HasNames};
 ghost use Rattle.bn_qtable.specs.Rows.{IsTable, table_of};
 ghost use Rattle.bn_bennett.specs.Translation.{IsTranslation};
-ghost use Rattle.bn_bennett.specs.Printed.{print_of, bennett_state_text, one_byte, number_names, ArePrintable, with_states};
+ghost use Rattle.bn_bennett.specs.Printed.{print_of, bennett_state_text, one_byte, number_names, ArePrintable};
+ghost use Rattle.bn_bennett.specs.Printed.{with_states};
 ghost use Rattle.bn_bennett.specs.Printed.{on_tape, translation_names};
 
 use crate::laws::{translations_are_tables, translations_have_names};

@@ -130,10 +130,10 @@ EndsAs p word l i (outcome.Stuck state symbol) = (d : Configuration Name) × Com
 EndsAs p word l i (outcome.Outside tape side) = (n : ℕ) × (d : Configuration Name)
     × Comes p word l n d (Leaving tape side) × IsAfter i n d.state d.two.head d.three.head
 
--- What the reversible machine is at where the machine's own run has no room after i steps: before the number of the next
--- step, for which the history has no cell; within that step, whose shift would leave the work tape; or, while the output
--- y of the halted moment is copied, behind k letters, of which the last one came from the last cell of the work tape, or
--- went to the last cell of the output tape.
+-- What the reversible machine is at where the machine's own run has no room after i steps: before the number of the
+-- next step, for which the history has no cell; within that step, whose shift would leave the work tape; or, while the
+-- output y of the halted moment is copied, behind k letters, of which the last one came from the last cell of the work
+-- tape, or went to the last cell of the output tape.
 pub data HasNoRoom (p : Program) (word : List ℕ) (l : Limits) (i tape : ℕ) (end : Side) (x : Configuration Name) :
     Type 0 where
   for_number : (c d : Moment) (ns : List ℕ) → Follows anywhere p ns (start p word) c → length ns ≡ i

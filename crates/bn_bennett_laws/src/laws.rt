@@ -1,6 +1,7 @@
 //! Laws on Bennett's reversible machine. Each function does nothing; its contract is the law.
 ghost use Rattle.bn_bennett_laws.specs.Laws.{BennettsTheorem, BoundedRunsAgree, BoundedRunsAreShort, ComputesTwoSteps};
-ghost use Rattle.bn_bennett_laws.specs.Laws.{CopiesOutput, EveryMomentStands, HaltedIsReady, LeastIsListed, ListCountsNames};
+ghost use Rattle.bn_bennett_laws.specs.Laws.{CopiesOutput, EveryMomentStands, HaltedIsReady, LeastIsListed};
+ghost use Rattle.bn_bennett_laws.specs.Laws.{ListCountsNames};
 ghost use Rattle.bn_bennett_laws.specs.Laws.{ListHasEnds, ListHasLength, ListHasNames, ListIsInRange, ListPassesTests};
 ghost use Rattle.bn_bennett_laws.specs.Laws.{NumbersPassTests, NumbersRunAlike, RetracesTwoSteps, RunsHaveNoRoom};
 

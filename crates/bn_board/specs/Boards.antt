@@ -1,6 +1,7 @@
 -- The flat board of any circuit of modules (this project's own profile): each module as its bank of columns of rotary
 -- elements, one bank after another. It knows nothing of tapes, cells or controls.
-use Rattle.std.specs.Prelude.{◌≡◌, ◌≢◌, ◌↔◌, ℕ, zero, suc, ◌+◌, ◌*◌, ◌<◌, List, [], ◌∷◌, ◌++◌, length, replicate, Option}
+use Rattle.std.specs.Prelude.{◌≡◌, ◌≢◌, ◌↔◌, ℕ, zero, suc, ◌+◌, ◌*◌, ◌<◌, List, [], ◌∷◌, ◌++◌, length, replicate}
+use Rattle.std.specs.Prelude.{Option}
 use Rattle.std.specs.Prelude.{Some, None, slice_get, slice_set, ◌⊎◌}
 use Rattle.bn_element.specs.Tables.{Table}
 use Rattle.bn_circuits.specs.Circuits.{Circuit, target, IsCircuit, IsPlace}
@@ -9,7 +10,8 @@ use Rattle.bn_circuits.specs.declared.place.Place.{Place}
 use Rattle.bn_circuits.specs.declared.place.Place.TheVariants.{Enter, Left}
 use Rattle.bn_circuits.specs.declared.config.Config.{Config}
 use Rattle.bn_element.specs.Rotary.{rotary, horizontal, vertical, east, west}
-use Rattle.bn_realise.specs.Banks.{IsBankWire, IsResting, AreMarked, bottom_at, bank_input_line, bank_output_line, turning_line}
+use Rattle.bn_realise.specs.Banks.{IsBankWire, IsResting, AreMarked, bottom_at, bank_input_line, bank_output_line}
+use Rattle.bn_realise.specs.Banks.{turning_line}
 use Rattle.bn_circuits.specs.Situations.{Situation}
 
 -- how many elements a bank has; how many the first modules have together, which is the first element of the next; and

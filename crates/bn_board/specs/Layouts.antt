@@ -160,8 +160,8 @@ spelled_by b states = record {
   three = spelled_tape b states 3;
 }
 
--- What n cells, of which `below` lie below 0, spell of a tape: the position of its head, where it is in one of them, and
--- the symbols.
+-- What n cells, of which `below` lie below 0, spell of a tape: the position of its head, where it is in one of them,
+-- and the symbols.
 abbrev pub tape_in : ℕ → ℕ → Tape → SpelledTape
 tape_in below n x = record {
   first = pos 0 -ℤ pos below;

@@ -10,7 +10,8 @@ use Rattle.bn_network.specs.Moments.{TellsMoments}
 use Rattle.bn_board.specs.Boards.{AreModules, StandsFor, IsAmid, IsLoose, size}
 use Rattle.bn_element.specs.Rotary.{west}
 use Rattle.bn_realise.specs.Banks.{column_at}
-use Rattle.bn_board.specs.Layouts.{is_moment, elements_of, end_place, cell_output, symbol_count_at, lines_at, spelled_by}
+use Rattle.bn_board.specs.Layouts.{is_moment, elements_of, end_place, cell_output, symbol_count_at, lines_at}
+use Rattle.bn_board.specs.Layouts.{spelled_by}
 use Rattle.bn_board.specs.Layouts.{spelled_config}
 use Rattle.bn_board.specs.Flats.{Flat, machine_of, situation_at_start, flat_start}
 

@@ -1,5 +1,6 @@
 //! Laws on the board of any network of modules. Each function does nothing; its contract is the law.
-ghost use Rattle.bn_board.specs.BoardLaws.{BoardsAreThere, BoardsFollow, BoardsVisit, LooseMove, ModulesAreBanks, OneMove};
+ghost use Rattle.bn_board.specs.BoardLaws.{BoardsAreThere, BoardsFollow, BoardsVisit, LooseMove, ModulesAreBanks};
+ghost use Rattle.bn_board.specs.BoardLaws.{OneMove};
 
 /// Each module of a network is a bank of its board.
 pub fn modules_are_banks()

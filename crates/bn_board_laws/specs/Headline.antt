@@ -49,12 +49,13 @@ pub record SpellsRestored (f : Flat) (states : List ℕ) (y : List ℕ) : Type 0
       × (q < u.states) × IsResting states (base f.network.tables m) u.states u.inputs (Some q)
 
 -- The three tapes where the machine's own run comes out so at c, after steps by the quintuples with these numbers, the
--- last first, and doesn't halt with an output that has room. It is stuck: its tape, but for the scanned symbol, which has
--- been taken off it; the numbers in the order of the steps, with the head at the last; a blank output. The history has no
--- cell for the number of the next step: the same, but that its head is past the end. The next step's shift leaves the
--- work tape: that step's tape; the numbers so far, with the head behind the last; a blank output. The output y of the
--- halted moment is copied, and behind k letters the work tape ends: its head past the end, the numbers, and the letters,
--- with the head at the last. Or the output tape ends there: the same, but that its head is past the end too.
+-- last first, and doesn't halt with an output that has room. It is stuck: its tape, but for the scanned symbol, which
+-- has been taken off it; the numbers in the order of the steps, with the head at the last; a blank output. The history
+-- has no cell for the number of the next step: the same, but that its head is past the end. The next step's shift
+-- leaves the work tape: that step's tape; the numbers so far, with the head behind the last; a blank output. The output
+-- y of the halted moment is copied, and behind k letters the work tape ends: its head past the end, the numbers, and
+-- the letters, with the head at the last. Or the output tape ends there: the same, but that its head is past the end
+-- too.
 pub data AreEndTapes (p : Program) (l : Limits) (ns : List ℕ) (c : Moment) (o : Outcome) (x : Tape × Tape × Tape) :
     Type 0 where
   at_stop : o ≡ outcome.Stuck c.state (scanned c.tape) → x ≡ (write c.tape 0, history ns, blank_tape)

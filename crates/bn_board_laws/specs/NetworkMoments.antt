@@ -12,7 +12,8 @@ use Rattle.bn_quad.specs.Calls.{IsUniformMachine}
 use Rattle.bn_bennett_laws.specs.Steps.{EndsAt, Exit}
 use Rattle.bn_bennett_laws.specs.Stages.{rooms_of}
 use Rattle.bn_rsm.specs.RunCosts.{run_cost}
-use Rattle.bn_network.specs.Controls.{ControlState, Reads, Tape as to_tape, IsEntry, IsNumbering, symbol_count, in_number}
+use Rattle.bn_network.specs.Controls.{ControlState, Reads, Tape as to_tape, IsEntry, IsNumbering, symbol_count}
+use Rattle.bn_network.specs.Controls.{in_number}
 use Rattle.bn_network.specs.Networks.{IsNetwork, IsTape, IsControlAt, network_start, elements_by, left_of}
 use Rattle.bn_network.specs.Moments.{HasLetters, HasHeads, IsMomentOf, TellsMoments, Travels, quad_moves, head_cell}
 use Rattle.bn_network_laws.specs.Ends.{EndsBy, IsEarlyStop, IsStoppedAt, tape_of}

@@ -1,6 +1,7 @@
 //! That each machine has a network, a layout and a board. Each function only names the laws below it; its contract is
 //! the law.
-ghost use Rattle.bn_board_laws.specs.ExistenceLaws.{FlatsAreThere, LayoutsAreThere, NetworksAreModules, NetworksAreThere};
+ghost use Rattle.bn_board_laws.specs.ExistenceLaws.{FlatsAreThere, LayoutsAreThere, NetworksAreModules};
+ghost use Rattle.bn_board_laws.specs.ExistenceLaws.{NetworksAreThere};
 
 use bn_bennett::{translations_are_one, translations_are_there, translations_are_uniform};
 use bn_board::boards_are_there;

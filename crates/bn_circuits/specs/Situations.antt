@@ -34,7 +34,8 @@ crossed k states e m = situation (slice_set states e m.0) (place_after k.wires (
 abbrev pub turn_from : Circuit → List ℕ → Place → Option Situation
 turn_from k states (Left e o) = None
 turn_from k states (Enter e i) =
-    option_and_then (λ q. option_and_then (λ m. Some (crossed k states e m)) (go_of k.tables e q i)) (slice_get states e)
+    option_and_then (λ q. option_and_then (λ m. Some (crossed k states e m)) (go_of k.tables e q i))
+    (slice_get states e)
 
 abbrev pub turn : Circuit → Situation → Option Situation
 turn k s = turn_from k s.states s.place

@@ -6,7 +6,8 @@ ghost use Rattle.bn_quad.specs.Quadruples.{IsQuadMachine};
 ghost use Rattle.bn_network.specs.Controls.{ControlState, IsNumbering};
 ghost use Rattle.bn_control.specs.Controlled.{IsWithinLimits};
 ghost use Rattle.bn_control_count.specs.Shown.{listed, IsCount, IsReadState, IsWriteState, shifts_in, ShowsRead};
-ghost use Rattle.bn_control_count.specs.Shown.{ShowsShift, ShowsWrite, Shows, IsShownBefore, IsNew, IsOpenBelow, IsLeftBy};
+ghost use Rattle.bn_control_count.specs.Shown.{ShowsShift, ShowsWrite, Shows, IsShownBefore, IsNew, IsOpenBelow};
+ghost use Rattle.bn_control_count.specs.Shown.{IsLeftBy};
 
 use crate::shown::{Word, is_read_before, is_written_before, symbols, written};
 use bn_control::MOST_QUADRUPLES;

@@ -23,7 +23,8 @@ use Rattle.bn_bennett_laws.specs.declared.name.Name.TheVariants.{Compute, Comput
 use Rattle.bn_erase_laws.specs.declared.name.ErasingName.{ErasingName}
 use Rattle.bn_erase_laws.specs.declared.name.ErasingName.TheVariants.{First, Second}
 use Rattle.bn_erase_laws.specs.Lists.{JoinsAt}
-use Rattle.bn_erase_laws.specs.Erasing.{first_half, second_half, erasing, erasing_initial, erasing_middle, erasing_final}
+use Rattle.bn_erase_laws.specs.Erasing.{first_half, second_half, erasing, erasing_initial, erasing_middle}
+use Rattle.bn_erase_laws.specs.Erasing.{erasing_final}
 use Rattle.bn_erase_laws.specs.Erasing.{erasing_symbols, second_name, IsErasingName, IsWord, erasing_start, erasing_end}
 use Rattle.bn_erase_laws.specs.Erasing.{ErasingSteps, StepsBackOf}
 

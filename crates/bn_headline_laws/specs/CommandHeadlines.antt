@@ -1,6 +1,6 @@
 -- What further commands print, each in its own terms (Bennett 1973 for the machines, Morita 2017 for the elements;
--- words and texts are this project's own profile). Each speaks of an input within the limit: of a table whose machine is
--- in standard form, or of a text that spells a configuration of a circuit.
+-- words and texts are this project's own profile). Each speaks of an input within the limit: of a table whose machine
+-- is in standard form, or of a text that spells a configuration of a circuit.
 use Rattle.std.specs.Prelude.{◌≡◌, ℕ, ◌≤◌, List, [], ◌∷◌, length, Option, codes, decimal}
 use Rattle.bn_base.specs.Number.{greatest}
 use Rattle.bn_base.specs.declared.limits.TheConstants.{MOST_COUNT}

@@ -25,7 +25,8 @@ use Rattle.bn_reply.specs.declared.status.Status.{Status}
 use Rattle.bn_reply_boards_laws.specs.Laws.{TookReplies}
 use Rattle.bn_headline_laws.specs.Elements.{elements, most_steps}
 use Rattle.bn_headline_laws.specs.Generated.{TellsIncrements, binary}
-use Rattle.bn_headline_laws.specs.MachineHeadline.{IsOwnRun, MachineHeadline, MachineHeadlineWithin, TookRun, least_steps}
+use Rattle.bn_headline_laws.specs.MachineHeadline.{IsOwnRun, MachineHeadline, MachineHeadlineWithin, TookRun}
+use Rattle.bn_headline_laws.specs.MachineHeadline.{least_steps}
 
 -- the network of a machine has so many elements
 abbrev pub ElementsAreCounted : Type 0

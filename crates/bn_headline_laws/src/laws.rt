@@ -1,5 +1,6 @@
 //! Laws on the headline. Each function does nothing: its contract is the law.
-ghost use Rattle.bn_headline_laws.specs.Laws.{ElementsAreCounted, GeneratedTellsMachine, IncrementsAreCounted, IncrementsRun};
+ghost use Rattle.bn_headline_laws.specs.Laws.{ElementsAreCounted, GeneratedTellsMachine, IncrementsAreCounted};
+ghost use Rattle.bn_headline_laws.specs.Laws.{IncrementsRun};
 ghost use Rattle.bn_headline_laws.specs.Laws.{BoardsReturn, HeadlinesAgree, OwnRunsAreOne, RepliesTellMachine};
 ghost use Rattle.bn_headline_laws.specs.CircuitLaws.{HeadlineTellsCircuit};
 

@@ -5,8 +5,10 @@ ghost use Rattle.std.specs.Prelude.{IfOk, IfSome, OnOk, IfErr, slice_get, if◌t
 ghost use Rattle.std.specs.Bool.{OnTrue, OnFalse};
 ghost use Rattle.bn_lists.specs.Runs.{Reaches};
 ghost use Rattle.bn_element.specs.Tables.{Table};
-ghost use Rattle.bn_circuits.specs.Circuits.{IsCircuit, IsConfig, IsPlace, IsInputOf, IsOutputOf, Goes, IsStuck, IsFirst};
-ghost use Rattle.bn_circuits.specs.Circuits.{target, source, states_of, inputs_of, outputs_of, go_of, back_of, same_line};
+ghost use Rattle.bn_circuits.specs.Circuits.{IsCircuit, IsConfig, IsPlace, IsInputOf, IsOutputOf, Goes, IsStuck};
+ghost use Rattle.bn_circuits.specs.Circuits.{IsFirst};
+ghost use Rattle.bn_circuits.specs.Circuits.{target, source, states_of, inputs_of, outputs_of, go_of, back_of};
+ghost use Rattle.bn_circuits.specs.Circuits.{same_line};
 ghost use Rattle.bn_circuits.specs.Circuits.{place_after};
 ghost use Rattle.bn_circuits.specs.Stepping.{run, back, line_before};
 ghost use Rattle.bn_net.specs.Parts.{circuit};

@@ -1,6 +1,7 @@
 //! Reading a configuration text from a source.
 
-ghost use Rattle.std.specs.Prelude.{◌≡◌, ◌≢◌, ◌+◌, ◌-◌, ◌<◌, ◌≤◌, ℕ, List, [], length, take, min, IfOk, IfErr, IsErrOf, IfSome};
+ghost use Rattle.std.specs.Prelude.{◌≡◌, ◌≢◌, ◌+◌, ◌-◌, ◌<◌, ◌≤◌, ℕ, List, [], length, take, min, IfOk, IfErr, IsErrOf};
+ghost use Rattle.std.specs.Prelude.{IfSome};
 ghost use Rattle.bn_io.specs.Faults.{Rose};
 ghost use Rattle.bn_io.specs.Told.{ReadsWithin};
 ghost use Rattle.bn_netlist_laws.specs.Spelling.{Spelled};

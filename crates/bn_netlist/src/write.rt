@@ -1,10 +1,12 @@
 //! Writing a configuration text.
 
-ghost use Rattle.std.specs.Prelude.{◌≡◌, ◌<◌, ◌≤◌, ◌+◌, ◌^◌, ◌++◌, ◌∷◌, [], ℕ, List, length, IfOk, OnOk, decimal, codes, Option, MatchOption};
+ghost use Rattle.std.specs.Prelude.{◌≡◌, ◌<◌, ◌≤◌, ◌+◌, ◌^◌, ◌++◌, ◌∷◌, [], ℕ, List, length, IfOk, OnOk, decimal};
+ghost use Rattle.std.specs.Prelude.{codes, Option, MatchOption};
 ghost use Rattle.bn_circuits.specs.Circuits.{target};
 ghost use Rattle.bn_netlist_laws.specs.Sentences.{line_of_place, line_text, place_text, target_text, targets_text};
 ghost use Rattle.bn_netlist_laws.specs.Spelling.{targets_of};
-ghost use Rattle.bn_netlist_laws.specs.Sentences.{Sentence, Element, Column, Row, sentence_text, lines_text, title_text};
+ghost use Rattle.bn_netlist_laws.specs.Sentences.{Sentence, Element, Column, Row, sentence_text, lines_text};
+ghost use Rattle.bn_netlist_laws.specs.Sentences.{title_text};
 ghost use Rattle.bn_netlist_laws.specs.Spelling.{Admits, IsTextOf, IsWrittenAt, header_then, header_of};
 ghost use Rattle.bn_netlist_lines.specs.NetText.{spelling_of};
 ghost use Rattle.bn_netlist.specs.Writing.{IsPlaceIn, IsBehindRow, NextLine, Writes};

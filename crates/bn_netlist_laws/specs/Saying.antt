@@ -2,7 +2,8 @@
 use Rattle.std.specs.Prelude.{◌≡◌, ℕ, ◌==◌, List, [], ◌∷◌, Option, Some, None, option_map, if◌then◌else◌, codes}
 use Rattle.bn_circuits.specs.declared.line.Line.{Line}
 use Rattle.bn_circuits.specs.declared.place.Place.TheVariants.{Enter, Left}
-use Rattle.bn_netlist_laws.specs.Reading.{◌>>=◌, word_taken, number_taken, bar_taken, target_taken, ended, number_after, named_after, named, named_target, named_targets, element_of}
+use Rattle.bn_netlist_laws.specs.Reading.{◌>>=◌, word_taken, number_taken, bar_taken, target_taken, ended, number_after}
+use Rattle.bn_netlist_laws.specs.Reading.{named_after, named, named_target, named_targets, element_of}
 use Rattle.bn_netlist_laws.specs.Sentences.{Sentence, Title, Count, Start, End, Steps, At, Element, Column, title_text}
 use Rattle.bn_netlist_laws.specs.Sentences as sentences
 use Rattle.bn_netlist_laws.specs.declared.element_line.ElementLine.{ElementLine}

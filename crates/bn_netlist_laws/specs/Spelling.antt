@@ -8,7 +8,8 @@ use Rattle.bn_circuits.specs.declared.line.Wire.{Wire}
 use Rattle.bn_element.specs.Rotary.{rotary, north, east, south, west}
 use Rattle.bn_circuits.specs.Circuits.{line_at}
 use Rattle.bn_circuits.specs.declared.config.Config.{Config}
-use Rattle.bn_netlist_laws.specs.Sentences.{Sentence, Title, Count, Start, End, Steps, At, Element, Column, Row, lines_text}
+use Rattle.bn_netlist_laws.specs.Sentences.{Sentence, Title, Count, Start, End, Steps, At, Element, Column, Row}
+use Rattle.bn_netlist_laws.specs.Sentences.{lines_text}
 use Rattle.bn_netlist_laws.specs.Columns.{IsColumnAt}
 use Rattle.bn_netlist_laws.specs.declared.version.Version.{Version}
 use Rattle.bn_netlist_laws.specs.declared.version.Version.TheVariants.{One, Two}

@@ -1,5 +1,6 @@
 -- Reading a text line by line: what has been read, and what a refusal says of the next line.
-use Rattle.std.specs.Prelude.{◌≡◌, ℕ, ◌+◌, ◌*◌, ◌<◌, Bool, true, false, List, [], ◌∷◌, ◌++◌, length, replicate, Option, Some, None, slice_get}
+use Rattle.std.specs.Prelude.{◌≡◌, ℕ, ◌+◌, ◌*◌, ◌<◌, Bool, true, false, List, [], ◌∷◌, ◌++◌, length, replicate, Option}
+use Rattle.std.specs.Prelude.{Some, None, slice_get}
 use Rattle.std.specs.Prelude.{is_some}
 use Rattle.bn_circuits.specs.Circuits.{Circuit, source}
 use Rattle.bn_circuits.specs.declared.line.Line.{Line}
@@ -14,8 +15,10 @@ use Rattle.std.specs.Prelude.{Result, Ok, Err}
 use Rattle.bn_netlist_laws.specs.Sentences.{Sentence, Element, Column}
 use Rattle.bn_netlist_laws.specs.declared.header.Header.{Header}
 use Rattle.bn_netlist_lines.specs.declared.refusal.NetlistRefusal.{NetlistRefusal}
-use Rattle.bn_netlist_lines.specs.declared.refusal.NetlistRefusal.TheVariants.{Syntax, Order, Target, TwoSources, StartFed}
-use Rattle.bn_netlist_lines.specs.declared.refusal.NetlistRefusal.TheVariants.{EndWired, LeftWired, TooMany, Spelling, NoMemory}
+use Rattle.bn_netlist_lines.specs.declared.refusal.NetlistRefusal.TheVariants.{Syntax, Order, Target, TwoSources}
+use Rattle.bn_netlist_lines.specs.declared.refusal.NetlistRefusal.TheVariants.{StartFed}
+use Rattle.bn_netlist_lines.specs.declared.refusal.NetlistRefusal.TheVariants.{EndWired, LeftWired, TooMany, Spelling}
+use Rattle.bn_netlist_lines.specs.declared.refusal.NetlistRefusal.TheVariants.{NoMemory}
 
 -- the refusal that names a fault and a line
 abbrev pub refusal_of : Fault → ℕ → NetlistRefusal

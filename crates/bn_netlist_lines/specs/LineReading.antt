@@ -3,7 +3,8 @@
 use Rattle.std.specs.Prelude.{◌≡◌, ◌≢◌, ℕ, ◌+◌, ◌<◌, List, [], ◌∷◌, ◌++◌, length, Some, None}
 use Rattle.bn_base.specs.Line.{IsInLine}
 use Rattle.bn_netlist_laws.specs.Sentences.{Sentence, sentence_text, lines_text}
-use Rattle.bn_netlist_laws.specs.Faults.{Fault, malformed, version_in, kind_after, header_lines, count_in, fault_of, IsNext, AreFaultless, IsFirstFault}
+use Rattle.bn_netlist_laws.specs.Faults.{Fault, malformed, version_in, kind_after, header_lines, count_in, fault_of}
+use Rattle.bn_netlist_laws.specs.Faults.{IsNext, AreFaultless, IsFirstFault}
 use Rattle.bn_netlist_laws.specs.Saying.{said}
 use Rattle.bn_netlist_lines.specs.Drafting.{refusal_of}
 use Rattle.bn_netlist_lines.specs.NetText.{IsTextRefusal}

@@ -3,12 +3,15 @@ use Rattle.std.specs.Prelude.{◌≡◌, ℕ, List, length}
 use Rattle.bn_net.specs.RotaryNets.{rotary_circuit}
 use Rattle.bn_netlist_laws.specs.Spelling as what
 use Rattle.bn_netlist_laws.specs.Spelling.{circuit_of}
-use Rattle.bn_netlist_laws.specs.Faults.{IsFirstFault, malformed, too_many, no_element, out_of_order, end_wired, left_wired}
+use Rattle.bn_netlist_laws.specs.Faults.{IsFirstFault, malformed, too_many, no_element, out_of_order, end_wired}
+use Rattle.bn_netlist_laws.specs.Faults.{left_wired}
 use Rattle.bn_netlist_laws.specs.Faults.{start_fed, second_source, spelled_out}
 use Rattle.bn_netlist_lines.specs.declared.net_config.NetConfig.{NetConfig}
 use Rattle.bn_netlist_lines.specs.declared.refusal.NetlistRefusal.{NetlistRefusal}
-use Rattle.bn_netlist_lines.specs.declared.refusal.NetlistRefusal.TheVariants.{Syntax, Order, Target, TwoSources, StartFed}
-use Rattle.bn_netlist_lines.specs.declared.refusal.NetlistRefusal.TheVariants.{EndWired, LeftWired, TooMany, Spelling, NoMemory}
+use Rattle.bn_netlist_lines.specs.declared.refusal.NetlistRefusal.TheVariants.{Syntax, Order, Target, TwoSources}
+use Rattle.bn_netlist_lines.specs.declared.refusal.NetlistRefusal.TheVariants.{StartFed}
+use Rattle.bn_netlist_lines.specs.declared.refusal.NetlistRefusal.TheVariants.{EndWired, LeftWired, TooMany, Spelling}
+use Rattle.bn_netlist_lines.specs.declared.refusal.NetlistRefusal.TheVariants.{NoMemory}
 
 -- what the text of a net with its configuration spells
 abbrev pub spelling_of : NetConfig → what.Spelling

@@ -5,7 +5,8 @@ ghost use Rattle.bn_circuits.specs.Circuits.{target};
 ghost use Rattle.bn_net.specs.Parts.{circuit};
 ghost use Rattle.bn_element.specs.Rotary.{rotary};
 ghost use Rattle.bn_circuits.specs.Circuits.{line_at};
-ghost use Rattle.bn_netlist_laws.specs.Columns.{IsColumnAt, rungs, inner_wires, leads_to, lead_all, are_upright, is_loose};
+ghost use Rattle.bn_netlist_laws.specs.Columns.{IsColumnAt, rungs, inner_wires, leads_to, lead_all, are_upright};
+ghost use Rattle.bn_netlist_laws.specs.Columns.{is_loose};
 ghost use Rattle.bn_netlist_laws.specs.Columns.{is_column_at, column_at};
 
 use bn_circuits::{Line, States};

@@ -1,6 +1,7 @@
 //! The wires of a configuration text, as far as they have been read.
 
-ghost use Rattle.std.specs.Prelude.{◌≡◌, ◌+◌, ◌*◌, ◌^◌, ◌<◌, ◌≤◌, ℕ, List, [], length, IfOk, OnOk, IfErr, Some, is_some, slice_get, MatchOption};
+ghost use Rattle.std.specs.Prelude.{◌≡◌, ◌+◌, ◌*◌, ◌^◌, ◌<◌, ◌≤◌, ℕ, List, [], length, IfOk, OnOk, IfErr, Some};
+ghost use Rattle.std.specs.Prelude.{is_some, slice_get, MatchOption};
 ghost use Rattle.bn_net.specs.declared.net.TheConstants.{MOST_ELEMENTS};
 ghost use Rattle.bn_base.specs.Number.{greatest};
 ghost use Rattle.bn_circuits.specs.Circuits.{source};

@@ -1,6 +1,7 @@
 //! The entries of a configuration text, as far as they have been read.
 
-ghost use Rattle.std.specs.Prelude.{◌≡◌, ◌+◌, ◌<◌, ◌≤◌, ◌++◌, ◌∷◌, [], List, length, OnOk, IfOk, IfErr, replicate, None, false};
+ghost use Rattle.std.specs.Prelude.{◌≡◌, ◌+◌, ◌<◌, ◌≤◌, ◌++◌, ◌∷◌, [], List, length, OnOk, IfOk, IfErr, replicate};
+ghost use Rattle.std.specs.Prelude.{None, false};
 ghost use Rattle.bn_net.specs.declared.net.TheConstants.{MOST_ELEMENTS};
 ghost use Rattle.bn_base.specs.Number.{greatest};
 ghost use Rattle.bn_netlist_laws.specs.Sentences.{AreNameable};

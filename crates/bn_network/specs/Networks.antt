@@ -16,8 +16,10 @@ use Rattle.bn_network.specs.declared.cell_line.CellLine.{CellLine}
 use Rattle.bn_network.specs.declared.cell_line.CellLine.TheVariants.{Read, Write, ShiftRight, ShiftLeft, TakeRight}
 use Rattle.bn_network.specs.declared.cell_line.CellLine.TheVariants.{Answer, DoneWrite, DoneRight, DoneLeft, TakeLeft}
 use Rattle.bn_circuits.specs.Situations.{Situation, situation}
-use Rattle.bn_network.specs.Cells.{CellState, Plain, Head, IsLineOf, cell_table, line_number, state_number, cell_line_count}
-use Rattle.bn_network.specs.Controls.{ControlState, Tape as to_tape, IsControlTable, symbol_count, in_number, out_number}
+use Rattle.bn_network.specs.Cells.{CellState, Plain, Head, IsLineOf, cell_table, line_number, state_number}
+use Rattle.bn_network.specs.Cells.{cell_line_count}
+use Rattle.bn_network.specs.Controls.{ControlState, Tape as to_tape, IsControlTable, symbol_count, in_number}
+use Rattle.bn_network.specs.Controls.{out_number}
 use Rattle.bn_network.specs.Controls.{control_lines}
 use Rattle.bn_circuits.specs.Circuits.{line_at}
 
@@ -117,8 +119,8 @@ elements_by m l control_states = bank_size control_states (control_lines m) + ce
 abbrev pub cell_of : Tape → ℤ → CellState
 cell_of t p = if int_eq p t.head then Head (cell t p) else Plain (cell t p)
 
--- The cells from this module on, for z symbols, show the tape from -left to right: no other letter stands on it, and each
--- cell has its symbol, and the head where it is there. A head that is elsewhere is in no cell.
+-- The cells from this module on, for z symbols, show the tape from -left to right: no other letter stands on it, and
+-- each cell has its symbol, and the head where it is there. A head that is elsewhere is in no cell.
 pub record ShowsCells (states : List ℕ) (first z left right : ℕ) (t : Tape) : Type 0 where
   pub inside : (p : ℤ) → cell t p ≢ 0 → IsBetween left right p
   pub symbols : (p : ℤ) → cell t p < z

@@ -20,7 +20,8 @@ use Rattle.bn_circuits.specs.Situations.{Situation, Turns}
 use Rattle.bn_rsm.specs.RunCosts.{run_cost}
 use Rattle.bn_network.specs.Cells.{line_number}
 use Rattle.bn_network.specs.Controls.{ControlState, Tape as to_tape, symbol_count, in_number, shift_line}
-use Rattle.bn_network.specs.Networks.{IsNetwork, ShowsCells, ShowsTape, IsTape, first_cell, cells_in, left_of, cell_size}
+use Rattle.bn_network.specs.Networks.{IsNetwork, ShowsCells, ShowsTape, IsTape, first_cell, cells_in, left_of}
+use Rattle.bn_network.specs.Networks.{cell_size}
 use Rattle.bn_network.specs.Moments.{head_cell}
 
 -- the right side of a tape's window; `left_of` is the left one
@@ -89,8 +90,8 @@ pub record Answered (m : Quadruples) (l : Limits) (k : Circuit) (test : Situatio
   pub others : (e : ℕ) → (e < first_cell l t) ⊎ (first_cell l t + cells_in l t ≤ e)
       → slice_get last.states e ≡ slice_get s.states e
 
--- from s the signal leaves by the loose line at this side; the cells show the shifted tape, whose head has left them, and
--- all other modules are as before
+-- from s the signal leaves by the loose line at this side; the cells show the shifted tape, whose head has left them,
+-- and all other modules are as before
 pub record Parted (m : Quadruples) (l : Limits) (k : Circuit) (test : Situation
     → Bool) (t : ℕ) (s : Situation) (tape : Tape) (to : Side) : Type 0 where
   pub moves : ℕ

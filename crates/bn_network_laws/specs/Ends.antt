@@ -10,7 +10,8 @@ use Rattle.bn_bennett_laws.specs.Steps.{Exit, Finished, Stopped, Leaving}
 use Rattle.bn_network.specs.declared.cell_line.CellLine.TheVariants.{TakeRight, TakeLeft, Answer, Read}
 use Rattle.bn_circuits.specs.Situations.{Situation}
 use Rattle.bn_network.specs.Cells.{line_number}
-use Rattle.bn_network.specs.Controls.{reads_of, ControlState, End, Reads, Tape as to_tape, IsEntry, symbol_count, in_number}
+use Rattle.bn_network.specs.Controls.{reads_of, ControlState, End, Reads, Tape as to_tape, IsEntry, symbol_count}
+use Rattle.bn_network.specs.Controls.{in_number}
 use Rattle.bn_network.specs.Networks.{ShowsTapes, ShowsAllCells, IsControlAt, first_cell, cells_in, IsTape}
 
 -- a configuration's tape, counted from 1
@@ -63,10 +64,10 @@ pub record IsStoppedAt (m : Quadruples) (c : Configuration ℕ) (t : ℕ) : Type
   pub none : (n : ℕ) (r : Rule ℕ) (rest : List (ℕ × ℕ)) → nth m.rules n ≡ Some r → r.from ≡ c.state
       → reads_of r ≡ (t, scanned (tape_of c t)) ∷ rest → ⊥
 
--- How the network's run ends: by the control's line to the outside, with the tapes shown; at the control, with an answer
--- to its first read for which it has no move, and the tapes shown but for the symbol that was read; by the last or by the
--- first cell of a tape, with the tapes shown as they are within the step of which that shift is a part, so that the head
--- of this tape is in no cell.
+-- How the network's run ends: by the control's line to the outside, with the tapes shown; at the control, with an
+-- answer to its first read for which it has no move, and the tapes shown but for the symbol that was read; by the last
+-- or by the first cell of a tape, with the tapes shown as they are within the step of which that shift is a part, so
+-- that the head of this tape is in no cell.
 pub data EndsBy (m : Quadruples) (l : Limits) (names : List ControlState) (s : Situation) (c : Configuration ℕ) : Exit
     → Type 0 where
   by_end : s.place ≡ Left 0 0 → IsControlAt names s.states End → ShowsTapes m l s.states c

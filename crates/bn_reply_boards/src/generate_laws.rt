@@ -1,5 +1,6 @@
 //! Laws on what `generate` answers. Each function does nothing but name the laws below it: its contract is the law.
-ghost use Rattle.bn_reply_boards.specs.GenerateLaws.{GenerateIsSettled, GeneratedRunsTellOutcomes, GeneratedTablesAreGiven};
+ghost use Rattle.bn_reply_boards.specs.GenerateLaws.{GenerateIsSettled, GeneratedRunsTellOutcomes};
+ghost use Rattle.bn_reply_boards.specs.GenerateLaws.{GeneratedTablesAreGiven};
 
 use bn_gen::increments_are_standard;
 

@@ -22,7 +22,8 @@ use Rattle.bn_network.specs.Limits.{AreSmall}
 use Rattle.bn_reply_boards_laws.specs.Windows.{ComesTo, CountsElements}
 use Rattle.bn_reply_boards_laws.specs.CompileReply.{IsFlatSpelling}
 use Rattle.bn_reply_boards_laws.specs.RunText.{run_text}
-use Rattle.bn_reply_boards_laws.specs.RunReply.{reached, exit_status, HasMoment, RunReplies, TellsRun, board_after, budget}
+use Rattle.bn_reply_boards_laws.specs.RunReply.{reached, exit_status, HasMoment, RunReplies, TellsRun, board_after}
+use Rattle.bn_reply_boards_laws.specs.RunReply.{budget}
 use Rattle.bn_reply_boards_laws.specs.Headline.{AsksRun, ComesOutOn, IsGiven, TellsHeadline}
 use Rattle.bn_reply_boards_laws.specs.Headline.{TellsOutcome, TookOutcome}
 use Rattle.bn_reply.specs.declared.limits.TheConstants.{MOST_INPUT_BYTES}

@@ -2,8 +2,10 @@
 ghost use Rattle.bn_reply_boards_laws.specs.CompileReply.{CompileIsSettled};
 ghost use Rattle.bn_reply_boards_laws.specs.CompileLaws.{CompiledTextsStepBack, TextsDifferInWords};
 ghost use Rattle.bn_reply_boards_laws.specs.RunReply.{RunIsSettled};
-ghost use Rattle.bn_reply_boards_laws.specs.Laws.{AnswersTellHeadline, BoardsAreCounted, BoardsAreSpelled, BoardsHaveRuns};
-ghost use Rattle.bn_reply_boards_laws.specs.Laws.{BoardsTellAlike, BoardsTellRuns, ExitsAreNamed, GivenBoardsAreAccepted};
+ghost use Rattle.bn_reply_boards_laws.specs.Laws.{AnswersTellHeadline, BoardsAreCounted, BoardsAreSpelled};
+ghost use Rattle.bn_reply_boards_laws.specs.Laws.{BoardsHaveRuns};
+ghost use Rattle.bn_reply_boards_laws.specs.Laws.{BoardsTellAlike, BoardsTellRuns, ExitsAreNamed};
+ghost use Rattle.bn_reply_boards_laws.specs.Laws.{GivenBoardsAreAccepted};
 ghost use Rattle.bn_reply_boards_laws.specs.Laws.{RunsHaveOneOfEach, MomentsAreCounted, RepliesTellOutcomes};
 ghost use Rattle.bn_reply_boards_laws.specs.Laws.{RunsStopWithin, RunsTellOutcomes};
 

@@ -4,7 +4,8 @@ ghost use Rattle.std.specs.Prelude.{◌≡◌, ◌≢◌, ◌≤◌, All, IfOk, 
 ghost use Rattle.bn_machine.specs.Run.{HasEnding, IsOutput};
 ghost use Rattle.bn_machine.specs.Tape.{cell};
 ghost use Rattle.bn_machine.specs.Window.{IsWindowed};
-ghost use Rattle.bn_reply_tables.specs.MachineRun.{IsEndingOf, IsLetterAt, IsRun, StaysInside, IsWholeOutput, ending_of};
+ghost use Rattle.bn_reply_tables.specs.MachineRun.{IsEndingOf, IsLetterAt, IsRun, StaysInside, IsWholeOutput};
+ghost use Rattle.bn_reply_tables.specs.MachineRun.{ending_of};
 
 use bn_base::MOST_COUNT;
 use bn_machine::{Machine, Tape, TapeRefusal, Turn};

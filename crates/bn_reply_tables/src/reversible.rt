@@ -3,7 +3,8 @@
 ghost use Rattle.std.specs.Prelude.{◌≡◌, ◌≢◌, [], IfOk};
 ghost use Rattle.bn_quad.specs.declared.clash.Clash.TheVariants.{Domain, Range};
 ghost use Rattle.bn_qtable.specs.declared.refusal.QuadTableRefusal.TheVariants as faults;
-ghost use Rattle.bn_reply_tables.specs.ReversibleReply.{IsVerdict, ReversibleIsSettled, ReversibleReplies, TellsVerdicts};
+ghost use Rattle.bn_reply_tables.specs.ReversibleReply.{IsVerdict, ReversibleIsSettled, ReversibleReplies};
+ghost use Rattle.bn_reply_tables.specs.ReversibleReply.{TellsVerdicts};
 ghost use Rattle.bn_reply_tables.specs.ReversibleReply.{quad_fault_line, verdict_line};
 
 use bn_qtable::{QuadTableRefusal, read_quads};

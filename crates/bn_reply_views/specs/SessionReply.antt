@@ -15,7 +15,8 @@ use Rattle.bn_network.specs.Limits.{AreSmall}
 use Rattle.bn_reply_boards_laws.specs.Windows.{WindowReplies}
 use Rattle.bn_cut.specs.Cuts.{IsCut, IsUncut}
 use Rattle.bn_session.specs.Plays.{Plays, Session, session}
-use Rattle.bn_session.specs.Scripts.{ScriptFault, IsFirstScriptFault, IsScript, malformed, no_break, no_state, same_break}
+use Rattle.bn_session.specs.Scripts.{ScriptFault, IsFirstScriptFault, IsScript, malformed, no_break, no_state}
+use Rattle.bn_session.specs.Scripts.{same_break}
 use Rattle.bn_session.specs.declared.command.Command.{Command}
 use Rattle.bn_reply_views.specs.Showing.{TellsLayers}
 

@@ -6,7 +6,8 @@ use Rattle.std.specs.Option.{option_or}
 use Rattle.std.specs.Char.{is_ascii_alphanumeric}
 use Rattle.bn_csv.specs.Forms.{is_state_name}
 use Rattle.bn_netlist_laws.specs.Reading.{word_taken, number_after}
-use Rattle.bn_session.specs.Sentences.{ScriptSentence, Step, Back, Go, Rev, BreakState, BreakElement, Drop, View, is_label}
+use Rattle.bn_session.specs.Sentences.{ScriptSentence, Step, Back, Go, Rev, BreakState, BreakElement, Drop, View}
+use Rattle.bn_session.specs.Sentences.{is_label}
 use Rattle.bn_session.specs.declared.sentence.Sentence.{Sentence as Kept}
 use Rattle.bn_session.specs.declared.sentence.Sentence.TheVariants as kept
 
