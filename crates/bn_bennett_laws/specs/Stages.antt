@@ -34,7 +34,7 @@ abbrev pub configuration : Name → Tape → Tape → Tape → Configuration Nam
 configuration state one two three = record { state = state; one = one; two = two; three = three }
 
 -- the history tape after steps by the quintuples with these numbers, the last first: they stand from cell 1 on in the
--- order of the steps, and the head is at the last of them
+-- order of the steps, and the head is at the last of them, or at cell 0 where there are none
 abbrev pub history : List ℕ → Tape
 history ns = ahead (length ns) (word_tape (reverse ns))
 

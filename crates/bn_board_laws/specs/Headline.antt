@@ -51,11 +51,12 @@ pub record SpellsRestored (f : Flat) (states : List ℕ) (y : List ℕ) : Type 0
 -- The three tapes where the machine's own run comes out so at c, after steps by the quintuples with these numbers, the
 -- last first, and doesn't halt with an output that has room. It is stuck: its tape, but for the scanned symbol, which
 -- has been taken off it; the numbers in the order of the steps, with the head at the last; a blank output. The history
--- has no cell for the number of the next step: the same, but that its head is past the end. The next step's shift
--- leaves the work tape: that step's tape; the numbers so far, with the head behind the last; a blank output. The output
--- y of the halted moment is copied, and behind k letters the work tape ends: its head past the end, the numbers, and
--- the letters, with the head at the last. Or the output tape ends there: the same, but that its head is past the end
--- too.
+-- has no cell for the number of the next step: the same, but that the history's head is past its end. The next step's
+-- shift leaves the work tape: the tape after that step, its head past the end; the numbers so far, with the head behind
+-- the last; a blank output. The output y of the halted moment is copied, and behind k letters the work tape ends: the
+-- halted tape, its head past the end; the numbers, with the head at the last; the k letters, with the head at the last.
+-- Or the output tape ends there: the halted tape, its head at the cell behind the k letters that were copied; the
+-- numbers, with the head at the last; the k letters, with the head past the end.
 pub data AreEndTapes (p : Program) (l : Limits) (ns : List ℕ) (c : Moment) (o : Outcome) (x : Tape × Tape × Tape) :
     Type 0 where
   at_stop : o ≡ outcome.Stuck c.state (scanned c.tape) → x ≡ (write c.tape 0, history ns, blank_tape)
@@ -71,7 +72,8 @@ pub data AreEndTapes (p : Program) (l : Limits) (ns : List ℕ) (c : Moment) (o 
       → k ≡ l.output → x ≡ (shift (ahead k c.tape) Right, history ns, shift (ahead k (word_tape (take k y))) Right)
       → AreEndTapes p l ns c o x
 
--- the three tapes at the end of the machine's own run from the word, which comes out so after i steps
+-- The three tapes at the end of the machine's own run of i steps from the word, where it comes out so: that it does is
+-- said where this is used.
 pub record HasEndTapes (p : Program) (word : List ℕ) (l : Limits) (i : ℕ) (o : Outcome) (x : Tape × Tape × Tape) :
     Type 0 where
   pub moment : Moment

@@ -26,8 +26,8 @@ use Rattle.bn_headline_laws.specs.Elements.{elements, most_steps}
 
 -- ---- what the machine does
 
--- The bytes read as a table whose machine is in standard form, the word is made of its letters and fits the window, and
--- after i steps the machine's own run from the word in that window comes out so.
+-- The bytes read as a table whose machine is in standard form, the word is made of its letters and fits the window, the
+-- limits may be asked for, and after i steps the machine's own run from the word in that window comes out so.
 pub record IsOwnRun (bytes word : List ℕ) (l : Limits) (t : Named) (symbols : List ℕ) (i : ℕ) (o : Outcome) :
     Type 0 where
   pub given : IsGiven bytes word l t symbols
@@ -106,7 +106,8 @@ pub record TookRun (tells : ℕ → Status → List ℕ → Type 0) (fewest most
   pub told : tells cost status text
   pub grows : Grows taken took text
 
--- A circuit with too many elements is refused with their number, and any other is run, which is told as `tells` says.
+-- A circuit with too many elements is refused with their number and the status of a size, and any other is run, which
+-- is told as `tells` says.
 pub record TookAnswer (tells : ℕ → Status → List ℕ → Type 0) (p : Program) (l : Limits) (i : ℕ) (o : Outcome)
     (status : Status) (taken took : Option (List ℕ)) : Type 0 where
   pub large : MOST_ELEMENTS < elements p l → (status ≡ Size) × Grows taken took (large_line (elements p l))
@@ -122,7 +123,8 @@ MachineHeadline words bytes status taken took =
     → (t : Named) (symbols : List ℕ) (i : ℕ) (o : Outcome) → IsOwnRun bytes word l t symbols i o
     → TookAnswer (TellsExit t l symbols i o) t.machine l i o status taken took
 
--- Where the words are `run`, a word, four limits and a greatest number of element steps, e: the answer tells how the
+-- Where the words are `run`, a word, four limits and a greatest number of element steps, e, which is none above the
+-- greatest number that may be asked for, and the bytes are within the limit of an input: the answer tells how the
 -- machine's own bounded run comes out, where the signal comes to its exit in e steps or fewer, and else where it is
 -- after e steps.
 unfoldable pub MachineHeadlineWithin : List (List ℕ) → List ℕ → Status → Option (List ℕ) → Option (List ℕ) → Type 0

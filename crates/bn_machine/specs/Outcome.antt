@@ -45,7 +45,8 @@ pub data Copies (l : Limits) (head : ℤ) (y : List ℕ) (o : Outcome) : Type 0 
       → o ≡ Outside 3 Right → Copies l head y o
 
 -- After i steps the bounded run ends at c: in the final state, where copying decides; where no quintuple matches; where
--- all steps are made; or where the next step's shift would leave the work tape.
+-- the history is full and a step would follow; or where it has room and the next step's shift would leave the work
+-- tape.
 pub data ComesOut (p : Program) (l : Limits) (i : ℕ) (c : Moment) (o : Outcome) : Type 0 where
   halts : (y : List ℕ) → IsFinal p c → IsOutput c.tape y → Copies l c.tape.head y o → ComesOut p l i c o
   sticks : IsMachineStuck p c → o ≡ Stuck c.state (scanned c.tape) → ComesOut p l i c o

@@ -58,7 +58,7 @@ opposite Right = Left
 abbrev pub shift : Tape → Shift → Tape
 shift t s = record { cells = t.cells; head = moved t.head s }
 
--- the head k cells further to the right
+-- the tape with its head k cells further to the right
 abbrev pub ahead : ℕ → Tape → Tape
 ahead k t = record { cells = t.cells; head = t.head +ℤ pos k }
 

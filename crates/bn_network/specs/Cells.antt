@@ -80,7 +80,7 @@ cell_line z n =
 abbrev pub state_of : ℕ → ℕ → CellState
 state_of z n = if nat_lt n z then Plain n else Head (n - z)
 
--- how many lines a cell has, each way
+-- how many input lines a cell has, and as many output lines
 abbrev pub cell_line_count : ℕ → ℕ
 cell_line_count z = 2 * z + 8
 

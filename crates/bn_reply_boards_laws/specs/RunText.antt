@@ -68,7 +68,7 @@ abbrev pub number_text : ℕ → List ℕ
 number_text zero = codes "_"
 number_text (suc m) = decimal (suc m)
 
--- a symbol on this tape, by the table's letters on tapes 1 and 3
+-- a symbol on this tape: the blank or a quintuple's number on tape 2, and the table's letter for it on tapes 1 and 3
 abbrev pub symbol_text : Named → ℕ → ℕ → List ℕ
 symbol_text t tape s = if tape == 2 then number_text s else letters_of t (s ∷ [])
 

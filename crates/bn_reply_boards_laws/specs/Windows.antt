@@ -33,7 +33,7 @@ pub record ComesTo (p : Program) (l : Limits) (symbols : List ℕ) (f : Flat) : 
   pub flat : IsFlatOf p symbols l f
   pub few : size f.network.tables ≤ MOST_ELEMENTS
 
--- the line of a board of so many elements, which are too many
+-- the line of a circuit of so many elements, which are too many
 abbrev pub large_line : ℕ → List ℕ
 large_line elements = line (codes "size: elements " ∷ decimal elements ∷ [])
 
