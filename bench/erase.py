@@ -7,6 +7,7 @@ for 1,000,000 quadruple steps, and the loop is the time of that run less that of
 processor; five runs each, of which all loops are shown. The load of the machine is told first.
 """
 import os
+import string
 import sys
 
 sys.dont_write_bytecode = True
@@ -33,6 +34,13 @@ def round_trip(states):
     return ("\n".join(entries) + "\n").encode()
 
 
+def one_state_a_way(letters):
+    """A machine that goes over its word and comes back, each way in one state, which reads all these letters."""
+    entries = ["S,_,_,+,A"] + [f"A,{letter},{letter},+,A" for letter in letters]
+    entries += ["A,_,_,-,B"] + [f"B,{letter},{letter},-,B" for letter in letters] + ["B,_,_,0,F"]
+    return ("\n".join(entries) + "\n").encode()
+
+
 def seconds(program, text, word, steps):
     """Seconds of the processor of a run of so many steps, which isn't over then."""
     taken, _, out = launched(program, ["erase", "=" + word, str(steps)], text, INSIDE)[1:]
@@ -56,6 +64,9 @@ def main():
     word = LETTERS * (LENGTH // 2)
     for states in (2, 100, 1246):
         time_machine(program, f"round trip in {states} states each way", round_trip(states), word)
+    many = string.ascii_letters + string.digits
+    time_machine(program, f"round trip in one state each way over {len(many)} letters", one_state_a_way(many),
+                 (many * LENGTH)[:LENGTH])
 
 
 if __name__ == "__main__":
