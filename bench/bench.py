@@ -3,7 +3,7 @@
 
 Usage: bench/bench.py [PROGRAM]
 PROGRAM is the built program; without it the script takes crates/bn_main/out/bn_main, which
-`rt run` in crates/bn_main leaves there.
+tools/prove leaves there.
 """
 import os
 import random
@@ -104,7 +104,7 @@ def timed(program, words, text):
 def main():
     program = sys.argv[1] if len(sys.argv) > 1 else os.path.join(TOP, "crates/bn_main/out/bn_main")
     if not os.path.exists(program):
-        sys.exit("build the program first: cd crates/bn_main && rt run")
+        sys.exit("build the program first: tools/prove")
     time_quadruples(program)
     time_bank(program)
     small = one_element()

@@ -33,7 +33,7 @@ def program_of(options):
     """The program's command line, by its words."""
     words = shlex.split(options.program)
     if not words or not shutil.which(words[0]):
-        sys.exit(f"{options.program} isn't there: build it (cd crates/bn_main && rt run), or name one by --program")
+        sys.exit(f"{options.program} isn't there: build it by tools/prove, or name one by --program")
     return words
 
 

@@ -145,7 +145,7 @@ def program_figures(program, text, count):
 def main():
     program = sys.argv[1] if len(sys.argv) > 1 else os.path.join(TOP, "crates/bn_main/out/bn_main")
     if not os.path.exists(program):
-        sys.exit("build the program first: cd crates/bn_main && rt run")
+        sys.exit("build the program first: tools/prove")
     shuffled = list(range(RING))
     random.Random(1973).shuffle(shuffled)
     cases = (("one element", [0], 400_000_000), (f"ring of {RING} in order", list(range(RING)), 400_000_000),

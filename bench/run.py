@@ -97,7 +97,7 @@ def time_widest(program):
 def main():
     program = sys.argv[1] if len(sys.argv) > 1 else os.path.join(TOP, "crates/bn_main/out/bn_main")
     if not os.path.exists(program):
-        sys.exit("build the program first: cd crates/bn_main && rt run")
+        sys.exit("build the program first: tools/prove")
     time_widest(program)
     for word in ("1011", "1" * 20, "1" * 200):
         time_found(program, word)

@@ -36,7 +36,7 @@ def measure(program, words, text, name):
 def main():
     program = sys.argv[1] if len(sys.argv) > 1 else os.path.join(TOP, "crates/bn_main/out/bn_main")
     if not os.path.exists(program):
-        sys.exit("build the program first: cd crates/bn_main && rt run")
+        sys.exit("build the program first: tools/prove")
     for name, order, version in (
         ("ring in order, version 1", list(range(RING)), 1),
         ("ring shuffled, version 1", shuffled(RING), 1),
