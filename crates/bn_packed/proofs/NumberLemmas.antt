@@ -1,6 +1,5 @@
 -- Steps by the numbers of lines.
-use Rattle.std.specs.Prelude.{◌≡◌, ℕ, ◌+◌, ◌-◌, ◌*◌, ◌/◌, ◌%◌, ◌<◌, Bool, true, List, [], ◌∷◌, length, Option, Some, slice_get, refl}
-use Rattle.std.specs.Option.{option_map}
+use Rattle.std.specs.Prelude.{◌≡◌, ℕ, ◌+◌, ◌-◌, ◌*◌, ◌/◌, ◌%◌, ◌<◌, Bool, true, List, [], ◌∷◌, length, Option, Some, None, is_none, slice_get, refl}
 use Rattle.std.proofs.Common.{arith, sym, ap, subst, ◌∙◌}
 use Rattle.bn_circuits.specs.Circuits.{IsCircuit, IsConfig, IsOutputOf, clock, place_at, place_after, target, source}
 use Rattle.bn_circuits.specs.declared.line.Line.{Line}
@@ -31,12 +30,17 @@ pub entered_by : (l : Line) (n : ℕ) → l ≡ line_of n → Enter l.element l.
 entered_by l n is = λ i. Enter (is i).element (is i).line
 
 -- what is read at a number
-pub number_read : (f : Line → Option Line) (ends : List (Option Line)) (n m : ℕ) (o : Option ℕ) → AreEnds f (4 * m) ends → n < 4 * m
-    → slice_get ends n ≡ Some (option_map line_of o) → option_map line_of o ≡ f (line_of n)
-number_read f ends n m o are low read =
+pub cell_read : (f : Line → Option Line) (ends : List (Option Line)) (n m : ℕ) (o : Option Line) → AreEnds f (4 * m) ends → n < 4 * m
+    → slice_get ends n ≡ Some o → o ≡ f (line_of n)
+cell_read f ends n m o are low read =
     let told : slice_get ends n ≡ Some (f (line_of n)) = are.each n low in
-    let same : Some (option_map line_of o) ≡ Some (f (line_of n)) = sym read ∙ told in
+    let same : Some o ≡ Some (f (line_of n)) = sym read ∙ told in
     cc
+
+-- and where it tells of no wire
+pub none_read : (o : Option Line) → is_none o ≡ true → o ≡ None
+none_read None is = refl
+none_read (Some l) is = absurd (cc)
 
 module _ (net : Parts Rotary) (circuit : IsCircuit (rotary_circuit net)) where
   -- the number of the line by which the signal goes out is one of an output line

@@ -1,7 +1,6 @@
 //! The other end of a line's wire as one number.
 
 ghost use Rattle.std.specs.Prelude.{◌≡◌, ◌+◌, ◌*◌, ◌/◌, ◌^◌, ◌<◌, length, map, Some, IfSome, slice_get};
-ghost use Rattle.std.specs.Option.{option_map};
 ghost use Rattle.bn_packed.specs.Ends.{line_of, narrow_end, wide_end, IsLineBelow};
 
 use bn_net::{Line, NoMemory};
@@ -22,8 +21,7 @@ const WIDE_LOOSE: u64 = 18_446_744_073_709_551_615;
 
 /// A number that tells the other end of a line's wire, or that there is no wire.
 pub(crate) trait Cell: Copy {
-    ghost use Rattle.std.specs.Prelude.{ℕ, Option, IfOk, map, replicate, None};
-    ghost use Rattle.std.specs.Option.{option_map};
+    ghost use Rattle.std.specs.Prelude.{ℕ, Option, IfOk, map, replicate, None, Some, is_none, false};
     ghost use Rattle.bn_circuits.specs.declared.line.Line.{Line};
     ghost use Rattle.bn_packed.specs.Ends.{line_of};
 
@@ -42,9 +40,14 @@ pub(crate) trait Cell: Copy {
     fn end(self) -> Option<Line>
         ensures { result ≡ tells self };
 
-    /// The number of the line that it tells.
-    fn number(self) -> Option<usize>
-        ensures { option_map line_of result ≡ tells self };
+    /// Whether it tells that there is no wire.
+    fn is_loose(self) -> bool
+        ensures { result ≡ is_none (tells self) };
+
+    /// The number of the line that it tells, where there is a wire.
+    fn number(self) -> usize
+        requires { is_none (tells self) ≡ false }
+        ensures { tells self ≡ Some (line_of result) };
 
     /// So many numbers that tell of no wire.
     fn loose(alloc: Global, count: usize) -> Result<Vec<Self>, NoMemory>
@@ -75,11 +78,12 @@ impl Cell for u32 {
         })
     }
 
-    fn number(self) -> Option<usize> {
-        if self == LOOSE {
-            return None;
-        }
-        Some(self as usize)
+    fn is_loose(self) -> bool {
+        self == LOOSE
+    }
+
+    fn number(self) -> usize {
+        self as usize
     }
 
     #[tactic(auto, using(crate::proofs::LooseLemmas::loose_narrow))]
@@ -116,11 +120,12 @@ impl Cell for u64 {
         })
     }
 
-    fn number(self) -> Option<usize> {
-        if self / u64::from(LINES) > u64::from(u32::MAX) {
-            return None;
-        }
-        Some(self as usize)
+    fn is_loose(self) -> bool {
+        self / u64::from(LINES) > u64::from(u32::MAX)
+    }
+
+    fn number(self) -> usize {
+        self as usize
     }
 
     #[tactic(auto, using(crate::proofs::LooseLemmas::loose_wide))]
@@ -147,12 +152,12 @@ pub(crate) fn end_of<C: Cell>(cells: &[C], line: Line) -> Option<Line>
     cells[line_number(line)].end()
 }
 
-/// The number of the line that the cell of the line with this number tells.
-pub(crate) fn number_at<C: Cell>(cells: &[C], number: usize) -> Option<usize>
+/// The cell of the line with this number.
+pub(crate) fn cell_at<C: Cell>(cells: &[C], number: usize) -> C
     requires { number < length cells.now }
-    ensures { slice_get (map C.tells cells.now) number ≡ Some (option_map line_of result) }
+    ensures { slice_get (map C.tells cells.now) number ≡ Some (C.tells result) }
 {
-    cells[number].number()
+    cells[number]
 }
 
 /// The line with this number.

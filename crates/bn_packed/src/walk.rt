@@ -9,7 +9,7 @@ ghost use Rattle.bn_packed.specs.PackedNets.{config_at};
 ghost use Rattle.bn_packed.specs.Stopping.{PassesBy, stops_at};
 
 use crate::bars::Bars;
-use crate::cells::{Cell, line_number, line_of, number_at};
+use crate::cells::{Cell, cell_at, line_number, line_of};
 use crate::signal::Signal;
 use crate::stop::{Nowhere, Stop};
 use crate::wiring::Wiring;
@@ -72,14 +72,16 @@ pub(crate) fn walk_until<C: Cell, S: Stop, W: Watch>(
     let mut number = line_number(Line { element, line });
     for made in 0..count {
         let from = bars.cross(number);
-        let Some(to) = number_at(targets, from) else {
+        let cell = cell_at(targets, from);
+        if cell.is_loose() {
             let place = left_by(line_of(from));
             watch.enter(&place);
             return Signal {
                 place,
                 steps: signal.steps + made + 1,
             };
-        };
+        }
+        let to = cell.number();
         let at_line = line_of(to);
         watch.enter(&entering(at_line));
         number = to;
@@ -158,12 +160,14 @@ fn walk_back_from<C: Cell, W: Watch>(
     let sources = wiring.sources();
     let mut number = line_number(to);
     for made in 0..count {
-        let Some(from) = number_at(sources, number) else {
+        let cell = cell_at(sources, number);
+        if cell.is_loose() {
             return Signal {
                 place: entering(line_of(number)),
                 steps: steps - made,
             };
-        };
+        }
+        let from = cell.number();
         number = bars.cross_back_at(from);
         watch.enter(&entering(line_of(number)));
     }

@@ -1,5 +1,4 @@
 use Rattle.std.proofs.Common.{length, map, Some, None, ◌≡◌, ◌<◌, ◌^◌, ◌-◌, ◌∷◌, [], refl, sym, ap, subst, ◌∙◌, arith, rules}
-use Rattle.std.specs.Option.{option_map}
 use Rattle.std.proofs.lemmas.List.{length-map}
 use Rattle.bn_circuits.specs.Circuits.{source}
 use Rattle.bn_circuits.specs.Stepping.{line_before}
@@ -12,11 +11,11 @@ use Rattle.bn_packed.specs.Ends.{line_of}
 use Rattle.bn_packed.specs.PackedNets.{config_at}
 use Rattle.bn_packed.proofs.EndLemmas.{input_below}
 use Rattle.bn_packed.proofs.StepLemmas.{walked_back_none}
-use Rattle.bn_packed.proofs.NumberLemmas.{entered_line, entered_by, number_read, entered_low, fed_low, back_low, number_back_more}
+use Rattle.bn_packed.proofs.NumberLemmas.{entered_line, entered_by, cell_read, none_read, entered_low, fed_low, back_low, number_back_more}
 use Rattle.bn_packed.proofs.walk.walk_back_from.Goals as goal
 
-pub number_at-requires : goal.number_at-requires
-number_at-requires g c =
+pub cell_at-cell-requires : goal.cell_at-cell-requires
+cell_at-cell-requires g c =
     let low = entered_low c.args.wiring.now c.len-elements.ensures.circuit c.loop-made.bars c.loop-made.number (c.args.steps - c.loop-made.made)
     c.loop-made.invariant.good in
     let count = c.sources-sources.ensures.count in
@@ -45,13 +44,13 @@ line_of-requires-2 g c =
     let few : length c.args.wiring.now.elements < 2 ^ 32 = search rules in
     omega arith
 
-pub returns-in_default-clause-ended : goal.returns-in_default-clause-ended
-returns-in_default-clause-ended g c fewer =
+pub returns-then-is_loose-clause-ended : goal.returns-then-is_loose-clause-ended
+returns-then-is_loose-clause-ended g c fewer =
     let low = entered_low c.args.wiring.now c.len-elements.ensures.circuit c.loop-made.bars c.loop-made.number (c.args.steps - c.loop-made.made)
     c.loop-made.invariant.good in
-    let read = number_read (source c.args.wiring.now.wires) (map g.C.Cell.tells c.sources-sources.result.now) c.loop-made.number
-    (length c.args.wiring.now.elements) c.number_at.result c.sources-sources.ensures low c.number_at.ensures in
-    let none : source c.args.wiring.now.wires (line_of c.loop-made.number) ≡ None = sym read ∙ ap (option_map line_of) c.in_default.is in
+    let read = cell_read (source c.args.wiring.now.wires) (map g.C.Cell.tells c.sources-sources.result.now) c.loop-made.number
+    (length c.args.wiring.now.elements) (g.C.Cell.tells c.cell_at-cell.result) c.sources-sources.ensures low c.cell_at-cell.ensures in
+    let none : source c.args.wiring.now.wires (line_of c.loop-made.number) ≡ None = sym read ∙ none_read (g.C.Cell.tells c.cell_at-cell.result) (sym c.is_loose.ensures ∙ c.if-is_loose.true) in
     first_by_line (rotary_circuit c.args.wiring.now) c.len-elements.ensures.circuit
     (config_at c.loop-made.bars c.entering.result (c.args.steps - c.loop-made.made))
     (ap (line_before c.args.wiring.now.wires) (c.entering.ensures ∙ entered_by c.line_of.result c.loop-made.number c.line_of.ensures) ∙ none)
@@ -60,20 +59,20 @@ pub cross_back_at-number-requires : goal.cross_back_at-number-requires
 cross_back_at-number-requires g c =
     let low = entered_low c.args.wiring.now c.len-elements.ensures.circuit c.loop-made.bars c.loop-made.number (c.args.steps - c.loop-made.made)
     c.loop-made.invariant.good in
-    let read = number_read (source c.args.wiring.now.wires) (map g.C.Cell.tells c.sources-sources.result.now) c.loop-made.number
-    (length c.args.wiring.now.elements) c.number_at.result c.sources-sources.ensures low c.number_at.ensures in
-    let came : Some (line_of c.in-Some.from) ≡ source c.args.wiring.now.wires (line_of c.loop-made.number) = ap (option_map line_of) (sym c.in-Some.is) ∙ read in
-    fed_low c.args.wiring.now c.len-elements.ensures.circuit c.loop-made.bars c.loop-made.number c.in-Some.from (c.args.steps - c.loop-made.made)
+    let read = cell_read (source c.args.wiring.now.wires) (map g.C.Cell.tells c.sources-sources.result.now) c.loop-made.number
+    (length c.args.wiring.now.elements) (g.C.Cell.tells c.cell_at-cell.result) c.sources-sources.ensures low c.cell_at-cell.ensures in
+    let came : Some (line_of c.number-from.result) ≡ source c.args.wiring.now.wires (line_of c.loop-made.number) = sym c.number-from.ensures ∙ read in
+    fed_low c.args.wiring.now c.len-elements.ensures.circuit c.loop-made.bars c.loop-made.number c.number-from.result (c.args.steps - c.loop-made.made)
     c.loop-made.invariant.good came
 
 pub line_of-requires-in-loop-made : goal.line_of-requires-in-loop-made
 line_of-requires-in-loop-made g c =
     let low = entered_low c.args.wiring.now c.len-elements.ensures.circuit c.loop-made.bars c.loop-made.number (c.args.steps - c.loop-made.made)
     c.loop-made.invariant.good in
-    let read = number_read (source c.args.wiring.now.wires) (map g.C.Cell.tells c.sources-sources.result.now) c.loop-made.number
-    (length c.args.wiring.now.elements) c.number_at.result c.sources-sources.ensures low c.number_at.ensures in
-    let came : Some (line_of c.in-Some.from) ≡ source c.args.wiring.now.wires (line_of c.loop-made.number) = ap (option_map line_of) (sym c.in-Some.is) ∙ read in
-    let within = back_low c.args.wiring.now c.len-elements.ensures.circuit c.loop-made.bars c.cross_back_at-number.new.self c.loop-made.number c.in-Some.from
+    let read = cell_read (source c.args.wiring.now.wires) (map g.C.Cell.tells c.sources-sources.result.now) c.loop-made.number
+    (length c.args.wiring.now.elements) (g.C.Cell.tells c.cell_at-cell.result) c.sources-sources.ensures low c.cell_at-cell.ensures in
+    let came : Some (line_of c.number-from.result) ≡ source c.args.wiring.now.wires (line_of c.loop-made.number) = sym c.number-from.ensures ∙ read in
+    let within = back_low c.args.wiring.now c.len-elements.ensures.circuit c.loop-made.bars c.cross_back_at-number.new.self c.loop-made.number c.number-from.result
     c.cross_back_at-number.result came c.cross_back_at-number.ensures in
     let few : length c.args.wiring.now.elements < 2 ^ 32 = search rules in
     omega arith
@@ -82,11 +81,11 @@ pub loop-made-preserved : goal.loop-made-preserved
 loop-made-preserved g c =
     let low = entered_low c.args.wiring.now c.len-elements.ensures.circuit c.loop-made.bars c.loop-made.number (c.args.steps - c.loop-made.made)
     c.loop-made.invariant.good in
-    let read = number_read (source c.args.wiring.now.wires) (map g.C.Cell.tells c.sources-sources.result.now) c.loop-made.number
-    (length c.args.wiring.now.elements) c.number_at.result c.sources-sources.ensures low c.number_at.ensures in
-    let came : Some (line_of c.in-Some.from) ≡ source c.args.wiring.now.wires (line_of c.loop-made.number) = ap (option_map line_of) (sym c.in-Some.is) ∙ read in
+    let read = cell_read (source c.args.wiring.now.wires) (map g.C.Cell.tells c.sources-sources.result.now) c.loop-made.number
+    (length c.args.wiring.now.elements) (g.C.Cell.tells c.cell_at-cell.result) c.sources-sources.ensures low c.cell_at-cell.ensures in
+    let came : Some (line_of c.number-from.result) ≡ source c.args.wiring.now.wires (line_of c.loop-made.number) = sym c.number-from.ensures ∙ read in
     number_back_more c.args.wiring.now c.len-elements.ensures.circuit (config_at c.args.bars.now (Enter c.args.to.element c.args.to.line) c.args.steps)
-    c.loop-made.bars c.cross_back_at-number.new.self c.loop-made.number c.in-Some.from c.cross_back_at-number.result c.args.steps c.loop-made.made
+    c.loop-made.bars c.cross_back_at-number.new.self c.loop-made.number c.number-from.result c.cross_back_at-number.result c.args.steps c.loop-made.made
     (g.W.Watch.told c.args.watch.now) (g.W.Watch.told c.loop-made.watch) (g.W.Watch.told c.enter.new.self)
     c.loop-made.invariant came c.cross_back_at-number.ensures (omega (arith, c.requires.counted, c.loop-made-test.true))
     (subst (λ p. Hears (g.W.Watch.told c.loop-made.watch) (p ∷ []) (g.W.Watch.told c.enter.new.self))

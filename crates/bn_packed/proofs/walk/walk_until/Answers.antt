@@ -1,5 +1,4 @@
 use Rattle.std.proofs.Common.{length, map, Some, None, ◌≡◌, ◌<◌, ◌*◌, ◌/◌, ◌%◌, ◌^◌, ◌+◌, ◌-◌, ◌∷◌, [], refl, sym, ap, subst, ◌∙◌, arith, not, rules}
-use Rattle.std.specs.Option.{option_map}
 use Rattle.bn_circuits.specs.Circuits.{place_at, target}
 use Rattle.bn_circuits.specs.declared.place.Place.TheVariants.{Left}
 use Rattle.bn_net.specs.Watching.{Hears}
@@ -8,7 +7,7 @@ use Rattle.bn_packed.specs.PackedNets.{config_at}
 use Rattle.std.proofs.lemmas.List.{length-map}
 use Rattle.bn_packed.specs.Ends.{line_of}
 use Rattle.bn_packed.proofs.EndLemmas.{input_below}
-use Rattle.bn_packed.proofs.NumberLemmas.{entered, entered_line, entered_by, number_read, crossed_low, led_low, number_more}
+use Rattle.bn_packed.proofs.NumberLemmas.{entered, entered_line, entered_by, cell_read, none_read, crossed_low, led_low, number_more}
 use Rattle.bn_packed.proofs.StepLemmas.{IsOnWay, way_none, entering_below}
 use Rattle.bn_packed.proofs.walk.walk_until.Given.{Over}
 use Rattle.bn_packed.proofs.walk.walk_until.Goals as goal
@@ -51,20 +50,20 @@ low_from g c =
     crossed_low c.args.wiring.now c.len-elements.ensures.circuit c.loop-made.bars c.cross-from.new.self c.loop-made.number c.cross-from.result
     (c.args.signal.steps + c.loop-made.made) c.loop-made.invariant.way.walked.good c.cross-from.ensures
 
-pub number_at-requires : goal.number_at-requires
-number_at-requires g c =
+pub cell_at-cell-requires : goal.cell_at-cell-requires
+cell_at-cell-requires g c =
     let low = low_from g c in
     let count = c.targets-targets.ensures.count in
     let same : length (map g.C.Cell.tells c.targets-targets.result.now) ≡ length c.targets-targets.result.now = length-map c.targets-targets.result.now g.C.Cell.tells in
     omega arith
 
-pub returns-in_default-number_at-clause-walked : goal.returns-in_default-number_at-clause-walked
-returns-in_default-number_at-clause-walked g c =
+pub returns-then-is_loose-clause-walked : goal.returns-then-is_loose-clause-walked
+returns-then-is_loose-clause-walked g c =
     let low = crossed_low c.args.wiring.now c.len-elements.ensures.circuit c.loop-made.bars c.cross-from.new.self c.loop-made.number c.cross-from.result
     (c.args.signal.steps + c.loop-made.made) c.loop-made.invariant.way.walked.good c.cross-from.ensures in
-    let read = number_read (target c.args.wiring.now.wires) (map g.C.Cell.tells c.targets-targets.result.now) c.cross-from.result
-    (length c.args.wiring.now.elements) c.number_at.result c.targets-targets.ensures low c.number_at.ensures in
-    let none : None ≡ target c.args.wiring.now.wires (line_of c.cross-from.result) = ap (option_map line_of) (sym c.in_default-number_at.is) ∙ read in
+    let read = cell_read (target c.args.wiring.now.wires) (map g.C.Cell.tells c.targets-targets.result.now) c.cross-from.result
+    (length c.args.wiring.now.elements) (g.C.Cell.tells c.cell_at-cell.result) c.targets-targets.ensures low c.cell_at-cell.ensures in
+    let none : None ≡ target c.args.wiring.now.wires (line_of c.cross-from.result) = sym (none_read (g.C.Cell.tells c.cell_at-cell.result) (sym c.is_loose.ensures ∙ c.if-is_loose.true)) ∙ read in
     let then = c.left_by-place.ensures ∙ (λ i. Left (c.line_of.ensures i).element (c.line_of.ensures i).line)
     ∙ ap (λ o. place_at o (line_of c.cross-from.result)) none in
     (number_more c.args.wiring.now c.len-elements.ensures.circuit (g.S.Stop.stops c.args.stop.now)
@@ -73,13 +72,13 @@ returns-in_default-number_at-clause-walked g c =
     c.loop-made.invariant.way c.loop-made.invariant.calm c.cross-from.ensures then
     (omega (arith, c.requires.room, c.loop-made-test.true)) (omega arith) (omega arith) c.enter.ensures).walked
 
-pub returns-in_default-number_at-clause-between : goal.returns-in_default-number_at-clause-between
-returns-in_default-number_at-clause-between g c =
+pub returns-then-is_loose-clause-between : goal.returns-then-is_loose-clause-between
+returns-then-is_loose-clause-between g c =
     let low = crossed_low c.args.wiring.now c.len-elements.ensures.circuit c.loop-made.bars c.cross-from.new.self c.loop-made.number c.cross-from.result
     (c.args.signal.steps + c.loop-made.made) c.loop-made.invariant.way.walked.good c.cross-from.ensures in
-    let read = number_read (target c.args.wiring.now.wires) (map g.C.Cell.tells c.targets-targets.result.now) c.cross-from.result
-    (length c.args.wiring.now.elements) c.number_at.result c.targets-targets.ensures low c.number_at.ensures in
-    let none : None ≡ target c.args.wiring.now.wires (line_of c.cross-from.result) = ap (option_map line_of) (sym c.in_default-number_at.is) ∙ read in
+    let read = cell_read (target c.args.wiring.now.wires) (map g.C.Cell.tells c.targets-targets.result.now) c.cross-from.result
+    (length c.args.wiring.now.elements) (g.C.Cell.tells c.cell_at-cell.result) c.targets-targets.ensures low c.cell_at-cell.ensures in
+    let none : None ≡ target c.args.wiring.now.wires (line_of c.cross-from.result) = sym (none_read (g.C.Cell.tells c.cell_at-cell.result) (sym c.is_loose.ensures ∙ c.if-is_loose.true)) ∙ read in
     let then = c.left_by-place.ensures ∙ (λ i. Left (c.line_of.ensures i).element (c.line_of.ensures i).line)
     ∙ ap (λ o. place_at o (line_of c.cross-from.result)) none in
     (number_more c.args.wiring.now c.len-elements.ensures.circuit (g.S.Stop.stops c.args.stop.now)
@@ -92,10 +91,10 @@ pub line_of-at_line-requires : goal.line_of-at_line-requires
 line_of-at_line-requires g c =
     let low = crossed_low c.args.wiring.now c.len-elements.ensures.circuit c.loop-made.bars c.cross-from.new.self c.loop-made.number c.cross-from.result
     (c.args.signal.steps + c.loop-made.made) c.loop-made.invariant.way.walked.good c.cross-from.ensures in
-    let read = number_read (target c.args.wiring.now.wires) (map g.C.Cell.tells c.targets-targets.result.now) c.cross-from.result
-    (length c.args.wiring.now.elements) c.number_at.result c.targets-targets.ensures low c.number_at.ensures in
-    let leads : Some (line_of c.in-Some.to) ≡ target c.args.wiring.now.wires (line_of c.cross-from.result) = ap (option_map line_of) (sym c.in-Some.is) ∙ read in
-    let within = led_low c.args.wiring.now c.len-elements.ensures.circuit c.cross-from.result c.in-Some.to leads in
+    let read = cell_read (target c.args.wiring.now.wires) (map g.C.Cell.tells c.targets-targets.result.now) c.cross-from.result
+    (length c.args.wiring.now.elements) (g.C.Cell.tells c.cell_at-cell.result) c.targets-targets.ensures low c.cell_at-cell.ensures in
+    let leads : Some (line_of c.number-to.result) ≡ target c.args.wiring.now.wires (line_of c.cross-from.result) = sym c.number-to.ensures ∙ read in
+    let within = led_low c.args.wiring.now c.len-elements.ensures.circuit c.cross-from.result c.number-to.result leads in
     let few : length c.args.wiring.now.elements < 2 ^ 32 = search rules in
     omega arith
 
@@ -103,10 +102,10 @@ pub returns-then-stops-clause-walked : goal.returns-then-stops-clause-walked
 returns-then-stops-clause-walked g c =
     let low = crossed_low c.args.wiring.now c.len-elements.ensures.circuit c.loop-made.bars c.cross-from.new.self c.loop-made.number c.cross-from.result
     (c.args.signal.steps + c.loop-made.made) c.loop-made.invariant.way.walked.good c.cross-from.ensures in
-    let read = number_read (target c.args.wiring.now.wires) (map g.C.Cell.tells c.targets-targets.result.now) c.cross-from.result
-    (length c.args.wiring.now.elements) c.number_at.result c.targets-targets.ensures low c.number_at.ensures in
-    let leads : Some (line_of c.in-Some.to) ≡ target c.args.wiring.now.wires (line_of c.cross-from.result) = ap (option_map line_of) (sym c.in-Some.is) ∙ read in
-    let here = entered_by c.line_of-at_line.result c.in-Some.to c.line_of-at_line.ensures in
+    let read = cell_read (target c.args.wiring.now.wires) (map g.C.Cell.tells c.targets-targets.result.now) c.cross-from.result
+    (length c.args.wiring.now.elements) (g.C.Cell.tells c.cell_at-cell.result) c.targets-targets.ensures low c.cell_at-cell.ensures in
+    let leads : Some (line_of c.number-to.result) ≡ target c.args.wiring.now.wires (line_of c.cross-from.result) = sym c.number-to.ensures ∙ read in
+    let here = entered_by c.line_of-at_line.result c.number-to.result c.line_of-at_line.ensures in
     let then = c.entering-then-stops.ensures ∙ here ∙ ap (λ o. place_at o (line_of c.cross-from.result)) leads in
     let hears = subst (λ p. Hears (g.W.Watch.told c.loop-made.watch) (p ∷ []) (g.W.Watch.told c.enter-in-loop-made.new.self))
     (c.entering.ensures ∙ sym c.entering-then-stops.ensures) c.enter-in-loop-made.ensures in
@@ -120,10 +119,10 @@ pub returns-then-stops-clause-between : goal.returns-then-stops-clause-between
 returns-then-stops-clause-between g c =
     let low = crossed_low c.args.wiring.now c.len-elements.ensures.circuit c.loop-made.bars c.cross-from.new.self c.loop-made.number c.cross-from.result
     (c.args.signal.steps + c.loop-made.made) c.loop-made.invariant.way.walked.good c.cross-from.ensures in
-    let read = number_read (target c.args.wiring.now.wires) (map g.C.Cell.tells c.targets-targets.result.now) c.cross-from.result
-    (length c.args.wiring.now.elements) c.number_at.result c.targets-targets.ensures low c.number_at.ensures in
-    let leads : Some (line_of c.in-Some.to) ≡ target c.args.wiring.now.wires (line_of c.cross-from.result) = ap (option_map line_of) (sym c.in-Some.is) ∙ read in
-    let here = entered_by c.line_of-at_line.result c.in-Some.to c.line_of-at_line.ensures in
+    let read = cell_read (target c.args.wiring.now.wires) (map g.C.Cell.tells c.targets-targets.result.now) c.cross-from.result
+    (length c.args.wiring.now.elements) (g.C.Cell.tells c.cell_at-cell.result) c.targets-targets.ensures low c.cell_at-cell.ensures in
+    let leads : Some (line_of c.number-to.result) ≡ target c.args.wiring.now.wires (line_of c.cross-from.result) = sym c.number-to.ensures ∙ read in
+    let here = entered_by c.line_of-at_line.result c.number-to.result c.line_of-at_line.ensures in
     let then = c.entering-then-stops.ensures ∙ here ∙ ap (λ o. place_at o (line_of c.cross-from.result)) leads in
     let hears = subst (λ p. Hears (g.W.Watch.told c.loop-made.watch) (p ∷ []) (g.W.Watch.told c.enter-in-loop-made.new.self))
     (c.entering.ensures ∙ sym c.entering-then-stops.ensures) c.enter-in-loop-made.ensures in
@@ -137,15 +136,15 @@ pub loop-made-preserved : goal.loop-made-preserved
 loop-made-preserved g c =
     let low = crossed_low c.args.wiring.now c.len-elements.ensures.circuit c.loop-made.bars c.cross-from.new.self c.loop-made.number c.cross-from.result
     (c.args.signal.steps + c.loop-made.made) c.loop-made.invariant.way.walked.good c.cross-from.ensures in
-    let read = number_read (target c.args.wiring.now.wires) (map g.C.Cell.tells c.targets-targets.result.now) c.cross-from.result
-    (length c.args.wiring.now.elements) c.number_at.result c.targets-targets.ensures low c.number_at.ensures in
-    let leads : Some (line_of c.in-Some.to) ≡ target c.args.wiring.now.wires (line_of c.cross-from.result) = ap (option_map line_of) (sym c.in-Some.is) ∙ read in
-    let here = entered_by c.line_of-at_line.result c.in-Some.to c.line_of-at_line.ensures in
+    let read = cell_read (target c.args.wiring.now.wires) (map g.C.Cell.tells c.targets-targets.result.now) c.cross-from.result
+    (length c.args.wiring.now.elements) (g.C.Cell.tells c.cell_at-cell.result) c.targets-targets.ensures low c.cell_at-cell.ensures in
+    let leads : Some (line_of c.number-to.result) ≡ target c.args.wiring.now.wires (line_of c.cross-from.result) = sym c.number-to.ensures ∙ read in
+    let here = entered_by c.line_of-at_line.result c.number-to.result c.line_of-at_line.ensures in
     let hears = subst (λ p. Hears (g.W.Watch.told c.loop-made.watch) (p ∷ []) (g.W.Watch.told c.enter-in-loop-made.new.self))
     (c.entering.ensures ∙ here) c.enter-in-loop-made.ensures in
     record {
       way = (number_more c.args.wiring.now c.len-elements.ensures.circuit (g.S.Stop.stops c.args.stop.now)
-          (config_at c.args.bars.now c.args.signal.place c.args.signal.steps) c.loop-made.bars c.cross-from.new.self (entered c.in-Some.to) c.loop-made.number c.cross-from.result
+          (config_at c.args.bars.now c.args.signal.place c.args.signal.steps) c.loop-made.bars c.cross-from.new.self (entered c.number-to.result) c.loop-made.number c.cross-from.result
           c.args.signal.steps c.loop-made.made _ _ (g.W.Watch.told c.args.watch.now) (g.W.Watch.told c.loop-made.watch) (g.W.Watch.told c.enter-in-loop-made.new.self)
           c.loop-made.invariant.way c.loop-made.invariant.calm c.cross-from.ensures (ap (λ o. place_at o (line_of c.cross-from.result)) leads)
           (omega (arith, c.requires.room, c.loop-made-test.true)) (omega arith) refl hears);
