@@ -9,5 +9,4 @@ pub mod KeptLemmas
 pub mod StartLemmas
 pub mod CopyLemmas
 pub mod MadeLemmas
-pub mod PartLemmas
 pub mod CountingLemmas

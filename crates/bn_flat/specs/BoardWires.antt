@@ -42,10 +42,3 @@ pub record IsBetween (n : Circuit) (number line : ℕ) (to : Line) (w : Wire) : 
         from = bank_output_line (base n.tables number) t line;
         to = bank_input_line (base n.tables to.element) to.line;
       }
-
--- ---- the wires of a net, output line by output line
-
--- the wire of this list that leaves an output line before line l of element e
-pub record IsTargetBefore (ws : List Wire) (e l : ℕ) (from to : Line) : Type 0 where
-  pub leads : target ws from ≡ Some to
-  pub before : IsBefore e l from

@@ -88,6 +88,17 @@ impl Board {
         &self.packed
     }
 
+    /// The net with its configuration, packed, once the board isn't needed any more. Its contract also tells what every
+    /// board keeps.
+    pub fn into_packed(self) -> Packed
+        ensures net { result.net ≡ self.net }
+        ensures config { result.config ≡ self.config }
+        ensures kept { IsBoardKept self }
+    {
+        let Board { packed, .. } = self;
+        packed
+    }
+
     // The numbers by which it is read.
     pub(crate) fn layout(&self) -> &Layout
         ensures layout { result.now ≡ self.now.layout }

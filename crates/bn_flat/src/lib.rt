@@ -13,7 +13,6 @@ mod located;
 mod make;
 mod moment;
 mod numbers;
-mod parts;
 mod wiring;
 
 pub use bn_board::{Cells, Exit, Spelled, SpelledTape};
@@ -21,4 +20,3 @@ pub use bn_net::NoMemory;
 pub use board::Board;
 pub use located::Located;
 pub use make::flatten;
-pub use parts::NetParts;

@@ -2,26 +2,20 @@
 use Rattle.std.specs.Prelude.{◌≡◌, ℕ, ◌+◌, ◌<◌, ◌≤◌, min, List, [], ◌∷◌, ◌++◌, Option, Some, None, MatchOption, refl}
 use Rattle.std.proofs.Common.{zero, suc, arith, sym, ap, subst, ◌∙◌}
 use Rattle.std.proofs.lemmas.List.{append_assoc, append-nil}
-use Rattle.bn_circuits.specs.Circuits.{Circuit}
-use Rattle.bn_net.specs.Parts.{circuit}
-use Rattle.bn_element.specs.Rotary.{rotary}
-use Rattle.bn_netlist_laws.specs.Spelling.{Spelling}
+use Rattle.bn_netlist_laws.specs.Spelling.{Spelling, circuit_of}
 use Rattle.bn_netlist_laws.specs.Sentences.{Sentence, sentence_text, lines_text}
 use Rattle.bn_netlist_laws.specs.Spelling.{IsWrittenAt, AreEntries, no_entry, element_entry, column_entry, IsTextOf, header_of, header_then}
 use Rattle.bn_netlist_laws.specs.Columns.{IsColumnAt}
 use Rattle.bn_netlist_laws.specs.declared.version.Version.{Version}
 use Rattle.bn_netlist_laws.specs.declared.version.Version.TheVariants.{Two}
-use Rattle.bn_netlist_lines.specs.NetText.{spelling_of}
-use Rattle.bn_netlist_lines.specs.declared.net_config.NetConfig.{NetConfig}
-use Rattle.bn_netlist_lines.proofs.ColumnTests.{tables_of}
 use Rattle.bn_netlist_laws.proofs.EntryLemmas.{column_within}
 use Rattle.bn_netlist_laws.proofs.TextLemmas.{lines_text-append}
 use Rattle.bn_netlist.specs.Writing.{IsPlaceIn, NextLine, an_element, a_column, a_row, element_behind, AreLeft, Writes}
 
 -- a column that begins in version 2 is written
-pub written_answer : (c : NetConfig) (e : ℕ) (o : Option ℕ) → c.version ≡ Two → MatchOption o ((k : ℕ) → IsColumnAt (circuit (λ _. rotary) c.net) c.config.states e k → ⊥) (IsColumnAt (circuit (λ _. rotary) c.net) c.config.states e) → MatchOption o ((k : ℕ) → IsWrittenAt c.version (spelling_of c) e k → ⊥) (IsWrittenAt c.version (spelling_of c) e)
-written_answer c e None second absent = λ k written. absent k (subst (λ (m : Circuit). IsColumnAt m c.config.states e k) (sym (tables_of c.net)) written.column)
-written_answer c e (Some k) second column = record { second = second; column = subst (λ (m : Circuit). IsColumnAt m c.config.states e k) (tables_of c.net) column }
+pub written_answer : (v : Version) (s : Spelling) (e : ℕ) (o : Option ℕ) → v ≡ Two → MatchOption o ((k : ℕ) → IsColumnAt (circuit_of s) s.config.states e k → ⊥) (IsColumnAt (circuit_of s) s.config.states e) → MatchOption o ((k : ℕ) → IsWrittenAt v s e k → ⊥) (IsWrittenAt v s e)
+written_answer v s e None second absent = λ k written. absent k written.column
+written_answer v s e (Some k) second column = record { second = second; column = column }
 
 -- nothing has been written
 pub writes_none : (v : Version) (s : Spelling) → Writes v s [] 0 0
@@ -75,6 +69,10 @@ after_none count = (omega arith, omega arith, λ h. absurd (omega arith))
 pub place_in : (count lines e m : ℕ) → lines < count → IsAfter count lines e m → IsPlaceIn count e m
 place_in count lines e zero short is = let lines_are : lines ≡ e + min 0 1 = is.0 in omega arith
 place_in count lines e (suc m) short is = is.2 (omega arith)
+
+pub row_within : (count e m : ℕ) → 0 < m → IsPlaceIn count e m → e + m < count
+row_within count e zero some is = absurd (omega arith)
+row_within count e (suc m) some is = is
 
 pub after_more : (v : Version) (s : Spelling) (lines e m f n : ℕ) (x : Sentence) → lines < s.elements → IsAfter s.elements lines e m → NextLine v s e m f n x → IsAfter s.elements (lines + 1) f n
 after_more v s lines e m f n x short is (an_element q none has absent at_x next zero_left) =

@@ -2,3 +2,4 @@ pub mod FromText
 pub mod Pieces
 pub mod Coming
 pub mod Writing
+pub mod PackedText

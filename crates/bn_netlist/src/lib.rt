@@ -5,6 +5,7 @@
 mod column;
 mod cursor;
 mod front;
+mod packed_config;
 mod pieces;
 mod read;
 mod read_from;
@@ -19,8 +20,9 @@ pub use bn_netlist_laws::{
     lines_are_short, one_configuration_a_text, one_first_fault, one_number_of_rows,
     one_text_a_configuration, spelled_alike, spellings_move, texts_end,
 };
-pub use bn_netlist_lines::{NetConfig, NetlistRefusal, circuits_agree};
+pub use bn_netlist_lines::{NetConfig, NetlistRefusal, Spellable, circuits_agree};
 pub use column::column_at;
+pub use packed_config::PackedConfig;
 pub use read::read_config;
 pub use read_from::read_config_from;
 pub use refusal::{FromRefusal, ToRefusal};

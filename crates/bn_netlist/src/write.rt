@@ -8,24 +8,22 @@ ghost use Rattle.bn_netlist_laws.specs.Spelling.{targets_of};
 ghost use Rattle.bn_netlist_laws.specs.Sentences.{Sentence, Element, Column, Row, sentence_text, lines_text};
 ghost use Rattle.bn_netlist_laws.specs.Sentences.{title_text};
 ghost use Rattle.bn_netlist_laws.specs.Spelling.{Admits, IsTextOf, IsWrittenAt, header_then, header_of};
-ghost use Rattle.bn_netlist_lines.specs.NetText.{spelling_of};
 ghost use Rattle.bn_netlist.specs.Writing.{IsPlaceIn, IsBehindRow, NextLine, Writes};
 
 use crate::column::column_at;
 use crate::cursor::Place;
 use bn_base::push_u64;
 use bn_circuits::Line;
-use bn_element::{EAST, HORIZONTAL, NORTH, Rotary, SOUTH, WEST};
+use bn_element::{EAST, HORIZONTAL, NORTH, SOUTH, WEST};
 use bn_lists::NoMemory;
-use bn_net::Net;
 use bn_netlist_laws::Version;
-use bn_netlist_lines::NetConfig;
+use bn_netlist_lines::Spellable;
 use std::alloc::Global;
 
 /// The one text of a configuration that may be spelled in its version. (This project's own profile.)
-pub fn write_config(alloc: Global, config: &NetConfig) -> Result<Vec<u8>, NoMemory>
-    requires { Admits config.now.version (spelling_of config.now) }
-    ensures { IfOk result (λ text. IsTextOf config.now.version (spelling_of config.now) text.items) }
+pub fn write_config<C: Spellable>(alloc: Global, config: &C) -> Result<Vec<u8>, NoMemory>
+    requires { Admits (C.version config.now) (C.spelling config.now) }
+    ensures { IfOk result (λ text. IsTextOf (C.version config.now) (C.spelling config.now) text.items) }
 {
     let mut text = Vec::new(alloc);
     push_header(&mut text, config)?;
@@ -34,63 +32,66 @@ pub fn write_config(alloc: Global, config: &NetConfig) -> Result<Vec<u8>, NoMemo
 }
 
 // The six lines before those of the elements.
-pub(crate) fn push_header(text: &mut Vec<u8>, config: &NetConfig) -> Result<(), NoMemory>
-    requires { Admits config.now.version (spelling_of config.now) }
+pub(crate) fn push_header<C: Spellable>(
+    text: &mut Vec<u8>,
+    config: &C,
+) -> Result<(), NoMemory>
+    requires { Admits (C.version config.now) (C.spelling config.now) }
     ensures { OnOk result (text.new.items ≡ text.old.items
-        ++ lines_text (header_then (header_of config.now.version (spelling_of config.now)) [])) }
+        ++ lines_text (header_then (header_of (C.version config.now) (C.spelling config.now)) [])) }
 {
-    push_title(text, config.version)?;
-    push_counted(text, b"elements ", u64::from(config.net.len()))?;
-    push_named(text, b"start ", config.start)?;
-    push_named(text, b"end ", config.end)?;
-    push_counted(text, b"steps ", config.config.steps)?;
-    push_place(text, config.config.place)
+    push_title(text, config.version())?;
+    push_counted(text, b"elements ", u64::from(config.len()))?;
+    push_named(text, b"start ", config.start())?;
+    push_named(text, b"end ", config.end())?;
+    push_counted(text, b"steps ", config.steps())?;
+    push_place(text, config.place())
 }
 
 // The lines of all elements.
-fn push_entries(text: &mut Vec<u8>, config: &NetConfig) -> Result<(), NoMemory>
-    requires { Admits config.now.version (spelling_of config.now) }
+fn push_entries<C: Spellable>(text: &mut Vec<u8>, config: &C) -> Result<(), NoMemory>
+    requires { Admits (C.version config.now) (C.spelling config.now) }
     ensures { OnOk result ((entries : List Sentence)
-        × Writes config.now.version (spelling_of config.now) entries (length config.now.net.elements) 0
+        × Writes (C.version config.now) (C.spelling config.now) entries (C.spelling config.now).elements 0
         × (text.new.items ≡ text.old.items ++ lines_text entries)) }
 {
     let mut place = Place {
         element: 0,
         rows: 0,
     };
-    for line in 0..config.net.len() {
+    for line in 0..config.len() {
         place = push_line(text, config, place)?;
     }
     Ok(())
 }
 
 // The line at this place, and the place behind it.
-pub(crate) fn push_line(
+pub(crate) fn push_line<C: Spellable>(
     text: &mut Vec<u8>,
-    config: &NetConfig,
+    config: &C,
     place: Place,
 ) -> Result<Place, NoMemory>
-    requires admitted { Admits config.now.version (spelling_of config.now) }
-    requires within { IsPlaceIn (length config.now.net.elements) place.element place.rows }
+    requires admitted { Admits (C.version config.now) (C.spelling config.now) }
+    requires within { IsPlaceIn (C.spelling config.now).elements place.element place.rows }
     ensures { IfOk result (λ next. (x : Sentence)
-        × NextLine config.now.version (spelling_of config.now) place.element place.rows next.element next.rows x
+        × NextLine (C.version config.now) (C.spelling config.now) place.element place.rows next.element next.rows x
         × (text.new.items ≡ text.old.items ++ (sentence_text x ++ 10 ∷ []))) }
 {
     if place.rows > 0 {
-        push_row(text, &config.net, place.element)?;
+        push_row(text, config, place.element)?;
         return Ok(behind_row(place));
     }
     match rows_written(config, place.element) {
         None => {
-            let state = config.config.states.get(place.element as usize);
-            push_element(text, &config.net, place.element, state)?;
+            let state = config.bar(place.element);
+            push_element(text, config, place.element, state)?;
             Ok(Place {
                 element: place.element + 1,
                 rows: 0,
             })
         }
         Some(rows) => {
-            let state = config.config.states.get((place.element + rows) as usize);
+            let state = config.bar(place.element + rows);
             push_column(text, place.element, rows, state)?;
             Ok(Place {
                 element: place.element,
@@ -120,34 +121,34 @@ fn behind_row(place: Place) -> Place
 }
 
 // The number of rows of the column that is written at this element, if one is.
-fn rows_written(config: &NetConfig, element: u32) -> Option<u32>
-    requires { Admits config.now.version (spelling_of config.now) }
+fn rows_written<C: Spellable>(config: &C, element: u32) -> Option<u32>
+    requires { Admits (C.version config.now) (C.spelling config.now) }
     ensures { MatchOption result
-        ((k : ℕ) → IsWrittenAt config.now.version (spelling_of config.now) element k → ⊥)
-        (IsWrittenAt config.now.version (spelling_of config.now) element) }
+        ((k : ℕ) → IsWrittenAt (C.version config.now) (C.spelling config.now) element k → ⊥)
+        (IsWrittenAt (C.version config.now) (C.spelling config.now) element) }
 {
-    match config.version {
+    match config.version() {
         Version::One => None,
-        Version::Two => column_at(&config.net, &config.config.states, element),
+        Version::Two => column_at(config, element),
     }
 }
 
 // The line of one element.
-fn push_element(
+fn push_element<C: Spellable>(
     text: &mut Vec<u8>,
-    net: &Net<Rotary>,
+    config: &C,
     element: u32,
     state: u32,
 ) -> Result<(), NoMemory>
-    requires there { element < length net.now.elements }
+    requires there { element < (C.spelling config.now).elements }
     requires state { state < 2 }
     ensures { OnOk result (text.new.items ≡ text.old.items
-        ++ (sentence_text (Element element state (targets_of net.now.wires element)) ++ 10 ∷ [])) }
+        ++ (sentence_text (Element element state (targets_of (C.spelling config.now).wires element)) ++ 10 ∷ [])) }
 {
     push(text, b"e ")?;
     push_number(text, u64::from(element))?;
     push(text, if state == HORIZONTAL { b" H" } else { b" V" })?;
-    push_targets(text, net, element)?;
+    push_targets(text, config, element)?;
     push(text, b"\n")
 }
 
@@ -171,45 +172,52 @@ fn push_column(text: &mut Vec<u8>, first: u32, rows: u32, state: u32) -> Result<
 }
 
 // The line of a row of a column.
-fn push_row(text: &mut Vec<u8>, net: &Net<Rotary>, element: u32) -> Result<(), NoMemory>
-    requires { element < length net.now.elements }
+fn push_row<C: Spellable>(
+    text: &mut Vec<u8>,
+    config: &C,
+    element: u32,
+) -> Result<(), NoMemory>
+    requires { element < (C.spelling config.now).elements }
     ensures { OnOk result (text.new.items ≡ text.old.items
-        ++ (sentence_text (Row (target net.now.wires (record { element = element; line = 1 }))
-        (target net.now.wires (record { element = element; line = 3 }))) ++ 10 ∷ [])) }
+        ++ (sentence_text (Row (target (C.spelling config.now).wires (record { element = element; line = 1 }))
+        (target (C.spelling config.now).wires (record { element = element; line = 3 }))) ++ 10 ∷ [])) }
 {
     push(text, b"r")?;
-    push_target(text, net, element, EAST)?;
-    push_target(text, net, element, WEST)?;
+    push_target(text, config, element, EAST)?;
+    push_target(text, config, element, WEST)?;
     push(text, b"\n")
 }
 
 // Where the four outputs of an element lead.
-fn push_targets(text: &mut Vec<u8>, net: &Net<Rotary>, element: u32) -> Result<(), NoMemory>
-    requires { element < length net.now.elements }
+fn push_targets<C: Spellable>(
+    text: &mut Vec<u8>,
+    config: &C,
+    element: u32,
+) -> Result<(), NoMemory>
+    requires { element < (C.spelling config.now).elements }
     ensures { OnOk result (text.new.items ≡ text.old.items
-        ++ targets_text (targets_of net.now.wires element)) }
+        ++ targets_text (targets_of (C.spelling config.now).wires element)) }
 {
-    push_target(text, net, element, NORTH)?;
-    push_target(text, net, element, EAST)?;
-    push_target(text, net, element, SOUTH)?;
-    push_target(text, net, element, WEST)
+    push_target(text, config, element, NORTH)?;
+    push_target(text, config, element, EAST)?;
+    push_target(text, config, element, SOUTH)?;
+    push_target(text, config, element, WEST)
 }
 
 // A space, and where one output leads.
-fn push_target(
+fn push_target<C: Spellable>(
     text: &mut Vec<u8>,
-    net: &Net<Rotary>,
+    config: &C,
     element: u32,
     line: u32,
 ) -> Result<(), NoMemory>
-    requires there { element < length net.now.elements }
+    requires there { element < (C.spelling config.now).elements }
     requires line { line < 4 }
     ensures { OnOk result (text.new.items ≡ text.old.items
-        ++ (codes " " ++ target_text (target net.now.wires (record { element = element; line = line })))) }
+        ++ (codes " "
+        ++ target_text (target (C.spelling config.now).wires (record { element = element; line = line })))) }
 {
-    // (for the prover: the contract of this call tells what the type keeps.)
-    let _ = net.len();
-    match net.target(Line { element, line }) {
+    match config.target(Line { element, line }) {
         None => push(text, b" -"),
         Some(to) => {
             push(text, b" ")?;

@@ -5,13 +5,12 @@ ghost use Rattle.bn_io.specs.Faults.{Rose};
 ghost use Rattle.bn_io.specs.Told.{Grows, GrowsByFront};
 ghost use Rattle.bn_netlist_laws.specs.Sentences.{lines_text};
 ghost use Rattle.bn_netlist_laws.specs.Spelling.{Admits, IsTextOf, header_then, header_of};
-ghost use Rattle.bn_netlist_lines.specs.NetText.{spelling_of};
 
 use crate::cursor::Place;
 use crate::refusal::ToRefusal;
 use crate::write::{push_header, push_line};
 use bn_io::{Sink, WriteFault, write_all};
-use bn_netlist_lines::NetConfig;
+use bn_netlist_lines::Spellable;
 use std::alloc::Global;
 
 /// How many bytes are handed over at once, but for the last ones.
@@ -22,15 +21,15 @@ const PIECE: usize = 4096;
 /// `WriteFault` comes only where the sink's count of faults rose in this call or stands at its last
 /// value; then, and where there was no memory, the sink has taken a front of the text. (This
 /// project's own profile.)
-pub fn write_config_to<K: Sink>(
+pub fn write_config_to<K: Sink, C: Spellable>(
     alloc: Global,
     sink: &mut K,
-    config: &NetConfig,
+    config: &C,
 ) -> Result<(), ToRefusal>
-    requires { Admits config.now.version (spelling_of config.now) }
-    ensures whole { OnOk result ((text : List ℕ) → IsTextOf config.now.version (spelling_of config.now) text →
+    requires { Admits (C.version config.now) (C.spelling config.now) }
+    ensures whole { OnOk result ((text : List ℕ) → IsTextOf (C.version config.now) (C.spelling config.now) text →
         Grows (K.taken sink.old) (K.taken sink.new) text) }
-    ensures front { OnErr result ((text : List ℕ) → IsTextOf config.now.version (spelling_of config.now) text →
+    ensures front { OnErr result ((text : List ℕ) → IsTextOf (C.version config.now) (C.spelling config.now) text →
         GrowsByFront (K.taken sink.old) (K.taken sink.new) text) }
     ensures later { K.faults sink.old ≤ K.faults sink.new }
     ensures write_fault { IsErrOf result ToRefusal.WriteFault →
@@ -44,17 +43,17 @@ pub fn write_config_to<K: Sink>(
 }
 
 // Gives the header that stands in `text`, and then the lines of all elements.
-fn give_entries<K: Sink>(
+fn give_entries<K: Sink, C: Spellable>(
     sink: &mut K,
     text: &mut Vec<u8>,
-    config: &NetConfig,
+    config: &C,
 ) -> Result<(), ToRefusal>
-    requires admitted { Admits config.now.version (spelling_of config.now) }
+    requires admitted { Admits (C.version config.now) (C.spelling config.now) }
     requires header { text.old.items
-        ≡ lines_text (header_then (header_of config.now.version (spelling_of config.now)) []) }
-    ensures whole { OnOk result ((whole : List ℕ) → IsTextOf config.now.version (spelling_of config.now) whole →
+        ≡ lines_text (header_then (header_of (C.version config.now) (C.spelling config.now)) []) }
+    ensures whole { OnOk result ((whole : List ℕ) → IsTextOf (C.version config.now) (C.spelling config.now) whole →
         Grows (K.taken sink.old) (K.taken sink.new) whole) }
-    ensures front { OnErr result ((whole : List ℕ) → IsTextOf config.now.version (spelling_of config.now) whole →
+    ensures front { OnErr result ((whole : List ℕ) → IsTextOf (C.version config.now) (C.spelling config.now) whole →
         GrowsByFront (K.taken sink.old) (K.taken sink.new) whole) }
     ensures later { K.faults sink.old ≤ K.faults sink.new }
     ensures write_fault { IsErrOf result ToRefusal.WriteFault →
@@ -64,7 +63,7 @@ fn give_entries<K: Sink>(
         element: 0,
         rows: 0,
     };
-    for line in 0..config.net.len() {
+    for line in 0..config.len() {
         let Ok(next) = push_line(text, config, place) else {
             return Err(ToRefusal::NoMemory);
         };

@@ -3,15 +3,10 @@ use Rattle.std.specs.Prelude.{◌≡◌, ◌≢◌, ℕ, ◌+◌, ◌-◌, ◌<�
 use Rattle.std.proofs.Common.{zero, suc, arith, sym, ap, subst, ◌∙◌, inl, inr}
 use Rattle.std.proofs.lemmas.Bool.{and_from, and_left, and_right}
 use Rattle.std.proofs.lemmas.Bool.Decides.{nat_tests, eqb_tells}
-use Rattle.bn_element.specs.Tables.{Table}
-use Rattle.bn_circuits.specs.Circuits.{Circuit, target, IsCircuit, inputs_of}
-use Rattle.bn_circuits.specs.declared.line.Line.{Line}
+use Rattle.bn_circuits.specs.Circuits.{target}
 use Rattle.bn_circuits.specs.declared.line.Wire.{Wire}
-use Rattle.bn_net.specs.Parts.{Parts, circuit}
-use Rattle.bn_element.specs.Rotary.{rotary, vertical, north, south}
+use Rattle.bn_element.specs.Rotary.{vertical, north, south}
 use Rattle.bn_circuits.specs.Circuits.{line_at}
-use Rattle.bn_netlist_lines.proofs.NetLemmas.{map-replicate}
-use Rattle.bn_netlist_laws.proofs.WireLemmas.{rotary_input}
 use Rattle.bn_netlist_laws.specs.Columns.{IsColumnAt, rotary_elements, rungs, inner_wires, leads_to, lead_all, is_vertical, are_upright, is_loose, is_column_at, column_at}
 use Rattle.bn_netlist_laws.proofs.ColumnLemmas.{columns-are-found}
 
@@ -106,21 +101,9 @@ column_test count ws states e k rungs_lead ends_lead free standing within r n f 
 
 -- ---- the answer
 
-pub tables_of : {X : Type 0} (net : Parts X) → circuit (λ _. rotary) net ≡ rotary_elements (length net.elements) net.wires
-tables_of net = ap (λ (ts : List Table). let c : Circuit = record { tables = ts; wires = net.wires } in c) (map-replicate rotary net.elements)
-
-pub column_answer : {X : Type 0} (net : Parts X) (states : List ℕ) (e : ℕ) (o : Option ℕ) → o ≡ column_at (length net.elements) net.wires states e → MatchOption o ((k : ℕ) → IsColumnAt (circuit (λ _. rotary) net) states e k → ⊥) (IsColumnAt (circuit (λ _. rotary) net) states e)
-column_answer net states e None is =
-    λ k column. none_some k (is ∙ (columns-are-found (length net.elements) net.wires states e k).1 (subst (λ (c : Circuit). IsColumnAt c states e k) (tables_of net) column))
+pub column_answer : (count : ℕ) (ws : List Wire) (states : List ℕ) (e : ℕ) (o : Option ℕ) → o ≡ column_at count ws states e → MatchOption o ((k : ℕ) → IsColumnAt (rotary_elements count ws) states e k → ⊥) (IsColumnAt (rotary_elements count ws) states e)
+column_answer count ws states e None is = λ k column. none_some k (is ∙ (columns-are-found count ws states e k).1 column)
   where
     none_some : (k : ℕ) → ◌≡◌ {A = Option ℕ} None (Some k) → ⊥
     none_some k e = cc
-column_answer net states e (Some k) is =
-    subst (λ (c : Circuit). IsColumnAt c states e k) (sym (tables_of net)) ((columns-are-found (length net.elements) net.wires states e k).0 (sym is))
-
--- the bottom that a wire tells is there
-pub bottom_there : {X : Type 0} (net : Parts X) (from to : Line) → IsCircuit (circuit (λ _. rotary) net) → Some to ≡ target net.wires from → to.element < length net.elements
-bottom_there net from to c leads =
-    let there = (c.wired from to (sym leads)).1 in
-    let P : List Table → Type 0 = λ ts. to.line < inputs_of ts to.element in
-    (rotary_input (length net.elements) to.element to.line (subst P (map-replicate rotary net.elements) there)).0
+column_answer count ws states e (Some k) is = (columns-are-found count ws states e k).0 (sym is)

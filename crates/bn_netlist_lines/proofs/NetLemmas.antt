@@ -1,5 +1,5 @@
 -- Nets of rotary elements: their circuit is that of their text, and which lines of them are there.
-use Rattle.std.specs.Prelude.{◌≡◌, ℕ, ◌<◌, List, [], ◌∷◌, length, map, replicate, Some, Result, Ok, Err, OnOk, refl}
+use Rattle.std.specs.Prelude.{◌≡◌, ℕ, ◌<◌, List, [], ◌∷◌, length, map, replicate, Option, Some, None, IfSome, Result, Ok, Err, OnOk, refl}
 use Rattle.std.proofs.Common.{arith, sym, ap, subst}
 use Rattle.bn_element.specs.Tables.{Table}
 use Rattle.bn_element.specs.Rotary.{rotary}
@@ -31,9 +31,17 @@ output_there xs e l h k =
     let there : l < outputs_of (replicate (length xs) rotary) e = omega (arith, four) in
     subst P (sym (map-replicate rotary xs)) there
 
--- a wire of the net leads to one of four inputs
-pub target_low : {X : Type 0} (net : Parts X) (from to : Line) → IsCircuit (circuit (λ _. rotary) net) → Some to ≡ target net.wires from → to.line < 4
-target_low net from to c h =
+-- a wire of the net leads to one of four inputs of an element that is there
+target_there : {X : Type 0} (net : Parts X) (from to : Line) → IsCircuit (circuit (λ _. rotary) net) → Some to ≡ target net.wires from → (to.element < length net.elements) × (to.line < 4)
+target_there net from to c h =
     let there = (c.wired from to (sym h)).1 in
     let P : List Table → Type 0 = λ ts. to.line < inputs_of ts to.element in
-    (rotary_input (length net.elements) to.element to.line (subst P (map-replicate rotary net.elements) there)).1
+    rotary_input (length net.elements) to.element to.line (subst P (map-replicate rotary net.elements) there)
+
+pub end_inside : {X : Type 0} (net : Parts X) (from : Line) (end : Option Line) → IsCircuit (circuit (λ _. rotary) net) → end ≡ target net.wires from → IfSome end (λ to. to.element < length net.elements)
+end_inside net from None c h = tt
+end_inside net from (Some to) c h = (target_there net from to c h).0
+
+pub end_low : {X : Type 0} (net : Parts X) (from : Line) (end : Option Line) → IsCircuit (circuit (λ _. rotary) net) → end ≡ target net.wires from → IfSome end (λ to. to.line < 4)
+end_low net from None c h = tt
+end_low net from (Some to) c h = (target_there net from to c h).1

@@ -3,12 +3,12 @@
 ghost use Rattle.std.specs.Prelude.{◌≡◌, ◌≤◌, ℕ, List, length, IfOk, IfErr, MatchOption};
 ghost use Rattle.bn_net.specs.declared.net.TheConstants.{MOST_ELEMENTS};
 ghost use Rattle.bn_lists.specs.Lists.{IsLeast};
-ghost use Rattle.bn_net.specs.Parts.{circuit};
-ghost use Rattle.bn_element.specs.Rotary.{rotary};
+ghost use Rattle.bn_netlist_laws.specs.Spelling.{circuit_of};
 ghost use Rattle.bn_netlist_laws.specs.declared.version.Version.TheVariants.{Two};
 ghost use Rattle.bn_netlist_lines.specs.Drafting.{IsOwnColumn};
 ghost use Rattle.bn_netlist_laws.specs.Sentences.{Sentence};
 ghost use Rattle.bn_netlist_lines.specs.Finishing.{IsWholeDraft, SpellsAll, RefusesAll};
+ghost use Rattle.bn_netlist_lines.specs.NetText.{spelling_of};
 
 use crate::draft::Draft;
 use crate::entries::Entries;
@@ -54,12 +54,7 @@ impl Entries {
             return Err(NetlistRefusal::NoMemory);
         };
         let states = States::new(states);
-        if let Some(element) = spelled_out_in(header.version, &net, &states, own.as_slice()) {
-            return Err(NetlistRefusal::Spelling {
-                line: u64::from(element) + 7,
-            });
-        }
-        Ok(NetConfig {
+        let made = NetConfig {
             version: header.version,
             net,
             config: Config {
@@ -69,20 +64,28 @@ impl Entries {
             },
             start: header.start,
             end: header.end,
-        })
+        };
+        if let Some(element) = spelled_out_in(&made, own.as_slice()) {
+            return Err(NetlistRefusal::Spelling {
+                line: u64::from(element) + 7,
+            });
+        }
+        Ok(made)
     }
 }
 
-// The first element at which a column begins that a text of this version spells out.
-fn spelled_out_in(version: Version, net: &Net<Rotary>, states: &States, own: &[bool]) -> Option<u32>
-    requires states { length states.now ≡ length net.now.elements }
-    requires lines { length own.now ≡ length net.now.elements }
+// The first element at which a column begins that a text of its version spells out.
+fn spelled_out_in(config: &NetConfig, own: &[bool]) -> Option<u32>
+    requires states { length config.now.config.states ≡ length config.now.net.elements }
+    requires lines { length own.now ≡ length config.now.net.elements }
     ensures { MatchOption result
-        ((e : ℕ) → version ≡ Two → IsOwnColumn own.now (circuit (λ _. rotary) net.now) states.now e → ⊥)
-        (λ e. (version ≡ Two) × IsLeast (IsOwnColumn own.now (circuit (λ _. rotary) net.now) states.now) e) }
+        ((e : ℕ) → config.now.version ≡ Two
+        → IsOwnColumn own.now (circuit_of (spelling_of config.now)) config.now.config.states e → ⊥)
+        (λ e. (config.now.version ≡ Two)
+        × IsLeast (IsOwnColumn own.now (circuit_of (spelling_of config.now)) config.now.config.states) e) }
 {
-    match version {
+    match config.version {
         Version::One => None,
-        Version::Two => first_spelled_out(net, states, own),
+        Version::Two => first_spelled_out(config, own),
     }
 }

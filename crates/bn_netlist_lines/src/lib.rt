@@ -13,6 +13,7 @@ mod inner;
 mod laws;
 mod net_config;
 mod refusal;
+mod spellable;
 mod spelled_out;
 mod stage;
 mod take_line;
@@ -26,5 +27,6 @@ pub use header_lines::{take_count, take_end, take_place, take_start, take_steps,
 pub use laws::{circuits_agree, lines_are_read, lines_refuse_texts};
 pub use net_config::NetConfig;
 pub use refusal::NetlistRefusal;
+pub use spellable::Spellable;
 pub use spelled_out::first_spelled_out;
 pub use stage::Stage;

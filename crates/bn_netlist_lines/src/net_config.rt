@@ -1,6 +1,7 @@
 //! What a configuration text spells.
 
-use bn_circuits::{Config, Line};
+use crate::spellable::Spellable;
+use bn_circuits::{Config, Line, Place};
 use bn_element::Rotary;
 use bn_net::Net;
 use bn_netlist_laws::Version;
@@ -19,4 +20,46 @@ pub struct NetConfig {
     pub start: Line,
     /// The end, an output line from which no wire leads.
     pub end: Line,
+}
+
+impl Spellable for NetConfig {
+    ghost use Rattle.bn_netlist_lines.specs.NetText.{spelling_of};
+
+    ghost version = { λ c. c.version };
+
+    ghost spelling = { spelling_of };
+
+    fn version(&self) -> Version {
+        self.version
+    }
+
+    fn len(&self) -> u32 {
+        self.net.len()
+    }
+
+    fn start(&self) -> Line {
+        self.start
+    }
+
+    fn end(&self) -> Line {
+        self.end
+    }
+
+    fn steps(&self) -> u64 {
+        self.config.steps
+    }
+
+    fn place(&self) -> Place {
+        self.config.place
+    }
+
+    fn bar(&self, element: u32) -> u32 {
+        self.config.states.get(element as usize)
+    }
+
+    fn target(&self, from: Line) -> Option<Line> {
+        // (for the prover: the contract of this call tells what the type keeps.)
+        let _elements = self.net.len();
+        self.net.target(from)
+    }
 }

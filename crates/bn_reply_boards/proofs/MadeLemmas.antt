@@ -13,8 +13,8 @@ use Rattle.bn_table.specs.Rows.{Named}
 use Rattle.bn_bennett.specs.Translation.{Translation}
 use Rattle.bn_netlist_laws.specs.Spelling.{Spelling, circuit_of, Admits, IsTextOf}
 use Rattle.bn_netlist_laws.specs.declared.version.Version.TheVariants.{Two}
-use Rattle.bn_netlist_lines.specs.NetText.{spelling_of}
-use Rattle.bn_netlist_lines.specs.declared.net_config.NetConfig.{NetConfig}
+use Rattle.bn_netlist.specs.PackedText.{spelling_of_packed}
+use Rattle.bn_netlist.specs.declared.packed_config.PackedConfig.{PackedConfig}
 use Rattle.bn_element.specs.Rotary.{rotary}
 use Rattle.bn_board.specs.Boards.{IsBoard, IsBoardWire}
 use Rattle.bn_board.specs.Flats.{Flat, IsAccepted}
@@ -34,7 +34,7 @@ use Rattle.bn_reply_boards_laws.specs.CompileReply.{IsFlatSpelling, TellsStart}
 use Rattle.bn_reply_boards_laws.proofs.SpelledLemmas.{target_of, entered_once, left_once}
 use Rattle.bn_reply_boards.specs.Opened.{IsMade, IsTooLarge, long, large, spelling_of_board}
 use Rattle.bn_reply_circuits.specs.Unwritten.{WillReply}
-use Rattle.bn_reply_circuits.specs.declared.unwritten.Unwritten.TheVariants.{Config}
+use Rattle.bn_reply_circuits.specs.declared.unwritten.Unwritten.TheVariants.{Packed}
 use Rattle.bn_reply_boards.proofs.OpeningLemmas.{elements_are}
 
 -- a word of a table's letters, and limits that may be asked for, may be compiled where they come to a board
@@ -105,9 +105,9 @@ module _ (p : Program) (l : Limits) (symbols : List ℕ) (f : Flat) (t : Transla
     silent = refl;
   }
 
--- a board's net with its configuration spells the board
-pub parts_spelling : (b : Flattened) (c : NetConfig) → c.net ≡ b.net → c.config ≡ b.config → c.start ≡ b.start → c.end ≡ b.end → spelling_of c ≡ spelling_of_board b
-parts_spelling b c net config start end =
+-- a board's packed net spells the board
+pub packed_spelling : (b : Flattened) (c : PackedConfig) → c.packed.net ≡ b.net → c.packed.config ≡ b.config → c.start ≡ b.start → c.end ≡ b.end → spelling_of_packed c ≡ spelling_of_board b
+packed_spelling b c net config start end =
     λ i. record { elements = length (net i).elements; wires = (net i).wires; config = config i; start = start i; end = end i }
 
 -- ---- what is answered
@@ -131,14 +131,14 @@ module _ (t : Named) (l : Limits) (symbols : List ℕ) (m : Translation) (b : Fl
   compiled spelled kept text is = board opened.0 opened.1.comes (made-told t.machine l symbols opened.0 m b opened.1 kept accepts spelled text is)
 
   -- as a configuration
-  pub will_compile : BoardsAreSpelled → IsBoardKept b → (c : NetConfig) → c.version ≡ Two → spelling_of c ≡ spelling_of_board b →
-      WillReply (BoardReplies TellsStart t.machine l symbols) (Config c)
+  pub will_compile : BoardsAreSpelled → IsBoardKept b → (c : PackedConfig) → c.version ≡ Two → spelling_of_packed c ≡ spelling_of_board b →
+      WillReply (BoardReplies TellsStart t.machine l symbols) (Packed c)
   will_compile spelled kept c two is =
       let here = subst (Admits Two) (sym is) (admitted spelled kept) in
       record {
-        writable = subst (λ v. Admits v (spelling_of c)) (sym two) here;
+        writable = subst (λ v. Admits v (spelling_of_packed c)) (sym two) here;
         right = λ s text written.
-            let told : IsTextOf Two (spelling_of c) text = subst (λ v. IsTextOf v (spelling_of c) text) two written.1 in
+            let told : IsTextOf Two (spelling_of_packed c) text = subst (λ v. IsTextOf v (spelling_of_packed c) text) two written.1 in
             let answer = compiled spelled kept text (subst (λ z. IsTextOf Two z text) is told) in
             subst (λ st. BoardReplies TellsStart t.machine l symbols st text []) (sym written.0) answer;
       }

@@ -4,7 +4,7 @@ ghost use Rattle.std.specs.Prelude.{◌≡◌, ◌≤◌, List, [], All, IfOk, O
 ghost use Rattle.bn_circuits.specs.declared.place.Place.{Place};
 ghost use Rattle.bn_network.specs.Limits.{AreSmall};
 ghost use Rattle.bn_assembly.specs.Assembled.{limits_of};
-ghost use Rattle.bn_netlist_lines.specs.NetText.{spelling_of};
+ghost use Rattle.bn_netlist.specs.PackedText.{spelling_of_packed};
 ghost use Rattle.bn_reply.specs.Streams.{AnswerEnds};
 ghost use Rattle.bn_reply.specs.Words.{IsLetterSymbol};
 ghost use Rattle.bn_standard.specs.Standard.{IsStandard};
@@ -19,7 +19,7 @@ use crate::opening::{OpenedBoard, open_board};
 use bn_assembly::Windows;
 use bn_flat::Board;
 use bn_io::Sink;
-use bn_netlist::{NetConfig, Version};
+use bn_netlist::{PackedConfig, Version};
 use bn_reply::{
     Judged, NoMemory, OpenedTable, OpenedWord, Reply, Status, judge_table, open_table, open_word,
 };
@@ -140,24 +140,21 @@ fn compile_symbols(
     match open_board(alloc, table, standard, symbols, windows)? {
         OpenedBoard::Refused(reply) => Ok(Unwritten::Line(reply)),
         OpenedBoard::Made(_, board) => {
-            let config = board_config(alloc, &board)?;
-            Ok(Unwritten::Config(config))
+            Ok(Unwritten::Packed(board_config(board)))
         }
     }
 }
 
 // A board as a configuration whose text is of version 2.
-fn board_config(alloc: Global, board: &Board) -> Result<NetConfig, NoMemory>
-    ensures version { IfOk result (λ c. c.version ≡ Version.Two) }
-    ensures spelling { IfOk result (λ c. spelling_of c ≡ spelling_of_board board.now) }
-    ensures kept { IsBoardKept board.now }
+fn board_config(board: Board) -> PackedConfig
+    ensures version { result.version ≡ Version.Two }
+    ensures spelling { spelling_of_packed result ≡ spelling_of_board board }
+    ensures kept { IsBoardKept board }
 {
-    let parts = board.net_config(alloc)?;
-    Ok(NetConfig {
+    PackedConfig {
         version: Version::Two,
-        net: parts.net,
-        config: parts.config,
-        start: parts.start,
-        end: parts.end,
-    })
+        start: board.start(),
+        end: board.end(),
+        packed: board.into_packed(),
+    }
 }

@@ -1,6 +1,6 @@
 -- What the code replies.
-use Rattle.std.specs.Prelude.{◌≡◌, ℕ, List, [], Option, Result, Ok, Err, IfOk, OnErr, refl}
-use Rattle.std.proofs.Common.{sym, ap, subst, append-nil}
+use Rattle.std.specs.Prelude.{◌≡◌, ℕ, List, [], length, Option, Result, Ok, Err, IfOk, OnErr, refl}
+use Rattle.std.proofs.Common.{sym, ap, subst, append-nil, ◌∙◌}
 use Rattle.bn_circuits.specs.Circuits.{IsConfig}
 use Rattle.bn_circuits.specs.Stepping.{run, back}
 use Rattle.bn_circuits.proofs.RunLemmas.{run-IsConfig, back-IsConfig}
@@ -28,6 +28,8 @@ use Rattle.bn_netlist_laws.specs.Spelling.{Admits, IsTextOf, Spelled}
 use Rattle.bn_netlist_laws.proofs.EntryLemmas.{has-text}
 use Rattle.bn_netlist_laws.proofs.VersionLemmas.{admission-rises, spellings-move}
 use Rattle.bn_netlist_laws.specs.declared.version.Version.TheVariants.{Two}
+use Rattle.bn_netlist.specs.PackedText.{spelling_of_packed}
+use Rattle.bn_netlist.specs.declared.packed_config.PackedConfig.{PackedConfig}
 use Rattle.bn_netlist_lines.specs.NetText.{spelling_of, IsTextRefusal}
 use Rattle.bn_reply_circuits_laws.specs.CircuitReply.{fault_text, Misspelled}
 use Rattle.bn_netlist_lines.specs.declared.net_config.NetConfig.{NetConfig}
@@ -78,13 +80,17 @@ migrate_read c bytes text spelled is = migrated (record { version = c.version; s
 pub read-IsConfig : (c : NetConfig) (bytes : List ℕ) → Spelled c.version (spelling_of c) bytes → IsConfig (rotary_circuit c.net) c.config
 read-IsConfig c bytes spelled = subst (λ k. IsConfig k c.config) (sym (circuits-agree c)) spelled.admitted.config
 
--- what a packed netlist of it tells in a run
-pub packed_told : (way : Direction) (e : ℕ) (c : NetConfig) (p : PackedNet) (told heard : Option (List Place)) → p.net ≡ c.net → p.config ≡ c.config →
-    Hears told (places_along way (rotary_circuit p.net) e p.config) heard → Hears told (walked_places way e c) heard
-packed_told way e c p told heard net config hears = subst (λ ps. Hears told ps heard) (λ i. places_along way (rotary_circuit (net i)) e (config i)) hears
+-- a packed netlist of it after a run spells what is come to
+pub packed_walked : (way : Direction) (e : ℕ) (c : NetConfig) (p q : PackedNet) → p.net ≡ c.net → p.config ≡ c.config → q.net ≡ p.net →
+    q.config ≡ run_along way (rotary_circuit p.net) p.config e →
+    spelling_of_packed (record { version = c.version; packed = q; start = c.start; end = c.end }) ≡ spelling_of (walked_to way e c)
+packed_walked way e c p q net config same ran =
+    let here : q.net ≡ c.net = same ∙ net in
+    let there : q.config ≡ run_along way (rotary_circuit c.net) c.config e = ran ∙ (λ i. run_along way (rotary_circuit (net i)) (config i) e) in
+    λ i. record { elements = length (here i).elements; wires = (here i).wires; config = there i; start = c.start; end = c.end }
 
 -- a watch that has heard all
-pub heard_all : (told heard : Option (List Place)) (places : List Place) → Hears told places heard → HearsFront told places heard
+heard_all : (told heard : Option (List Place)) (places : List Place) → Hears told places heard → HearsFront told places heard
 heard_all told heard places hears = record { front = places; rest = []; split = sym (append-nil places); hears = hears }
 
 module _ (way : Direction) (e : ℕ) (bytes : List ℕ) where
@@ -133,16 +139,17 @@ module _ (way : Direction) (e : ℕ) (bytes : List ℕ) where
     unreplied (Ok r) told heard hears = tt
     unreplied (Err x) told heard hears = cut_short told heard (heard_all told heard (walked_places way e c) hears)
 
-    module _ (m : NetConfig) (is : m ≡ walked_to way e c) where
-      pub moved-Admits : Admits m.version (spelling_of m)
-      moved-Admits = subst (λ (x : NetConfig). Admits x.version (spelling_of x)) (sym is) walked-Admits
+    module _ (m : PackedConfig) (same : m.version ≡ c.version) (is : spelling_of_packed m ≡ spelling_of (walked_to way e c)) where
+      pub moved-Admits : Admits m.version (spelling_of_packed m)
+      moved-Admits = subst (λ v. Admits v (spelling_of_packed m)) (sym same) (subst (Admits c.version) (sym is) walked-Admits)
 
       -- the reply, whose text is this
-      moved_right : (text : List ℕ) → IsTextOf m.version (spelling_of m) text → WalkReplies way e bytes Done text (walked_places way e c)
-      moved_right text written = walked_right text (subst (λ (x : NetConfig). IsTextOf x.version (spelling_of x) text) is written)
+      moved_right : (text : List ℕ) → IsTextOf m.version (spelling_of_packed m) text → WalkReplies way e bytes Done text (walked_places way e c)
+      moved_right text written =
+          walked_right text (subst (λ s. IsTextOf c.version s text) is (subst (λ v. IsTextOf v (spelling_of_packed m) text) same written))
 
       pub replied : (result : Result Reply WantOfMemory) (told heard : Option (List Place)) → Hears told (walked_places way e c) heard →
-          IfOk result (λ r. r.status ≡ Done) → IfOk result (λ r. IsTextOf m.version (spelling_of m) r.text.items) →
+          IfOk result (λ r. r.status ≡ Done) → IfOk result (λ r. IsTextOf m.version (spelling_of_packed m) r.text.items) →
           IfOk result (λ r. IsReplied (WalkReplies way e bytes) r told heard)
       replied (Ok r) told heard hears done written = record {
         places = walked_places way e c;
@@ -153,9 +160,9 @@ module _ (way : Direction) (e : ℕ) (bytes : List ℕ) where
 
       -- how giving it ends
       pub moved_ends : (result : Status) (taken took : Option (List ℕ)) (before now : ℕ) (told heard : Option (List Place)) →
-          Hears told (walked_places way e c) heard → TextEnds (IsTextOf m.version (spelling_of m)) result taken took before now →
+          Hears told (walked_places way e c) heard → TextEnds (IsTextOf m.version (spelling_of_packed m)) result taken took before now →
           AnswerEnds (WalkReplies way e bytes) result taken took before now told heard
       moved_ends result taken took before now told heard hears ends =
-          let text = has-text m.version (spelling_of m) moved-Admits in
-          text_ends (WalkReplies way e bytes) (IsTextOf m.version (spelling_of m)) text.0 (walked_places way e c) result taken took
+          let text = has-text m.version (spelling_of_packed m) moved-Admits in
+          text_ends (WalkReplies way e bytes) (IsTextOf m.version (spelling_of_packed m)) text.0 (walked_places way e c) result taken took
           before now told heard text.1.is_text (moved_right text.0 text.1.is_text) hears ends

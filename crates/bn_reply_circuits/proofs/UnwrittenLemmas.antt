@@ -4,19 +4,18 @@ use Rattle.std.proofs.Common.{sym, subst}
 use Rattle.bn_circuits.specs.declared.place.Place.{Place}
 use Rattle.bn_lists.specs.declared.memory.NoMemory.{NoMemory as WantOfMemory}
 use Rattle.bn_net.proofs.WalkLemmas.{hears-nothing}
-use Rattle.bn_netlist_laws.specs.Spelling.{IsTextOf}
+use Rattle.bn_netlist_laws.specs.Spelling.{Spelling, Admits, IsTextOf}
+use Rattle.bn_netlist_laws.specs.declared.version.Version.{Version}
 use Rattle.bn_netlist_laws.proofs.EntryLemmas.{has-text}
-use Rattle.bn_netlist_lines.specs.NetText.{spelling_of}
-use Rattle.bn_netlist_lines.specs.declared.net_config.NetConfig.{NetConfig}
 use Rattle.bn_reply.specs.Ends.{FinishesReply, TextEnds}
 use Rattle.bn_reply.specs.Streams.{AnswerEnds, wanting, unbegun}
 use Rattle.bn_reply.specs.declared.reply.Reply.{Reply}
 use Rattle.bn_reply.specs.declared.status.Status.{Status}
-use Rattle.bn_reply.specs.declared.status.Status.TheVariants.{NoMemory}
+use Rattle.bn_reply.specs.declared.status.Status.TheVariants.{Done, NoMemory}
 use Rattle.bn_reply.proofs.ReplyLemmas.{ends_as, grows_nothing, silent_ends, text_ends}
-use Rattle.bn_reply_circuits.specs.Unwritten.{IsWritable, IsWrittenAs, WillReply}
+use Rattle.bn_reply_circuits.specs.Unwritten.{IsWrittenAs, WillReply}
 use Rattle.bn_reply_circuits.specs.declared.unwritten.Unwritten.{Unwritten}
-use Rattle.bn_reply_circuits.specs.declared.unwritten.Unwritten.TheVariants.{Line, Config}
+use Rattle.bn_reply_circuits.specs.declared.unwritten.Unwritten.TheVariants.{Line}
 
 -- a reply that is there
 pub line_will : (replies : Status → List ℕ → List Place → Type 0) (r : Reply) → replies r.status r.text.items [] → WillReply replies (Line r)
@@ -64,12 +63,12 @@ line_ends r result taken took before now told ends =
     silent_ends (λ status text places. IsWrittenAs (Line r) status text × (places ≡ [])) (Ok r) result taken took before now told ((refl, refl), refl) ends
 
 -- the text of a configuration that is given in pieces
-pub config_ends : (c : NetConfig) (result : Status) (taken took : Option (List ℕ)) (before now : ℕ) (told : Option (List Place)) → IsWritable (Config c) →
-    TextEnds (IsTextOf c.version (spelling_of c)) result taken took before now →
-    AnswerEnds (λ status text places. IsWrittenAs (Config c) status text × (places ≡ [])) result taken took before now told told
-config_ends c result taken took before now told admitted ends =
-    let text = has-text c.version (spelling_of c) admitted in
-    text_ends (λ status text places. IsWrittenAs (Config c) status text × (places ≡ [])) (IsTextOf c.version (spelling_of c)) text.0 [] result taken took before now
+pub config_ends : (v : Version) (s : Spelling) (result : Status) (taken took : Option (List ℕ)) (before now : ℕ) (told : Option (List Place)) → Admits v s →
+    TextEnds (IsTextOf v s) result taken took before now →
+    AnswerEnds (λ status text places. ((status ≡ Done) × IsTextOf v s text) × (places ≡ [])) result taken took before now told told
+config_ends v s result taken took before now told admitted ends =
+    let text = has-text v s admitted in
+    text_ends (λ status text places. ((status ≡ Done) × IsTextOf v s text) × (places ≡ [])) (IsTextOf v s) text.0 [] result taken took before now
     told told text.1.is_text ((refl, text.1.is_text), refl) (hears-nothing told) ends
 
 -- the same of a call that gives one

@@ -3,6 +3,7 @@ use Rattle.std.specs.Prelude.{◌≡◌, List, ℕ, []}
 use Rattle.bn_circuits.specs.declared.place.Place.{Place}
 use Rattle.bn_netlist_laws.specs.Spelling.{Admits, IsTextOf}
 use Rattle.bn_netlist_laws.specs.declared.version.Version.TheVariants.{Two}
+use Rattle.bn_netlist.specs.PackedText.{spelling_of_packed}
 use Rattle.bn_netlist_lines.specs.NetText.{spelling_of}
 use Rattle.bn_netlist_lines.specs.declared.net_config.NetConfig.{NetConfig}
 use Rattle.bn_rsm.specs.Machines.{Machine}
@@ -10,17 +11,19 @@ use Rattle.bn_reply.specs.declared.status.Status.{Status}
 use Rattle.bn_reply.specs.declared.status.Status.TheVariants.{Done}
 use Rattle.bn_reply_circuits.specs.RealiseReply.{IsBankSpelling}
 use Rattle.bn_reply_circuits.specs.declared.unwritten.Unwritten.{Unwritten}
-use Rattle.bn_reply_circuits.specs.declared.unwritten.Unwritten.TheVariants.{Line, Config}
+use Rattle.bn_reply_circuits.specs.declared.unwritten.Unwritten.TheVariants.{Line, Config, Packed}
 
 -- its configuration may be spelled in its version
 abbrev pub IsWritable : Unwritten → Type 0
 IsWritable (Line reply) = Unit {0}
 IsWritable (Config c) = Admits c.version (spelling_of c)
+IsWritable (Packed c) = Admits c.version (spelling_of_packed c)
 
 -- this status and this text are what it says
 abbrev pub IsWrittenAs : Unwritten → Status → List ℕ → Type 0
 IsWrittenAs (Line reply) status text = (status ≡ reply.status) × (text ≡ reply.text.items)
 IsWrittenAs (Config c) status text = (status ≡ Done) × IsTextOf c.version (spelling_of c) text
+IsWrittenAs (Packed c) status text = (status ≡ Done) × IsTextOf c.version (spelling_of_packed c) text
 
 -- It can be written, and then it is what a command answers, of which `replies` says what that is; nothing is told.
 pub record WillReply (replies : Status → List ℕ → List Place → Type 0) (answer : Unwritten) : Type 0 where

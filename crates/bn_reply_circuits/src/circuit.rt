@@ -2,7 +2,7 @@
 
 ghost use Rattle.std.specs.Prelude.{◌≡◌, IfOk, OnErr};
 ghost use Rattle.bn_netlist_laws.specs.Spelling.{Admits, IsTextOf};
-ghost use Rattle.bn_netlist_lines.specs.NetText.{spelling_of};
+ghost use Rattle.bn_netlist.specs.PackedText.{spelling_of_packed};
 ghost use Rattle.bn_reply.specs.Replying.{IsReplied, IsUnfinished};
 ghost use Rattle.bn_reply_circuits.specs.Walking.{WalkReplies};
 ghost use Rattle.bn_reply_circuits_laws.specs.CircuitReply.{BackReplies, StepReplies};
@@ -10,7 +10,7 @@ ghost use Rattle.bn_reply_circuits_laws.specs.CircuitReply.{BackReplies, StepRep
 use crate::refuse::refuse_config;
 use crate::walk::walk;
 use bn_net::Watch;
-use bn_netlist::{NetConfig, read_config, write_config};
+use bn_netlist::{PackedConfig, read_config, write_config};
 use bn_packed::Direction;
 use bn_reply::{NoMemory, Reply, Status};
 use std::alloc::Global;
@@ -69,10 +69,10 @@ fn reply_walk<W: Watch>(
 }
 
 // The text of a configuration that may be spelled in its version.
-fn reply_config(alloc: Global, config: &NetConfig) -> Result<Reply, NoMemory>
-    requires { Admits config.now.version (spelling_of config.now) }
+fn reply_config(alloc: Global, config: &PackedConfig) -> Result<Reply, NoMemory>
+    requires { Admits config.now.version (spelling_of_packed config.now) }
     ensures done { IfOk result (λ r. r.status ≡ Status.Done) }
-    ensures text { IfOk result (λ r. IsTextOf config.now.version (spelling_of config.now) r.text.items) }
+    ensures text { IfOk result (λ r. IsTextOf config.now.version (spelling_of_packed config.now) r.text.items) }
 {
     Ok(Reply {
         text: write_config(alloc, config)?,

@@ -4,7 +4,6 @@
 ghost use Rattle.std.specs.Prelude.{◌≤◌, Option, List};
 ghost use Rattle.bn_circuits.specs.declared.place.Place.{Place};
 ghost use Rattle.bn_netlist_laws.specs.Spelling.{Admits, IsTextOf};
-ghost use Rattle.bn_netlist_lines.specs.NetText.{spelling_of};
 ghost use Rattle.bn_reply.specs.Ends.{TextEnds};
 ghost use Rattle.bn_reply.specs.Outside.{outside};
 ghost use Rattle.bn_reply.specs.Streams.{StreamEnds};
@@ -19,7 +18,7 @@ use crate::refuse::refuse_config;
 use crate::walk::walk;
 use bn_io::{Sink, Source};
 use bn_net::Watch;
-use bn_netlist::{FromRefusal, NetConfig, ToRefusal, Version, read_config_from, write_config_to};
+use bn_netlist::{FromRefusal, Spellable, ToRefusal, Version, read_config_from, write_config_to};
 use bn_packed::Direction;
 use bn_reply::{MOST_INPUT_BYTES, NoMemory, Status, give_reply, tell_long_input, tell_read_fault};
 use std::alloc::Global;
@@ -108,9 +107,9 @@ pub fn plan_stream<S: Source, K: Sink>(alloc: Global, source: &mut S, sink: &mut
 
 /// Gives the text of a configuration that may be spelled in its version, in pieces; or, where the sink fails or memory
 /// is wanting, a front of it.
-pub fn give_config<K: Sink>(alloc: Global, sink: &mut K, config: &NetConfig) -> Status
-    requires { Admits config.now.version (spelling_of config.now) }
-    ensures ends { TextEnds (IsTextOf config.now.version (spelling_of config.now)) result (K.taken sink.old)
+pub fn give_config<K: Sink, C: Spellable>(alloc: Global, sink: &mut K, config: &C) -> Status
+    requires { Admits (C.version config.now) (C.spelling config.now) }
+    ensures ends { TextEnds (IsTextOf (C.version config.now) (C.spelling config.now)) result (K.taken sink.old)
         (K.taken sink.new) (K.faults sink.old) (K.faults sink.new) }
     ensures later { K.faults sink.old ≤ K.faults sink.new }
 {

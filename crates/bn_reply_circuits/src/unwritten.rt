@@ -7,7 +7,7 @@ ghost use Rattle.bn_reply_circuits.specs.Unwritten.{IsWritable, IsWrittenAs};
 
 use crate::stream::give_config;
 use bn_io::Sink;
-use bn_netlist::{NetConfig, write_config};
+use bn_netlist::{NetConfig, PackedConfig, write_config};
 use bn_reply::{NoMemory, Reply, Status, give_reply};
 use std::alloc::Global;
 
@@ -18,6 +18,8 @@ pub enum Unwritten {
     Line(Reply),
     /// The text of this configuration, in its version, with the status `Done`.
     Config(NetConfig),
+    /// The text of this configuration, of a packed net, in its version, with the status `Done`.
+    Packed(PackedConfig),
 }
 
 impl Unwritten {
@@ -29,6 +31,10 @@ impl Unwritten {
         match self {
             Unwritten::Line(reply) => Ok(reply),
             Unwritten::Config(config) => Ok(Reply {
+                text: write_config(alloc, &config)?,
+                status: Status::Done,
+            }),
+            Unwritten::Packed(config) => Ok(Reply {
                 text: write_config(alloc, &config)?,
                 status: Status::Done,
             }),
@@ -47,6 +53,7 @@ impl Unwritten {
         match self {
             Unwritten::Line(reply) => give_reply(sink, Ok(reply)),
             Unwritten::Config(config) => give_config(alloc, sink, &config),
+            Unwritten::Packed(config) => give_config(alloc, sink, &config),
         }
     }
 }

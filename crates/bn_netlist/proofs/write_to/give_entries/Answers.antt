@@ -1,39 +1,49 @@
-use Rattle.std.proofs.Common.{◌≡◌, ◌<◌, length, arith, subst}
+use Rattle.std.proofs.Common.{◌≡◌, ◌<◌, arith, subst}
 use Rattle.std.proofs.lemmas.Result.{err_from_is_err_and, on_ok_weaker, on_err_weaker}
 use Rattle.bn_io.specs.Told.{Grows, GrowsByFront}
-use Rattle.bn_netlist_lines.specs.NetText.{spelling_of}
-use Rattle.bn_netlist.proofs.GivingLemmas.{given_more, given_front, given_front_more, given_whole, given_last}
+use Rattle.bn_netlist.proofs.GivingLemmas.{given_none, given_more, given_front, given_front_more, given_whole, given_last}
 use Rattle.bn_netlist.proofs.write_to.give_entries.Goals as goal
+
+pub loop-line-init : goal.loop-line-init
+loop-line-init g c =
+    let v = g.C.Spellable.version c.args.config.now in
+    let s = g.C.Spellable.spelling c.args.config.now in
+    (given_none v s (g.K.Sink.taken c.args.sink.now) c.args.text.now.items c.requires.header, omega arith)
 
 pub returns-in_default-clause-front : goal.returns-in_default-clause-front
 returns-in_default-clause-front g c =
-    let k = c.args.config.now in
-    given_front k.version (spelling_of k) (g.K.Sink.taken c.args.sink.now) (g.K.Sink.taken c.loop-line.sink) c.loop-line.text.items c.loop-line.line c.loop-line.place.element c.loop-line.place.rows c.requires.admitted c.loop-line.invariant.0
+    let v = g.C.Spellable.version c.args.config.now in
+    let s = g.C.Spellable.spelling c.args.config.now in
+    given_front v s (g.K.Sink.taken c.args.sink.now) (g.K.Sink.taken c.loop-line.sink) c.loop-line.text.items c.loop-line.line c.loop-line.place.element c.loop-line.place.rows c.requires.admitted c.loop-line.invariant.0
 
 pub returns-in_err-give_pieces-clause-front : goal.returns-in_err-give_pieces-clause-front
 returns-in_err-give_pieces-clause-front g c =
-    let k = c.args.config.now in
-    let short : c.loop-line.line < length k.net.elements = omega (arith, c.loop-line-test.true, c.len-line-end.ensures.number) in
+    let v = g.C.Spellable.version c.args.config.now in
+    let s = g.C.Spellable.spelling c.args.config.now in
+    let short : c.loop-line.line < s.elements = omega (arith, c.loop-line-test.true, c.len-line-end.ensures) in
     let p = err_from_is_err_and c.from_residual.result c.from_residual.ensures.1 in
-    rw p.1 (given_front_more k.version (spelling_of k) (g.K.Sink.taken c.args.sink.now) (g.K.Sink.taken c.loop-line.sink) (g.K.Sink.taken c.give_pieces.new.sink) c.loop-line.text.items c.push_line.new.text.items c.loop-line.line c.loop-line.place.element c.loop-line.place.rows c.in-Ok.next.element c.in-Ok.next.rows short c.requires.admitted c.loop-line.invariant.0 c.in-Ok.ensures c.in_err-give_pieces.ensures.front)
+    rw p.1 (given_front_more v s (g.K.Sink.taken c.args.sink.now) (g.K.Sink.taken c.loop-line.sink) (g.K.Sink.taken c.give_pieces.new.sink) c.loop-line.text.items c.push_line.new.text.items c.loop-line.line c.loop-line.place.element c.loop-line.place.rows c.in-Ok.next.element c.in-Ok.next.rows short c.requires.admitted c.loop-line.invariant.0 c.in-Ok.ensures c.in_err-give_pieces.ensures.front)
 
 pub loop-line-preserved : goal.loop-line-preserved
 loop-line-preserved g c =
-    let k = c.args.config.now in
-    let short : c.loop-line.line < length k.net.elements = omega (arith, c.loop-line-test.true, c.len-line-end.ensures.number) in
+    let v = g.C.Spellable.version c.args.config.now in
+    let s = g.C.Spellable.spelling c.args.config.now in
+    let short : c.loop-line.line < s.elements = omega (arith, c.loop-line-test.true, c.len-line-end.ensures) in
     let i = c.loop-line.invariant in (
-      given_more k.version (spelling_of k) (g.K.Sink.taken c.args.sink.now) (g.K.Sink.taken c.loop-line.sink) (g.K.Sink.taken c.give_pieces.new.sink) c.loop-line.text.items c.push_line.new.text.items c.give_pieces.new.text.items c.loop-line.line c.loop-line.place.element c.loop-line.place.rows c.in-Ok.next.element c.in-Ok.next.rows short i.0 c.in-Ok.ensures c.in_ok-give_pieces.ensures.given,
+      given_more v s (g.K.Sink.taken c.args.sink.now) (g.K.Sink.taken c.loop-line.sink) (g.K.Sink.taken c.give_pieces.new.sink) c.loop-line.text.items c.push_line.new.text.items c.give_pieces.new.text.items c.loop-line.line c.loop-line.place.element c.loop-line.place.rows c.in-Ok.next.element c.in-Ok.next.rows short i.0 c.in-Ok.ensures c.in_ok-give_pieces.ensures.given,
       omega (arith, i.1, c.give_pieces.ensures.later),
     )
 
 pub returns-clause-whole : goal.returns-clause-whole
 returns-clause-whole g c =
-    let k = c.args.config.now in
-    let all : c.loop-line.line ≡ length k.net.elements = omega (arith, c.loop-line-test.false, c.loop-line.auto.line-end, c.len-line-end.ensures.number) in
-    on_ok_weaker c.give.result (λ grows. given_whole k.version (spelling_of k) (g.K.Sink.taken c.args.sink.now) (g.K.Sink.taken c.loop-line.sink) (g.K.Sink.taken c.give.new.sink) c.loop-line.text.items c.loop-line.line c.loop-line.place.element c.loop-line.place.rows c.requires.admitted c.loop-line.invariant.0 all (subst (Grows (g.K.Sink.taken c.loop-line.sink) (g.K.Sink.taken c.give.new.sink)) c.as_slice.ensures.value grows)) c.give.ensures.whole
+    let v = g.C.Spellable.version c.args.config.now in
+    let s = g.C.Spellable.spelling c.args.config.now in
+    let all : c.loop-line.line ≡ s.elements = omega (arith, c.loop-line-test.false, c.loop-line.auto.line-end, c.len-line-end.ensures) in
+    on_ok_weaker c.give.result (λ grows. given_whole v s (g.K.Sink.taken c.args.sink.now) (g.K.Sink.taken c.loop-line.sink) (g.K.Sink.taken c.give.new.sink) c.loop-line.text.items c.loop-line.line c.loop-line.place.element c.loop-line.place.rows c.requires.admitted c.loop-line.invariant.0 all (subst (Grows (g.K.Sink.taken c.loop-line.sink) (g.K.Sink.taken c.give.new.sink)) c.as_slice.ensures.value grows)) c.give.ensures.whole
 
 pub returns-clause-front : goal.returns-clause-front
 returns-clause-front g c =
-    let k = c.args.config.now in
-    let all : c.loop-line.line ≡ length k.net.elements = omega (arith, c.loop-line-test.false, c.loop-line.auto.line-end, c.len-line-end.ensures.number) in
-    on_err_weaker c.give.result (λ grows. given_last k.version (spelling_of k) (g.K.Sink.taken c.args.sink.now) (g.K.Sink.taken c.loop-line.sink) (g.K.Sink.taken c.give.new.sink) c.loop-line.text.items c.loop-line.line c.loop-line.place.element c.loop-line.place.rows c.requires.admitted c.loop-line.invariant.0 all (subst (GrowsByFront (g.K.Sink.taken c.loop-line.sink) (g.K.Sink.taken c.give.new.sink)) c.as_slice.ensures.value grows)) c.give.ensures.front
+    let v = g.C.Spellable.version c.args.config.now in
+    let s = g.C.Spellable.spelling c.args.config.now in
+    let all : c.loop-line.line ≡ s.elements = omega (arith, c.loop-line-test.false, c.loop-line.auto.line-end, c.len-line-end.ensures) in
+    on_err_weaker c.give.result (λ grows. given_last v s (g.K.Sink.taken c.args.sink.now) (g.K.Sink.taken c.loop-line.sink) (g.K.Sink.taken c.give.new.sink) c.loop-line.text.items c.loop-line.line c.loop-line.place.element c.loop-line.place.rows c.requires.admitted c.loop-line.invariant.0 all (subst (GrowsByFront (g.K.Sink.taken c.loop-line.sink) (g.K.Sink.taken c.give.new.sink)) c.as_slice.ensures.value grows)) c.give.ensures.front

@@ -1,12 +1,18 @@
-use Rattle.std.proofs.Common.{true, false, refl, length}
+use Rattle.std.proofs.Common.{true, false, refl}
 use Rattle.bn_netlist_lines.proofs.ColumnTests.{column_test}
 use Rattle.bn_netlist_lines.proofs.column.is_column.Goals as goal
 
 pub returns-then-not-has_rungs : goal.returns-then-not-has_rungs
-returns-then-not-has_rungs c = column_test (length c.args.net.now.elements) c.args.net.now.wires c.args.states.now c.args.first c.args.rows false _ _ _ c.requires.within c.if-not-has_rungs.ensures refl refl refl
+returns-then-not-has_rungs g c =
+    let s = g.C.Spellable.spelling c.args.config.now in
+    column_test s.elements s.wires s.config.states c.args.first c.args.rows false _ _ _ c.requires.within c.if-not-has_rungs.ensures refl refl refl
 
 pub returns-then-not-has_ends : goal.returns-then-not-has_ends
-returns-then-not-has_ends c = column_test (length c.args.net.now.elements) c.args.net.now.wires c.args.states.now c.args.first c.args.rows true false _ _ c.requires.within c.if-not-has_rungs.ensures c.if-not-has_ends.ensures refl refl
+returns-then-not-has_ends g c =
+    let s = g.C.Spellable.spelling c.args.config.now in
+    column_test s.elements s.wires s.config.states c.args.first c.args.rows true false _ _ c.requires.within c.if-not-has_rungs.ensures c.if-not-has_ends.ensures refl refl
 
 pub returns : goal.returns
-returns c = column_test (length c.args.net.now.elements) c.args.net.now.wires c.args.states.now c.args.first c.args.rows true true true c.is_standing.result c.requires.within c.if-not-has_rungs.ensures c.if-not-has_ends.ensures c.if-not-is_free.ensures c.is_standing.ensures
+returns g c =
+    let s = g.C.Spellable.spelling c.args.config.now in
+    column_test s.elements s.wires s.config.states c.args.first c.args.rows true true true c.is_standing.result c.requires.within c.if-not-has_rungs.ensures c.if-not-has_ends.ensures c.if-not-is_free.ensures c.is_standing.ensures

@@ -3,4 +3,4 @@ use Rattle.bn_netlist_laws.specs.Columns.{are_upright}
 use Rattle.bn_netlist_lines.proofs.column.is_standing.Given as goal
 
 abbrev pub invariant-loop-row : goal.invariant-loop-row
-invariant-loop-row l = are_upright l.states l.first l.row ≡ true
+invariant-loop-row g l = are_upright (g.C.Spellable.spelling l.config).config.states l.first l.row ≡ true

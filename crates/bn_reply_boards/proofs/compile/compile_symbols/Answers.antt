@@ -2,7 +2,6 @@ use Rattle.std.proofs.Common.{subst}
 use Rattle.bn_assembly.specs.Assembled.{limits_of}
 use Rattle.bn_reply_boards_laws.specs.Windows.{BoardReplies}
 use Rattle.bn_reply_boards_laws.specs.CompileReply.{TellsStart}
-use Rattle.bn_flat.specs.Flattened.{IsBoardKept}
 use Rattle.bn_reply_boards.specs.Opened.{IsOpenedBoard}
 use Rattle.bn_reply_boards.proofs.MadeLemmas.{refused_board, will_compile}
 use Rattle.bn_board_laws.proofs.ClosedLemmas.{read_off}
@@ -21,5 +20,5 @@ pub returns : goal.returns
 returns c =
     let opened = subst (IsOpenedBoard c.args.table.now.machine (limits_of c.args.windows.now) c.args.symbols.now) c.in-Made.is c.in_ok-reply.ensures in
     will_compile c.args.table.now (limits_of c.args.windows.now) c.args.symbols.now c.in-Made.field-0 c.in-Made.board tables_machines c.machine-machine.ensures.valid c.requires.fit
-    c.requires.windows c.requires.symbols opened (boards-spelled read_off) (subst IsBoardKept c.board.view_is c.board.invariant) c.in_ok-config-in-Made.config
-    c.in_ok-config-in-Made.ensures.version c.in_ok-config-in-Made.ensures.spelling
+    c.requires.windows c.requires.symbols opened (boards-spelled read_off) c.board_config.ensures.kept c.board_config.result
+    c.board_config.ensures.version c.board_config.ensures.spelling

@@ -12,11 +12,11 @@ walk-requires g c = read-IsConfig c.in-Ok.read c.args.bytes.now c.in-Ok.ensures.
 
 pub reply_config-requires : goal.reply_config-requires
 reply_config-requires g c =
-    moved-Admits c.args.direction c.args.count c.args.bytes.now c.in-Ok.read c.in-Ok.ensures.spelled c.in_ok-moved.moved c.in_ok-moved.ensures.walked
+    moved-Admits c.args.direction c.args.count c.args.bytes.now c.in-Ok.read c.in-Ok.ensures.spelled c.in_ok-moved.moved c.in_ok-moved.ensures.version c.in_ok-moved.ensures.walked
 
 pub returns-clause-replied : goal.returns-clause-replied
 returns-clause-replied g c =
-    replied c.args.direction c.args.count c.args.bytes.now c.in-Ok.read c.in-Ok.ensures.spelled c.in_ok-moved.moved c.in_ok-moved.ensures.walked
+    replied c.args.direction c.args.count c.args.bytes.now c.in-Ok.read c.in-Ok.ensures.spelled c.in_ok-moved.moved c.in_ok-moved.ensures.version c.in_ok-moved.ensures.walked
     c.reply_config.result (g.W.Watch.told c.args.watch.now) (g.W.Watch.told c.walk.new.watch) c.in_ok-moved.ensures.told
     c.reply_config.ensures.done c.reply_config.ensures.text
 

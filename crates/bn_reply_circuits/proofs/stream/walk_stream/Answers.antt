@@ -21,12 +21,12 @@ walk-requires g c = read-IsConfig c.in-Ok.read c.in-Ok.ensures.taken.0 c.in-Ok.e
 
 pub give_config-requires : goal.give_config-requires
 give_config-requires g c =
-    moved-Admits c.args.direction c.args.count c.in-Ok.ensures.taken.0 c.in-Ok.read c.in-Ok.ensures.taken.2 c.in-Ok-walk.moved c.in-Ok-walk.ensures.walked
+    moved-Admits c.args.direction c.args.count c.in-Ok.ensures.taken.0 c.in-Ok.read c.in-Ok.ensures.taken.2 c.in-Ok-walk.moved c.in-Ok-walk.ensures.version c.in-Ok-walk.ensures.walked
 
 pub returns-in-Ok-walk : goal.returns-in-Ok-walk
 returns-in-Ok-walk g c =
     let e = c.in-Ok.ensures in
-    let ends = moved_ends c.args.direction c.args.count e.taken.0 c.in-Ok.read e.taken.2 c.in-Ok-walk.moved c.in-Ok-walk.ensures.walked c.give_config.result
+    let ends = moved_ends c.args.direction c.args.count e.taken.0 c.in-Ok.read e.taken.2 c.in-Ok-walk.moved c.in-Ok-walk.ensures.version c.in-Ok-walk.ensures.walked c.give_config.result
     (g.K.Sink.taken c.args.sink.now) (g.K.Sink.taken c.give_config.new.sink) (g.K.Sink.faults c.args.sink.now) (g.K.Sink.faults c.give_config.new.sink)
     (g.W.Watch.told c.args.watch.now) (g.W.Watch.told c.walk.new.watch) c.in-Ok-walk.ensures.told c.give_config.ensures.ends in
     stream_read (WalkReplies c.args.direction c.args.count) e.taken.0 c.give_config.result (g.S.Source.left c.args.source.now)

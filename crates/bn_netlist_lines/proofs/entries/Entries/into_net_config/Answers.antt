@@ -1,4 +1,10 @@
-use Rattle.std.proofs.Common.{◌≡◌, ◌+◌, ◌∙◌, length, ap, arith, refl}
+use Rattle.std.proofs.Common.{◌≡◌, ◌+◌, ◌∙◌, ℕ, length, ap, arith, refl, subst, sym}
+use Rattle.bn_lists.specs.Lists.{IsLeast}
+use Rattle.bn_circuits.specs.Circuits.{Circuit}
+use Rattle.bn_netlist_laws.specs.declared.version.Version.TheVariants.{Two}
+use Rattle.bn_netlist_lines.specs.Drafting.{IsOwnColumn}
+use Rattle.bn_netlist_lines.specs.declared.net_config.NetConfig.{NetConfig}
+use Rattle.bn_netlist_lines.proofs.NetLemmas.{circuits-agree}
 use Rattle.bn_netlist_lines.specs.Finishing.{finds_column}
 use Rattle.bn_netlist_lines.proofs.FinishLemmas.{whole_faultless, counts, net_of, first_out, made_spelled}
 use Rattle.bn_netlist_lines.proofs.entries.Entries.into_net_config.Goals as goal
@@ -28,20 +34,24 @@ returns-in-Some-clause-refused c =
     let made = ap length c.in-Ok-new.ensures.elements in
     let count : length c.in-Ok-new.net.elements ≡ h.count = omega (arith, made, c.in-Ok.elements.ok, c.in-Ok.ensures.len) in
     let line_is : c.from.result + 7 ≡ c.in-Some.element + 7 = omega arith in
+    let spelled : NetConfig = record { version = h.version; net = c.in-Ok-new.net; config = record { states = c.new-states.result; place = h.place; steps = h.steps }; start = h.start; end = h.end } in
+    let least = subst (λ (k : Circuit). IsLeast (IsOwnColumn c.as_slice.result.now k c.new-states.result) c.in-Some.element) (sym (circuits-agree spelled)) c.in-Some.ensures.1 in
     finds_column (c.from.result + 7) refl (λ rows whole holds.
     first_out h rows c.in-Ok-new.net whole
     (net_of h rows c.in-Ok-new.net c.deref.result.now count c.in-Ok-new.ensures.targets c.in-Ok-new.ensures.sources (c.deref.ensures.value ∙ c.shrink_to_fit.ensures.items ∙ holds.wires_are))
     c.new-states.result c.as_slice.result.now c.in-Some.element (c.from.result + 7)
-    (c.new-states.ensures ∙ holds.states_are) (c.as_slice.ensures.value ∙ holds.own_are) c.in-Some.ensures.0 c.in-Some.ensures.1 line_is)
+    (c.new-states.ensures ∙ holds.states_are) (c.as_slice.ensures.value ∙ holds.own_are) c.in-Some.ensures.0 least line_is)
 
 pub returns-clause-made : goal.returns-clause-made
 returns-clause-made c =
     let h = c.args.header.now in
     let made = ap length c.in-Ok-new.ensures.elements in
     let count : length c.in-Ok-new.net.elements ≡ h.count = omega (arith, made, c.in-Ok.elements.ok, c.in-Ok.ensures.len) in
+    let spelled : NetConfig = record { version = h.version; net = c.in-Ok-new.net; config = record { states = c.new-states.result; place = h.place; steps = h.steps }; start = h.start; end = h.end } in
+    let unspelled = subst (λ (k : Circuit). (e : ℕ) → h.version ≡ Two → IsOwnColumn c.as_slice.result.now k c.new-states.result e → ⊥) (sym (circuits-agree spelled)) c.in_default-spelled_out_in.ensures in
     λ rows whole holds. (
       refl,
-      made_spelled h rows (record { version = h.version; net = c.in-Ok-new.net; config = record { states = c.new-states.result; place = h.place; steps = h.steps }; start = h.start; end = h.end }) c.new-states.result c.as_slice.result.now whole
+      made_spelled h rows spelled c.new-states.result c.as_slice.result.now whole
           (net_of h rows c.in-Ok-new.net c.deref.result.now count c.in-Ok-new.ensures.targets c.in-Ok-new.ensures.sources (c.deref.ensures.value ∙ c.shrink_to_fit.ensures.items ∙ holds.wires_are))
-          (c.new-states.ensures ∙ holds.states_are) (c.as_slice.ensures.value ∙ holds.own_are) refl refl refl c.in_default-spelled_out_in.ensures,
+          (c.new-states.ensures ∙ holds.states_are) (c.as_slice.ensures.value ∙ holds.own_are) refl refl refl unspelled,
     )

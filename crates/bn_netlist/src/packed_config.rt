@@ -1,0 +1,63 @@
+//! A packed net in a configuration, with what its text names.
+
+use bn_circuits::{Line, Place};
+use bn_netlist_laws::Version;
+use bn_netlist_lines::Spellable;
+use bn_packed::Packed;
+
+/// A packed net of rotary elements in a configuration, with the two lines that its text names, and the version of that
+/// text. Elements and lines are counted from 0. (This project's own profile.)
+#[derive(Debug, Drop)]
+pub struct PackedConfig {
+    /// The version of its text.
+    pub version: Version,
+    /// The net, in its configuration.
+    pub packed: Packed,
+    /// The start, an input line into which no wire leads.
+    pub start: Line,
+    /// The end, an output line from which no wire leads.
+    pub end: Line,
+}
+
+impl Spellable for PackedConfig {
+    ghost use Rattle.bn_netlist.specs.PackedText.{spelling_of_packed};
+
+    ghost version = { λ c. c.version };
+
+    ghost spelling = { spelling_of_packed };
+
+    fn version(&self) -> Version {
+        self.version
+    }
+
+    fn len(&self) -> u32 {
+        self.packed.len()
+    }
+
+    fn start(&self) -> Line {
+        self.start
+    }
+
+    fn end(&self) -> Line {
+        self.end
+    }
+
+    fn steps(&self) -> u64 {
+        self.packed.steps()
+    }
+
+    fn place(&self) -> Place {
+        self.packed.place()
+    }
+
+    fn bar(&self, element: u32) -> u32 {
+        // (for the prover: the contract of this call tells what the type keeps. So below.)
+        let _elements = self.packed.len();
+        self.packed.bar(element)
+    }
+
+    fn target(&self, from: Line) -> Option<Line> {
+        let _elements = self.packed.len();
+        self.packed.target(from)
+    }
+}
