@@ -32,10 +32,7 @@ pub fn write_config<C: Spellable>(alloc: Global, config: &C) -> Result<Vec<u8>, 
 }
 
 // The six lines before those of the elements.
-pub(crate) fn push_header<C: Spellable>(
-    text: &mut Vec<u8>,
-    config: &C,
-) -> Result<(), NoMemory>
+pub(crate) fn push_header<C: Spellable>(text: &mut Vec<u8>, config: &C) -> Result<(), NoMemory>
     requires { Admits (C.version config.now) (C.spelling config.now) }
     ensures { OnOk result (text.new.items ≡ text.old.items
         ++ lines_text (header_then (header_of (C.version config.now) (C.spelling config.now)) [])) }
@@ -172,11 +169,7 @@ fn push_column(text: &mut Vec<u8>, first: u32, rows: u32, state: u32) -> Result<
 }
 
 // The line of a row of a column.
-fn push_row<C: Spellable>(
-    text: &mut Vec<u8>,
-    config: &C,
-    element: u32,
-) -> Result<(), NoMemory>
+fn push_row<C: Spellable>(text: &mut Vec<u8>, config: &C, element: u32) -> Result<(), NoMemory>
     requires { element < (C.spelling config.now).elements }
     ensures { OnOk result (text.new.items ≡ text.old.items
         ++ (sentence_text (Row (target (C.spelling config.now).wires (record { element = element; line = 1 }))
@@ -189,11 +182,7 @@ fn push_row<C: Spellable>(
 }
 
 // Where the four outputs of an element lead.
-fn push_targets<C: Spellable>(
-    text: &mut Vec<u8>,
-    config: &C,
-    element: u32,
-) -> Result<(), NoMemory>
+fn push_targets<C: Spellable>(text: &mut Vec<u8>, config: &C, element: u32) -> Result<(), NoMemory>
     requires { element < (C.spelling config.now).elements }
     ensures { OnOk result (text.new.items ≡ text.old.items
         ++ targets_text (targets_of (C.spelling config.now).wires element)) }

@@ -1,12 +1,11 @@
 -- A line of an entry from its bytes.
-use Rattle.std.specs.Prelude.{◌≡◌, ◌≢◌, ℕ, ◌+◌, ◌<◌, ◌==◌, Bool, List, [], ◌∷◌, ◌++◌, length, Option, Some, None, option_map, option_and_then, codes, refl}
+use Rattle.std.specs.Prelude.{◌≡◌, ◌≢◌, ℕ, ◌+◌, ◌<◌, ◌==◌, Bool, List, [], ◌∷◌, ◌++◌, length, Option, Some, None, option_map, codes, refl}
 use Rattle.std.proofs.Common.{arith, ap, subst, ◌∙◌, inl, inr}
-use Rattle.std.proofs.lemmas.Bool.{cases_Bool}
 use Rattle.std.proofs.lemmas.Bool.Decides.{eqb_tells}
 use Rattle.std.proofs.lemmas.Option.{option_and_then_some, cond_some}
 use Rattle.bn_circuits.specs.declared.line.Wire.{Wire}
 use Rattle.bn_netlist_laws.specs.Sentences.{AreNameable}
-use Rattle.bn_netlist_laws.specs.Reading.{word_taken, number_taken, bar_taken, targets_taken, ended, element_of, named_target, named_targets}
+use Rattle.bn_netlist_laws.specs.Reading.{word_taken, number_taken, bar_taken, targets_taken, element_of, named_target, named_targets}
 use Rattle.bn_netlist_laws.proofs.LineReadingLemmas.{targets_taken-takes}
 use Rattle.bn_netlist_laws.specs.Sentences.{Sentence, Element, Column}
 use Rattle.bn_netlist_laws.specs.Sentences as sentences

@@ -1,4 +1,4 @@
-use Rattle.std.proofs.Common.{ℕ, [], ◌∷◌, ◌++◌, ◌≡◌, ◌∙◌, sym, append-nil, arith}
+use Rattle.std.proofs.Common.{[], ◌∷◌, ◌++◌, ◌≡◌, ◌∙◌, sym, append-nil, arith}
 use Rattle.bn_netlist_lines.proofs.NetLemmas.{on_ok}
 use Rattle.bn_netlist_laws.specs.Sentences.{Title, Count, Start, End, Steps, At, lines_text}
 use Rattle.bn_netlist.proofs.WritingLemmas.{line_more}
