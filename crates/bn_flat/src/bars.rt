@@ -46,9 +46,7 @@ fn push_bank(bars: &mut Vec<u32>, bank: &Module, state: u32) -> Result<(), NoMem
 {
     let lines = bank.lines_in();
     let first = bars.len();
-    let Ok(()) = bars.resize(first + size_of(bank) as usize, VERTICAL) else {
-        return Err(NoMemory);
-    };
+    bars.resize(first + size_of(bank) as usize, VERTICAL)?;
     bars[first + (state * (lines + 1) + lines) as usize] = HORIZONTAL;
     Ok(())
 }

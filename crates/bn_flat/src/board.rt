@@ -6,7 +6,7 @@ ghost use Rattle.bn_circuits.specs.Circuits.{Goes, IsStuck, IsFirst};
 ghost use Rattle.bn_circuits.specs.Stepping.{places};
 ghost use Rattle.bn_net.specs.Watching.{Hears};
 ghost use Rattle.bn_net.specs.RotaryNets.{rotary_circuit};
-ghost use Rattle.bn_packed.specs.Running.{GoesTo, IsAtEnd, IsLongestRun, places_along};
+ghost use Rattle.bn_packed.specs.Running.{GoesTo, IsAtEnd, IsLongestRun};
 ghost use Rattle.bn_packed.specs.Stopping.{IsStoppedRun};
 ghost use Rattle.bn_board.specs.Layouts.{elements_of};
 ghost use Rattle.bn_board.specs.Costs.{bound_of};
@@ -150,9 +150,10 @@ impl Board {
         self.layout.bound()
     }
 
-    /// The same board once more, in the same configuration.
+    /// The same board once more, in the same configuration. Its contract also tells what every board keeps.
     pub fn copy(&self, alloc: Global) -> Result<Board, NoMemory>
-        ensures { IfOk result (λ b. b ≡ self.now) }
+        ensures same { IfOk result (λ b. b ≡ self.now) }
+        ensures kept { IsBoardKept self.now }
     {
         let packed = self.packed.copy(alloc)?;
         let layout = self.layout.copy(alloc)?;
@@ -231,28 +232,5 @@ impl Board {
             (W.told watch.new) }
     {
         self.packed.run_until(e, stop, watch)
-    }
-
-    /// Makes at most `e` element steps, as `run` does, and tells the watch the place after each. It takes no memory.
-    pub fn run_watched<W: Watch>(&mut self, e: u64, watch: &mut W) -> u64
-        ensures ran { IsLongestRun Direction.Forward (rotary_circuit self.old.net) e result self.old.config
-            self.new.config }
-        ensures same { IsSameBoard self.old self.new }
-        ensures told { Hears (W.told watch.old)
-            (places_along Direction.Forward (rotary_circuit self.old.net) e self.old.config) (W.told watch.new) }
-    {
-        self.packed.run_watched(e, watch)
-    }
-
-    /// Takes at most `e` element steps back, as `run_back` does, and tells the watch the place after each. It takes no
-    /// memory.
-    pub fn run_back_watched<W: Watch>(&mut self, e: u64, watch: &mut W) -> u64
-        ensures ran { IsLongestRun Direction.Backward (rotary_circuit self.old.net) e result self.old.config
-            self.new.config }
-        ensures same { IsSameBoard self.old self.new }
-        ensures told { Hears (W.told watch.old)
-            (places_along Direction.Backward (rotary_circuit self.old.net) e self.old.config) (W.told watch.new) }
-    {
-        self.packed.run_back_watched(e, watch)
     }
 }

@@ -47,9 +47,7 @@ impl Board {
     {
         let mut symbols = Vec::new(alloc);
         for cell in 0..self.layout().cells(tape) {
-            symbols
-                .push(self.symbol_at(tape, cell))
-                .map_err(|_| NoMemory)?;
+            symbols.push(self.symbol_at(tape, cell))?;
         }
         Ok(Cells::new(symbols))
     }

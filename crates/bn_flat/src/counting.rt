@@ -12,7 +12,7 @@ use crate::board::Board;
 use bn_net::Watch;
 
 impl Board {
-    /// Makes at most `e` element steps, as `run_watched` does, tells the watch the place after each, and answers after
+    /// Makes at most `e` element steps, as `run` does, tells the watch the place after each, and answers after
     /// how many of them the board was at the moment of some state. It takes no memory.
     pub fn run_counting<W: Watch>(&mut self, e: u64, watch: &mut W) -> u64
         ensures moments { result ≡ tally (is_moment self.old.layout) (rotary_circuit self.old.net) e self.old.config }
@@ -21,8 +21,6 @@ impl Board {
         ensures told { Hears (W.told watch.old) (places (rotary_circuit self.old.net) e self.old.config)
             (W.told watch.new) }
     {
-        // What every board keeps.
-        let _elements = self.len();
         let rows = self.layout().first_rows();
         let mut moments = 0;
         let mut made = 0;

@@ -122,7 +122,6 @@ impl Layout {
         ensures none { IfNone result ((s : Side)
             → IsNamedExit self.now (Left left.element left.line) (Window tape s) → ⊥) }
     {
-        let _states = self.states();
         let letters = self.letters(tape);
         if left == self.output_line(tape, self.cells(tape) - 1, letters + 3) {
             Some(Side::Right)
@@ -142,8 +141,6 @@ impl Layout {
         requires line { line < cell_line_count (symbol_count_at self.now tape) }
         ensures { Left result.element result.line ≡ cell_output self.now tape cell line }
     {
-        // (here and below: what every layout keeps is told by the contract of its states)
-        let _states = self.states();
         let letters = self.letters(tape);
         Line {
             element: self.cell_element(tape, cell)

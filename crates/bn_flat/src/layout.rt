@@ -109,13 +109,14 @@ impl Layout {
         &self.windows
     }
 
-    // How many symbols a tape has.
+    // How many symbols a tape has. Its contract also tells what every layout keeps.
     pub(crate) fn letters(&self, tape: u32) -> u32
         requires first { 1 ≤ tape }
         requires last { tape ≤ 3 }
         ensures number { result ≡ symbol_count_at self.now tape }
         ensures some { 1 ≤ result }
         ensures few { result ≤ MOST_SYMBOLS }
+        ensures kept { IsLayoutKept self.now }
     {
         self.symbols[tape as usize - 1]
     }
@@ -187,11 +188,12 @@ impl Layout {
         self.lines_before(3)
     }
 
-    // The elements of the control's bank.
+    // The elements of the control's bank. Its contract also tells what every layout keeps.
     #[tactic(auto, using(crate::proofs::LayoutLemmas::control_within))]
     pub(crate) fn control_size(&self) -> u32
         ensures number { result ≡ bank_size self.now.states (lines_at self.now) }
         ensures few { result ≤ MOST_ELEMENTS }
+        ensures kept { IsLayoutKept self.now }
     {
         self.states * (self.lines() + 1)
     }
@@ -217,16 +219,16 @@ impl Layout {
         self.windows.cells(tape) * self.cell_size(tape)
     }
 
-    // The first element of a tape's cells; of tape 4 the number of all elements.
+    // The first element of a tape's cells; of tape 4 the number of all elements. Its contract also tells what every
+    // layout keeps.
     #[tactic(auto, using(crate::proofs::LayoutLemmas::row_within, crate::proofs::LayoutLemmas::first_within))]
     pub(crate) fn first_element(&self, tape: u32) -> u32
         requires first { 1 ≤ tape }
         requires last { tape ≤ 4 }
         ensures number { result ≡ first_element self.now tape }
         ensures few { result ≤ MOST_ELEMENTS }
+        ensures kept { IsLayoutKept self.now }
     {
-        // (a function knows what its type keeps where it uses a field: here and below)
-        let _ = &self.windows;
         let mut first = self.control_size();
         for before in 1..tape {
             first += self.row_size(before);
@@ -243,7 +245,6 @@ impl Layout {
         ensures number { result ≡ cell_element self.now tape cell }
         ensures few { result + cell_size (symbol_count_at self.now tape) ≤ elements_of self.now }
     {
-        let _ = &self.windows;
         self.first_element(tape) + cell * self.cell_size(tape)
     }
 

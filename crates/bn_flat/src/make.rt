@@ -7,7 +7,7 @@ ghost use Rattle.bn_net.specs.Wirings.{AreWiresOf};
 ghost use Rattle.bn_board.specs.Boards.{AreModules, IsBoard, IsBoardWire, size};
 ghost use Rattle.bn_assembly.specs.Assembled.{network_of};
 ghost use Rattle.bn_flat.specs.BoardWires.{module_circuit};
-ghost use Rattle.bn_flat.specs.Flattened.{IsFlattened};
+ghost use Rattle.bn_flat.specs.Flattened.{IsBoardKept, IsFlattened};
 ghost use Rattle.bn_flat.specs.Starts.{start_by};
 
 use crate::bars::start_bars;
@@ -23,7 +23,8 @@ use std::alloc::Global;
 /// The board of a network: each module as its bank of columns of rotary elements, bank after bank in the order of the
 /// modules, at the network's start. Elements are counted from 0.
 pub fn flatten(alloc: Global, assembly: &Assembly) -> Result<Board, NoMemory>
-    ensures { IfOk result (IsFlattened assembly.now) }
+    ensures made { IfOk result (IsFlattened assembly.now) }
+    ensures kept { IfOk result IsBoardKept }
 {
     let layout = layout_of(alloc, assembly)?;
     let packed = packed_of(alloc, assembly, layout.elements())?;

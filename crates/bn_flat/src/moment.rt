@@ -90,14 +90,11 @@ impl Board {
 }
 
 impl Layout {
-    // (here and below: what every layout keeps is told by the contract of its states)
     // The control's output line to a tape whose command leads to the west of this element.
     #[tactic(auto, using(crate::proofs::LayoutLemmas::row_within))]
     fn command_to(&self, element: u32) -> Option<u32>
         ensures { IsCommandTo self.now element result }
     {
-        // (for the prover: the contract of this call tells what the type keeps. So below.)
-        let _states = self.states();
         let mut first = self.control_size();
         let mut before = 1;
         for tape in 1..4 {
@@ -121,6 +118,7 @@ impl Layout {
         ensures number { result ≡ bottom_at 0 (lines_at self.now) state }
         ensures within { result < elements_of self.now }
     {
+        // (for the prover: the contract of this call tells what the type keeps.)
         let _states = self.states();
         let lines = self.lines();
         state * (lines + 1) + lines

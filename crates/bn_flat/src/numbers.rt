@@ -1,6 +1,6 @@
 //! The numbers of a board, read off its network's control.
 
-ghost use Rattle.std.specs.Prelude.{◌≡◌, ◌++◌, ◌∷◌, [], All, length, IfOk, OnOk};
+ghost use Rattle.std.specs.Prelude.{◌≡◌, All, length, IfOk, OnOk};
 ghost use Rattle.bn_control.specs.Controlled.{IsTapeAwaited};
 ghost use Rattle.bn_assembly.specs.Assembled.{IsKept};
 ghost use Rattle.bn_flat.specs.Starts.{IsLayoutOf};
@@ -43,7 +43,7 @@ fn firsts_of(alloc: Global, control: &Control) -> Result<Vec<Option<(u32, u32)>>
 {
     let mut firsts = Vec::new(alloc);
     for state in 0..control.quad_states() {
-        push(&mut firsts, control.first_command(state))?;
+        firsts.push(control.first_command(state))?;
     }
     Ok(firsts)
 }
@@ -57,16 +57,7 @@ fn awaited_of(alloc: Global, control: &Control) -> Result<Vec<Option<(u32, u32)>
 {
     let mut awaited = Vec::new(alloc);
     for state in 0..control.rsm().states() {
-        push(&mut awaited, control.awaited(state))?;
+        awaited.push(control.awaited(state))?;
     }
     Ok(awaited)
-}
-
-fn push<T: Drop>(items: &mut Vec<T>, item: T) -> Result<(), NoMemory>
-    ensures { OnOk result (items.new.items ≡ items.old.items ++ item ∷ []) }
-{
-    match items.push(item) {
-        Ok(()) => Ok(()),
-        Err(_) => Err(NoMemory),
-    }
 }

@@ -1,6 +1,6 @@
 //! The wires of a board.
 
-ghost use Rattle.std.specs.Prelude.{◌≡◌, ◌+◌, ◌*◌, ◌<◌, ◌≤◌, ◌++◌, ◌∷◌, [], length, Some, slice_get, IfOk, OnOk};
+ghost use Rattle.std.specs.Prelude.{◌≡◌, ◌+◌, ◌*◌, ◌<◌, ◌≤◌, length, Some, slice_get, IfOk, OnOk};
 ghost use Rattle.bn_circuits.specs.Circuits.{IsOutputOf, IsInputOf, target};
 ghost use Rattle.bn_net.specs.Wirings.{AreWiresOf};
 ghost use Rattle.bn_realise.specs.Banks.{bank_output_line, bank_input_line};
@@ -24,7 +24,7 @@ pub(crate) fn bases(alloc: Global, net: &Net<Module>) -> Result<Vec<u32>, NoMemo
     let mut bases = Vec::new(alloc);
     let mut next = 0;
     for number in 0..net.len() {
-        push(&mut bases, next)?;
+        bases.push(next)?;
         next += size_of(net.element(number));
     }
     Ok(bases)
@@ -92,13 +92,9 @@ fn push_bank(
     ensures few { OnOk result (length wires.new.items + 4 * base (module_circuit net.now).tables number
         ≤ length wires.old.items + 4 * base (module_circuit net.now).tables (number + 1)) }
 {
-    let Ok(own) = bank_wires(alloc, net.element(number), bases[number as usize]) else {
-        return Err(NoMemory);
-    };
-    match wires.extend_from_slice(own.as_slice()) {
-        Ok(()) => Ok(()),
-        Err(_) => Err(NoMemory),
-    }
+    let own = bank_wires(alloc, net.element(number), bases[number as usize])?;
+    wires.extend_from_slice(own.as_slice())?;
+    Ok(())
 }
 
 // The wires from a module to others, after those from earlier ones.
@@ -147,7 +143,8 @@ fn push_between(
     let Some(into) = net.target(out) else {
         return Ok(());
     };
-    push(wires, between(net, bases, number, line, into))
+    wires.push(between(net, bases, number, line, into))?;
+    Ok(())
 }
 
 // The wire from a module's output line to this input line of another.
@@ -188,14 +185,5 @@ fn input_line(first: u32, line: u32) -> Line
     Line {
         element: first + line,
         line: WEST,
-    }
-}
-
-fn push<T: Drop>(items: &mut Vec<T>, item: T) -> Result<(), NoMemory>
-    ensures { OnOk result (items.new.items ≡ items.old.items ++ item ∷ []) }
-{
-    match items.push(item) {
-        Ok(()) => Ok(()),
-        Err(_) => Err(NoMemory),
     }
 }

@@ -1,10 +1,11 @@
 //! The input of the commands that take a table in standard form, and a word of its letters: each is opened,
 //! or what is answered where there is none.
 
-ghost use Rattle.std.specs.Prelude.{IfOk};
+ghost use Rattle.std.specs.Prelude.{◌≡◌, IfOk};
+ghost use Rattle.bn_reply.specs.Lines.{long_line};
 ghost use Rattle.bn_reply.specs.Opened.{IsJudged, IsOpenedTable, IsOpenedWord};
 
-use crate::letters::{WordRefusal, symbols_of};
+use crate::letters::symbol_of;
 use crate::lines::{fault_text, why_text};
 use crate::reply::Reply;
 use crate::status::Status;
@@ -71,12 +72,27 @@ pub fn judge_table(alloc: Global, table: &Table) -> Result<Judged<'_>, NoMemory>
 pub fn open_word(alloc: Global, table: &Table, word: &[u8]) -> Result<OpenedWord, NoMemory>
     ensures { IfOk result (IsOpenedWord table.now word.now) }
 {
-    match symbols_of(alloc, table, word) {
-        Ok(symbols) => Ok(OpenedWord::Symbols(symbols)),
-        Err(WordRefusal::Foreign { place }) => Ok(OpenedWord::Refused(Reply {
-            text: format!(in alloc; "word: {place}\n")?.into_bytes(),
-            status: Status::Word,
-        })),
-        Err(WordRefusal::NoMemory) => Err(NoMemory),
+    let mut symbols = Vec::new(alloc);
+    for (index, byte) in word.iter().enumerate() {
+        let Some(symbol) = symbol_of(table, *byte) else {
+            let place = index + 1;
+            return Ok(OpenedWord::Refused(Reply {
+                text: format!(in alloc; "word: {place}\n")?.into_bytes(),
+                status: Status::Word,
+            }));
+        };
+        symbols.push(symbol)?;
     }
+    Ok(OpenedWord::Symbols(symbols))
+}
+
+/// The answer that a word of so many letters is too long.
+pub fn too_long(alloc: Global, letters: usize) -> Result<Reply, NoMemory>
+    ensures status { IfOk result (λ r. r.status ≡ Status.Size) }
+    ensures text { IfOk result (λ r. r.text.items ≡ long_line letters) }
+{
+    Ok(Reply {
+        text: format!(in alloc; "size: word needs {letters}\n")?.into_bytes(),
+        status: Status::Size,
+    })
 }

@@ -1,5 +1,7 @@
 //! What a command answers.
 
+ghost use Rattle.std.specs.Prelude.{◌≡◌};
+
 use crate::status::Status;
 
 /// The text and the status of a command's answer.
@@ -9,4 +11,16 @@ pub struct Reply {
     pub text: Vec<u8>,
     /// The status.
     pub status: Status,
+}
+
+impl Reply {
+    /// The reply that tells by this line that the input has no reading.
+    pub fn of_fault(line: Vec<u8>) -> Reply
+        ensures { result ≡ record { text = line; status = Status.Text } }
+    {
+        Reply {
+            text: line,
+            status: Status::Text,
+        }
+    }
 }

@@ -1,4 +1,5 @@
 pub mod OpeningLemmas
+pub mod AskedLemmas
 pub mod MadeLemmas
 pub mod PieceLemmas
 pub mod CellTextLemmas

@@ -1,14 +1,13 @@
 -- A board that was made from a machine, a word and limits: it may be compiled, and its configuration has a text.
-use Rattle.std.specs.Prelude.{◌≡◌, ◌↔◌, ℕ, List, [], All, length, replicate, Option, Some, None, refl}
+use Rattle.std.specs.Prelude.{◌≡◌, ◌↔◌, ℕ, List, [], length, replicate, Option, Some, None, refl}
 use Rattle.std.proofs.Common.{arith, sym, subst, ◌∙◌}
 use Rattle.bn_circuits.specs.Circuits.{Circuit, IsCircuit, IsConfig, IsInputOf, IsOutputOf, target, source}
 use Rattle.bn_circuits.specs.declared.line.Line.{Line}
 use Rattle.bn_circuits.specs.declared.line.Wire.{Wire}
 use Rattle.bn_net.specs.RotaryNets.{rotary_circuit}
 use Rattle.bn_net.proofs.RotaryNetLemmas.{rotary-tables}
-use Rattle.bn_machine.specs.Machine.{Program, IsMachine}
+use Rattle.bn_machine.specs.Machine.{Program}
 use Rattle.bn_machine.specs.Outcome.{Limits}
-use Rattle.bn_standard.specs.Standard.{IsStandard}
 use Rattle.bn_table.specs.Rows.{Named}
 use Rattle.bn_bennett.specs.Translation.{Translation}
 use Rattle.bn_netlist_laws.specs.Spelling.{Spelling, circuit_of, Admits, IsTextOf}
@@ -19,35 +18,15 @@ use Rattle.bn_element.specs.Rotary.{rotary}
 use Rattle.bn_board.specs.Boards.{IsBoard, IsBoardWire}
 use Rattle.bn_board.specs.Flats.{Flat, IsAccepted}
 use Rattle.bn_flat.specs.Flattened.{Flattened, IsBoardKept}
-use Rattle.bn_reply.specs.Words.{IsLetterSymbol}
 use Rattle.bn_reply.specs.declared.status.Status.TheVariants as statuses
-use Rattle.bn_circuits.specs.declared.place.Place.{Place}
-use Rattle.bn_table.specs.Laws.{TablesAreMachines}
-use Rattle.bn_table.specs.Rows.{IsTable}
-use Rattle.bn_reply.specs.declared.reply.Reply.{Reply}
-use Rattle.bn_reply.specs.declared.status.Status.{Status}
-use Rattle.bn_reply_boards_laws.specs.Windows as windows
-use Rattle.bn_network.specs.Limits.{AreSmall}
-use Rattle.bn_reply_boards_laws.specs.Windows.{ComesTo, BoardReplies, board}
 use Rattle.bn_reply_boards_laws.specs.Laws.{BoardsAreSpelled}
-use Rattle.bn_reply_boards_laws.specs.CompileReply.{IsFlatSpelling, TellsStart}
+use Rattle.bn_reply_boards_laws.specs.CompileReply.{CompileReplies, IsFlatSpelling, TellsStart}
 use Rattle.bn_reply_boards_laws.proofs.SpelledLemmas.{target_of, entered_once, left_once}
-use Rattle.bn_reply_boards.specs.Opened.{IsMade, IsTooLarge, long, large, spelling_of_board}
+use Rattle.bn_reply_boards.specs.Opened.{IsBoardAsked, IsMade, spelling_of_board}
 use Rattle.bn_reply_circuits.specs.Unwritten.{WillReply}
 use Rattle.bn_reply_circuits.specs.declared.unwritten.Unwritten.TheVariants.{Packed}
+use Rattle.bn_reply_boards.proofs.AskedLemmas.{board_accepted, board_replies}
 use Rattle.bn_reply_boards.proofs.OpeningLemmas.{elements_are}
-
--- a word of a table's letters, and limits that may be asked for, may be compiled where they come to a board
-pub accepted : (t : Named) (symbols : List ℕ) (l : Limits) (f : Flat) → IsMachine t.machine → IsStandard t.machine.quints → t.machine.symbols ≡ length t.letters
-    → All (IsLetterSymbol t) symbols → AreSmall l → ComesTo t.machine l symbols f → IsAccepted t.machine symbols l f
-accepted t symbols l f machine standard count all small comes = record {
-  standard = record { machine = machine; standard = standard };
-  letters = λ k d inside. let known = (all k d inside).known in omega arith;
-  nonblank = λ k d inside. (all k d inside).letter;
-  fits = comes.fits;
-  small = small;
-  few = comes.few;
-}
 
 -- nothing leads to a line in one of two lists where nothing does in the other
 no_source : (xs ys : List Wire) (to : Line) (o : Option Line) → ((from to : Line) → (source xs to ≡ Some from) → target xs from ≡ Some to)
@@ -112,33 +91,18 @@ packed_spelling b c net config start end =
 
 -- ---- what is answered
 
--- a refusal is an answer, whatever is told of boards
-pub refused_board : (tells : Flat → Status → List ℕ → List Place → Type 0) (p : Program) (l : Limits) (symbols : List ℕ) (reply : Reply) → IsTooLarge p l symbols reply
-    → BoardReplies tells p l symbols reply.status reply.text.items []
-refused_board tells p l symbols reply (long far text status) = windows.long far text status refl
-refused_board tells p l symbols reply (large fits count counts great text status) = windows.large fits count counts great text status refl
-
-module _ (t : Named) (l : Limits) (symbols : List ℕ) (m : Translation) (b : Flattened) (machines : TablesAreMachines) (table : IsTable t) (fit : IsStandard t.machine.quints)
-    (small : AreSmall l) (known : All (IsLetterSymbol t) symbols) (opened : (f : Flat) × IsMade t.machine l symbols f m b) where
-  pub accepts : IsAccepted t.machine symbols l opened.0
-  accepts = accepted t symbols l opened.0 (machines t table).0 fit table.symbols known small opened.1.comes
-
-  pub admitted : BoardsAreSpelled → IsBoardKept b → Admits Two (spelling_of_board b)
-  admitted spelled kept = made-Admits t.machine l symbols opened.0 m b opened.1 kept accepts spelled
-
-  pub compiled : BoardsAreSpelled → (kept : IsBoardKept b) → (text : List ℕ) → IsTextOf Two (spelling_of_board b) text
-      → BoardReplies TellsStart t.machine l symbols statuses.Done text []
-  compiled spelled kept text is = board opened.0 opened.1.comes (made-told t.machine l symbols opened.0 m b opened.1 kept accepts spelled text is)
-
-  -- as a configuration
-  pub will_compile : BoardsAreSpelled → IsBoardKept b → (c : PackedConfig) → c.version ≡ Two → spelling_of_packed c ≡ spelling_of_board b →
-      WillReply (BoardReplies TellsStart t.machine l symbols) (Packed c)
-  will_compile spelled kept c two is =
-      let here = subst (Admits Two) (sym is) (admitted spelled kept) in
-      record {
-        writable = subst (λ v. Admits v (spelling_of_packed c)) (sym two) here;
-        right = λ s text written.
-            let told : IsTextOf Two (spelling_of_packed c) text = subst (λ v. IsTextOf v (spelling_of_packed c) text) two written.1 in
-            let answer = compiled spelled kept text (subst (λ z. IsTextOf Two z text) is told) in
-            subst (λ st. BoardReplies TellsStart t.machine l symbols st text []) (sym written.0) answer;
-      }
+-- the board of bytes, a word and limits as a configuration
+pub will_compile : BoardsAreSpelled → (bytes word : List ℕ) (l : Limits) (t : Named) (m : Translation) (b : Flattened) → IsBoardAsked bytes word l t m b → (c : PackedConfig)
+    → c.version ≡ Two → spelling_of_packed c ≡ spelling_of_board b → WillReply (CompileReplies word l bytes) (Packed c)
+will_compile boards bytes word l t m b asked c two is =
+    let made = asked.made in
+    let may = board_accepted bytes word l t m b asked in
+    let here = subst (Admits Two) (sym is) (made-Admits t.machine l asked.symbols asked.flat m b made made.kept may boards) in
+    record {
+      writable = subst (λ v. Admits v (spelling_of_packed c)) (sym two) here;
+      right = λ s text written.
+          let told : IsTextOf Two (spelling_of_packed c) text = subst (λ v. IsTextOf v (spelling_of_packed c) text) two written.1 in
+          let start = made-told t.machine l asked.symbols asked.flat m b made made.kept may boards text (subst (λ z. IsTextOf Two z text) is told) in
+          let answer = board_replies (λ t. TellsStart) bytes word l t m b asked statuses.Done text [] start in
+          subst (λ st. CompileReplies word l bytes st text []) (sym written.0) answer;
+    }

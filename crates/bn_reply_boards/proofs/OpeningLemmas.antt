@@ -112,4 +112,5 @@ module _ (p : Program) (l : Limits) (symbols : List ℕ) (t : Translation) (is :
     config = subst (λ w. b.config ≡ board_start (network_of a).tables (network_start t.machine w symbols)) is_assembled.limits (flat.config t.machine symbols names in_limits);
     start = ap (λ (x : Line). Enter x.element x.line) flat.start;
     end = ap (λ (x : Line). Left x.element x.line) flat.end;
+    kept = kept;
   }

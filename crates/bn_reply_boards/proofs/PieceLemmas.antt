@@ -1,5 +1,5 @@
 -- Numbers with a sign, and pieces of text one behind the other.
-use Rattle.std.specs.Prelude.{◌≡◌, ℕ, ℤ, pos, negsuc, List, ◌++◌, Result, Ok, Err, OnOk, refl}
+use Rattle.std.specs.Prelude.{◌≡◌, ℕ, ℤ, pos, negsuc, List, ◌++◌, refl}
 use Rattle.std.proofs.Common.{ap, ◌∙◌, append_assoc}
 use Rattle.std.specs.Fmt.{signed_decimal}
 use Rattle.bn_reply_boards_laws.specs.RunText.{position_text}
@@ -16,8 +16,3 @@ two_pieces first a b one two h k = k ∙ ap (λ text. text ++ b) h ∙ append_as
 pub three_pieces : (first a b d one two three : List ℕ) → one ≡ first ++ a → two ≡ one ++ b → three ≡ two ++ d → three ≡ first ++ (a ++ (b ++ d))
 three_pieces first a b d one two three h k l =
     l ∙ ap (λ text. text ++ d) (two_pieces first a b one two h k) ∙ append_assoc first (a ++ b) d ∙ ap (λ text. first ++ text) (append_assoc a b d)
-
--- where a call gave a piece, more is known of it
-pub when_done : {T E : Type 0} (result : Result T E) (P Q : Type 0) → OnOk result P → (P → Q) → OnOk result Q
-when_done (Ok x) P Q holds gives = gives holds
-when_done (Err e) P Q holds gives = tt

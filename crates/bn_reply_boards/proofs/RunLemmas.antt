@@ -24,13 +24,13 @@ use Rattle.bn_flat.specs.Flattened.{Flattened, IsSameBoard}
 use Rattle.bn_net.specs.Watching.{Hears}
 use Rattle.bn_reply.specs.declared.status.Status.{Status}
 use Rattle.bn_reply_boards_laws.specs.Counts.{Counts}
-use Rattle.bn_reply_boards_laws.specs.Windows.{BoardReplies, board}
-use Rattle.bn_reply_boards_laws.specs.RunReply.{HasMoment, TellsRun, board_after, budget, reached, exit_status}
+use Rattle.bn_reply_boards_laws.specs.RunReply.{HasMoment, RunReplies, TellsRun, board_after, budget, reached, exit_status}
 use Rattle.bn_reply_boards_laws.specs.RunText.{run_text}
 use Rattle.bn_reply_boards_laws.specs.Laws.{ExitsAreNamed, MomentsAreCounted, found_text}
-use Rattle.bn_reply_boards.specs.Opened.{IsMade}
+use Rattle.bn_reply_boards.specs.Opened.{IsBoardAsked, IsMade}
 use Rattle.bn_reply_boards.specs.Running.{HasRun, IsAtStart, TellsFound, end_by, steps_for}
 use Rattle.bn_reply_boards.specs.Shown.{HasNames, IsShown}
+use Rattle.bn_reply_boards.proofs.AskedLemmas.{board_accepted, board_replies}
 use Rattle.bn_reply_boards.proofs.NameLemmas.{exit_names}
 use Rattle.bn_reply_boards.proofs.OpeningLemmas.{elements_are}
 
@@ -142,8 +142,21 @@ module _ (given : Option ℕ) (t : Named) (l : Limits) (symbols : List ℕ) (f :
       subst (λ (c : Config). IsExit f.layout c.place e) (end_is given f m b start) (subst (λ x. IsExit x (end_by b given).place e) (sym made.layout) is) in
       subst (λ x. HasNames t x e) made.translation (exit_names t symbols l f made.comes.flat accepted ones boards (budget f given) e there)
 
-  -- what is told of the board is an answer
-  pub made_replies : ExitsAreNamed → MomentsAreCounted → (s : Status) (text : List ℕ) (told : List Place) → TellsFound given t f s text told
-      → BoardReplies (TellsRun given t) t.machine l symbols s text told
-  made_replies exits counts s text told found =
-      board f made.comes (found_tells given t symbols l f made.comes.flat accepted exits counts s text told found)
+-- ---- the board of bytes, a word and limits
+
+module _ (given : Option ℕ) (bytes word : List ℕ) (l : Limits) (t : Named) (m : Translation) (b : Flattened) (asked : IsBoardAsked bytes word l t m b) where
+  pub asked_start : IsAtStart asked.flat m b
+  asked_start = made_start t.machine l asked.symbols asked.flat m b asked.made
+
+  pub asked_letters : (symbol_count_at b.layout 1 ≡ t.machine.symbols) × (symbol_count_at b.layout 3 ≡ t.machine.symbols)
+  asked_letters = made_letters t.machine l asked.symbols asked.flat m b asked.made
+
+  pub asked_names : ExitsAreOne → BoardsRunToTheirExit → (e : Exit) → IsExit b.layout (end_by b given).place e → HasNames t m e
+  asked_names = made_names given t l asked.symbols asked.flat m b asked.made (board_accepted bytes word l t m b asked)
+
+  -- what the layout finds of it is an answer
+  pub asked_runs : ExitsAreNamed → MomentsAreCounted → (s : Status) (text : List ℕ) (told : List Place) → TellsFound given t asked.flat s text told
+      → RunReplies given word l bytes s text told
+  asked_runs exits counts s text told found =
+      board_replies (TellsRun given) bytes word l t m b asked s text told
+      (found_tells given t asked.symbols l asked.flat asked.made.comes.flat (board_accepted bytes word l t m b asked) exits counts s text told found)

@@ -1,23 +1,30 @@
--- What comes of a machine, a word and limits that are to be made into a board.
-use Rattle.std.specs.Prelude.{◌≡◌, ℕ, ◌<◌, ◌≤◌, List, length}
+-- What comes of bytes, a word and limits that are to be made into a board.
+use Rattle.std.specs.Prelude.{◌≡◌, ℕ, ◌<◌, List, [], length}
 use Rattle.bn_circuits.specs.declared.place.Place.TheVariants.{Enter, Left}
 use Rattle.bn_net.specs.RotaryNets.{rotary_circuit}
 use Rattle.bn_machine.specs.Machine.{Program}
 use Rattle.bn_machine.specs.Outcome.{Limits}
 use Rattle.bn_netlist_laws.specs.Spelling.{Spelling}
 use Rattle.bn_net.specs.declared.net.TheConstants.{MOST_ELEMENTS}
-use Rattle.bn_bennett.specs.Translation.{Translation}
+use Rattle.bn_bennett.specs.Translation.{Translation, IsTranslation}
+use Rattle.bn_table.specs.Rows.{Named}
+use Rattle.bn_control.specs.Controlled.{IsWithinLimits}
+use Rattle.bn_assembly.specs.Assembled.{IsWordOf}
 use Rattle.bn_board.specs.Layouts.{end_place}
 use Rattle.bn_board.specs.Flats.{Flat, flat_start}
-use Rattle.bn_flat.specs.Flattened.{Flattened}
+use Rattle.bn_flat.specs.Flattened.{Flattened, IsBoardKept}
+use Rattle.bn_reply.specs.TableReply.{ReadsStandard, StandardReplies, WordReplies}
+use Rattle.bn_reply.specs.Words.{IsSpelledBy}
 use Rattle.bn_reply.specs.declared.reply.Reply.{Reply}
 use Rattle.bn_reply.specs.declared.status.Status.TheVariants as statuses
-use Rattle.bn_reply_boards_laws.specs.Windows.{ComesTo, CountsElements, large_line}
-use Rattle.bn_reply.specs.Lines.{long_line}
-use Rattle.bn_reply_boards.specs.declared.opening.OpenedBoard.{OpenedBoard}
-use Rattle.bn_reply_boards.specs.declared.opening.OpenedBoard.TheVariants.{Made, Refused}
+use Rattle.bn_reply_boards_laws.specs.Headline.{IsGiven}
+use Rattle.bn_reply_boards_laws.specs.Windows.{ComesTo, CountsElements, WindowReplies, large_line}
+use Rattle.bn_reply_boards.specs.declared.opening.OpenedMachine.{OpenedMachine}
+use Rattle.bn_reply_boards.specs.declared.opening.OpenedMachine.TheVariants as machines
+use Rattle.bn_reply_boards.specs.declared.opening.OpenedInput.{OpenedInput}
+use Rattle.bn_reply_boards.specs.declared.opening.OpenedInput.TheVariants as inputs
 use Rattle.bn_reply_boards.specs.declared.opening.OpenedWindow.{OpenedWindow}
-use Rattle.bn_reply_boards.specs.declared.opening.OpenedWindow.TheVariants.{Made as MadeIn, Refused as RefusedIn}
+use Rattle.bn_reply_boards.specs.declared.opening.OpenedWindow.TheVariants as windows
 
 -- The machine, the word of these symbols and the limits come to f, whose reversible machine is this translation; and
 -- this is its board, at the start.
@@ -30,18 +37,7 @@ pub record IsMade (p : Program) (l : Limits) (symbols : List ℕ) (f : Flat) (t 
   pub config : b.config ≡ flat_start f
   pub start : Enter b.start.element b.start.line ≡ (flat_start f).place
   pub end : Left b.end.element b.end.line ≡ end_place f.layout
-
--- the word is too long, or it isn't and the board has too many elements, and the reply says so
-pub data IsTooLarge (p : Program) (l : Limits) (symbols : List ℕ) (reply : Reply) : Type 0 where
-  long : l.right < length symbols → reply.text.items ≡ long_line (length symbols) → reply.status ≡ statuses.Size
-      → IsTooLarge p l symbols reply
-  large : length symbols ≤ l.right → (count : ℕ) → CountsElements p l count → MOST_ELEMENTS < count
-      → reply.text.items ≡ large_line count → reply.status ≡ statuses.Size → IsTooLarge p l symbols reply
-
--- the board, or what is answered where there is none
-abbrev pub IsOpenedBoard : Program → Limits → List ℕ → OpenedBoard → Type 0
-IsOpenedBoard p l symbols (Made t b) = (f : Flat) × IsMade p l symbols f t b
-IsOpenedBoard p l symbols (Refused reply) = IsTooLarge p l symbols reply
+  pub kept : IsBoardKept b
 
 -- the board would have too many elements, and the reply says so
 pub record IsLarge (p : Program) (l : Limits) (reply : Reply) : Type 0 where
@@ -53,8 +49,37 @@ pub record IsLarge (p : Program) (l : Limits) (reply : Reply) : Type 0 where
 
 -- the board of a translation that is there, or what is answered where it is too large
 abbrev pub IsOpenedWindow : Program → Limits → List ℕ → Translation → OpenedWindow → Type 0
-IsOpenedWindow p l symbols t (MadeIn b) = (f : Flat) × IsMade p l symbols f t b
-IsOpenedWindow p l symbols t (RefusedIn reply) = IsLarge p l reply
+IsOpenedWindow p l symbols t (windows.Made b) = (f : Flat) × IsMade p l symbols f t b
+IsOpenedWindow p l symbols t (windows.Refused reply) = IsLarge p l reply
+
+-- The bytes are this table, whose machine is in standard form and has this translation, which may be assembled; and
+-- the word is spelled by these symbols, of which the translation's machine has a word.
+pub record IsMachineAsked (bytes word : List ℕ) (t : Named) (m : Translation) (symbols : List ℕ) : Type 0 where
+  pub reads : ReadsStandard bytes t
+  pub spelled : IsSpelledBy t word symbols
+  pub translates : IsTranslation t.machine m
+  pub within : IsWithinLimits m.machine
+  pub is_word : IsWordOf m.machine symbols
+
+-- the machine and the symbols, or what is answered whatever is told of them
+abbrev pub IsOpenedMachine : List ℕ → List ℕ → OpenedMachine → Type 0
+IsOpenedMachine bytes word (machines.Made t m symbols) = IsMachineAsked bytes word t m symbols.items
+IsOpenedMachine bytes word (machines.Refused reply) =
+    StandardReplies (λ t. WordReplies (λ symbols status text told. ⊥) t word) bytes reply.status reply.text.items []
+
+-- the bytes, the word and the limits come to this board, by this table and its machine's translation
+pub record IsBoardAsked (bytes word : List ℕ) (l : Limits) (t : Named) (m : Translation)
+    (b : Flattened) : Type 0 where
+  pub symbols : List ℕ
+  pub flat : Flat
+  pub given : IsGiven bytes word l t symbols
+  pub made : IsMade t.machine l symbols flat m b
+
+-- the board, or what is answered whatever is told of boards
+abbrev pub IsOpenedInput : List ℕ → List ℕ → Limits → OpenedInput → Type 0
+IsOpenedInput bytes word l (inputs.Made t m b) = IsBoardAsked bytes word l t m b
+IsOpenedInput bytes word l (inputs.Refused reply) =
+    WindowReplies (λ t f status text told. ⊥) word l bytes reply.status reply.text.items []
 
 -- a board as it is spelled
 abbrev pub spelling_of_board : Flattened → Spelling

@@ -1,31 +1,22 @@
 //! The command `compile`.
 
-ghost use Rattle.std.specs.Prelude.{◌≡◌, ◌≤◌, List, [], All, IfOk, Option};
+ghost use Rattle.std.specs.Prelude.{◌≡◌, ◌≤◌, List, [], IfOk, Option};
 ghost use Rattle.bn_circuits.specs.declared.place.Place.{Place};
 ghost use Rattle.bn_network.specs.Limits.{AreSmall};
 ghost use Rattle.bn_assembly.specs.Assembled.{limits_of};
 ghost use Rattle.bn_netlist.specs.PackedText.{spelling_of_packed};
 ghost use Rattle.bn_reply.specs.Streams.{AnswerEnds};
-ghost use Rattle.bn_reply.specs.Words.{IsLetterSymbol};
-ghost use Rattle.bn_standard.specs.Standard.{IsStandard};
-ghost use Rattle.bn_reply.specs.TableReply.{JudgedReplies, WordReplies};
-ghost use Rattle.bn_reply_boards_laws.specs.Windows.{BoardReplies};
-ghost use Rattle.bn_reply_boards_laws.specs.CompileReply.{CompileReplies, TellsStart};
-ghost use Rattle.bn_flat.specs.Flattened.{IsBoardKept};
+ghost use Rattle.bn_reply_boards_laws.specs.CompileReply.{CompileReplies};
 ghost use Rattle.bn_reply_boards.specs.Opened.{spelling_of_board};
 ghost use Rattle.bn_reply_circuits.specs.Unwritten.{WillReply};
 
-use crate::opening::{OpenedBoard, open_board};
+use crate::opening::{OpenedInput, open_input};
 use bn_assembly::Windows;
 use bn_flat::Board;
 use bn_io::Sink;
 use bn_netlist::{PackedConfig, Version};
-use bn_reply::{
-    Judged, NoMemory, OpenedTable, OpenedWord, Reply, Status, judge_table, open_table, open_word,
-};
+use bn_reply::{NoMemory, Reply, Status};
 use bn_reply_circuits::Unwritten;
-use bn_standard::Standard;
-use bn_table::Table;
 use std::alloc::Global;
 
 /// What `compile` answers to a word, a window and some bytes: whether they are a table with a machine in standard
@@ -74,74 +65,9 @@ fn start_of(
     requires { AreSmall (limits_of windows.now) }
     ensures { IfOk result (WillReply (CompileReplies word.now (limits_of windows.now) bytes.now)) }
 {
-    match open_table(alloc, bytes)? {
-        OpenedTable::Refused(reply) => Ok(Unwritten::Line(reply)),
-        OpenedTable::Read(table) => compile_table(alloc, &table, word, windows),
-    }
-}
-
-// What `compile` answers to a table.
-fn compile_table(
-    alloc: Global,
-    table: &Table,
-    word: &[u8],
-    windows: &Windows,
-) -> Result<Unwritten, NoMemory>
-    requires { AreSmall (limits_of windows.now) }
-    ensures { IfOk result (WillReply (JudgedReplies
-        (WordReplies (BoardReplies TellsStart table.now.machine (limits_of windows.now)) table.now word.now)
-        table.now)) }
-{
-    match judge_table(alloc, table)? {
-        Judged::Refused(reply) => Ok(Unwritten::Line(reply)),
-        Judged::Standard(standard) => compile_word(alloc, table, &standard, word, windows),
-    }
-}
-
-// What is answered of a table's machine and a word.
-fn compile_word(
-    alloc: Global,
-    table: &Table,
-    standard: &Standard<'_>,
-    word: &[u8],
-    windows: &Windows,
-) -> Result<Unwritten, NoMemory>
-    requires standard { standard.now ≡ table.now.machine }
-    requires fit { IsStandard table.now.machine.quints }
-    requires windows { AreSmall (limits_of windows.now) }
-    ensures { IfOk result (WillReply (WordReplies
-        (BoardReplies TellsStart table.now.machine (limits_of windows.now)) table.now word.now)) }
-{
-    match open_word(alloc, table, word)? {
-        OpenedWord::Refused(reply) => Ok(Unwritten::Line(reply)),
-        OpenedWord::Symbols(symbols) => {
-            compile_symbols(alloc, table, standard, symbols.as_slice(), windows)
-        }
-    }
-}
-
-// What is answered of a table's machine and a word of these symbols.
-fn compile_symbols(
-    alloc: Global,
-    table: &Table,
-    standard: &Standard<'_>,
-    symbols: &[u32],
-    windows: &Windows,
-) -> Result<Unwritten, NoMemory>
-    requires standard { standard.now ≡ table.now.machine }
-    requires fit { IsStandard table.now.machine.quints }
-    requires windows { AreSmall (limits_of windows.now) }
-    requires symbols { All (IsLetterSymbol table.now) symbols.now }
-    ensures { IfOk result (WillReply
-        (BoardReplies TellsStart table.now.machine (limits_of windows.now) symbols.now)) }
-{
-    // The table's own facts.
-    let _machine = table.machine();
-    match open_board(alloc, table, standard, symbols, windows)? {
-        OpenedBoard::Refused(reply) => Ok(Unwritten::Line(reply)),
-        OpenedBoard::Made(_, board) => {
-            Ok(Unwritten::Packed(board_config(board)))
-        }
+    match open_input(alloc, word, windows, bytes)? {
+        OpenedInput::Refused(reply) => Ok(Unwritten::Line(reply)),
+        OpenedInput::Made(_, _, board) => { Ok(Unwritten::Packed(board_config(board))) }
     }
 }
 
@@ -149,7 +75,6 @@ fn compile_symbols(
 fn board_config(board: Board) -> PackedConfig
     ensures version { result.version ≡ Version.Two }
     ensures spelling { spelling_of_packed result ≡ spelling_of_board board }
-    ensures kept { IsBoardKept board }
 {
     PackedConfig {
         version: Version::Two,

@@ -27,10 +27,8 @@ pub fn reply_generate<W: Watch>(alloc: Global, k: u32, watch: &mut W) -> Result<
     ensures interrupted { OnErr result (IsUnfinished (GenerateReplies k) (W.told watch.old) (W.told watch.new)) }
 {
     let table = increments_text(alloc, k)?;
-    match title_of(alloc, k) {
-        Ok(first_line) => run_behind(alloc, first_line, k, table.as_slice(), watch),
-        Err(_) => Err(NoMemory),
-    }
+    let first_line = title_of(alloc, k)?;
+    run_behind(alloc, first_line, k, table.as_slice(), watch)
 }
 
 // The first line.
@@ -67,14 +65,10 @@ fn run_behind<W: Watch>(
     ensures { IsAnswered (GenerateReplies k) result (W.told watch.old) (W.told watch.new) }
 {
     let mut text = first_line;
-    match reply_run(alloc, NUMBER, &window_of(k), None, table, watch) {
-        Ok(reply) => match text.extend_from_slice(reply.text.as_slice()) {
-            Ok(()) => Ok(Reply {
-                text,
-                status: reply.status,
-            }),
-            Err(_) => Err(NoMemory),
-        },
-        Err(_) => Err(NoMemory),
-    }
+    let reply = reply_run(alloc, NUMBER, &window_of(k), None, table, watch)?;
+    text.extend_from_slice(reply.text.as_slice())?;
+    Ok(Reply {
+        text,
+        status: reply.status,
+    })
 }

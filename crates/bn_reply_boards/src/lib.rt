@@ -16,8 +16,10 @@ pub use generate::reply_generate;
 pub use generate_laws::{
     generate_has_one_reply, generated_runs_tell_outcomes, generated_tables_are_given,
 };
-pub use opening::{OpenedBoard, OpenedWindow, open_board, open_window, too_long};
-pub use pieces::{push, push_number, push_position};
+pub use opening::{
+    OpenedInput, OpenedMachine, OpenedWindow, open_input, open_machine, open_window,
+};
+pub use pieces::{push, push_position};
 pub use run::{Ran, reply_run, run_to_exit, status_of};
 pub use run_text::{push_exit, text_of_run};
 pub use tape_text::push_tapes;

@@ -1,30 +1,40 @@
-//! From a machine, a word and a window to a board, or to what is answered where there is none.
+//! From bytes, a word and a window to a board, or to what is answered where there is none.
 
-ghost use Rattle.std.specs.Prelude.{◌≡◌, ◌<◌, ◌≤◌, ◌^◌, All, length, IfOk};
+ghost use Rattle.std.specs.Prelude.{◌≡◌, ◌≤◌, length, IfOk};
 ghost use Rattle.bn_machine.specs.Machine.{Program};
 ghost use Rattle.bn_bennett.specs.Translation.{IsTranslation};
 ghost use Rattle.bn_control.specs.Controlled.{IsWithinLimits};
 ghost use Rattle.bn_network.specs.Limits.{AreSmall};
 ghost use Rattle.bn_assembly.specs.Assembled.{IsWordOf, limits_of};
-ghost use Rattle.bn_reply.specs.Words.{IsLetterSymbol};
-ghost use Rattle.bn_reply_boards.specs.Opened.{IsOpenedBoard, IsOpenedWindow, IsTooLarge};
+ghost use Rattle.bn_reply_boards.specs.Opened.{IsOpenedInput, IsOpenedMachine, IsOpenedWindow};
 ghost use Rattle.bn_reply_boards_laws.specs.Windows.{large_line};
-ghost use Rattle.bn_reply.specs.Lines.{long_line};
 
 use bn_assembly::{AssembleRefusal, Windows, assemble};
 use bn_bennett::{Translated, translate};
 use bn_flat::{Board, flatten};
-use bn_reply::{NoMemory, Reply, Status};
-use bn_standard::Standard;
+use bn_reply::{
+    Judged, NoMemory, OpenedTable, OpenedWord, Reply, Status, judge_table, open_table, open_word,
+    too_long,
+};
 use bn_table::Table;
 use std::alloc::Global;
 
-/// A board with its machine's translation, or the answer where there is none.
+/// What bytes and a word are opened as, or the answer where they can't be.
 #[derive(Drop)]
-pub enum OpenedBoard {
-    /// The translation, and the board at its start.
-    Made(Translated, Board),
-    /// What is answered where the word is too long, or the board would have too many elements.
+pub enum OpenedMachine {
+    /// The bytes' table, whose machine is in standard form; this machine's translation; and the symbols of the word.
+    Made(Table, Translated, Vec<u32>),
+    /// What is answered where there is no table, its machine isn't in standard form, or the word has another letter.
+    Refused(Reply),
+}
+
+/// What bytes, a word and a window are opened as, or the answer where they can't be.
+#[derive(Drop)]
+pub enum OpenedInput {
+    /// The bytes' table, its machine's translation, and the board of the word's symbols in the window, at its start.
+    Made(Table, Translated, Board),
+    /// What is answered where there is no machine and word, the word is too long, or the board would have too many
+    /// elements.
     Refused(Reply),
 }
 
@@ -37,32 +47,46 @@ pub enum OpenedWindow {
     Refused(Reply),
 }
 
-/// The board of a table's machine in standard form for a word of these symbols and a window, at its start; or what is
-/// answered where the word is too long for the window, or else the board would have too many elements.
-pub fn open_board(
-    alloc: Global,
-    table: &Table,
-    standard: &Standard<'_>,
-    symbols: &[u32],
-    windows: &Windows,
-) -> Result<OpenedBoard, NoMemory>
-    requires standard { standard.now ≡ table.now.machine }
-    requires windows { AreSmall (limits_of windows.now) }
-    requires symbols { All (IsLetterSymbol table.now) symbols.now }
-    ensures { IfOk result (IsOpenedBoard table.now.machine (limits_of windows.now) symbols.now) }
+/// Reads the bytes as a table, whose machine is translated where it is in standard form, and a word of its letters.
+pub fn open_machine(alloc: Global, word: &[u8], bytes: &[u8]) -> Result<OpenedMachine, NoMemory>
+    ensures { IfOk result (IsOpenedMachine bytes.now word.now) }
 {
-    if symbols.len() > windows.right1 as usize {
-        return Ok(OpenedBoard::Refused(too_long(alloc, symbols.len())?));
-    }
-    // The table's own facts: its machine is a machine, within the limits of tables.
-    let _machine = table.machine();
-    let Ok(translated) = translate(alloc, standard) else {
-        return Err(NoMemory);
+    let table = match open_table(alloc, bytes)? {
+        OpenedTable::Refused(reply) => return Ok(OpenedMachine::Refused(reply)),
+        OpenedTable::Read(table) => table,
     };
-    match open_window(alloc, &translated, symbols, windows) {
-        Ok(OpenedWindow::Made(board)) => Ok(OpenedBoard::Made(translated, board)),
-        Ok(OpenedWindow::Refused(reply)) => Ok(OpenedBoard::Refused(reply)),
-        Err(_) => Err(NoMemory),
+    let translated = match judge_table(alloc, &table)? {
+        Judged::Refused(reply) => return Ok(OpenedMachine::Refused(reply)),
+        Judged::Standard(standard) => translate(alloc, &standard)?,
+    };
+    match open_word(alloc, &table, word)? {
+        OpenedWord::Refused(reply) => Ok(OpenedMachine::Refused(reply)),
+        OpenedWord::Symbols(symbols) => Ok(OpenedMachine::Made(table, translated, symbols)),
+    }
+}
+
+/// Opens bytes and a word as `open_machine` does, and makes their board in a window, at its start; or what is answered
+/// where the word is too long for the window, or else the board would have too many elements.
+pub fn open_input(
+    alloc: Global,
+    word: &[u8],
+    windows: &Windows,
+    bytes: &[u8],
+) -> Result<OpenedInput, NoMemory>
+    requires { AreSmall (limits_of windows.now) }
+    ensures { IfOk result (IsOpenedInput bytes.now word.now (limits_of windows.now)) }
+{
+    match open_machine(alloc, word, bytes)? {
+        OpenedMachine::Refused(reply) => Ok(OpenedInput::Refused(reply)),
+        OpenedMachine::Made(table, translated, symbols) => {
+            if symbols.len() > windows.right1 as usize {
+                return Ok(OpenedInput::Refused(too_long(alloc, symbols.len())?));
+            }
+            match open_window(alloc, &translated, symbols.as_slice(), windows)? {
+                OpenedWindow::Refused(reply) => Ok(OpenedInput::Refused(reply)),
+                OpenedWindow::Made(board) => Ok(OpenedInput::Made(table, translated, board)),
+            }
+        }
     }
 }
 
@@ -82,31 +106,16 @@ pub fn open_window(
         → IsOpenedWindow p (limits_of windows.now) symbols.now translated.now opened) }
 {
     match assemble(alloc, translated.machine(), windows, symbols) {
-        Ok(assembly) => match flatten(alloc, &assembly) {
-            Ok(board) => {
-                // What every board keeps.
-                let _elements = board.len();
-                Ok(OpenedWindow::Made(board))
-            }
-            Err(_) => Err(NoMemory),
-        },
+        Ok(assembly) => {
+            let board = flatten(alloc, &assembly)?;
+            Ok(OpenedWindow::Made(board))
+        }
         Err(AssembleRefusal::WordOutside { .. }) => unreachable!(),
         Err(AssembleRefusal::Elements { count }) => {
             Ok(OpenedWindow::Refused(too_large(alloc, count)?))
         }
         Err(AssembleRefusal::NoMemory) => Err(NoMemory),
     }
-}
-
-/// The answer that a word of so many letters is too long.
-pub fn too_long(alloc: Global, letters: usize) -> Result<Reply, NoMemory>
-    ensures status { IfOk result (λ r. r.status ≡ Status.Size) }
-    ensures text { IfOk result (λ r. r.text.items ≡ long_line letters) }
-{
-    Ok(Reply {
-        text: format!(in alloc; "size: word needs {letters}\n")?.into_bytes(),
-        status: Status::Size,
-    })
 }
 
 // The answer that a board would have so many elements, which are too many.

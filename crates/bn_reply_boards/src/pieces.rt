@@ -16,22 +16,12 @@ pub fn push(text: &mut Vec<u8>, bytes: &[u8]) -> Result<(), NoMemory>
     Ok(())
 }
 
-/// Appends a number in decimal digits.
-pub fn push_number(text: &mut Vec<u8>, number: u64) -> Result<(), NoMemory>
-    ensures { OnOk result (text.new.items ≡ text.old.items ++ decimal number) }
-{
-    match push_u64(text, number) {
-        Ok(()) => Ok(()),
-        Err(_) => Err(NoMemory),
-    }
-}
-
 // Appends a line that is a word and a number.
 pub(crate) fn push_counted(text: &mut Vec<u8>, word: &[u8], number: u64) -> Result<(), NoMemory>
     ensures { OnOk result (text.new.items ≡ text.old.items ++ line (word.now ∷ decimal number ∷ [])) }
 {
     push(text, word)?;
-    push_number(text, number)?;
+    push_u64(text, number)?;
     push(text, b"\n")
 }
 

@@ -1,32 +1,25 @@
 //! The command `run`.
 
-ghost use Rattle.std.specs.Prelude.{◌≡◌, ℕ, ◌+◌, ◌-◌, All, IfOk, OnErr, is_some};
+ghost use Rattle.std.specs.Prelude.{◌≡◌, ◌+◌, ◌-◌, IfOk, OnErr, is_some};
 ghost use Rattle.bn_circuits.specs.Counting.{one_if};
 ghost use Rattle.bn_network.specs.Limits.{AreSmall};
 ghost use Rattle.bn_assembly.specs.Assembled.{limits_of};
-ghost use Rattle.bn_standard.specs.Standard.{IsStandard};
 ghost use Rattle.bn_board.specs.Layouts.{IsExit, symbol_count_at};
 ghost use Rattle.bn_board.specs.Flats.{Flat};
 ghost use Rattle.bn_board.specs.declared.exit.Exit.{Exit};
 ghost use Rattle.bn_reply.specs.Replying.{IsReplied, IsUnfinished};
-ghost use Rattle.bn_reply.specs.TableReply.{JudgedReplies, WordReplies};
-ghost use Rattle.bn_reply.specs.Words.{IsLetterSymbol};
-ghost use Rattle.bn_reply_boards_laws.specs.RunReply.{RunReplies, TellsRun, exit_status};
-ghost use Rattle.bn_reply_boards_laws.specs.Windows.{BoardReplies};
+ghost use Rattle.bn_reply_boards_laws.specs.RunReply.{RunReplies, exit_status};
 ghost use Rattle.bn_bennett.specs.Translation.{Translation};
 ghost use Rattle.bn_reply_boards.specs.Running.{HasRun, IsAnswered, IsAtStart, TellsFound, end_by, steps_for};
 ghost use Rattle.bn_reply_boards.specs.Shown.{HasNames};
 
-use crate::opening::{OpenedBoard, open_board};
+use crate::opening::{OpenedInput, open_input};
 use crate::run_text::text_of_run;
 use bn_assembly::Windows;
 use bn_bennett::Translated;
 use bn_flat::{Board, Exit};
 use bn_net::Watch;
-use bn_reply::{
-    Judged, NoMemory, OpenedTable, OpenedWord, Reply, Status, judge_table, open_table, open_word,
-};
-use bn_standard::Standard;
+use bn_reply::{NoMemory, Reply, Status};
 use bn_table::Table;
 use std::alloc::Global;
 
@@ -48,91 +41,11 @@ pub fn reply_run<W: Watch>(
     ensures interrupted { OnErr result (IsUnfinished (RunReplies given word.now (limits_of windows.now) bytes.now)
         (W.told watch.old) (W.told watch.new)) }
 {
-    match open_table(alloc, bytes) {
-        Ok(OpenedTable::Refused(reply)) => Ok(reply),
-        Ok(OpenedTable::Read(table)) => run_table(alloc, &table, word, windows, given, watch),
-        Err(_) => Err(NoMemory),
-    }
-}
-
-// What `run` answers to a table.
-fn run_table<W: Watch>(
-    alloc: Global,
-    table: &Table,
-    word: &[u8],
-    windows: &Windows,
-    given: Option<u64>,
-    watch: &mut W,
-) -> Result<Reply, NoMemory>
-    requires { AreSmall (limits_of windows.now) }
-    ensures { IsAnswered (JudgedReplies (WordReplies
-        (BoardReplies (TellsRun given table.now) table.now.machine
-        (limits_of windows.now)) table.now word.now) table.now)
-        result (W.told watch.old) (W.told watch.new) }
-{
-    match judge_table(alloc, table) {
-        Ok(Judged::Refused(reply)) => Ok(reply),
-        Ok(Judged::Standard(standard)) => {
-            run_word(alloc, table, &standard, word, windows, given, watch)
+    match open_input(alloc, word, windows, bytes)? {
+        OpenedInput::Refused(reply) => Ok(reply),
+        OpenedInput::Made(table, translated, mut board) => {
+            run_board(alloc, &table, &translated, &mut board, given, watch)
         }
-        Err(_) => Err(NoMemory),
-    }
-}
-
-// What is answered of a table's machine and a word.
-fn run_word<W: Watch>(
-    alloc: Global,
-    table: &Table,
-    standard: &Standard<'_>,
-    word: &[u8],
-    windows: &Windows,
-    given: Option<u64>,
-    watch: &mut W,
-) -> Result<Reply, NoMemory>
-    requires standard { standard.now ≡ table.now.machine }
-    requires fit { IsStandard table.now.machine.quints }
-    requires windows { AreSmall (limits_of windows.now) }
-    ensures { IsAnswered (WordReplies
-        (BoardReplies (TellsRun given table.now) table.now.machine (limits_of windows.now)) table.now word.now)
-        result (W.told watch.old) (W.told watch.new) }
-{
-    match open_word(alloc, table, word) {
-        Ok(OpenedWord::Refused(reply)) => Ok(reply),
-        Ok(OpenedWord::Symbols(symbols)) => {
-            let symbols = symbols.as_slice();
-            run_symbols(alloc, table, standard, symbols, windows, given, watch)
-        }
-        Err(_) => Err(NoMemory),
-    }
-}
-
-// What is answered of a table's machine and a word of these symbols.
-fn run_symbols<W: Watch>(
-    alloc: Global,
-    table: &Table,
-    standard: &Standard<'_>,
-    symbols: &[u32],
-    windows: &Windows,
-    given: Option<u64>,
-    watch: &mut W,
-) -> Result<Reply, NoMemory>
-    requires standard { standard.now ≡ table.now.machine }
-    requires fit { IsStandard table.now.machine.quints }
-    requires windows { AreSmall (limits_of windows.now) }
-    requires symbols { All (IsLetterSymbol table.now) symbols.now }
-    ensures { IsAnswered (BoardReplies (TellsRun given table.now) table.now.machine (limits_of windows.now) symbols.now)
-        result (W.told watch.old) (W.told watch.new) }
-{
-    // The table's own facts.
-    let _machine = table.machine();
-    match open_board(alloc, table, standard, symbols, windows) {
-        Ok(OpenedBoard::Refused(reply)) => Ok(reply),
-        Ok(OpenedBoard::Made(translated, mut board)) => {
-            // What every board keeps.
-            let _elements = board.len();
-            run_board(alloc, table, &translated, &mut board, given, watch)
-        }
-        Err(_) => Err(NoMemory),
     }
 }
 
@@ -153,20 +66,18 @@ fn run_board<W: Watch>(
         → IsAnswered (TellsFound given table.now f) result (W.told watch.old) (W.told watch.new) }
 {
     let ran = run_to_exit(board, given, watch);
-    match text_of_run(
+    let text = text_of_run(
         alloc,
         table,
         translated,
         board,
         ran.exit,
         ran.quadruple_steps,
-    ) {
-        Ok(text) => Ok(Reply {
-            text,
-            status: status_of(ran.exit),
-        }),
-        Err(_) => Err(NoMemory),
-    }
+    )?;
+    Ok(Reply {
+        text,
+        status: status_of(ran.exit),
+    })
 }
 
 /// Where a run of a board came to.

@@ -12,8 +12,9 @@ ghost use Rattle.bn_reply_boards_laws.specs.RunText.{run_text};
 ghost use Rattle.bn_reply_boards_laws.specs.RunText.{state_text, stuck_line, tape_lines, window_line};
 ghost use Rattle.bn_reply_boards.specs.Shown.{HasNames, HaveLetters, IsKnownStuck, IsShown};
 
-use crate::pieces::{push, push_counted, push_number};
+use crate::pieces::{push, push_counted};
 use crate::tape_text::{push_output, push_tapes};
+use bn_base::push_u64;
 use bn_bennett::{MachineState, Translated};
 use bn_element::{EAST, NORTH, SOUTH};
 use bn_flat::{Board, Exit, Spelled};
@@ -85,7 +86,7 @@ fn push_inside(text: &mut Vec<u8>, line: Line) -> Result<(), NoMemory>
     ensures { OnOk result (text.new.items ≡ text.old.items ++ (codes "inside " ++ (line_text line ++ 10 ∷ []))) }
 {
     push(text, b"inside ")?;
-    push_number(text, u64::from(line.element))?;
+    push_u64(text, u64::from(line.element))?;
     match line.line {
         NORTH => push(text, b".n\n"),
         EAST => push(text, b".e\n"),
@@ -137,7 +138,7 @@ fn push_window(text: &mut Vec<u8>, tape: u32, side: Side) -> Result<(), NoMemory
     ensures { OnOk result (text.new.items ≡ text.old.items ++ window_line tape side) }
 {
     push(text, b"exit window ")?;
-    push_number(text, u64::from(tape))?;
+    push_u64(text, u64::from(tape))?;
     match side {
         Side::Left => push(text, b" left\n"),
         Side::Right => push(text, b" right\n"),
@@ -158,9 +159,7 @@ fn push_rest(
     ensures { OnOk result ((f : Flat) → f.layout ≡ board.now.layout
         → text.new.items ≡ text.old.items ++ rest_text table.now f board.now.config quadruple_steps exit) }
 {
-    let Ok(shown) = board.cells_of(alloc) else {
-        return Err(NoMemory);
-    };
+    let shown = board.cells_of(alloc)?;
     match exit {
         Exit::End => push_end(alloc, text, table, &shown, quadruple_steps),
         _ => push_tapes(alloc, text, table, &shown),

@@ -5,7 +5,8 @@ ghost use Rattle.bn_reply_boards_laws.specs.RunText.{cells_text, head_text, numb
 ghost use Rattle.bn_reply_boards_laws.specs.RunText.{symbol_text, tape_line, tape_lines};
 ghost use Rattle.bn_reply_boards.specs.Shown.{HasLetter, HaveLetters, bounds_text};
 
-use crate::pieces::{push, push_number, push_position};
+use crate::pieces::{push, push_position};
+use bn_base::push_u64;
 use bn_flat::{Spelled, SpelledTape};
 use bn_reply::{NoMemory, push_letters};
 use bn_table::Table;
@@ -41,7 +42,7 @@ fn push_tape(
     ensures { OnOk result (text.new.items ≡ text.old.items ++ tape_line table.now tape shown.now) }
 {
     push(text, b"tape ")?;
-    push_number(text, u64::from(tape))?;
+    push_u64(text, u64::from(tape))?;
     push_bounds(alloc, text, shown)?;
     push_cells(text, table, tape, shown.cells.as_slice())?;
     push(text, b"\n")
@@ -122,7 +123,7 @@ fn push_quintuple(text: &mut Vec<u8>, symbol: u32) -> Result<(), NoMemory>
     if symbol == 0 {
         push(text, b"_")
     } else {
-        push_number(text, u64::from(symbol))
+        push_u64(text, u64::from(symbol))
     }
 }
 
@@ -150,11 +151,7 @@ fn output_of(alloc: Global, cells: &[Option<u32>]) -> Result<Vec<u32>, NoMemory>
     let mut output = Vec::new(alloc);
     for cell in cells {
         match *cell {
-            Some(symbol) if symbol != 0 => {
-                if output.push(symbol).is_err() {
-                    return Err(NoMemory);
-                }
-            }
+            Some(symbol) if symbol != 0 => output.push(symbol)?,
             _ => return Ok(output),
         }
     }

@@ -29,9 +29,7 @@ pub(crate) fn plan_net(alloc: Global, net: &Net<Rotary>) -> Result<Reply, NoMemo
     ensures status { IfOk result (λ r. r.status ≡ Status.Done) }
     ensures text { IfOk result (λ r. TellsPlan net.now.wires (length net.now.elements) r.text.items) }
 {
-    let Ok(plan) = plan(alloc, net) else {
-        return Err(NoMemory);
-    };
+    let plan = plan(alloc, net)?;
     Ok(Reply {
         text: plan_text(alloc, net.len(), &plan)?,
         status: Status::Done,

@@ -58,7 +58,7 @@ fn push_counted(text: &mut Vec<u8>, word: &[u8], number: u64) -> Result<(), NoMe
         ++ (word.now ++ (decimal number ++ 10 ∷ []))) }
 {
     text.extend_from_slice(word)?;
-    push_number(text, number)?;
+    push_u64(text, number)?;
     text.extend_from_slice(b"\n")?;
     Ok(())
 }
@@ -69,22 +69,12 @@ fn push_named(text: &mut Vec<u8>, word: &[u8], line: Line) -> Result<(), NoMemor
     ensures { OnOk result (text.new.items ≡ text.old.items ++ (word.now ++ line_text line)) }
 {
     text.extend_from_slice(word)?;
-    push_number(text, u64::from(line.element))?;
+    push_u64(text, u64::from(line.element))?;
     text.extend_from_slice(match line.line {
         NORTH => b".n",
         EAST => b".e",
         SOUTH => b".s",
         _ => b".w",
     })?;
-    Ok(())
-}
-
-// A number.
-fn push_number(text: &mut Vec<u8>, number: u64) -> Result<(), NoMemory>
-    ensures { OnOk result (text.new.items ≡ text.old.items ++ decimal number) }
-{
-    let Ok(()) = push_u64(text, number) else {
-        return Err(NoMemory);
-    };
     Ok(())
 }

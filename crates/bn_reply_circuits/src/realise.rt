@@ -72,12 +72,16 @@ fn refuse(alloc: Global, refusal: RsmTableRefusal) -> Result<Reply, NoMemory>
     ensures { IfOk result (λ r. IsRsmRefused refusal r.status r.text.items) }
 {
     match refusal {
-        RsmTableRefusal::FieldCount { entry } => faulty(record_text(alloc, entry, "fields")?),
-        RsmTableRefusal::Number { entry, field } => {
-            faulty(field_text(alloc, entry, field, "number")?)
+        RsmTableRefusal::FieldCount { entry } => {
+            Ok(Reply::of_fault(record_text(alloc, entry, "fields")?))
         }
-        RsmTableRefusal::TooMany { entry } => faulty(record_text(alloc, entry, "too many")?),
-        RsmTableRefusal::Empty => faulty(empty_text(alloc)?),
+        RsmTableRefusal::Number { entry, field } => {
+            Ok(Reply::of_fault(field_text(alloc, entry, field, "number")?))
+        }
+        RsmTableRefusal::TooMany { entry } => {
+            Ok(Reply::of_fault(record_text(alloc, entry, "too many")?))
+        }
+        RsmTableRefusal::Empty => Ok(Reply::of_fault(empty_text(alloc)?)),
         RsmTableRefusal::SameDomain { i, j } => Ok(Reply {
             text: format!(in alloc; "machine: domain {i} {j}\n")?.into_bytes(),
             status: Status::Machine,
@@ -88,16 +92,6 @@ fn refuse(alloc: Global, refusal: RsmTableRefusal) -> Result<Reply, NoMemory>
         }),
         RsmTableRefusal::NoMemory => Err(NoMemory),
     }
-}
-
-// The answer that the bytes have a fault, by its line.
-fn faulty(text: Vec<u8>) -> Result<Reply, NoMemory>
-    ensures { IfOk result (λ r. (r.status ≡ Status.Text) × (r.text.items ≡ text.items)) }
-{
-    Ok(Reply {
-        text,
-        status: Status::Text,
-    })
 }
 
 // What is answered of a machine, before it is written.
@@ -149,9 +143,7 @@ fn bank_config(
     // The net's own fact: it is a circuit.
     let _count = bank.net().len();
     let end = exit_line(rsm, state, line);
-    let Ok(config) = bank.start(alloc, state, line) else {
-        return Err(NoMemory);
-    };
+    let config = bank.start(alloc, state, line)?;
     Ok(NetConfig {
         version: Version::Two,
         net: bank.into_net(),

@@ -30,8 +30,6 @@ fn refuse_line(alloc: Global, line: u64, what: &str) -> Result<Reply, NoMemory>
     ensures status { IfOk result (λ r. r.status ≡ Status.Text) }
     ensures text { IfOk result (λ r. r.text.items ≡ line_text line what.now) }
 {
-    Ok(Reply {
-        text: format!(in alloc; "text: line {line} {what}\n")?.into_bytes(),
-        status: Status::Text,
-    })
+    let told = format!(in alloc; "text: line {line} {what}\n")?;
+    Ok(Reply::of_fault(told.into_bytes()))
 }

@@ -9,15 +9,10 @@ use Rattle.bn_quad.specs.declared.tapes.Tapes.{Tapes}
 use Rattle.bn_quad.specs.declared.tapes.QuadTurn.{QuadTurn}
 use Rattle.bn_quad.specs.declared.tapes.QuadTurn.TheVariants as turns
 use Rattle.bn_bennett_laws.specs.Stages.{IsStandardMachine}
-use Rattle.bn_table.specs.Rows.{Named}
 use Rattle.bn_erase_laws.specs.Outcome as free
 use Rattle.bn_erase_laws.specs.Outcome.{HasErasingOutcome, rewound}
 use Rattle.bn_erase.specs.Joint.{IsJoint, Joint}
 use Rattle.bn_erase.specs.Made.{Erasure, IsErasing, name_of}
-use Rattle.bn_reply.specs.Opened.{IsForeign}
-use Rattle.bn_reply.specs.Words as words
-use Rattle.bn_reply_erase.specs.declared.letters.OpenedWord.{OpenedWord}
-use Rattle.bn_reply_erase.specs.declared.letters.OpenedWord.TheVariants as spelling
 use Rattle.bn_reply_erase.specs.declared.run.Ending.{Ending}
 use Rattle.bn_reply_erase.specs.declared.run.Ending.TheVariants.{Halted, Stuck, Running}
 
@@ -28,11 +23,6 @@ pub record AreOf (j : Joint) (first second : Program) : Type 0 where
   pub second_is : second ≡ j.second
   pub first_standard : IsStandardMachine j.first
   pub second_standard : IsStandardMachine j.second
-
--- the symbols of the word, or what is answered where it has none
-abbrev pub IsOpenedWord : Named → List ℕ → OpenedWord → Type 0
-IsOpenedWord t word (spelling.Symbols symbols) = words.IsSpelledBy t word symbols.items
-IsOpenedWord t word (spelling.Refused reply) = IsForeign t word reply
 
 -- From a state and tapes in windows, so many steps lead to another state and tapes in those windows.
 pub record Reached (p : Quadruples) (made state : ℕ) (w : Tapes) (at : ℕ) (v : Tapes) : Type 0 where

@@ -13,13 +13,13 @@ ghost use Rattle.bn_reply_erase.specs.EraseRun.{AreOf, FitsLetters, outcome_of};
 ghost use Rattle.bn_reply_erase.specs.EraseReply.{erased_lines, outcome_text, erasing_status, erasing_stuck_line};
 ghost use Rattle.bn_erase.specs.Made.{IsErasing, name_of};
 
-use crate::letters::{OpenedWord, open_word, push_letters};
+use crate::letters::{open_word, push_letters};
 use crate::pair::{JudgedPair, OpenedPair, judge_pair, open_pair};
 use crate::run::{Ended, Ending, run_word};
 use bn_base::MOST_COUNT;
 use bn_erase::{EraseRefusal, Erasing, Joined, erase, erasing_names};
 use bn_qtable::write_quads;
-use bn_reply::{NoMemory, Reply, Status};
+use bn_reply::{NoMemory, OpenedWord, Reply, Status, too_long};
 use bn_standard::Standard;
 use std::alloc::Global;
 
@@ -88,13 +88,8 @@ fn machine_text(alloc: Global, joined: &Joined, erasing: &Erasing) -> Result<Vec
     requires { IsErasing joined.now.first joined.now.second erasing.now }
     ensures { IfOk result (λ text. text.items ≡ erase_text joined.now) }
 {
-    let Ok(names) = erasing_names(alloc, joined, erasing) else {
-        return Err(NoMemory);
-    };
-    match write_quads(alloc, erasing.machine().machine(), &names) {
-        Ok(text) => Ok(text),
-        Err(_) => Err(NoMemory),
-    }
+    let names = erasing_names(alloc, joined, erasing)?;
+    write_quads(alloc, erasing.machine().machine(), &names)
 }
 
 // The answer where the erasing machine has too many quadruples.
@@ -146,10 +141,7 @@ fn reply_symbols(
 {
     let count = symbols.len();
     if count as u64 > MOST_COUNT {
-        return Ok(Reply {
-            text: format!(in alloc; "size: word needs {count}\n")?.into_bytes(),
-            status: Status::Size,
-        });
+        return too_long(alloc, count);
     }
     match erase(alloc, first, second) {
         Ok(erasing) => {
@@ -223,9 +215,7 @@ fn stuck_text(
     requires state { state < erasing.now.machine.states }
     ensures { IfOk result (λ text. text.items ≡ erasing_stuck_line steps (name_of erasing.now state)) }
 {
-    let Ok(names) = erasing_names(alloc, joined, erasing) else {
-        return Err(NoMemory);
-    };
+    let names = erasing_names(alloc, joined, erasing)?;
     let mut text = Vec::from_slice(alloc, b"stuck ")?;
     text.extend_from_slice(names.state(state))?;
     let count = format!(in alloc; " {steps}\n")?;

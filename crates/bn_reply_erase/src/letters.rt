@@ -1,26 +1,17 @@
 //! A word of joint letters, and the letters of symbols.
 
-ghost use Rattle.std.specs.Prelude.{◌≡◌, ◌<◌, ◌++◌, All, IfOk, IfErr, OnOk, MatchOption, length};
+ghost use Rattle.std.specs.Prelude.{◌≡◌, ◌<◌, ◌++◌, All, IfOk, OnOk, MatchOption, length};
 ghost use Rattle.bn_reply.specs.Letters.{IsSymbolOf};
-ghost use Rattle.bn_reply.specs.Words.{IsLetterOf, IsSpelledBy, letters_of};
+ghost use Rattle.bn_reply.specs.Opened.{IsOpenedWord};
+ghost use Rattle.bn_reply.specs.Words.{IsLetterOf, letters_of};
 ghost use Rattle.bn_reply_erase.specs.EraseReply.{lettered};
-ghost use Rattle.bn_reply_erase.specs.EraseRun.{IsOpenedWord};
 
 use bn_erase::Joined;
-use bn_reply::{NoMemory, Reply, Status};
+use bn_reply::{NoMemory, OpenedWord, Reply, Status};
 use std::alloc::Global;
 
 /// The blank's letter.
 const BLANK: u8 = b'_';
-
-/// The symbols of a word, or the answer to a word that has none.
-#[derive(Drop)]
-pub(crate) enum OpenedWord {
-    /// The symbols of the word's letters, none of which is the blank.
-    Symbols(Vec<u32>),
-    /// What is answered to a word with another letter.
-    Refused(Reply),
-}
 
 /// Reads a word in the joint letters.
 pub(crate) fn open_word(alloc: Global, joined: &Joined, word: &[u8]) -> Result<OpenedWord, NoMemory>
@@ -35,9 +26,7 @@ pub(crate) fn open_word(alloc: Global, joined: &Joined, word: &[u8]) -> Result<O
                 status: Status::Word,
             }));
         };
-        if symbols.push(symbol).is_err() {
-            return Err(NoMemory);
-        }
+        symbols.push(symbol)?;
     }
     Ok(OpenedWord::Symbols(symbols))
 }
@@ -64,9 +53,7 @@ pub(crate) fn push_letters(
     ensures { OnOk result (text.new.items ≡ text.old.items ++ letters_of (lettered joined.now) symbols.now) }
 {
     for symbol in symbols {
-        if text.push(joined.letter(*symbol)).is_err() {
-            return Err(NoMemory);
-        }
+        text.push(joined.letter(*symbol))?;
     }
     Ok(())
 }

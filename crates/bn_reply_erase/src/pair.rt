@@ -58,10 +58,10 @@ fn open_second(alloc: Global, first: &Table, bytes: &[u8]) -> Result<OpenedPair,
 {
     match open_table(alloc, bytes)? {
         OpenedTable::Refused(reply) => Ok(OpenedPair::Refused(tell_second(alloc, &reply)?)),
-        OpenedTable::Read(second) => match join_letters(alloc, first, &second) {
-            Ok(joined) => Ok(OpenedPair::Joined(joined)),
-            Err(_) => Err(NoMemory),
-        },
+        OpenedTable::Read(second) => {
+            let joined = join_letters(alloc, first, &second)?;
+            Ok(OpenedPair::Joined(joined))
+        }
     }
 }
 

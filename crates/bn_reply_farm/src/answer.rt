@@ -43,26 +43,21 @@ fn refuse_farm(alloc: Global, refusal: FarmRefusal) -> Result<Reply, NoMemory>
     ensures { IfOk result (λ r. IsFarmRefused refusal r.status r.text.items) }
 {
     match refusal {
-        FarmRefusal::NoSchedule => faulty(format!(in alloc; "text: no schedule\n")?.into_bytes()),
-        FarmRefusal::Board { board, fault } => faulty(refuse_board(alloc, board, fault)?),
-        FarmRefusal::Form { line } => faulty(refuse_line(alloc, line, "form")?),
-        FarmRefusal::NoBoard { line } => faulty(refuse_line(alloc, line, "board")?),
+        FarmRefusal::NoSchedule => {
+            let line = format!(in alloc; "text: no schedule\n")?;
+            Ok(Reply::of_fault(line.into_bytes()))
+        }
+        FarmRefusal::Board { board, fault } => {
+            Ok(Reply::of_fault(refuse_board(alloc, board, fault)?))
+        }
+        FarmRefusal::Form { line } => Ok(Reply::of_fault(refuse_line(alloc, line, "form")?)),
+        FarmRefusal::NoBoard { line } => Ok(Reply::of_fault(refuse_line(alloc, line, "board")?)),
         FarmRefusal::Elements { count } => Ok(Reply {
             text: format!(in alloc; "size: elements {count}\n")?.into_bytes(),
             status: Status::Size,
         }),
         FarmRefusal::NoMemory => Err(NoMemory),
     }
-}
-
-// The answer that the bytes have a fault, by its line.
-fn faulty(text: Vec<u8>) -> Result<Reply, NoMemory>
-    ensures { IfOk result (λ r. (r.status ≡ Status.Text) × (r.text.items ≡ text.items)) }
-{
-    Ok(Reply {
-        text,
-        status: Status::Text,
-    })
 }
 
 // The line of a board's first fault.

@@ -47,16 +47,9 @@ fn translated_text(
 {
     // The table's own fact: its machine is within the limits of tables.
     let _machine = table.machine();
-    let Ok(translated) = translate(alloc, standard) else {
-        return Err(NoMemory);
-    };
-    let Ok(names) = names(alloc, table, &translated) else {
-        return Err(NoMemory);
-    };
-    match write_quads(alloc, translated.machine().machine(), &names) {
-        Ok(text) => Ok(text),
-        Err(_) => Err(NoMemory),
-    }
+    let translated = translate(alloc, standard)?;
+    let names = names(alloc, table, &translated)?;
+    write_quads(alloc, translated.machine().machine(), &names)
 }
 
 /// To all bytes `bennett` has an answer, and only one. The function does nothing: its contract is the law.

@@ -16,7 +16,6 @@ use Rattle.bn_flat.specs.Flattened.{Flattened, IsSameBoard, origin, origin_by}
 use Rattle.bn_reply.specs.declared.status.Status.TheVariants as statuses
 use Rattle.bn_reply_boards_laws.specs.Laws.{ExitsAreNamed}
 use Rattle.bn_reply_boards_laws.specs.RunReply.{board_after}
-use Rattle.bn_reply_boards_laws.specs.Windows.{BoardReplies, board}
 use Rattle.bn_reply_boards.specs.Opened.{IsMade}
 use Rattle.bn_reply_boards.specs.Shown.{HasNames}
 use Rattle.bn_reply_boards.proofs.NameLemmas.{exit_names}
@@ -56,15 +55,15 @@ module _ (t : Named) (l : Limits) (symbols : List ℕ) (f : Flat) (m : Translati
   }
 
   -- the text of its view is what is told
-  pub view_replies : ExitsAreNamed → (text : List ℕ) → TellsLayers t f b.config text → BoardReplies (TellsView steps t) t.machine l symbols statuses.Done text []
-  view_replies exits text tells =
+  pub view_tells : ExitsAreNamed → (text : List ℕ) → TellsLayers t f b.config text → TellsView steps t f statuses.Done text []
+  view_tells exits text tells =
       let there = exits t.machine symbols l f made.comes.flat accepted steps in
       let view : IsViewOf f (board_after f steps) tells.0 = subst (λ c. IsViewOf f c tells.0) config_is tells.1 in
-      board f made.comes (record {
+      record {
         view = tells.0;
         is_view = view;
         is_named = has_name f.layout (board_after f steps).place tells.0.exit there.0 there.1 view.exit;
         status_is = refl;
         text_is = tells.2;
         silent = refl;
-      })
+      }

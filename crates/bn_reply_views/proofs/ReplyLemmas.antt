@@ -11,7 +11,9 @@ use Rattle.bn_flat.specs.Flattened.{Flattened}
 use Rattle.bn_reply.specs.declared.reply.Reply.{Reply}
 use Rattle.bn_lists.specs.declared.memory.NoMemory.{NoMemory as WantOfMemory}
 use Rattle.bn_reply.specs.declared.status.Status.TheVariants as statuses
-use Rattle.bn_reply_boards_laws.specs.Windows.{BoardReplies, ComesTo, WindowReplies, board}
+use Rattle.bn_reply_boards_laws.specs.Windows.{WindowReplies}
+use Rattle.bn_reply_boards.specs.Opened.{IsBoardAsked}
+use Rattle.bn_reply_boards.proofs.AskedLemmas.{board_accepted, board_replies}
 use Rattle.bn_cut.specs.Cuts.{IsCut}
 use Rattle.bn_session.specs.Scripts.{ScriptFault, IsFirstScriptFault, IsRefusalOf, IsScript, malformed, no_break, no_state, same_break}
 use Rattle.bn_session.specs.declared.command.Command.{Command}
@@ -20,6 +22,7 @@ use Rattle.bn_session.specs.declared.refusal.ScriptRefusal.TheVariants as refusa
 use Rattle.bn_view.specs.Viewed.{IsBoardFor}
 use Rattle.bn_reply_views.specs.SessionReply.{SessionReplies, TellsSession, cut, script_fault_line, faulty, played, state_names_of}
 use Rattle.bn_reply_views.specs.Viewing.{IsAnswerTo, IsScriptRefused}
+use Rattle.bn_reply_views.proofs.ShowingLemmas.{made_for}
 
 -- what is answered of a board at its start
 abbrev Answers : Named → Translation → Flattened → List ℕ → Reply → Type 0
@@ -58,11 +61,13 @@ module _ (t : Named) (m : Translation) (b : Flattened) (script : List ℕ) (name
   refused_replies refusal first (Err e) h = tt
   refused_replies refusal first (Ok r) h = refused refusal first r h
 
--- what is answered of a board that was made
-pub board_replies : (t : Named) (m : Translation) (b : Flattened) (script word : List ℕ) (l : Limits) (f : Flat) → ComesTo t.machine l word f → IsBoardFor t.machine word l f m b → b.config ≡ flat_start f
-    → (result : Result Reply WantOfMemory) → IfOk result (Answers t m b script) → IfOk result (λ r. BoardReplies (TellsSession script t) t.machine l word r.status r.text.items [])
-board_replies t m b script word l f comes for start (Err e) h = tt
-board_replies t m b script word l f comes for start (Ok r) h = board f comes (h word l f for start)
+-- what is answered of the board of a table, a word and limits
+pub session_replies : (bytes word : List ℕ) (l : Limits) (t : Named) (m : Translation) (b : Flattened) → IsBoardAsked bytes word l t m b → (script : List ℕ)
+    → (result : Result Reply WantOfMemory) → IfOk result (Answers t m b script) → IfOk result (λ r. WindowReplies (TellsSession script) word l bytes r.status r.text.items [])
+session_replies bytes word l t m b asked script (Err e) h = tt
+session_replies bytes word l t m b asked script (Ok r) h =
+    let for = made_for t l asked.symbols asked.flat m b asked.made (board_accepted bytes word l t m b asked) in
+    board_replies (TellsSession script) bytes word l t m b asked r.status r.text.items [] (h asked.symbols l asked.flat for asked.made.config)
 
 -- what is answered to an input that was cut
 pub cut_replies : (word : List ℕ) (l : Limits) (bytes table script : List ℕ) → IsCut bytes table script → (result : Result Reply WantOfMemory)

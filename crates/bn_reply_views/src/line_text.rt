@@ -6,11 +6,12 @@ ghost use Rattle.bn_table.specs.Rows.{Named};
 ghost use Rattle.bn_bennett_laws.specs.List.{symbols_of};
 ghost use Rattle.bn_reply_views.specs.ViewText.{answer_line, answer_text, cell_line_text, control_line_text};
 
+use bn_base::push_u64;
 use bn_cell::CellLine;
 use bn_element::{EAST, NORTH, SOUTH};
 use bn_net::{Line, Place};
 use bn_reply::NoMemory;
-use bn_reply_boards::{push, push_number};
+use bn_reply_boards::push;
 use bn_table::Table;
 
 // Appends a place: the line that the signal is about to enter, or the one by which it has left.
@@ -35,7 +36,7 @@ fn push_line(text: &mut Vec<u8>, line: Line) -> Result<(), NoMemory>
     requires { line.line < 4 }
     ensures { OnOk result (text.new.items ≡ text.old.items ++ line_text line) }
 {
-    push_number(text, u64::from(line.element))?;
+    push_u64(text, u64::from(line.element))?;
     match line.line {
         NORTH => push(text, b".n"),
         EAST => push(text, b".e"),
@@ -52,14 +53,14 @@ pub(crate) fn push_cell_line(text: &mut Vec<u8>, line: CellLine) -> Result<(), N
         CellLine::Read => push(text, b"Rd"),
         CellLine::Write(symbol) => {
             push(text, b"W ")?;
-            push_number(text, u64::from(symbol))
+            push_u64(text, u64::from(symbol))
         }
         CellLine::ShiftRight => push(text, b"SR"),
         CellLine::ShiftLeft => push(text, b"SL"),
         CellLine::TakeRight => push(text, b"TakeR"),
         CellLine::Answer(symbol) => {
             push(text, b"A ")?;
-            push_number(text, u64::from(symbol))
+            push_u64(text, u64::from(symbol))
         }
         CellLine::DoneWrite => push(text, b"DoneW"),
         CellLine::DoneRight => push(text, b"DoneR"),
@@ -97,7 +98,7 @@ fn push_answer(text: &mut Vec<u8>, symbols: u32, place: u32, tape: u32) -> Resul
 {
     push_cell_line(text, answer_line(symbols, place))?;
     push(text, b" ")?;
-    push_number(text, u64::from(tape))
+    push_u64(text, u64::from(tape))
 }
 
 // The answer at this place among those of a tape of so many symbols.

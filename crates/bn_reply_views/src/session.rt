@@ -1,14 +1,11 @@
 //! The command `session`.
 
-ghost use Rattle.std.specs.Prelude.{◌≡◌, ℕ, [], All, List, IfOk};
+ghost use Rattle.std.specs.Prelude.{◌≡◌, ℕ, [], List, IfOk};
 ghost use Rattle.bn_network.specs.Limits.{AreSmall};
 ghost use Rattle.bn_assembly.specs.Assembled.{limits_of};
-ghost use Rattle.bn_standard.specs.Standard.{IsStandard};
 ghost use Rattle.bn_machine.specs.Outcome.{Limits};
 ghost use Rattle.bn_board.specs.Flats.{Flat, flat_start};
-ghost use Rattle.bn_reply.specs.TableReply.{JudgedReplies, WordReplies};
-ghost use Rattle.bn_reply.specs.Words.{IsLetterSymbol};
-ghost use Rattle.bn_reply_boards_laws.specs.Windows.{BoardReplies, WindowReplies};
+ghost use Rattle.bn_reply_boards_laws.specs.Windows.{WindowReplies};
 ghost use Rattle.bn_view.specs.Viewed.{IsBoardFor};
 ghost use Rattle.bn_reply_views.specs.SessionReply.{SessionReplies, TellsSession};
 ghost use Rattle.bn_reply_views.specs.Viewing.{IsAnswerTo, IsScriptRefused, MayShow, what_line};
@@ -18,12 +15,9 @@ use bn_assembly::Windows;
 use bn_bennett::{Translated, names};
 use bn_cut::cut_input;
 use bn_flat::Board;
-use bn_reply::{
-    Judged, NoMemory, OpenedTable, OpenedWord, Reply, Status, judge_table, open_table, open_word,
-};
-use bn_reply_boards::{OpenedBoard, open_board};
+use bn_reply::{NoMemory, Reply, Status};
+use bn_reply_boards::{OpenedInput, open_input};
 use bn_session::{Script, ScriptRefusal, play, read_script};
-use bn_standard::Standard;
 use bn_table::Table;
 use std::alloc::Global;
 
@@ -60,77 +54,10 @@ fn session_input(
     ensures { IfOk result (λ r. WindowReplies (TellsSession script.now) word.now (limits_of windows.now) table.now
         r.status r.text.items []) }
 {
-    match open_table(alloc, table)? {
-        OpenedTable::Refused(reply) => Ok(reply),
-        OpenedTable::Read(table) => session_table(alloc, &table, word, windows, script),
-    }
-}
-
-// What `session` answers to a table.
-fn session_table(
-    alloc: Global,
-    table: &Table,
-    word: &[u8],
-    windows: &Windows,
-    script: &[u8],
-) -> Result<Reply, NoMemory>
-    requires { AreSmall (limits_of windows.now) }
-    ensures { IfOk result (λ r. JudgedReplies
-        (WordReplies (BoardReplies (TellsSession script.now table.now) table.now.machine (limits_of windows.now))
-        table.now word.now) table.now r.status r.text.items []) }
-{
-    match judge_table(alloc, table)? {
-        Judged::Refused(reply) => Ok(reply),
-        Judged::Standard(standard) => session_word(alloc, table, &standard, word, windows, script),
-    }
-}
-
-// What is answered of a table's machine and a word.
-fn session_word(
-    alloc: Global,
-    table: &Table,
-    standard: &Standard<'_>,
-    word: &[u8],
-    windows: &Windows,
-    script: &[u8],
-) -> Result<Reply, NoMemory>
-    requires standard { standard.now ≡ table.now.machine }
-    requires fit { IsStandard table.now.machine.quints }
-    requires windows { AreSmall (limits_of windows.now) }
-    ensures { IfOk result (λ r. WordReplies
-        (BoardReplies (TellsSession script.now table.now) table.now.machine (limits_of windows.now))
-        table.now word.now r.status r.text.items []) }
-{
-    match open_word(alloc, table, word)? {
-        OpenedWord::Refused(reply) => Ok(reply),
-        OpenedWord::Symbols(symbols) => {
-            session_symbols(alloc, table, standard, symbols.as_slice(), windows, script)
-        }
-    }
-}
-
-// What is answered of a table's machine and a word of these symbols.
-fn session_symbols(
-    alloc: Global,
-    table: &Table,
-    standard: &Standard<'_>,
-    symbols: &[u32],
-    windows: &Windows,
-    script: &[u8],
-) -> Result<Reply, NoMemory>
-    requires standard { standard.now ≡ table.now.machine }
-    requires fit { IsStandard table.now.machine.quints }
-    requires windows { AreSmall (limits_of windows.now) }
-    requires symbols { All (IsLetterSymbol table.now) symbols.now }
-    ensures { IfOk result (λ r. BoardReplies (TellsSession script.now table.now) table.now.machine
-        (limits_of windows.now) symbols.now r.status r.text.items []) }
-{
-    // The table's own facts.
-    let _machine = table.machine();
-    match open_board(alloc, table, standard, symbols, windows)? {
-        OpenedBoard::Refused(reply) => Ok(reply),
-        OpenedBoard::Made(translated, mut board) => {
-            session_board(alloc, table, &translated, &mut board, script)
+    match open_input(alloc, word, windows, table)? {
+        OpenedInput::Refused(reply) => Ok(reply),
+        OpenedInput::Made(table, translated, mut board) => {
+            session_board(alloc, &table, &translated, &mut board, script)
         }
     }
 }
@@ -148,9 +75,7 @@ fn session_board(
         → IsBoardFor table.now.machine word l f translated.now board.old → board.old.config ≡ flat_start f
         → TellsSession script.now table.now f r.status r.text.items []) }
 {
-    let Ok(names) = names(alloc, table, translated) else {
-        return Err(NoMemory);
-    };
+    let names = names(alloc, table, translated)?;
     match read_script(alloc, script, &names) {
         Ok(script) => play_script(alloc, table, translated, board, &script),
         Err(refusal) => refuse(alloc, refusal),
@@ -175,13 +100,11 @@ fn play_script(
     let _elements = board.len();
     let mut text = Vec::new(alloc);
     let viewer = Viewer { table, translated };
-    match play(alloc, board, script, &viewer, &mut text) {
-        Ok(()) => Ok(Reply {
-            text,
-            status: Status::Done,
-        }),
-        Err(_) => Err(NoMemory),
-    }
+    play(alloc, board, script, &viewer, &mut text)?;
+    Ok(Reply {
+        text,
+        status: Status::Done,
+    })
 }
 
 // The answer to a script with a fault.
@@ -202,8 +125,6 @@ fn refuse_line(alloc: Global, line: u64, what: &str) -> Result<Reply, NoMemory>
     ensures status { IfOk result (λ r. r.status ≡ Status.Text) }
     ensures text { IfOk result (λ r. r.text.items ≡ what_line line what.now) }
 {
-    Ok(Reply {
-        text: format!(in alloc; "text: script line {line} {what}\n")?.into_bytes(),
-        status: Status::Text,
-    })
+    let told = format!(in alloc; "text: script line {line} {what}\n")?;
+    Ok(Reply::of_fault(told.into_bytes()))
 }

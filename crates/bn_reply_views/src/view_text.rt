@@ -11,11 +11,12 @@ ghost use Rattle.bn_reply_views.specs.ViewText.{stage_text, view_text};
 ghost use Rattle.bn_reply_views.specs.Showing.{CanBeWritten, IsNamedState};
 
 use crate::line_text::{push_cell_line, push_control_line, push_place};
+use bn_base::push_u64;
 use bn_bennett::{MachineState, Stage, Translated, names};
 use bn_net::Place;
 use bn_quad::QuadNames;
 use bn_reply::NoMemory;
-use bn_reply_boards::{push, push_exit, push_number, push_position, push_tapes};
+use bn_reply_boards::{push, push_exit, push_position, push_tapes};
 use bn_table::Table;
 use bn_view::{Layers, ModuleAt};
 use std::alloc::Global;
@@ -32,9 +33,7 @@ pub(crate) fn view_text(
     ensures { IfOk result (λ text. (f : Flat) → f.translation ≡ translated.now
         → text.items ≡ view_text table.now f layers.now) }
 {
-    let Ok(names) = names(alloc, table, translated) else {
-        return Err(NoMemory);
-    };
+    let names = names(alloc, table, translated)?;
     let mut text = Vec::new(alloc);
     push_element(&mut text, layers.place, layers.steps)?;
     push_module(alloc, &mut text, table, translated, layers)?;
@@ -52,7 +51,7 @@ fn push_element(text: &mut Vec<u8>, place: Place, steps: u64) -> Result<(), NoMe
     push(text, b"element ")?;
     push_place(text, place)?;
     push(text, b" steps ")?;
-    push_number(text, steps)?;
+    push_u64(text, steps)?;
     push(text, b"\n")
 }
 
@@ -99,7 +98,7 @@ fn push_cell(alloc: Global, text: &mut Vec<u8>, tape: u32, position: i64) -> Res
     ensures { OnOk result (text.new.items ≡ text.old.items ++ cell_text tape position) }
 {
     push(text, b"module tape ")?;
-    push_number(text, u64::from(tape))?;
+    push_u64(text, u64::from(tape))?;
     push(text, b" cell ")?;
     push_position(alloc, text, position)
 }
@@ -126,7 +125,7 @@ fn push_machine(text: &mut Vec<u8>, table: &Table, layers: &Layers) -> Result<()
     push(text, b" ")?;
     push_machine_state(text, table, layers.machine)?;
     push(text, b" step ")?;
-    push_number(text, layers.machine_step)?;
+    push_u64(text, layers.machine_step)?;
     push(text, b"\n")
 }
 
@@ -157,7 +156,7 @@ fn push_machine_state(
         }
         MachineState::Within(quintuple) => {
             push(text, b"quintuple ")?;
-            push_number(text, u64::from(quintuple))
+            push_u64(text, u64::from(quintuple))
         }
     }
 }

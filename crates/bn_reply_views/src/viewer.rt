@@ -28,9 +28,7 @@ impl<'a> Shows for Viewer<'a> {
     fn show(&self, alloc: Global, board: &Board, out: &mut Vec<u8>) -> Result<(), NoMemory> {
         // (for the prover: the contract of this call tells what the type keeps.)
         let _elements = board.len();
-        let Ok(text) = layers_text(alloc, self.table, self.translated, board) else {
-            return Err(NoMemory);
-        };
+        let text = layers_text(alloc, self.table, self.translated, board)?;
         push(out, text.as_slice())
     }
 

@@ -1,22 +1,18 @@
 //! The command `run` where the program is to find the window.
 
-ghost use Rattle.std.specs.Prelude.{◌≡◌, ◌≢◌, IfOk, OnErr};
+ghost use Rattle.std.specs.Prelude.{◌≢◌, IfOk, OnErr};
 ghost use Rattle.bn_reply.specs.Replying.{IsReplied, IsUnfinished};
-ghost use Rattle.bn_reply.specs.TableReply.{JudgedReplies, WordReplies};
 ghost use Rattle.bn_reply_boards.specs.Running.{IsAnswered};
 ghost use Rattle.bn_windows_laws.specs.AutoReply.{AutoReplies, FindReplies};
-ghost use Rattle.bn_reply_windows.specs.Asked.{IsRead, IsReadStandard, IsReadWord};
+ghost use Rattle.bn_reply_windows.specs.Asked.{IsRead};
 ghost use Rattle.bn_reply_windows.specs.Told.{HearsSearch, TellsSearch};
 
 use crate::rounds::run_rounds;
 use bn_base::MOST_COUNT;
-use bn_bennett::translate;
+use bn_bennett::Translated;
 use bn_net::Watch;
-use bn_reply::{
-    Judged, NoMemory, OpenedTable, OpenedWord, Reply, Status, judge_table, open_table, open_word,
-};
-use bn_reply_boards::too_long;
-use bn_standard::Standard;
+use bn_reply::{NoMemory, Reply, Status, too_long};
+use bn_reply_boards::{OpenedMachine, open_machine};
 use bn_table::Table;
 use std::alloc::Global;
 
@@ -54,71 +50,28 @@ fn answer_auto<W: Watch>(
     ensures interrupted { OnErr result (IsUnfinished (AutoReplies word.now bytes.now) (W.told watch.old)
         (W.told watch.new)) }
 {
-    match open_table(alloc, bytes) {
-        Ok(OpenedTable::Refused(reply)) => Ok(reply),
-        Ok(OpenedTable::Read(table)) => auto_table(alloc, &table, word, watch),
-        Err(_) => Err(NoMemory),
-    }
-}
-
-// What is answered to a table.
-fn auto_table<W: Watch>(
-    alloc: Global,
-    table: &Table,
-    word: &[u8],
-    watch: &mut W,
-) -> Result<Reply, NoMemory>
-    requires { IsRead table.now }
-    ensures { IsAnswered (JudgedReplies (WordReplies (FindReplies table.now) table.now word.now) table.now)
-        result (W.told watch.old) (W.told watch.new) }
-{
-    match judge_table(alloc, table) {
-        Ok(Judged::Refused(reply)) => Ok(reply),
-        Ok(Judged::Standard(standard)) => auto_word(alloc, table, &standard, word, watch),
-        Err(_) => Err(NoMemory),
-    }
-}
-
-// What is answered of a table's machine and a word.
-fn auto_word<W: Watch>(
-    alloc: Global,
-    table: &Table,
-    standard: &Standard<'_>,
-    word: &[u8],
-    watch: &mut W,
-) -> Result<Reply, NoMemory>
-    requires standard { standard.now ≡ table.now.machine }
-    requires reads { IsReadStandard table.now }
-    ensures { IsAnswered (WordReplies (FindReplies table.now) table.now word.now)
-        result (W.told watch.old) (W.told watch.new) }
-{
-    match open_word(alloc, table, word) {
-        Ok(OpenedWord::Refused(reply)) => Ok(reply),
-        Ok(OpenedWord::Symbols(symbols)) => {
-            auto_symbols(alloc, table, standard, symbols.as_slice(), watch)
+    match open_machine(alloc, word, bytes)? {
+        OpenedMachine::Refused(reply) => Ok(reply),
+        OpenedMachine::Made(table, translated, symbols) => {
+            auto_symbols(alloc, &table, &translated, symbols.as_slice(), watch)
         }
-        Err(_) => Err(NoMemory),
     }
 }
 
-// What is answered of a table's machine and a word of these symbols. The machine is translated once.
+// What is answered of a table's machine, by its translation, and a word of these symbols.
 fn auto_symbols<W: Watch>(
     alloc: Global,
     table: &Table,
-    standard: &Standard<'_>,
+    translated: &Translated,
     symbols: &[u32],
     watch: &mut W,
 ) -> Result<Reply, NoMemory>
-    requires standard { standard.now ≡ table.now.machine }
-    requires given { IsReadWord table.now symbols.now }
+    requires { IsRead table.now translated.now symbols.now }
     ensures { IsAnswered (FindReplies table.now symbols.now) result (W.told watch.old) (W.told watch.new) }
 {
     let letters = symbols.len();
     if letters as u64 > MOST_COUNT {
         return too_long(alloc, letters);
     }
-    let Ok(translated) = translate(alloc, standard) else {
-        return Err(NoMemory);
-    };
-    run_rounds(alloc, table, &translated, symbols, watch)
+    run_rounds(alloc, table, translated, symbols, watch)
 }

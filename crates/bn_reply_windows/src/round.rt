@@ -49,12 +49,11 @@ pub(crate) fn run_round<W: Watch>(
         (LeavesBy table.now.machine symbols.now (limits_of windows.now))
         result (W.told watch.old) (W.told watch.new) }
 {
-    match open_window(alloc, translated, symbols, windows) {
-        Ok(OpenedWindow::Refused(reply)) => Ok(Round::Ended(reply)),
-        Ok(OpenedWindow::Made(mut board)) => {
+    match open_window(alloc, translated, symbols, windows)? {
+        OpenedWindow::Refused(reply) => Ok(Round::Ended(reply)),
+        OpenedWindow::Made(mut board) => {
             run_window(alloc, table, translated, windows, &mut board, watch)
         }
-        Err(_) => Err(NoMemory),
     }
 }
 
@@ -78,13 +77,13 @@ fn run_window<W: Watch>(
     let ran = run_to_exit(board, None, watch);
     match ran.exit {
         Exit::Window { tape, side } => Ok(Round::Short(tape, side)),
-        _ => match found_text(alloc, table, translated, windows, board, ran) {
-            Ok(text) => Ok(Round::Ended(Reply {
+        _ => {
+            let text = found_text(alloc, table, translated, windows, board, ran)?;
+            Ok(Round::Ended(Reply {
                 text,
                 status: status_of(ran.exit),
-            })),
-            Err(_) => Err(NoMemory),
-        },
+            }))
+        }
     }
 }
 

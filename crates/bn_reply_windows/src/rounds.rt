@@ -32,10 +32,9 @@ pub(crate) fn run_rounds<W: Watch>(
 {
     let mut windows = first_windows(symbols);
     for round in 0..MOST_ROUNDS {
-        match run_round(alloc, table, translated, symbols, &windows, watch) {
-            Ok(Round::Ended(reply)) => return Ok(reply),
-            Ok(Round::Short(tape, side)) => windows = widen(&windows, tape, side),
-            Err(_) => return Err(NoMemory),
+        match run_round(alloc, table, translated, symbols, &windows, watch)? {
+            Round::Ended(reply) => return Ok(reply),
+            Round::Short(tape, side) => windows = widen(&windows, tape, side),
         }
     }
     unreachable!()

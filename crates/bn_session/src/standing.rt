@@ -46,13 +46,9 @@ impl Standing {
         requires { stands label.now self.old ≡ false }
         ensures { OnOk result (self.new ≡ self.old ++ label.now ∷ []) }
     {
-        let Ok(owned) = Vec::from_slice(self.alloc, label) else {
-            return Err(NoMemory);
-        };
-        match self.labels.insert(owned) {
-            Ok(_) => Ok(()),
-            Err(_) => Err(NoMemory),
-        }
+        let owned = Vec::from_slice(self.alloc, label)?;
+        self.labels.insert(owned)?;
+        Ok(())
     }
 
     /// Takes a label away. The others keep their places.

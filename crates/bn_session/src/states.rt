@@ -60,12 +60,8 @@ impl<'a> States<'a> {
         requires { slice_get self.old number ≡ Some name.now }
         ensures { self.new ≡ self.old }
     {
-        let Ok(owned) = Vec::from_slice(self.alloc, name) else {
-            return Err(NoMemory);
-        };
-        match self.known.insert(owned, number) {
-            Ok(_) => Ok(()),
-            Err(_) => Err(NoMemory),
-        }
+        let owned = Vec::from_slice(self.alloc, name)?;
+        self.known.insert(owned, number)?;
+        Ok(())
     }
 }

@@ -157,18 +157,10 @@ module _ (words : List (List ℕ)) (input bytes : List ℕ) (request : Request) 
 pub unfinished_line : (words : List (List ℕ)) (bytes : List ℕ) (told : Option (List Place)) → IsUnfinished (Answers words bytes) told told
 unfinished_line words bytes told = untold (hears-nothing told)
 
--- what follows for the reply of a call that gives one, and for a call that gives none
-pub for_reply : {E : Type 0} (r : Result Reply E) (P Q : Reply → Type 0) → ((x : Reply) → P x → Q x) → IfOk r P → IfOk r Q
-for_reply (Ok x) P Q f h = f x h
-for_reply (Err e) P Q f h = tt
-
+-- what follows of two things for the reply of a call that gives one, and for a call that gives none
 pub for_both : {E : Type 0} (r : Result Reply E) (P Q R : Reply → Type 0) → ((x : Reply) → P x → Q x → R x) → IfOk r P → IfOk r Q → IfOk r R
 for_both (Ok x) P Q R f h k = f x h k
 for_both (Err e) P Q R f h k = tt
-
-pub for_none : {E : Type 0} (r : Result Reply E) (P Q : Type 0) → (P → Q) → OnErr r P → OnErr r Q
-for_none (Ok x) P Q f h = tt
-for_none (Err e) P Q f h = f h
 
 pub in_any_case : {E : Type 0} (r : Result Reply E) (Q : Type 0) → Q → OnErr r Q
 in_any_case (Ok x) Q h = tt

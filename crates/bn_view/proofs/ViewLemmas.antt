@@ -1,5 +1,5 @@
 -- What a view of a board says, in the words of the machine's board.
-use Rattle.std.specs.Prelude.{◌≡◌, ℕ, ◌<◌, pos, List, [], ◌∷◌, length, Option, Some, Result, Ok, Err, IfOk, refl}
+use Rattle.std.specs.Prelude.{◌≡◌, ℕ, ◌<◌, pos, List, [], ◌∷◌, length, Option, Some, refl}
 use Rattle.std.proofs.Common.{arith, sym, ap, subst, ◌∙◌}
 use Rattle.std.proofs.lemmas.Option.{slice_get_within}
 use Rattle.bn_lists.specs.Runs.{Reaches}
@@ -128,11 +128,6 @@ pub place_from_start : (t : Translation) (b : Flattened) → IsBoardKept b → (
 place_from_start t b kept v view =
     view.place ∙ ap (λ (c : Config). c.place) (sym (board_ran b b (record { net = refl; start = refl; end = refl; layout = refl; origin_is = refl }) kept))
     ∙ ap (λ n. (run (rotary_circuit b.net) (origin b) n).place) (sym view.steps)
-
--- what is known of a value is known where there is one
-pub when_viewed : {T E : Type 0} (result : Result T E) (P Q : T → Type 0) → IfOk result P → ((v : T) → P v → Q v) → IfOk result Q
-when_viewed (Ok v) P Q holds gives = gives v holds
-when_viewed (Err e) P Q holds gives = tt
 
 -- ---- the last moment
 

@@ -26,7 +26,7 @@ pub(crate) struct LastMoment {
 
 /// Every layer of a board's configuration, and of the last moment that it has reached. The board is the one that was
 /// made of the translation's machine, in whatever configuration it has come to. It stays as it is; the last moment is
-/// found on a copy, which is stepped back: no log is kept.
+/// found on a copy, which is stepped back: no log is kept. Its contract also tells what every board keeps.
 pub fn view(alloc: Global, board: &Board, translated: &Translated) -> Result<Layers, NoMemory>
     requires { IsBoardOf translated.now board.now }
     ensures place { IfOk result (λ v. v.place ≡ board.now.config.place) }
@@ -38,11 +38,11 @@ pub fn view(alloc: Global, board: &Board, translated: &Translated) -> Result<Lay
         → IsBoardFor p word l f translated.now board.now → IsViewOf f board.now.config v) }
     ensures machine { IfOk result (λ v. (p : Program) (word : List ℕ) (l : Limits) (f : Flat)
         → IsBoardFor p word l f translated.now board.now → ShowsMachine p word l translated.now v) }
+    ensures kept { IsBoardKept board.now }
 {
-    // The laws that what is shown is the last moment, and stands for the machine; and what every board keeps.
+    // The laws that what is shown is the last moment, and stands for the machine.
     shown_is_found();
     views_stand();
-    let _elements = board.len();
     layers_of(alloc, board, translated)
 }
 
@@ -51,11 +51,11 @@ fn layers_of(alloc: Global, board: &Board, translated: &Translated) -> Result<La
     requires { IsBoardOf translated.now board.now }
     ensures known { IfOk result (λ v. v.state < translated.now.machine.states) }
     ensures view { IfOk result (IsView translated.now board.now) }
+    ensures kept { IsBoardKept board.now }
 {
-    // The laws that what is shown is the last moment, and stands for the machine; and what every board keeps.
+    // The laws that what is shown is the last moment, and stands for the machine.
     shown_is_found();
     views_stand();
-    let _elements = board.len();
     let machine = translated.machine().machine();
     let LastMoment { state, tapes } = last_moment(alloc, board, machine.initial_state())?;
     Ok(Layers {
@@ -73,7 +73,8 @@ fn layers_of(alloc: Global, board: &Board, translated: &Translated) -> Result<La
 
 // The last moment that a board has reached, found on a copy; or its start where there is none, with the state given.
 fn last_moment(alloc: Global, board: &Board, initial: u32) -> Result<LastMoment, NoMemory>
-    ensures { IfOk result (IsLastMoment board.now initial) }
+    ensures moment { IfOk result (IsLastMoment board.now initial) }
+    ensures kept { IsBoardKept board.now }
 {
     let mut last = board.copy(alloc)?;
     let state = go_back(&mut last, initial);

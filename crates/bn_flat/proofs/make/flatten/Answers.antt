@@ -1,5 +1,5 @@
 use Rattle.std.proofs.Common.{sym, subst, ◌∙◌, refl}
-use Rattle.bn_flat.specs.Flattened.{IsFlattened}
+use Rattle.bn_flat.specs.Flattened.{IsBoardKept, IsFlattened}
 use Rattle.bn_flat.proofs.MadeLemmas.{count-size, made-kept, made-flattened}
 use Rattle.bn_flat.proofs.make.flatten.Goals as goal
 
@@ -13,8 +13,14 @@ new-requires c =
     c.in_ok-packed.packed.config _ c.end_line-end.result c.elements.result
     c.in_ok-packed.ensures.board c.in_ok-packed.ensures.config c.in_ok-packed.ensures.elements c.elements.ensures.number c.in_ok-packed.ensures.order
 
-pub returns : goal.returns
-returns c =
+pub returns-clause-kept : goal.returns-clause-kept
+returns-clause-kept c =
+    subst IsBoardKept (sym c.new.ensures) (made-kept c.args.assembly.now c.layout_of.ensures.kept c.in_ok-layout.layout c.in_ok-layout.ensures.numbers
+    c.in_ok-packed.packed.net c.in_ok-packed.packed.config _ c.end_line-end.result c.elements.result
+    c.in_ok-packed.ensures.board c.in_ok-packed.ensures.config c.in_ok-packed.ensures.elements c.elements.ensures.number c.in_ok-packed.ensures.order)
+
+pub returns-clause-made : goal.returns-clause-made
+returns-clause-made c =
     subst (IsFlattened c.args.assembly.now) (sym c.new.ensures) (made-flattened c.args.assembly.now c.layout_of.ensures.kept c.in_ok-layout.layout
     c.in_ok-layout.ensures.numbers c.in_ok-packed.packed.net c.in_ok-packed.packed.config _ c.end_line-end.result c.elements.result
     c.in_ok-packed.ensures.board c.in_ok-packed.ensures.config c.in_ok-packed.ensures.elements c.elements.ensures.number c.in_ok-packed.ensures.order

@@ -9,18 +9,18 @@ pub bank_wires-requires : goal.bank_wires-requires
 bank_wires-requires c = own_room c.args.net.now c.args.bases.now MOST_ELEMENTS c.requires.modules c.requires.few c.requires.bases c.args.number
     c.element.result.now c.element.ensures (omega arith)
 
-pub returns-in-Ok-extend_from_slice-clause-wires : goal.returns-in-Ok-extend_from_slice-clause-wires
-returns-in-Ok-extend_from_slice-clause-wires c =
-    rw (c.in-Ok-extend_from_slice.ensures.items, c.as_slice.ensures.value) (own_added c.args.net.now c.args.bases.now MOST_ELEMENTS c.requires.modules
-    c.requires.few c.requires.bases c.args.number c.element.result.now c.args.wires.now.items c.in-Ok.own.items c.element.ensures c.requires.earlier
-    c.in-Ok.ensures.wires)
+pub returns-clause-wires : goal.returns-clause-wires
+returns-clause-wires c =
+    rw (c.in_ok-extend_from_slice.ensures.items, c.as_slice.ensures.value) (own_added c.args.net.now c.args.bases.now MOST_ELEMENTS c.requires.modules
+    c.requires.few c.requires.bases c.args.number c.element.result.now c.args.wires.now.items c.in_ok-own.own.items c.element.ensures c.requires.earlier
+    c.in_ok-own.ensures.wires)
 
-pub returns-in-Ok-extend_from_slice-clause-few : goal.returns-in-Ok-extend_from_slice-clause-few
-returns-in-Ok-extend_from_slice-clause-few c =
+pub returns-clause-few : goal.returns-clause-few
+returns-clause-few c =
     let at = module_at c.args.net.now c.args.number MOST_ELEMENTS c.element.result.now c.requires.modules c.requires.few c.element.ensures in
     let next = at.next in
-    let added : length c.extend_from_slice.new.self.items ≡ length c.args.wires.now.items + length c.in-Ok.own.items = (rw
-    (c.in-Ok-extend_from_slice.ensures.items, c.as_slice.ensures.value) (length-append c.args.wires.now.items c.in-Ok.own.items)) in
-    let few = c.in-Ok.ensures.few in
+    let added : length c.extend_from_slice.new.self.items ≡ length c.args.wires.now.items + length c.in_ok-own.own.items = (rw
+    (c.in_ok-extend_from_slice.ensures.items, c.as_slice.ensures.value) (length-append c.args.wires.now.items c.in_ok-own.own.items)) in
+    let few = c.in_ok-own.ensures.few in
     let h = bank_count (module_table c.element.result.now).states (module_table c.element.result.now).inputs in
     omega arith

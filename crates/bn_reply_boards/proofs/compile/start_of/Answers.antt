@@ -1,19 +1,25 @@
-use Rattle.std.proofs.Common.{refl, subst}
+use Rattle.std.proofs.Common.{[], subst}
 use Rattle.bn_assembly.specs.Assembled.{limits_of}
-use Rattle.bn_reply_boards_laws.specs.Windows.{BoardReplies}
 use Rattle.bn_reply_boards_laws.specs.CompileReply.{CompileReplies, TellsStart}
-use Rattle.bn_reply.specs.Opened.{IsOpenedTable}
-use Rattle.bn_reply.specs.TableReply.{JudgedReplies, WordReplies, read, faulty}
-use Rattle.bn_reply_circuits.proofs.UnwrittenLemmas.{line_will, all_will}
+use Rattle.bn_reply_boards_laws.proofs.SpelledLemmas.{boards-spelled}
+use Rattle.bn_board_laws.proofs.ClosedLemmas.{read_off}
+use Rattle.bn_reply_boards.specs.Opened.{IsOpenedInput}
+use Rattle.bn_reply_boards.proofs.AskedLemmas.{input_refused}
+use Rattle.bn_reply_boards.proofs.MadeLemmas.{will_compile}
+use Rattle.bn_reply_circuits.proofs.UnwrittenLemmas.{line_will}
 use Rattle.bn_reply_boards.proofs.compile.start_of.Goals as goal
 
 pub returns-in-Refused : goal.returns-in-Refused
 returns-in-Refused c =
-    let refused = subst (IsOpenedTable c.args.bytes.now) c.in-Refused.is c.in_ok-reply.ensures in
-    line_will (CompileReplies c.args.word.now (limits_of c.args.windows.now) c.args.bytes.now) c.in-Refused.reply (faulty refused.1 refused.0 refl)
+    let l = limits_of c.args.windows.now in
+    let reply = c.in-Refused.reply in
+    line_will (CompileReplies c.args.word.now l c.args.bytes.now) reply
+    (input_refused (λ t. TellsStart) c.args.bytes.now c.args.word.now l reply.status reply.text.items []
+    (subst (IsOpenedInput c.args.bytes.now c.args.word.now l) c.in-Refused.is c.in_ok-reply.ensures))
 
-pub returns-in-Read : goal.returns-in-Read
-returns-in-Read c =
-    let reads = subst (IsOpenedTable c.args.bytes.now) c.in-Read.is c.in_ok-reply.ensures in
-    all_will (JudgedReplies (WordReplies (BoardReplies TellsStart c.in-Read.table.machine (limits_of c.args.windows.now)) c.in-Read.table c.args.word.now) c.in-Read.table)
-    (CompileReplies c.args.word.now (limits_of c.args.windows.now) c.args.bytes.now) c.compile_table.result (λ s t right. read c.in-Read.table reads right) c.compile_table.ensures
+pub returns : goal.returns
+returns c =
+    let l = limits_of c.args.windows.now in
+    will_compile (boards-spelled read_off) c.args.bytes.now c.args.word.now l c.in-Made.field-0 c.in-Made.field-1 c.in-Made.board
+    (subst (IsOpenedInput c.args.bytes.now c.args.word.now l) c.in-Made.is c.in_ok-reply.ensures) c.board_config.result
+    c.board_config.ensures.version c.board_config.ensures.spelling

@@ -10,25 +10,15 @@ assemble-requires-clause-machine c = rw c.machine.ensures.value c.requires.withi
 pub assemble-requires-clause-word : goal.assemble-requires-clause-word
 assemble-requires-clause-word c = rw c.machine.ensures.value c.requires.word
 
-pub returns-in-Ok-flatten : goal.returns-in-Ok-flatten
-returns-in-Ok-flatten c = λ p is.
+pub returns-in_ok-board-in-Ok : goal.returns-in_ok-board-in-Ok
+returns-in_ok-board-in-Ok c = λ p is.
     let t = c.args.translated.now in
     let l = limits_of c.args.windows.now in
     let symbols = c.args.symbols.now in
     let made = c.in-Ok.ensures.made in
+    let board = c.in_ok-board-in-Ok.board in
+    let flat = c.in_ok-board-in-Ok.ensures in
     let assembled : IsAssembled t.machine l symbols made.0 c.in-Ok.assembly = subst (λ m. IsAssembled m l symbols made.0 c.in-Ok.assembly) c.machine.ensures.value made.1 in (
-      as_flat p l symbols t is c.requires.fits c.in-Ok.assembly c.in-Ok-flatten.board made.0 assembled c.in-Ok-flatten.ensures c.len-elements.ensures.kept,
-      is_made p l symbols t is c.requires.fits c.in-Ok.assembly c.in-Ok-flatten.board made.0 assembled c.in-Ok-flatten.ensures c.len-elements.ensures.kept,
+      as_flat p l symbols t is c.requires.fits c.in-Ok.assembly board made.0 assembled flat.made flat.kept,
+      is_made p l symbols t is c.requires.fits c.in-Ok.assembly board made.0 assembled flat.made flat.kept,
     )
-
-pub returns-in-Err-Elements : goal.returns-in-Err-Elements
-returns-in-Err-Elements c = λ p is.
-    let l = limits_of c.args.windows.now in
-    let refused : IsRefusal c.machine.result.now l c.args.symbols.now (Elements c.in-Err-Elements.count) = subst (IsRefusal c.machine.result.now l c.args.symbols.now) c.in-Err-Elements.field-0-is c.in-Err-Elements.ensures.refused in
-    record {
-      count = c.in-Err-Elements.count;
-      counts = counted p c.args.translated.now l c.in-Err-Elements.count is (subst (λ m. CountsElements m l c.in-Err-Elements.count) c.machine.ensures.value refused.1);
-      great = refused.2;
-      text = c.in_ok-too_large-in-Err-Elements.ensures.text;
-      status = c.in_ok-too_large-in-Err-Elements.ensures.status;
-    }

@@ -1,13 +1,12 @@
-use Rattle.std.proofs.Common.{rules, ◌≡◌, ◌++◌, ◌∷◌, [], None, get_or, refl, sym, subst}
+use Rattle.std.proofs.Common.{None, get_or, refl, sym, subst}
 use Rattle.bn_reply_boards.proofs.CellTextLemmas.{IsNoLetter, shows_none, shows_blank, symbol_found, none_behind, output_ended}
 use Rattle.bn_reply_boards.proofs.tape_text.output_of.Goals as goal
 use Rattle.bn_reply_boards.proofs.tape_text.output_of.Goals.{in_default-via-in-Some+else-symbol-ne0, in_default-via-in_default}
 
 pub loop-cell-preserved : goal.loop-cell-preserved
 loop-cell-preserved c =
-    let pushed : c.push.new.self.items ≡ c.loop-cell.output.items ++ c.in-Some.symbol ∷ [] = search rules in
     symbol_found c.args.cells.now c.loop-cell.cell-index None c.in-Some.symbol c.loop-cell.output.items c.push.new.self.items c.loop-cell-test.true c.in-Some.is
-    c.if-symbol-ne0.true c.loop-cell.invariant pushed
+    c.if-symbol-ne0.true c.loop-cell.invariant c.in_ok-push-in-Some.ensures.items
 
 pub returns : goal.returns
 returns c = none_behind c.args.cells.now c.loop-cell.cell-index c.loop-cell.output.items c.loop-cell-test.false c.loop-cell.invariant

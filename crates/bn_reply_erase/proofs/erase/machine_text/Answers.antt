@@ -1,5 +1,6 @@
 -- The printed quadruples are those of the list.
 use Rattle.std.proofs.Common.{sym, subst, ap, ◌∙◌}
+use Rattle.std.proofs.lemmas.Result.{IfOk-weaker}
 use Rattle.bn_csv.specs.Lines.{lines_of}
 use Rattle.bn_qtable.specs.Named.{HasNames}
 use Rattle.bn_qtable.specs.Rows.{quadruple_rows_by}
@@ -9,12 +10,12 @@ use Rattle.bn_reply_erase.proofs.erase.machine_text.Goals as goal
 pub write_quads-requires : goal.write_quads-requires
 write_quads-requires c =
     let same = c.machine-2.ensures.value ∙ c.machine.ensures.value in
-    subst (λ m. HasNames m c.in-Ok.names) (sym same) c.in-Ok.ensures.forms
+    subst (λ m. HasNames m c.in_ok-names.names) (sym same) c.in_ok-names.ensures.forms
 
-pub returns-in-Ok-write_quads : goal.returns-in-Ok-write_quads
-returns-in-Ok-write_quads c =
+pub returns : goal.returns
+returns c =
     let e = c.args.erasing.now in
     let same = c.machine-2.ensures.value ∙ c.machine.ensures.value in
-    let named = ap (λ n. lines_of (quadruple_rows_by n e.machine.rules)) c.in-Ok.ensures.names in
-    let quads = ap (λ m. lines_of (quadruple_rows_by c.in-Ok.names m.rules)) same in
-    c.in-Ok-write_quads.ensures.text ∙ quads ∙ named ∙ erased_text c.args.joined.now e c.requires
+    let named = ap (λ n. lines_of (quadruple_rows_by n e.machine.rules)) c.in_ok-names.ensures.names in
+    let quads = ap (λ m. lines_of (quadruple_rows_by c.in_ok-names.names m.rules)) same in
+    IfOk-weaker c.write_quads.result _ _ (λ text written. written ∙ quads ∙ named ∙ erased_text c.args.joined.now e c.requires) c.write_quads.ensures.text

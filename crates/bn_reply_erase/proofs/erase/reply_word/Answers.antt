@@ -1,10 +1,10 @@
 -- What is answered to a word, from its opening.
 use Rattle.std.proofs.Common.{subst, []}
 use Rattle.std.specs.Prelude.{IfOk}
+use Rattle.bn_reply.specs.Opened.{IsOpenedWord}
 use Rattle.bn_reply.proofs.ReplyLemmas.{spelled_replies}
 use Rattle.bn_reply.proofs.SettledLemmas.{foreign_replies}
 use Rattle.bn_reply_erase.specs.EraseReply.{LongReplies, lettered}
-use Rattle.bn_reply_erase.specs.EraseRun.{IsOpenedWord}
 use Rattle.bn_reply_erase.proofs.erase.reply_word.Goals as goal
 
 pub returns-in-Refused : goal.returns-in-Refused

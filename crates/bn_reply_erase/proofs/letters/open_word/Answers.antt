@@ -1,10 +1,9 @@
-use Rattle.std.proofs.Common.{◌≡◌, ◌++◌, ◌∷◌, [], rules, arith}
+use Rattle.std.proofs.Common.{arith}
 use Rattle.bn_reply.proofs.LetterLemmas.{one_more}
 use Rattle.bn_reply_erase.specs.EraseReply.{lettered}
 use Rattle.bn_reply_erase.proofs.letters.open_word.Goals as goal
 
 pub loop-index-preserved : goal.loop-index-preserved
 loop-index-preserved c =
-    let pushed : c.push.new.self.items ≡ c.loop-index.symbols.items ++ c.in-Some.symbol ∷ [] = search rules in
-    rw pushed (one_more (lettered c.args.joined.now) c.args.word.now c.loop-index.index c.loop-index.symbols.items c.in-Some.symbol
+    rw c.in_ok-push.ensures.items (one_more (lettered c.args.joined.now) c.args.word.now c.loop-index.index c.loop-index.symbols.items c.in-Some.symbol
     (omega arith) c.loop-index.invariant c.in-Some.ensures)

@@ -1,13 +1,13 @@
-use Rattle.bn_view.proofs.ViewLemmas.{when_viewed}
+use Rattle.std.proofs.lemmas.Result.{IfOk-weaker}
 use Rattle.bn_reply_views.proofs.ViewTextLemmas.{can_be_written}
 use Rattle.bn_reply_views.proofs.view.layers_text.Goals as goal
 
 pub view_text-requires-clause-layers : goal.view_text-requires-clause-layers
 view_text-requires-clause-layers c =
-    can_be_written c.args.table.now c.args.translated.now c.args.board.now c.requires c.len-elements.ensures.kept c.in-Ok.layers c.in-Ok.ensures.place c.in-Ok.ensures.known
-    c.in-Ok.ensures.view c.in-Ok.ensures.machine
+    can_be_written c.args.table.now c.args.translated.now c.args.board.now c.requires c.view.ensures.kept c.in_ok-layers.layers c.in_ok-layers.ensures.place
+    c.in_ok-layers.ensures.known c.in_ok-layers.ensures.view c.in_ok-layers.ensures.machine
 
 pub returns : goal.returns
 returns c =
-    when_viewed c.view_text.result _ _ c.view_text.ensures (λ text h word l f is.
-    (c.in-Ok.layers, c.in-Ok.ensures.view c.args.table.now.machine word l f is, h f is.translation))
+    IfOk-weaker c.view_text.result _ _ (λ text h word l f is.
+    (c.in_ok-layers.layers, c.in_ok-layers.ensures.view c.args.table.now.machine word l f is, h f is.translation)) c.view_text.ensures

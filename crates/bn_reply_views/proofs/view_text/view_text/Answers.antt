@@ -10,7 +10,7 @@ pub returns : goal.returns
 returns c = λ f same.
     let t = c.args.table.now in
     let v = c.args.layers.now in
-    let name = state_name t c.args.translated.now c.in-Ok.names c.in-Ok.ensures.names c.requires.translation v.state c.requires.layers.state in
+    let name = state_name t c.args.translated.now c.in_ok-names.names c.in_ok-names.ensures.names c.requires.translation v.state c.requires.layers.state in
     five_pieces c.new-text.result.items (element_line v.place v.steps) (module_line t f v.place v.exit v.module) (state_line (name_of f.translation v.state))
     (tape_lines t v.tapes.one v.tapes.two v.tapes.three) (machine_line t v.stage v.machine v.machine_step) c.push_element.new.text.items c.push_module.new.text.items
     c.push_state.new.text.items c.push_tapes.new.text.items c.push_machine.new.text.items c.new-text.ensures.items c.in_ok-push_element.ensures (c.in_ok-push_module.ensures f same)

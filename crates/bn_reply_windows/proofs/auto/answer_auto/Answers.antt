@@ -1,29 +1,41 @@
-use Rattle.std.proofs.Common.{subst, refl}
-use Rattle.bn_reply.specs.Opened.{IsOpenedTable}
-use Rattle.bn_reply.specs.TableReply.{JudgedReplies, WordReplies, faulty, read}
+use Rattle.std.proofs.Common.{[], sym, subst}
+use Rattle.bn_reply_boards.specs.Opened.{IsMachineAsked, IsOpenedMachine}
 use Rattle.bn_reply_boards.proofs.AnsweredLemmas.{answered_as, answered_reply}
+use Rattle.bn_reply_boards.proofs.AskedLemmas.{machine_refused, machine_replies}
 use Rattle.bn_windows_laws.specs.AutoReply.{AutoReplies, FindReplies}
 use Rattle.bn_reply_windows.proofs.auto.answer_auto.Goals as goal
 
-pub auto_table-requires : goal.auto_table-requires
-auto_table-requires g c = (c.args.bytes.now, subst (IsOpenedTable c.args.bytes.now) c.in-Ok-Read.field-0-is c.in-Ok-Read.ensures)
+pub auto_symbols-requires : goal.auto_symbols-requires
+auto_symbols-requires g c = (
+  c.args.bytes.now,
+  c.args.word.now,
+  subst (IsMachineAsked c.args.bytes.now c.args.word.now c.in-Made.table c.in-Made.translated) (sym c.as_slice.ensures.value)
+      (subst (IsOpenedMachine c.args.bytes.now c.args.word.now) c.in-Made.is c.in_ok-reply.ensures),
+)
 
-pub returns-in-Ok-Refused-clause-replied : goal.returns-in-Ok-Refused-clause-replied
-returns-in-Ok-Refused-clause-replied g c =
-    let refused = subst (IsOpenedTable c.args.bytes.now) c.in-Ok-Refused.field-0-is c.in-Ok-Refused.ensures in
-    (answered_reply (AutoReplies c.args.word.now c.args.bytes.now) c.in-Ok-Refused.reply (g.W.Watch.told c.args.watch.now)
-    (faulty refused.1 refused.0 refl)).replied
+pub returns-in-Refused-clause-replied : goal.returns-in-Refused-clause-replied
+returns-in-Refused-clause-replied g c =
+    let reply = c.in-Refused.reply in
+    (answered_reply (AutoReplies c.args.word.now c.args.bytes.now) reply (g.W.Watch.told c.args.watch.now)
+    (machine_refused FindReplies c.args.bytes.now c.args.word.now reply.status reply.text.items []
+    (subst (IsOpenedMachine c.args.bytes.now c.args.word.now) c.in-Refused.is c.in_ok-reply.ensures))).replied
 
-pub returns-in-Ok-Read-clause-replied : goal.returns-in-Ok-Read-clause-replied
-returns-in-Ok-Read-clause-replied g c =
-    let t = c.in-Ok-Read.table in
-    let reads = subst (IsOpenedTable c.args.bytes.now) c.in-Ok-Read.field-0-is c.in-Ok-Read.ensures in
-    (answered_as (JudgedReplies (WordReplies (FindReplies t) t c.args.word.now) t) (AutoReplies c.args.word.now c.args.bytes.now)
-    (λ s text told h. read t reads h) c.auto_table.result (g.W.Watch.told c.args.watch.now) (g.W.Watch.told c.auto_table.new.watch) c.auto_table.ensures).replied
+pub returns-in-Made-clause-replied : goal.returns-in-Made-clause-replied
+returns-in-Made-clause-replied g c =
+    let t = c.in-Made.table in
+    let m = c.in-Made.translated in
+    let asked = subst (IsMachineAsked c.args.bytes.now c.args.word.now t m) (sym c.as_slice.ensures.value)
+    (subst (IsOpenedMachine c.args.bytes.now c.args.word.now) c.in-Made.is c.in_ok-reply.ensures) in
+    (answered_as (FindReplies t c.as_slice.result.now) (AutoReplies c.args.word.now c.args.bytes.now)
+    (machine_replies FindReplies c.args.bytes.now c.args.word.now t m c.as_slice.result.now asked) c.auto_symbols.result (g.W.Watch.told c.args.watch.now)
+    (g.W.Watch.told c.auto_symbols.new.watch) c.auto_symbols.ensures).replied
 
-pub returns-in-Ok-Read-clause-interrupted : goal.returns-in-Ok-Read-clause-interrupted
-returns-in-Ok-Read-clause-interrupted g c =
-    let t = c.in-Ok-Read.table in
-    let reads = subst (IsOpenedTable c.args.bytes.now) c.in-Ok-Read.field-0-is c.in-Ok-Read.ensures in
-    (answered_as (JudgedReplies (WordReplies (FindReplies t) t c.args.word.now) t) (AutoReplies c.args.word.now c.args.bytes.now)
-    (λ s text told h. read t reads h) c.auto_table.result (g.W.Watch.told c.args.watch.now) (g.W.Watch.told c.auto_table.new.watch) c.auto_table.ensures).interrupted
+pub returns-in-Made-clause-interrupted : goal.returns-in-Made-clause-interrupted
+returns-in-Made-clause-interrupted g c =
+    let t = c.in-Made.table in
+    let m = c.in-Made.translated in
+    let asked = subst (IsMachineAsked c.args.bytes.now c.args.word.now t m) (sym c.as_slice.ensures.value)
+    (subst (IsOpenedMachine c.args.bytes.now c.args.word.now) c.in-Made.is c.in_ok-reply.ensures) in
+    (answered_as (FindReplies t c.as_slice.result.now) (AutoReplies c.args.word.now c.args.bytes.now)
+    (machine_replies FindReplies c.args.bytes.now c.args.word.now t m c.as_slice.result.now asked) c.auto_symbols.result (g.W.Watch.told c.args.watch.now)
+    (g.W.Watch.told c.auto_symbols.new.watch) c.auto_symbols.ensures).interrupted

@@ -1,4 +1,5 @@
 use Rattle.std.proofs.Common.{List, arith, subst}
+use Rattle.std.proofs.lemmas.Result.{err_from_is_err_and}
 use Rattle.bn_circuits.specs.declared.place.Place.{Place}
 use Rattle.bn_net.specs.Watching.{Hears}
 use Rattle.bn_assembly.specs.Assembled.{limits_of}
@@ -28,18 +29,18 @@ run_round-requires-clause-fits g c =
     (limits_of c.loop-round.windows) c.loop-round.invariant.before c.loop-round.invariant.made).fits
 
 -- the end by which the signal left, and what the watch heard
-short : (g : Over) (c : goal.After-windows-in-Ok-Short-1 g) → (places : List Place)
-    × LeavesBy c.args.table.now.machine c.args.symbols.now (limits_of c.loop-round.windows) c.in-Ok-Short.tape c.in-Ok-Short.side places
+short : (g : Over) (c : goal.After-windows-in-Short-1 g) → (places : List Place)
+    × LeavesBy c.args.table.now.machine c.args.symbols.now (limits_of c.loop-round.windows) c.in-Short.tape c.in-Short.side places
     × Hears (g.W.Watch.told c.loop-round.watch) places (g.W.Watch.told c.run_round.new.watch)
 short g c =
     subst (λ r. IsRoundOf (EndReplies c.args.table.now c.args.symbols.now (limits_of c.loop-round.windows))
     (LeavesBy c.args.table.now.machine c.args.symbols.now (limits_of c.loop-round.windows)) r (g.W.Watch.told c.loop-round.watch) (g.W.Watch.told c.run_round.new.watch))
-    c.in-Ok-Short.field-0-is c.in-Ok-Short.ensures.came
+    c.in-Short.is c.in_ok-reply.ensures.came
 
-wider : (g : Over) (c : goal.After-windows-in-Ok-Short-1 g) → MayWiden (limits_of c.loop-round.windows) c.in-Ok-Short.tape c.in-Ok-Short.side
+wider : (g : Over) (c : goal.After-windows-in-Short-1 g) → MayWiden (limits_of c.loop-round.windows) c.in-Short.tape c.in-Short.side
 wider g c =
     (go_on c.requires.given.bytes c.requires.given.letters c.args.table.now c.args.symbols.now c.requires.given.given c.loop-round.round
-    (limits_of c.loop-round.windows) c.loop-round.invariant.before c.loop-round.invariant.made).wider c.in-Ok-Short.tape c.in-Ok-Short.side (short g c).0 (short g c).1
+    (limits_of c.loop-round.windows) c.loop-round.invariant.before c.loop-round.invariant.made).wider c.in-Short.tape c.in-Short.side (short g c).0 (short g c).1
 
 pub widen-windows-requires-clause-end : goal.widen-windows-requires-clause-end
 widen-windows-requires-clause-end g c = (wider g c).end
@@ -54,24 +55,25 @@ pub loop-round-preserved : goal.loop-round-preserved
 loop-round-preserved g c =
     let one = subst (λ r. IsRoundOf (EndReplies c.args.table.now c.args.symbols.now (limits_of c.loop-round.windows))
     (LeavesBy c.args.table.now.machine c.args.symbols.now (limits_of c.loop-round.windows)) r (g.W.Watch.told c.loop-round.watch) (g.W.Watch.told c.run_round.new.watch))
-    c.in-Ok-Short.field-0-is c.in-Ok-Short.ensures.came in
+    c.in-Short.is c.in_ok-reply.ensures.came in
     come_on c.args.table.now c.args.symbols.now c.loop-round.round (limits_of c.loop-round.windows) (g.W.Watch.told c.args.watch.now) (g.W.Watch.told c.loop-round.watch)
-    c.loop-round.invariant c.in-Ok-Short.tape c.in-Ok-Short.side (g.W.Watch.told c.run_round.new.watch) one (limits_of c.widen-windows.result) c.widen-windows.ensures
+    c.loop-round.invariant c.in-Short.tape c.in-Short.side (g.W.Watch.told c.run_round.new.watch) one (limits_of c.widen-windows.result) c.widen-windows.ensures
 
-pub returns-in-Ok-Ended : goal.returns-in-Ok-Ended
-returns-in-Ok-Ended g c =
+pub returns-in-Ended : goal.returns-in-Ended
+returns-in-Ended g c =
     let ended = subst (λ r. IsRoundOf (EndReplies c.args.table.now c.args.symbols.now (limits_of c.loop-round.windows))
     (LeavesBy c.args.table.now.machine c.args.symbols.now (limits_of c.loop-round.windows)) r (g.W.Watch.told c.loop-round.watch) (g.W.Watch.told c.run_round.new.watch))
-    c.in-Ok-Ended.field-0-is c.in-Ok-Ended.ensures.came in
+    c.in-Ended.is c.in_ok-reply.ensures.came in
     come_ends c.args.table.now c.args.symbols.now c.loop-round.round (limits_of c.loop-round.windows) (g.W.Watch.told c.args.watch.now) (g.W.Watch.told c.loop-round.watch)
-    c.loop-round.invariant c.in-Ok-Ended.reply (g.W.Watch.told c.run_round.new.watch) ended
+    c.loop-round.invariant c.in-Ended.reply (g.W.Watch.told c.run_round.new.watch) ended
 
-pub returns-in-Err : goal.returns-in-Err
-returns-in-Err g c =
+pub returns-in_err-reply : goal.returns-in_err-reply
+returns-in_err-reply g c =
+    let none = err_from_is_err_and c.from_residual.result c.from_residual.ensures.1 in
     let begins = begin_searches c.requires.given.bytes c.requires.given.letters c.args.table.now c.args.symbols.now c.requires.given.given c.loop-round.round
     (limits_of c.loop-round.windows) c.loop-round.invariant.before c.loop-round.invariant.made in
-    come_wanting c.args.table.now c.args.symbols.now c.loop-round.round (limits_of c.loop-round.windows) (g.W.Watch.told c.args.watch.now) (g.W.Watch.told c.loop-round.watch)
-    c.loop-round.invariant (record {}) (g.W.Watch.told c.run_round.new.watch) begins c.in-Err.ensures.interrupted
+    rw none.1 (come_wanting c.args.table.now c.args.symbols.now c.loop-round.round (limits_of c.loop-round.windows) (g.W.Watch.told c.args.watch.now) (g.W.Watch.told c.loop-round.watch)
+    c.loop-round.invariant none.0 (g.W.Watch.told c.run_round.new.watch) begins c.in_err-reply.ensures.interrupted)
 
 pub unreachable-requires : goal.unreachable-requires
 unreachable-requires g c =

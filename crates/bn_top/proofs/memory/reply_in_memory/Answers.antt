@@ -1,5 +1,6 @@
 use Rattle.std.proofs.Common.{◌≡◌, ◌<◌, ◌≤◌, map, length, Global, arith}
 use Rattle.std.specs.String.{string_bytes}
+use Rattle.std.proofs.lemmas.Result.{IfOk-weaker, on_err_weaker}
 use Rattle.bn_words.specs.Requests.{request_of}
 use Rattle.bn_reply.specs.Replying.{IsReplied, IsUnfinished}
 use Rattle.bn_reply.specs.declared.limits.TheConstants.{MOST_INPUT_BYTES}
@@ -7,7 +8,7 @@ use Rattle.bn_reply.specs.declared.status.Status.TheVariants.{Usage, Size}
 use Rattle.bn_reply.specs.Streams.{size_text}
 use Rattle.bn_top.specs.Answers.{Answers, Replies, usage_text}
 use Rattle.bn_top.specs.Headlines.{IsReplyTo}
-use Rattle.bn_top.proofs.MemoryLemmas.{command_reply, command_unfinished, for_both, for_none, for_reply, in_any_case, long_reply, unfinished_line, usage_reply}
+use Rattle.bn_top.proofs.MemoryLemmas.{command_reply, command_unfinished, for_both, in_any_case, long_reply, unfinished_line, usage_reply}
 use Rattle.bn_top.proofs.memory.reply_in_memory.Goals as goal
 
 pub returns-in_default-clause-replied : goal.returns-in_default-clause-replied
@@ -46,7 +47,7 @@ returns-clause-replied g c =
     let heard = g.W.Watch.told c.reply_to.new.watch in
     let bytes = c.bytes_read-bytes.result.now in
     let within : length bytes ≤ MOST_INPUT_BYTES = omega (arith, c.if-count-gt-MOST_INPUT_BYTES.false) in
-    for_reply c.reply_to.result (λ r. IsReplied (Replies (request_of c.in-Some.request) bytes) r told heard) (λ r. IsReplyTo words c.args.input.now r told heard)
+    IfOk-weaker c.reply_to.result (λ r. IsReplied (Replies (request_of c.in-Some.request) bytes) r told heard) (λ r. IsReplyTo words c.args.input.now r told heard)
     (λ r h. command_reply words c.args.input.now bytes (request_of c.in-Some.request) c.in-Some.ensures c.bytes_read-bytes.ensures r told heard within h)
     c.reply_to.ensures.replied
 
@@ -57,6 +58,6 @@ returns-clause-no_memory g c =
     let heard = g.W.Watch.told c.reply_to.new.watch in
     let bytes = c.bytes_read-bytes.result.now in
     let within : length bytes ≤ MOST_INPUT_BYTES = omega (arith, c.if-count-gt-MOST_INPUT_BYTES.false) in
-    for_none c.reply_to.result (IsUnfinished (Replies (request_of c.in-Some.request) bytes) told heard) (IsUnfinished (Answers words c.args.input.now) told heard)
+    on_err_weaker c.reply_to.result
     (λ h. command_unfinished words c.args.input.now bytes (request_of c.in-Some.request) c.in-Some.ensures c.bytes_read-bytes.ensures told heard within h)
     c.reply_to.ensures.interrupted

@@ -1,16 +1,18 @@
-use Rattle.bn_view.proofs.ViewLemmas.{place_from_start, shows_machine, view_of, when_viewed}
+use Rattle.std.proofs.lemmas.Result.{IfOk-weaker}
+use Rattle.bn_view.proofs.ViewLemmas.{place_from_start, shows_machine, view_of}
 use Rattle.bn_view.proofs.viewer.view.Goals as goal
 
 pub returns-clause-from_start : goal.returns-clause-from_start
 returns-clause-from_start c =
-    when_viewed c.layers_of.result _ _ c.layers_of.ensures.view (λ v h. place_from_start c.args.translated.now c.args.board.now c.len-elements.ensures.kept v h)
+    IfOk-weaker c.layers_of.result _ _ (λ v h. place_from_start c.args.translated.now c.args.board.now c.layers_of.ensures.kept v h) c.layers_of.ensures.view
 
 pub returns-clause-view : goal.returns-clause-view
 returns-clause-view c =
-    when_viewed c.layers_of.result _ _ c.layers_of.ensures.view (λ v h p word l f is.
-    view_of p word l f c.args.translated.now c.args.board.now is c.shown_is_found.ensures c.len-elements.ensures.kept v h)
+    IfOk-weaker c.layers_of.result _ _ (λ v h p word l f is.
+    view_of p word l f c.args.translated.now c.args.board.now is c.shown_is_found.ensures c.layers_of.ensures.kept v h) c.layers_of.ensures.view
 
 pub returns-clause-machine : goal.returns-clause-machine
 returns-clause-machine c =
-    when_viewed c.layers_of.result _ _ c.layers_of.ensures.view (λ v h p word l f is.
-    shows_machine p word l f c.args.translated.now c.args.board.now is c.shown_is_found.ensures c.len-elements.ensures.kept c.views_stand.ensures v h)
+    IfOk-weaker c.layers_of.result _ _ (λ v h p word l f is.
+    shows_machine p word l f c.args.translated.now c.args.board.now is c.shown_is_found.ensures c.layers_of.ensures.kept c.views_stand.ensures v h)
+    c.layers_of.ensures.view

@@ -8,7 +8,7 @@ use Rattle.bn_flat.proofs.board.Board.run_counting.Given.{Over}
 use Rattle.bn_flat.proofs.board.Board.run_counting.Goals as goal
 
 pub loop-made-init : goal.loop-made-init
-loop-made-init g c = record { counted = counted_none c.args.self.now (g.W.Watch.told c.args.watch.now) c.len-elements.ensures.kept; within = omega arith }
+loop-made-init g c = record { counted = counted_none c.args.self.now (g.W.Watch.told c.args.watch.now) c.layout.ensures.kept; within = omega arith }
 
 pub count_moment-moments-requires : goal.count_moment-moments-requires
 count_moment-moments-requires g c = let few = c.loop-made.invariant.counted.tallied.few in let within = c.loop-made.invariant.within in omega arith
@@ -42,7 +42,7 @@ loop-made-preserved g c =
     record {
       counted = counted_leap c.args.self.now c.loop-made.self c.run_until-steps.new.self c.first_rows-rows.result c.run_until-steps.result c.loop-made.made (c.loop-made.made + c.run_until-steps.result)
           c.loop-made.moments c.count_moment-moments.result (g.W.Watch.told c.args.watch.now) (g.W.Watch.told c.loop-made.watch) (g.W.Watch.told c.run_until-steps.new.watch)
-          c.len-elements.ensures.kept c.loop-made.invariant.counted run.same run.kept rows some run.ran.between run.told refl c.count_moment-moments.ensures;
+          c.layout.ensures.kept c.loop-made.invariant.counted run.same run.kept rows some run.ran.between run.told refl c.count_moment-moments.ensures;
       within = (let most = run.ran.bound in let before = c.loop-made.invariant.within in omega arith);
     }
 

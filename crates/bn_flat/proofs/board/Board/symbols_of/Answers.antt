@@ -1,4 +1,3 @@
-use Rattle.std.proofs.Common.{rules, ◌≡◌, ◌∷◌, [], ◌++◌}
 use Rattle.std.specs.Option.{option_map}
 use Rattle.bn_board.specs.Layouts.{symbol_by, cell_state_at, symbol_count_at}
 use Rattle.bn_flat.proofs.CellLemmas.{symbols_pushed}
@@ -6,7 +5,6 @@ use Rattle.bn_flat.proofs.board.Board.symbols_of.Goals as goal
 
 pub loop-cell-preserved : goal.loop-cell-preserved
 loop-cell-preserved c =
-    let pushed : c.push.new.self.items ≡ c.loop-cell.symbols.items ++ c.symbol_at.result ∷ [] = search rules in
     symbols_pushed (λ p. option_map (symbol_by (symbol_count_at c.args.self.now.layout c.args.tape)) (cell_state_at c.args.self.now.layout
     c.args.self.now.config.states c.args.tape p)) c.loop-cell.cell c.loop-cell.symbols.items c.push.new.self.items c.symbol_at.result
-    c.loop-cell.invariant c.symbol_at.ensures pushed
+    c.loop-cell.invariant c.symbol_at.ensures c.in_ok-push.ensures.items

@@ -1,9 +1,0 @@
-use Rattle.std.proofs.Common.{◌≡◌, ◌++◌, ◌∷◌, [], rules, arith}
-use Rattle.bn_reply.proofs.LetterLemmas.{one_more}
-use Rattle.bn_reply.proofs.letters.symbols_of.Goals as goal
-
-pub loop-index-preserved : goal.loop-index-preserved
-loop-index-preserved c =
-    let pushed : c.push.new.self.items ≡ c.loop-index.symbols.items ++ c.in-Some.symbol ∷ [] = search rules in
-    rw pushed (one_more c.args.table.now c.args.word.now c.loop-index.index c.loop-index.symbols.items c.in-Some.symbol
-    (omega arith) c.loop-index.invariant c.in-Some.ensures)
