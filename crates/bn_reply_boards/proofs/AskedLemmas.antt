@@ -1,9 +1,7 @@
 -- What bytes, a word and limits are opened as: what is told of it is an answer, and a refusal is one whatever is told.
 use Rattle.std.specs.Prelude.{◌≡◌, ℕ, ◌<◌, ◌≤◌, List, [], length, refl}
 use Rattle.bn_circuits.specs.declared.place.Place.{Place}
-use Rattle.bn_machine.specs.Machine.{Program}
 use Rattle.bn_machine.specs.Outcome.{Limits}
-use Rattle.bn_net.specs.declared.net.TheConstants.{MOST_ELEMENTS}
 use Rattle.bn_table.specs.Rows.{Named}
 use Rattle.bn_table.proofs.MachineLemmas.{tables_machines}
 use Rattle.bn_bennett.specs.Translation.{Translation}

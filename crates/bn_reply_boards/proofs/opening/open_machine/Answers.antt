@@ -1,4 +1,4 @@
-use Rattle.std.proofs.Common.{[], ℕ, List, refl, sym, subst}
+use Rattle.std.proofs.Common.{ℕ, List, refl, sym, subst}
 use Rattle.bn_circuits.specs.declared.place.Place.{Place}
 use Rattle.bn_machine.specs.Machine.{IsMachine}
 use Rattle.bn_table.proofs.MachineLemmas.{tables_machines}

@@ -1,7 +1,6 @@
 use Rattle.std.proofs.Common.{subst}
-use Rattle.bn_assembly.specs.Assembled.{CountsElements, IsAssembled, IsRefusal, limits_of}
-use Rattle.bn_assembly.specs.declared.refusal.AssembleRefusal.TheVariants.{Elements}
-use Rattle.bn_reply_boards.proofs.OpeningLemmas.{counted, as_flat, is_made}
+use Rattle.bn_assembly.specs.Assembled.{IsAssembled, limits_of}
+use Rattle.bn_reply_boards.proofs.OpeningLemmas.{as_flat, is_made}
 use Rattle.bn_reply_boards.proofs.opening.open_window.Goals as goal
 
 pub assemble-requires-clause-machine : goal.assemble-requires-clause-machine

@@ -6,7 +6,7 @@ use Rattle.bn_reply_boards_laws.specs.RunReply.{RunReplies, TellsRun}
 use Rattle.bn_reply_boards_laws.proofs.ClosedLemmas.{moments}
 use Rattle.bn_reply_boards_laws.proofs.RunLemmas.{exits-named}
 use Rattle.bn_reply_boards.specs.Opened.{IsBoardAsked, IsOpenedInput}
-use Rattle.bn_reply_boards.specs.Running.{IsAnswered, TellsFound}
+use Rattle.bn_reply_boards.specs.Running.{TellsFound}
 use Rattle.bn_reply_boards.proofs.AnsweredLemmas.{answered_as, answered_reply}
 use Rattle.bn_reply_boards.proofs.AskedLemmas.{input_refused}
 use Rattle.bn_reply_boards.proofs.RunLemmas.{asked_letters, asked_names, asked_runs, asked_start}
