@@ -15,4 +15,4 @@ pub use laws::{columns_are_crossed, crossed_columns_rest, crossings_stay_within}
 pub use make::column;
 pub use refusal::ColumnRefusal;
 pub use standing::Column;
-pub use wires::{column_wires, wire};
+pub use wires::{column_wires, push_rung, push_wire, wire};

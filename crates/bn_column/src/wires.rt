@@ -23,20 +23,20 @@ pub fn column_wires(alloc: Global, first: u32, rows: u32) -> Result<Vec<Wire>, N
         push_rung(&mut wires, first + row)?;
     }
     let bottom = first + rows;
-    push(&mut wires, wire(bottom, SOUTH, bottom, SOUTH))?;
-    push(&mut wires, wire(bottom, WEST, first, NORTH))?;
-    push(&mut wires, wire(first, NORTH, bottom, EAST))?;
+    push_wire(&mut wires, wire(bottom, SOUTH, bottom, SOUTH))?;
+    push_wire(&mut wires, wire(bottom, WEST, first, NORTH))?;
+    push_wire(&mut wires, wire(first, NORTH, bottom, EAST))?;
     Ok(wires)
 }
 
-// The wires between this row and the next element, down and up.
-fn push_rung(wires: &mut Vec<Wire>, row: u32) -> Result<(), NoMemory>
+/// Adds the wires between this row and the next element, down and up.
+pub fn push_rung(wires: &mut Vec<Wire>, row: u32) -> Result<(), NoMemory>
     requires { row + 1 < 2 ^ 32 }
     ensures { OnOk result (wires.new.items ≡ (wires.old.items ++ wire_of row 2 (row + 1) 0 ∷ [])
         ++ wire_of (row + 1) 0 row 2 ∷ []) }
 {
-    push(wires, wire(row, SOUTH, row + 1, NORTH))?;
-    push(wires, wire(row + 1, NORTH, row, SOUTH))?;
+    push_wire(wires, wire(row, SOUTH, row + 1, NORTH))?;
+    push_wire(wires, wire(row + 1, NORTH, row, SOUTH))?;
     Ok(())
 }
 
@@ -56,7 +56,8 @@ pub fn wire(from: u32, from_line: u32, to: u32, to_line: u32) -> Wire
     }
 }
 
-fn push(wires: &mut Vec<Wire>, wire: Wire) -> Result<(), NoMemory>
+/// Adds a wire behind those of a list.
+pub fn push_wire(wires: &mut Vec<Wire>, wire: Wire) -> Result<(), NoMemory>
     ensures { OnOk result (wires.new.items ≡ wires.old.items ++ wire ∷ []) }
 {
     wires.push(wire)?;

@@ -17,7 +17,7 @@ mod writing;
 pub use bn_lists::NoMemory;
 pub use mem_sink::MemSink;
 pub use mem_source::MemSource;
-pub use reading::{ReadRefusal, read_all};
+pub use reading::{ReadRefusal, piece_size, read_all};
 pub use sinks::{Sink, SinkFailed};
 pub use sources::{Source, SourceFailed};
 pub use std_sink::StdSink;

@@ -112,7 +112,7 @@ fn read_piece<S: Source>(
         Rose (S.faults source.old) (S.faults source.new) }
 {
     let room = limit - bytes.len() as u64;
-    let asked = wanted(room, buffer.len());
+    let asked = piece_size(room, buffer.len());
     let count = match source.take(&mut buffer[..asked]) {
         Ok(count) => count,
         Err(SourceFailed) => return Err(ReadRefusal::ReadFault),
@@ -124,9 +124,9 @@ fn read_piece<S: Source>(
     Ok(count == 0)
 }
 
-// How many bytes to ask for: as many as there is space for, and at most one more than may still
-// come.
-fn wanted(room: u64, space: usize) -> usize
+/// How many bytes to ask a source for: as many as there is space for, and at most one more than may
+/// still come.
+pub fn piece_size(room: u64, space: usize) -> usize
     ensures { result ≡ min space (room + 1) }
 {
     if room < space as u64 {

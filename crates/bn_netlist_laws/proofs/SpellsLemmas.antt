@@ -52,7 +52,7 @@ place_admissible n ws (Left e o) sayable there left =
     same_is from = elim (line_tells from from) [ inl same ↦ same.0 | inr other ↦ absurd (other.1 refl) ]
 
 -- what these lines say may be spelled
-said-admitted : (h : Header) (rows : List Sentence) → AreFaultless (header_then h rows) → Blocks rows → length rows ≡ h.count → Admits h.version (said_by h rows)
+pub said-admitted : (h : Header) (rows : List Sentence) → AreFaultless (header_then h rows) → Blocks rows → length rows ≡ h.count → Admits h.version (said_by h rows)
 said-admitted h rows f are count =
     let after_count = f.2 in
     let after_start = after_count.2 in

@@ -7,4 +7,4 @@ loop-row-preserved c = ladder_more c.args.first c.loop-row.row _ c.loop-row.wire
 
 pub returns-clause-wires : goal.returns-clause-wires
 returns-clause-wires c =
-    ladder_closed c.args.first c.args.rows c.loop-row.row c.loop-row.wires.items c.push.new.wires.items c.push-2.new.wires.items c.push-3.new.wires.items c.wire.result c.wire-2.result c.wire-3.result (omega arith) (omega arith) c.loop-row.invariant c.wire.ensures c.wire-2.ensures c.wire-3.ensures c.in_ok-push.ensures c.in_ok-push-2.ensures c.in_ok-push-3.ensures
+    ladder_closed c.args.first c.args.rows c.loop-row.row c.loop-row.wires.items c.push_wire.new.wires.items c.push_wire-2.new.wires.items c.push_wire-3.new.wires.items c.wire.result c.wire-2.result c.wire-3.result (omega arith) (omega arith) c.loop-row.invariant c.wire.ensures c.wire-2.ensures c.wire-3.ensures c.in_ok-push_wire.ensures c.in_ok-push_wire-2.ensures c.in_ok-push_wire-3.ensures
