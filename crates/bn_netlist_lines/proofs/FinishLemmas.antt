@@ -1,24 +1,22 @@
--- A text that has been read to its end: its net, and the first of its columns that is spelled out.
-use Rattle.std.specs.Prelude.{◌≡◌, ℕ, ◌+◌, ◌-◌, ◌<◌, ◌≤◌, nat_lt, Bool, true, false, List, [], ◌∷◌, ◌++◌, length, map, take, replicate, Option, Some, None, slice_get, refl}
+-- A text that has been read to its end: its wires and bars, and the first of its columns that is spelled out.
+use Rattle.std.specs.Prelude.{◌≡◌, ℕ, ◌+◌, ◌-◌, ◌<◌, ◌≤◌, Bool, true, false, List, [], ◌∷◌, ◌++◌, length, replicate, Option, Some, None, slice_get, refl}
 use Rattle.std.proofs.Common.{zero, suc, arith, sym, ap, subst, ◌∙◌, inl, inr}
 use Rattle.std.proofs.lemmas.Bool.{cases_lt}
-use Rattle.std.proofs.lemmas.Bool.Decides.{nat_tests}
 use Rattle.std.proofs.lemmas.List.{append_assoc, append-nil, length-append, length-replicate}
 use Rattle.std.proofs.lemmas.Option.{same_Some}
 use Rattle.bn_lists.specs.Lists.{IsLeast}
 use Rattle.bn_element.specs.Tables.{Table}
-use Rattle.bn_circuits.specs.Circuits.{Circuit, target, source}
+use Rattle.bn_circuits.specs.Circuits.{Circuit, IsConfig, target, source, line_at}
+use Rattle.bn_circuits.specs.declared.config.Config.{Config}
 use Rattle.bn_circuits.specs.declared.line.Line.{Line}
 use Rattle.bn_circuits.specs.declared.line.Wire.{Wire}
-use Rattle.bn_net.specs.Faults as net
-use Rattle.bn_net.specs.Parts.{Parts, circuit}
-use Rattle.bn_element.specs.Rotary.{rotary, vertical}
-use Rattle.bn_netlist_laws.specs.Spelling.{AreSame}
-use Rattle.bn_netlist_lines.proofs.NetLemmas.{map-replicate}
-use Rattle.bn_netlist_laws.proofs.WireLemmas.{rotary_inputs, rotary_outputs}
-use Rattle.bn_netlist_laws.specs.Columns.{IsColumnAt, rotary_elements}
+use Rattle.bn_net.proofs.WireListLemmas.{line_tells}
+use Rattle.bn_net.proofs.WiringsLemmas.{apart-append, apart-IsOneToOne}
+use Rattle.bn_net.specs.Wirings.{AreApart, AreFitting}
+use Rattle.bn_element.specs.Rotary.{rotary, vertical, east}
+use Rattle.bn_netlist_laws.specs.Columns.{IsColumnAt}
 use Rattle.bn_netlist_laws.specs.Sentences.{Sentence, Element, Column, Row, lines_text}
-use Rattle.bn_netlist_laws.specs.Spelling.{header_then, Spelled}
+use Rattle.bn_netlist_laws.specs.Spelling.{AreSame, Admits, Spelled, Spelling, circuit_of, header_then}
 use Rattle.bn_netlist_laws.specs.Faults.{header_lines, bars_in, wires_after, AreFaultlessAfter, AreWhole, IsSpelledOut, IsFirstSpelledOut}
 use Rattle.bn_netlist_laws.specs.declared.version.Version.TheVariants.{Two}
 use Rattle.bn_netlist_laws.specs.declared.header.Header.{Header}
@@ -27,51 +25,66 @@ use Rattle.bn_netlist_laws.proofs.TextLemmas.{first_after}
 use Rattle.bn_netlist_laws.proofs.BlockLemmas.{Blocks, no_block, single, group, blocks, row_lines, element_line}
 use Rattle.bn_netlist_laws.proofs.FitLemmas.{Fits, AllFit, blocks_fit}
 use Rattle.bn_netlist_laws.proofs.WholeLemmas.{said_by}
-use Rattle.bn_netlist_laws.proofs.SpellsLemmas.{whole-said}
+use Rattle.bn_netlist_laws.proofs.SpellsLemmas.{said-admitted, whole-said}
 use Rattle.bn_netlist_laws.proofs.VersionLemmas.{spelled-alike}
 use Rattle.bn_netlist_lines.specs.Drafting.{own_in, IsOwnColumn}
 use Rattle.bn_netlist_lines.specs.Finishing.{IsWholeDraft}
-use Rattle.bn_netlist_lines.specs.NetText.{spelling_of}
-use Rattle.bn_netlist_lines.specs.declared.net_config.NetConfig.{NetConfig}
-use Rattle.bn_circuits.specs.Circuits.{line_at}
-use Rattle.bn_element.specs.Rotary.{east}
-use Rattle.bn_circuits.specs.declared.config.Config.{Config}
+use Rattle.bn_netlist_lines.specs.WireSpelling.{spelling_by}
 
--- ---- the wires of whole lines are those of a net
+-- ---- the wires of whole lines are apart and fit, and their bars and place are a configuration
 
-fits-net : (h : Header) (earlier : List Wire) (w : Wire) → Fits h earlier w → net.fault_of (replicate h.count rotary) earlier w ≡ None
-fits-net h earlier w fits =
-    let outs = rotary_outputs h.count w.from.element fits.from_there in
-    let ins = rotary_inputs h.count w.to.element fits.to_there in
-    let from_low : nat_lt w.from.line 4 ≡ true = let low : w.from.line < 4 = fits.from_low in grind (arith, nat_tests) in
-    let to_low : nat_lt w.to.line 4 ≡ true = let low : w.to.line < 4 = fits.to_low in grind (arith, nat_tests) in
-    let unwired = fits.unwired in
-    let free = fits.free in
-    rw (outs, ins, from_low, to_low, unwired, free) refl
+none_some : (l : Line) (o : Option Line) → o ≡ None → o ≡ Some l → ⊥
+none_some l o h k = let e : ◌≡◌ {A = Option Line} None (Some l) = sym h ∙ k in apart e
+  where
+    apart : ◌≡◌ {A = Option Line} None (Some l) → ⊥
+    apart e = cc
 
-fit-net : (h : Header) (earlier ws : List Wire) → AllFit h earlier ws → (j : ℕ) (w : Wire) → slice_get ws j ≡ Some w → net.fault_of (replicate h.count rotary) (earlier ++ take j ws) w ≡ None
-fit-net h earlier [] fit j w has = absurd (cc)
-fit-net h earlier (v ∷ ws) fit zero w has =
-    let same : v ≡ w = same_Some v w has in
-    let here = fits-net h earlier v fit.0 in
-    let P : List Wire → Wire → Type 0 = λ before u. net.fault_of (replicate h.count rotary) before u ≡ None in
-    subst (λ before. P before w) (sym (append-nil earlier)) (subst (P earlier) same here)
-fit-net h earlier (v ∷ ws) fit (suc j) w has =
-    let rest = fit-net h (earlier ++ v ∷ []) ws fit.1 j w has in
-    subst (λ before. net.fault_of (replicate h.count rotary) before w ≡ None) (append_assoc earlier (v ∷ []) (take j ws)) rest
+fit-AreApart : (h : Header) (earlier ws : List Wire) → AreApart earlier → AllFit h earlier ws → AreApart (earlier ++ ws)
+fit-AreApart h earlier [] apart fit = subst AreApart (sym (append-nil earlier)) apart
+fit-AreApart h earlier (w ∷ ws) apart fit =
+    let here : Fits h earlier w = fit.0 in
+    subst AreApart (append_assoc earlier (w ∷ []) ws)
+    (fit-AreApart h (earlier ++ w ∷ []) ws (apart-append earlier (w ∷ []) apart (refl, refl, tt) (λ from to leads. (
+      elim (line_tells w.from from) [
+        | inl same ↦ absurd (none_some to (target earlier from) (subst (λ (l : Line). target earlier l ≡ None) same.1 here.unwired) leads)
+        | inr other ↦ rw other.0 refl
+      ],
+      elim (line_tells w.to to) [
+        | inl same ↦ absurd (none_some from (source earlier to) (subst (λ (l : Line). source earlier l ≡ None) same.1 here.free) ((apart-IsOneToOne earlier apart from to).0 leads))
+        | inr other ↦ rw other.0 refl
+      ],
+    ))) fit.1)
+
+fit-fits : (h : Header) (earlier ws : List Wire) → AllFit h earlier ws → (n : ℕ) (w : Wire) → slice_get ws n ≡ Some w → (w.from.element < h.count) × (w.from.line < 4) × (w.to.element < h.count) × (w.to.line < 4)
+fit-fits h earlier [] fit n w has = absurd (cc)
+fit-fits h earlier (v ∷ ws) fit zero w has =
+    let P : Wire → Type 0 = λ u. (u.from.element < h.count) × (u.from.line < 4) × (u.to.element < h.count) × (u.to.line < 4) in
+    let here : Fits h earlier v = fit.0 in
+    subst P (same_Some v w has) (here.from_there, here.from_low, here.to_there, here.to_low)
+fit-fits h earlier (v ∷ ws) fit (suc n) w has = fit-fits h (earlier ++ v ∷ []) ws fit.1 n w has
 
 whole_blocks : (h : Header) (rows : List Sentence) → AreWhole (header_then h rows) → Blocks rows
 whole_blocks h rows whole =
     let complete : length (header_then h rows) ≡ header_lines + h.count = whole.complete in
     blocks h (suc (length rows)) [] rows (omega arith) refl (omega arith) whole.faultless.2.2.2.2.2.2
 
-pub whole_faultless : {X : Type 0} (h : Header) (rows : List Sentence) (wires : List Wire) (elements : List X) → AreWhole (header_then h rows) → wires ≡ wires_after 6 rows → length elements ≡ h.count → net.AreFaultless (map (λ _. rotary) elements) wires
-whole_faultless h rows wires elements whole is count j below w has =
-    let fit : AllFit h [] (wires_after 6 rows) = blocks_fit h [] rows 0 6 (whole_blocks h rows whole) refl refl tt whole.faultless.2.2.2.2.2.2 in
-    let fit_wires : AllFit h [] wires = subst (AllFit h []) (sym is) fit in
-    let here = fit-net h [] wires fit_wires j w has in
-    let tables : map (λ _. rotary) elements ≡ replicate h.count rotary = map-replicate rotary elements ∙ ap (λ n. replicate n rotary) count in
-    subst (λ ts. net.fault_of ts (take j wires) w ≡ None) (sym tables) here
+module _ (h : Header) (rows : List Sentence) (whole : AreWhole (header_then h rows)) where
+  whole_fit : AllFit h [] (wires_after 6 rows)
+  whole_fit = blocks_fit h [] rows 0 6 (whole_blocks h rows whole) refl refl tt whole.faultless.2.2.2.2.2.2
+
+  pub whole-AreApart : (wires : List Wire) → wires ≡ wires_after 6 rows → AreApart wires
+  whole-AreApart wires is = subst AreApart (sym is) (fit-AreApart h [] (wires_after 6 rows) tt whole_fit)
+
+  pub whole-AreFitting : (wires : List Wire) → wires ≡ wires_after 6 rows → AreFitting h.count wires
+  whole-AreFitting wires is = subst (AreFitting h.count) (sym is) (record { fits = fit-fits h [] (wires_after 6 rows) whole_fit })
+
+  pub whole-IsConfig : (wires : List Wire) (states : List ℕ) → wires ≡ wires_after 6 rows → states ≡ bars_in rows
+      → IsConfig (circuit_of (spelling_by h wires states)) (spelling_by h wires states).config
+  whole-IsConfig wires states wires_are states_are =
+      let complete : length (header_then h rows) ≡ header_lines + h.count = whole.complete in
+      let said : Admits h.version (said_by h rows) = said-admitted h rows whole.faultless (whole_blocks h rows whole) (omega arith) in
+      subst (λ (ws : List Wire). IsConfig (circuit_of (spelling_by h ws states)) (spelling_by h ws states).config) (sym wires_are)
+      (subst (λ (qs : List ℕ). IsConfig (circuit_of (spelling_by h (wires_after 6 rows) qs)) (spelling_by h (wires_after 6 rows) qs).config) (sym states_are) said.config)
 
 -- ---- lines of their own
 
@@ -182,20 +195,12 @@ line_own h done rows (suc e) n q ts (group b k p sides rest count is more) f has
           ∙ own_behind k i (own_in rest) ∙ behind)
     ]
 
--- ---- a net with the wires of these lines
+-- ---- what is made of these wires and bars
 
-pub record IsNetOf {X : Type 0} (h : Header) (rows : List Sentence) (n : Parts X) : Type 0 where
-  pub count : length n.elements ≡ h.count
-  pub targets : (from : Line) → target n.wires from ≡ target (wires_after 6 rows) from
-  pub sources : (to : Line) → source n.wires to ≡ source (wires_after 6 rows) to
-
-pub net_of : {X : Type 0} (h : Header) (rows : List Sentence) (n : Parts X) (wires : List Wire) → length n.elements ≡ h.count → ((from : Line) → target n.wires from ≡ target wires from) → ((to : Line) → source n.wires to ≡ source wires to) → wires ≡ wires_after 6 rows → IsNetOf h rows n
-net_of h rows n wires count targets sources is =
-    record {
-      count = count;
-      targets = λ from. targets from ∙ ap (λ (ws : List Wire). target ws from) is;
-      sources = λ to. sources to ∙ ap (λ (ws : List Wire). source ws to) is;
-    }
+-- it is what the lines say
+pub made_said : (h : Header) (rows : List Sentence) (wires : List Wire) (states : List ℕ) (s : Spelling) → wires ≡ wires_after 6 rows → states ≡ bars_in rows → AreSame (spelling_by h wires states) s → AreSame (said_by h rows) s
+made_said h rows wires states s wires_are states_are same =
+    subst (λ (qs : List ℕ). AreSame (spelling_by h (wires_after 6 rows) qs) s) states_are (subst (λ (ws : List Wire). AreSame (spelling_by h ws states) s) wires_are same)
 
 column_moves : (c d : Circuit) (states : List ℕ) (e k : ℕ) → c.tables ≡ d.tables → ((from : Line) → target c.wires from ≡ target d.wires from) → IsColumnAt c states e k → IsColumnAt d states e k
 column_moves c d states e k tables targets is =
@@ -209,17 +214,20 @@ column_moves c d states e k tables targets is =
       upright = is.upright;
     }
 
-module _ {X : Type 0} (h : Header) (rows : List Sentence) (n : Parts X) (whole : AreWhole (header_then h rows)) (is_net : IsNetOf h rows n) where
-  net_tables : map (λ _. rotary) n.elements ≡ replicate h.count rotary
-  net_tables = map-replicate rotary n.elements ∙ ap (λ (m : ℕ). replicate m rotary) is_net.count
+module _ (h : Header) (rows : List Sentence) (s : Spelling) (own : List Bool) (whole : AreWhole (header_then h rows)) (same : AreSame (said_by h rows) s) (own_are : own ≡ own_in rows) where
+  states_are : s.config.states ≡ bars_in rows
+  states_are = ap (λ (c : Config). c.states) (sym same.config)
 
-  here : (e k : ℕ) → IsColumnAt (circuit (λ _. rotary) n) (bars_in rows) e k → IsColumnAt (rotary_elements h.count (wires_after 6 rows)) (bars_in rows) e k
-  here e k column = column_moves (circuit (λ _. rotary) n) (rotary_elements h.count (wires_after 6 rows)) (bars_in rows) e k net_tables is_net.targets column
+  same_tables : (circuit_of s).tables ≡ (circuit_of (said_by h rows)).tables
+  same_tables = ap (λ (m : ℕ). replicate m rotary) (sym same.elements)
 
-  there : (e k : ℕ) → IsColumnAt (rotary_elements h.count (wires_after 6 rows)) (bars_in rows) e k → IsColumnAt (circuit (λ _. rotary) n) (bars_in rows) e k
-  there e k column = column_moves (rotary_elements h.count (wires_after 6 rows)) (circuit (λ _. rotary) n) (bars_in rows) e k (sym net_tables) (λ from. sym (is_net.targets from)) column
+  here : (e k : ℕ) → IsColumnAt (circuit_of s) (bars_in rows) e k → IsColumnAt (circuit_of (said_by h rows)) (bars_in rows) e k
+  here e k column = column_moves (circuit_of s) (circuit_of (said_by h rows)) (bars_in rows) e k same_tables (λ from. sym (same.targets from)) column
 
-  to_out : (e : ℕ) → h.version ≡ Two → IsOwnColumn (own_in rows) (circuit (λ _. rotary) n) (bars_in rows) e → IsSpelledOut (header_then h rows) e
+  there : (e k : ℕ) → IsColumnAt (circuit_of (said_by h rows)) (bars_in rows) e k → IsColumnAt (circuit_of s) (bars_in rows) e k
+  there e k column = column_moves (circuit_of (said_by h rows)) (circuit_of s) (bars_in rows) e k (sym same_tables) same.targets column
+
+  to_out : (e : ℕ) → h.version ≡ Two → IsOwnColumn (own_in rows) (circuit_of s) (bars_in rows) e → IsSpelledOut (header_then h rows) e
   to_out e second own =
       let line = own_line h [] rows e e (whole_blocks h rows whole) (omega arith) whole.faultless.2.2.2.2.2.2 own.has_line in
       let place : header_lines + e ≡ suc (suc (suc (suc (suc (suc e))))) = omega arith in
@@ -231,7 +239,7 @@ module _ {X : Type 0} (h : Header) (rows : List Sentence) (n : Parts X) (whole :
         column = (own.column.0, here e own.column.0 own.column.1);
       }
 
-  from_out : (e : ℕ) → IsSpelledOut (header_then h rows) e → IsOwnColumn (own_in rows) (circuit (λ _. rotary) n) (bars_in rows) e
+  from_out : (e : ℕ) → IsSpelledOut (header_then h rows) e → IsOwnColumn (own_in rows) (circuit_of s) (bars_in rows) e
   from_out e out =
       let place : header_lines + e ≡ suc (suc (suc (suc (suc (suc e))))) = omega arith in
       let has : slice_get rows e ≡ Some (Element e out.state out.targets) = ap (λ (m : ℕ). slice_get (header_then h rows) m) (sym place) ∙ out.has_line in
@@ -240,39 +248,30 @@ module _ {X : Type 0} (h : Header) (rows : List Sentence) (n : Parts X) (whole :
         column = (out.column.0, there e out.column.0 out.column.1);
       }
 
-  pub first_out : (states : List ℕ) (own : List Bool) (e line : ℕ) → states ≡ bars_in rows → own ≡ own_in rows → h.version ≡ Two → IsLeast (IsOwnColumn own (circuit (λ _. rotary) n) states) e → line ≡ e + 7 → IsFirstSpelledOut (lines_text (header_then h rows)) line
-  first_out states own e line states_are own_are second least counted =
-      let at_rows : IsLeast (IsOwnColumn (own_in rows) (circuit (λ _. rotary) n) (bars_in rows)) e = subst (λ (bs : List Bool). IsLeast (IsOwnColumn bs (circuit (λ _. rotary) n) (bars_in rows)) e) own_are (subst (λ (qs : List ℕ). IsLeast (IsOwnColumn own (circuit (λ _. rotary) n) qs) e) states_are least) in
+  -- what is said of the marks and the states that were read, of those that the lines say
+  at_rows : (P : List Bool → List ℕ → Type 0) → P own s.config.states → P (own_in rows) (bars_in rows)
+  at_rows P holds = subst (λ (bs : List Bool). P bs (bars_in rows)) own_are (subst (P own) states_are holds)
+
+  pub first_out : (e line : ℕ) → h.version ≡ Two → IsLeast (IsOwnColumn own (circuit_of s) s.config.states) e → line ≡ e + 7 → IsFirstSpelledOut (lines_text (header_then h rows)) line
+  first_out e line second least counted =
+      let is = at_rows (λ bs qs. IsLeast (IsOwnColumn bs (circuit_of s) qs) e) least in
       record {
         lines = header_then h rows;
         begins = refl;
         whole = whole;
         element = e;
-        first = record { holds = to_out e second at_rows.holds; least = λ m low out. at_rows.least m low (from_out m out) };
+        first = record { holds = to_out e second is.holds; least = λ m low out. is.least m low (from_out m out) };
         counted = omega arith;
       }
 
-  pub none_out : (states : List ℕ) (own : List Bool) → states ≡ bars_in rows → own ≡ own_in rows → ((e : ℕ) → h.version ≡ Two → IsOwnColumn own (circuit (λ _. rotary) n) states e → ⊥) → (e : ℕ) → IsSpelledOut (header_then h rows) e → ⊥
-  none_out states own states_are own_are none e out =
-      let at_rows : (f : ℕ) → h.version ≡ Two → IsOwnColumn (own_in rows) (circuit (λ _. rotary) n) (bars_in rows) f → ⊥ = subst (λ (bs : List Bool). (f : ℕ) → h.version ≡ Two → IsOwnColumn bs (circuit (λ _. rotary) n) (bars_in rows) f → ⊥) own_are (subst (λ (qs : List ℕ). (f : ℕ) → h.version ≡ Two → IsOwnColumn own (circuit (λ _. rotary) n) qs f → ⊥) states_are none) in
-      at_rows e out.second (from_out e out)
+  none_out : ((e : ℕ) → h.version ≡ Two → IsOwnColumn own (circuit_of s) s.config.states e → ⊥) → (e : ℕ) → IsSpelledOut (header_then h rows) e → ⊥
+  none_out none e out =
+      let is = at_rows (λ bs qs. (f : ℕ) → h.version ≡ Two → IsOwnColumn bs (circuit_of s) qs f → ⊥) none in
+      is e out.second (from_out e out)
 
--- the net spells what the lines say
-pub made_spelled : (h : Header) (rows : List Sentence) (c : NetConfig) (states : List ℕ) (own : List Bool) → AreWhole (header_then h rows) → IsNetOf h rows c.net → states ≡ bars_in rows → own ≡ own_in rows → c.config ≡ record { states = states; place = h.place; steps = h.steps } → c.start ≡ h.start → c.end ≡ h.end → ((e : ℕ) → h.version ≡ Two → IsOwnColumn own (circuit (λ _. rotary) c.net) states e → ⊥) → Spelled h.version (spelling_of c) (lines_text (header_then h rows))
-made_spelled h rows c states own whole is_net states_are own_are config start end none =
-    let said = whole-said h rows whole (none_out h rows c.net whole is_net states own states_are own_are none) in
-    let same_config : record { states = bars_in rows; place = h.place; steps = h.steps } ≡ c.config = sym (config ∙ ap (λ (qs : List ℕ). let d : Config = record { states = qs; place = h.place; steps = h.steps } in d) states_are) in
-    let same : AreSame (said_by h rows) (spelling_of c) =
-    record {
-      elements = sym is_net.count;
-      targets = λ from. sym (is_net.targets from);
-      sources = λ to. sym (is_net.sources to);
-      config = same_config;
-      start = sym start;
-      end = sym end;
-    }
-    in
-    spelled-alike h.version (said_by h rows) (spelling_of c) (lines_text (header_then h rows)) same said
+  -- it is spelled by what the lines say
+  pub made_spelled : ((e : ℕ) → h.version ≡ Two → IsOwnColumn own (circuit_of s) s.config.states e → ⊥) → Spelled h.version s (lines_text (header_then h rows))
+  made_spelled none = spelled-alike h.version (said_by h rows) s (lines_text (header_then h rows)) same (whole-said h rows whole (none_out none))
 
 -- how many states and marks there are
 count_own : (h : Header) (done rows : List Sentence) → Blocks rows → AreFaultlessAfter (header_then h done) rows → (length (own_in rows) ≡ length rows) × (length (bars_in rows) ≡ length rows)

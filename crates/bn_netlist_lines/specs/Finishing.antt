@@ -2,12 +2,12 @@
 use Rattle.std.specs.Prelude.{◌≡◌, ℕ, Bool, List}
 use Rattle.bn_circuits.specs.declared.line.Wire.{Wire}
 use Rattle.bn_netlist_laws.specs.Sentences.{Sentence, lines_text}
+use Rattle.bn_netlist_laws.specs.Spelling as what
 use Rattle.bn_netlist_laws.specs.Spelling.{header_then, Spelled}
 use Rattle.bn_netlist_laws.specs.Faults.{AreWhole, IsFirstSpelledOut}
 use Rattle.bn_netlist_laws.specs.declared.header.Header.{Header}
+use Rattle.bn_netlist_laws.specs.declared.version.Version.{Version}
 use Rattle.bn_netlist_lines.specs.Drafting.{Holds}
-use Rattle.bn_netlist_lines.specs.NetText.{spelling_of}
-use Rattle.bn_netlist_lines.specs.declared.net_config.NetConfig.{NetConfig}
 use Rattle.bn_netlist_lines.specs.declared.refusal.NetlistRefusal.{NetlistRefusal}
 use Rattle.bn_netlist_lines.specs.declared.refusal.NetlistRefusal.TheVariants.{Spelling, NoMemory}
 
@@ -18,11 +18,11 @@ pub record IsWholeDraft (h : Header) (lines left : ℕ) (states : List ℕ) (own
   pub whole : AreWhole (header_then h rows)
   pub holds : Holds h rows lines left states own wires fed
 
--- each whole text that says what has been read spells this net
-abbrev pub SpellsAll : Header → ℕ → ℕ → List ℕ → List Bool → List Wire → List Bool → NetConfig → Type 0
-SpellsAll h lines left states own wires fed c =
+-- each whole text that says what has been read spells this, in this version
+abbrev pub SpellsAll : Header → ℕ → ℕ → List ℕ → List Bool → List Wire → List Bool → Version → what.Spelling → Type 0
+SpellsAll h lines left states own wires fed version s =
     (rows : List Sentence) → AreWhole (header_then h rows) → Holds h rows lines left states own wires fed
-    → (c.version ≡ h.version) × Spelled h.version (spelling_of c) (lines_text (header_then h rows))
+    → (version ≡ h.version) × Spelled h.version s (lines_text (header_then h rows))
 
 -- each whole text that says what has been read is refused so; or memory was wanting
 pub data RefusesAll (h : Header) (lines left : ℕ) (states : List ℕ) (own : List Bool) (wires : List Wire)

@@ -1,14 +1,13 @@
 //! The wires of a column, as a list.
 
-ghost use Rattle.std.specs.Prelude.{◌≡◌, ◌+◌, ◌^◌, ◌<◌, ◌++◌, ◌∷◌, [], Bool, IfOk, OnOk};
+ghost use Rattle.std.specs.Prelude.{◌≡◌, ◌+◌, ◌^◌, ◌<◌, IfOk};
 ghost use Rattle.bn_circuits.specs.Circuits.{same_line};
-ghost use Rattle.bn_column.specs.Nets.{wire_of};
 ghost use Rattle.bn_netlist_laws.specs.Faults.{is_left_by};
 ghost use Rattle.bn_netlist_laws.specs.Columns.{inner_wires};
 ghost use Rattle.bn_netlist_laws.specs.Faults.{some_wire};
 
 use bn_circuits::{Line, Place, Wire};
-use bn_column::wire;
+use bn_column::{push_rung, push_wire, wire};
 use bn_element::{EAST, NORTH, SOUTH, WEST};
 use bn_lists::NoMemory;
 use std::alloc::Global;
@@ -23,28 +22,10 @@ pub(crate) fn inner_wires(alloc: Global, first: u32, rows: u32) -> Result<Vec<Wi
         push_rung(&mut wires, first + row)?;
     }
     let bottom = first + rows;
-    push(&mut wires, wire(bottom, SOUTH, bottom, SOUTH))?;
-    push(&mut wires, wire(bottom, WEST, first, NORTH))?;
-    push(&mut wires, wire(first, NORTH, bottom, EAST))?;
+    push_wire(&mut wires, wire(bottom, SOUTH, bottom, SOUTH))?;
+    push_wire(&mut wires, wire(bottom, WEST, first, NORTH))?;
+    push_wire(&mut wires, wire(first, NORTH, bottom, EAST))?;
     Ok(wires)
-}
-
-// The wires between this row and the next element, down and up.
-fn push_rung(wires: &mut Vec<Wire>, row: u32) -> Result<(), NoMemory>
-    requires { row + 1 < 2 ^ 32 }
-    ensures { OnOk result (wires.new.items ≡ (wires.old.items ++ wire_of row 2 (row + 1) 0 ∷ [])
-        ++ wire_of (row + 1) 0 row 2 ∷ []) }
-{
-    push(wires, wire(row, SOUTH, row + 1, NORTH))?;
-    push(wires, wire(row + 1, NORTH, row, SOUTH))?;
-    Ok(())
-}
-
-fn push(wires: &mut Vec<Wire>, wire: Wire) -> Result<(), NoMemory>
-    ensures { OnOk result (wires.new.items ≡ wires.old.items ++ wire ∷ []) }
-{
-    wires.push(wire)?;
-    Ok(())
 }
 
 /// Whether one of the wires leaves this output line.

@@ -1,10 +1,13 @@
 //! What a configuration text spells.
 
+use crate::from_wires::FromWires;
 use crate::spellable::Spellable;
-use bn_circuits::{Config, Line, Place};
+use bn_circuits::{Config, Line, Place, States, Wire};
 use bn_element::Rotary;
+use bn_lists::NoMemory;
 use bn_net::Net;
-use bn_netlist_laws::Version;
+use bn_netlist_laws::{Header, Version};
+use std::alloc::Global;
 
 /// A net of rotary elements in a configuration, with the two lines that its text names, and the
 /// version of that text. Elements and lines are counted from 0. (This project's own profile.)
@@ -61,5 +64,28 @@ impl Spellable for NetConfig {
         // (for the prover: the contract of this call tells what the type keeps.)
         let _elements = self.net.len();
         self.net.target(from)
+    }
+}
+
+impl FromWires for NetConfig {
+    fn from_wires(
+        alloc: Global,
+        header: &Header,
+        wires: Vec<Wire>,
+        states: Vec<u32>,
+    ) -> Result<NetConfig, NoMemory> {
+        let elements = vec![in alloc; Rotary; header.count as usize]?;
+        let net = Net::new(alloc, elements, &wires)?;
+        Ok(NetConfig {
+            version: header.version,
+            net,
+            config: Config {
+                states: States::new(states),
+                place: header.place,
+                steps: header.steps,
+            },
+            start: header.start,
+            end: header.end,
+        })
     }
 }

@@ -5,12 +5,12 @@ ghost use Rattle.bn_base.specs.Line.{IsInLine};
 ghost use Rattle.bn_netlist_laws.specs.Sentences.{Sentence, lines_text};
 ghost use Rattle.bn_netlist_laws.specs.Spelling.{Spelled};
 ghost use Rattle.bn_netlist_lines.specs.LineReading.{RefusesLine};
-ghost use Rattle.bn_netlist_lines.specs.NetText.{spelling_of, IsTextRefusal};
+ghost use Rattle.bn_netlist_lines.specs.NetText.{IsTextRefusal};
 ghost use Rattle.bn_netlist_lines.specs.Stages.{AreTaken, HasTaken, TakesTo};
 
 use crate::entries::Entries;
+use crate::from_wires::FromWires;
 use crate::header_lines::{take_count, take_end, take_place, take_start, take_steps, take_title};
-use crate::net_config::NetConfig;
 use crate::refusal::NetlistRefusal;
 use bn_circuits::Line;
 use bn_netlist_laws::{Header, Version};
@@ -169,10 +169,10 @@ impl Stage {
     }
 
     /// The configuration of a text that ends here.
-    pub fn finish(self, alloc: Global) -> Result<NetConfig, NetlistRefusal>
+    pub fn finish<C: FromWires>(self, alloc: Global) -> Result<C, NetlistRefusal>
         requires { HasTaken self }
         ensures spelled { IfOk result (λ c. (lines : List Sentence) → AreTaken lines self
-            → Spelled c.version (spelling_of c) (lines_text lines)) }
+            → Spelled (C.version c) (C.spelling c) (lines_text lines)) }
         ensures refused { IfErr result (λ r. (lines : List Sentence) → AreTaken lines self
             → IsTextRefusal (lines_text lines) r) }
     {
@@ -208,14 +208,14 @@ fn take_entry(
 }
 
 // The configuration of a text that ends behind these entries.
-fn finish_entries(
+fn finish_entries<C: FromWires>(
     alloc: Global,
     header: &Header,
     entries: Entries,
-) -> Result<NetConfig, NetlistRefusal>
+) -> Result<C, NetlistRefusal>
     requires { HasTaken (Stage.Entries header.now entries) }
     ensures spelled { IfOk result (λ c. (lines : List Sentence) → AreTaken lines (Stage.Entries header.now entries)
-        → Spelled c.version (spelling_of c) (lines_text lines)) }
+        → Spelled (C.version c) (C.spelling c) (lines_text lines)) }
     ensures refused { IfErr result (λ r. (lines : List Sentence) → AreTaken lines (Stage.Entries header.now entries)
         → IsTextRefusal (lines_text lines) r) }
 {
@@ -224,5 +224,5 @@ fn finish_entries(
             line: u64::from(entries.lines) + 7,
         });
     }
-    entries.into_net_config(alloc, header)
+    entries.into_config(alloc, header)
 }
