@@ -27,7 +27,7 @@ end_at ends n = option_and_then (λ o. o) (slice_get ends n)
 
 -- ---- rows of four
 
-row_entry : (ends : Ends) (k e l n : ℕ) → length ends ≡ 4 * k → l < 4 → n ≡ 4 * e + l → entry (rows_of ends) (record { element = e; line = l }) ≡ end_at ends n
+pub row_entry : (ends : Ends) (k e l n : ℕ) → length ends ≡ 4 * k → l < 4 → n ≡ 4 * e + l → entry (rows_of ends) (record { element = e; line = l }) ≡ end_at ends n
 row_entry [] k e l n whole low is = refl
 row_entry (a ∷ []) k e l n whole low is = absurd (omega arith)
 row_entry (a ∷ b ∷ []) k e l n whole low is = absurd (omega arith)
@@ -47,7 +47,7 @@ row_entry (a ∷ b ∷ c ∷ d ∷ ends) (suc k) (suc e) l n whole low is =
     let m : suc (suc (suc (suc (4 * e + l)))) ≡ n = omega arith in
     row_entry ends k e l (4 * e + l) (omega arith) low refl ∙ ap (end_at (a ∷ b ∷ c ∷ d ∷ ends)) m
 
-row_entry_past : (ends : Ends) (e l : ℕ) → 4 ≤ l → entry (rows_of ends) (record { element = e; line = l }) ≡ None
+pub row_entry_past : (ends : Ends) (e l : ℕ) → 4 ≤ l → entry (rows_of ends) (record { element = e; line = l }) ≡ None
 row_entry_past [] e l high = refl
 row_entry_past (a ∷ []) e l high = refl
 row_entry_past (a ∷ b ∷ []) e l high = refl
@@ -106,7 +106,7 @@ input_below elements l there =
 pub below_output : (elements : List Rotary) (l : Line) → IsLineBelow (length elements) l → IsOutputOf (map (λ _. rotary) elements) l
 below_output elements l below = subst (λ n. l.line < n) (sym (four_out elements l.element below.element)) below.line
 
-pub below_input : (elements : List Rotary) (l : Line) → IsLineBelow (length elements) l → IsInputOf (map (λ _. rotary) elements) l
+below_input : (elements : List Rotary) (l : Line) → IsLineBelow (length elements) l → IsInputOf (map (λ _. rotary) elements) l
 below_input elements l below = subst (λ n. l.line < n) (sym (four_in elements l.element below.element)) below.line
 
 -- the line with a number is there
@@ -170,9 +170,6 @@ source_read targets sources now to o wiring is there read =
 
 -- ---- the ends of a net's wires
 
-pub no_ends : (f : Line → Option Line) (ends : Ends) → ends ≡ [] → AreEnds f 0 ends
-no_ends f ends is = record { count = ap length is; each = λ i low. absurd (omega arith) }
-
 get-front : {X : Type 0} (xs ys : List X) (i : ℕ) → i < length xs → slice_get (xs ++ ys) i ≡ slice_get xs i
 get-front [] ys i low = absurd (omega arith)
 get-front (x ∷ xs) ys zero low = refl
@@ -229,43 +226,17 @@ target_only : (net : Parts Rotary) → IsCircuit (rotary_circuit net) → (from 
     → IsLineBelow (length net.elements) from
 target_only net circuit from to is = output_below net.elements from (circuit.wired from to is).0
 
-source_only : (net : Parts Rotary) → IsCircuit (rotary_circuit net) → (to from : Line) → source net.wires to ≡ Some from → IsLineBelow (length net.elements) to
-source_only net circuit to from is = input_below net.elements to (circuit.wired from to ((circuit.one_to_one from to).1 is)).1
-
 -- an end leads to a line that is there
 pub target_within : (net : Parts Rotary) → IsCircuit (rotary_circuit net) → (from : Line) (o : Option Line) → o ≡ target net.wires from
     → IfSome o (IsLineBelow (length net.elements))
 target_within net circuit from None is = tt
 target_within net circuit from (Some to) is = input_below net.elements to (circuit.wired from to (sym is)).1
 
-pub source_within : (net : Parts Rotary) → IsCircuit (rotary_circuit net) → (to : Line) (o : Option Line) → o ≡ source net.wires to
-    → IfSome o (IsLineBelow (length net.elements))
-source_within net circuit to None is = tt
-source_within net circuit to (Some from) is = output_below net.elements from (circuit.wired from to ((circuit.one_to_one from to).1 (sym is))).0
-
 -- what feeds a line is an output line
 pub source_output : (net : Parts Rotary) → IsCircuit (rotary_circuit net) → (to : Line) (o : Option Line) → o ≡ source net.wires to
     → IfSome o (IsOutputOf (map (λ _. rotary) net.elements))
 source_output net circuit to None is = tt
 source_output net circuit to (Some from) is = (circuit.wired from to ((circuit.one_to_one from to).1 (sym is))).0
-
--- the ends of a net's wires both ways
-pub net-IsWiring : (net : Parts Rotary) (targets sources : EndList) → IsCircuit (rotary_circuit net) → length net.elements < 2 ^ 32
-    → AreEndsOf (target net.wires) (length net.elements) targets → AreEndsOf (source net.wires) (length net.elements) sources → IsWiring targets sources
-net-IsWiring net targets sources circuit few forth back =
-    let count = forth.elements in
-    let t = ends_entry (target net.wires) (length net.elements) targets forth (target_only net circuit) in
-    let s = ends_entry (source net.wires) (length net.elements) sources back (source_only net circuit) in
-    record {
-      same = back.elements ∙ sym forth.elements;
-      few = subst (λ n. n < 2 ^ 32) (sym count) few;
-      all_targets = forth.ends.count ∙ ap (λ n. 4 * n) (sym count);
-      all_sources = back.ends.count ∙ ap (λ n. 4 * n) (sym count);
-      paired = λ from to. (
-        λ h. s to ∙ (circuit.one_to_one from to).0 (sym (t from) ∙ h),
-        λ h. t from ∙ (circuit.one_to_one from to).1 (sym (s to) ∙ h),
-      );
-    }
 
 same_parts : (m n : Parts Rotary) → m.elements ≡ n.elements → m.wires ≡ n.wires → m ≡ n
 same_parts m n elements wires = λ i. record { elements = elements i; wires = wires i }

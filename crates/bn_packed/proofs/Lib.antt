@@ -3,5 +3,6 @@ pub mod CrossLemmas
 pub mod EndLemmas
 pub mod NumberLemmas
 pub mod ListedLemmas
+pub mod ReversedLemmas
 pub mod LooseLemmas
 pub mod StepLemmas

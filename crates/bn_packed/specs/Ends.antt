@@ -1,6 +1,6 @@
 -- How a packed netlist keeps its wires: for each line the line at the other end, in the order of the lines' numbers.
 -- Line l of element e has number 4 * e + l.
-use Rattle.std.specs.Prelude.{◌≡◌, ℕ, ◌*◌, ◌/◌, ◌%◌, ◌^◌, ◌<◌, ◌==◌, nat_lt, ◌↔◌, if◌then◌else◌, List, [], ◌∷◌, length}
+use Rattle.std.specs.Prelude.{◌≡◌, ℕ, ◌+◌, ◌*◌, ◌/◌, ◌%◌, ◌^◌, ◌<◌, ◌==◌, nat_lt, ◌↔◌, if◌then◌else◌, List, [], ◌∷◌, length}
 use Rattle.std.specs.Prelude.{replicate, Option, Some, None, slice_get}
 use Rattle.bn_circuits.specs.declared.line.Line.{Line}
 use Rattle.bn_element.specs.declared.rotary.Rotary.{Rotary}
@@ -51,6 +51,22 @@ rotaries n = replicate n (record {})
 -- the net of these ends
 abbrev pub net_of : EndList → Parts Rotary
 net_of targets = record { elements = rotaries targets.elements; wires = wires_of 0 (rows_of targets.ends) }
+
+-- The ends are where output lines lead: four for each of fewer than 2 to the power 32 elements, each an input line of
+-- one of these, and no two the same.
+pub record AreTargets (e : EndList) : Type 0 where
+  pub few : e.elements < 2 ^ 32
+  pub whole : length e.ends ≡ 4 * e.elements
+  pub inside : (i : ℕ) (to : Line) → slice_get e.ends i ≡ Some (Some to) → IsLineBelow e.elements to
+  pub apart : (i j : ℕ) (to : Line) → slice_get e.ends i ≡ Some (Some to) → slice_get e.ends j ≡ Some (Some to) → i ≡ j
+
+-- the other way round: as many ends, and one tells a line exactly where the end of that one, of the first n, tells it
+pub record AreReversed (ends : List (Option Line)) (n : ℕ) (back : List (Option Line)) : Type 0 where
+  pub count : length back ≡ length ends
+  pub held : (i : ℕ) (to : Line) → i < n → slice_get ends i ≡ Some (Some to)
+      → slice_get back (4 * to.element + to.line) ≡ Some (Some (line_of i))
+  pub only : (to from : Line) → to.line < 4 → slice_get back (4 * to.element + to.line) ≡ Some (Some from)
+      → (i : ℕ) × (i < n) × (from ≡ line_of i) × (slice_get ends i ≡ Some (Some to))
 
 -- The ends are those of the same wires, kept both ways: four for each of the elements, and an output line leads to an
 -- input line exactly where that one comes from it.

@@ -3,7 +3,7 @@
 ghost use Rattle.std.specs.Prelude.{◌≡◌, ◌+◌, ◌*◌, ◌<◌, ◌≤◌, [], ◌∷◌, ◌++◌, length, map, Some, IfOk, IfSome, OnOk};
 ghost use Rattle.std.specs.Prelude.{slice_get, slice_set, replicate, None};
 
-use crate::cells::{Cell, LINES, line_number};
+use crate::cells::{Cell, LINES, line_number, line_of};
 use bn_net::{Line, NoMemory};
 use std::alloc::Global;
 use std::marker::Model;
@@ -28,7 +28,7 @@ impl<C: Cell> Model for Ends<C> {
 }
 
 impl<C: Cell> Ends<C> {
-    ghost use Rattle.bn_packed.specs.Ends.{EndList, IsLineBelow};
+    ghost use Rattle.bn_packed.specs.Ends.{EndList, IsLineBelow, AreTargets, AreReversed};
 
     /// No ends yet, with room for those of so many elements.
     pub(crate) fn with_room(alloc: Global, elements: u32) -> Result<Ends<C>, NoMemory>
@@ -62,6 +62,22 @@ impl<C: Cell> Ends<C> {
         cells[line_number(line)] = C::pack(Some(end));
     }
 
+    /// The ends of the same wires seen from their other lines.
+    pub(crate) fn reversed(&self, alloc: Global) -> Result<Ends<C>, NoMemory>
+        requires { AreTargets self.now }
+        ensures elements { IfOk result (λ m. m.elements ≡ self.now.elements) }
+        ensures ends { IfOk result (λ m. AreReversed self.now.ends (length self.now.ends) m.ends) }
+    {
+        let mut ends = Ends::loose(alloc, self.elements)?;
+        for number in 0..self.cells.len() {
+            let line = line_of(number);
+            if let Some(end) = self.get(line) {
+                ends.set(end, line);
+            }
+        }
+        Ok(ends)
+    }
+
     /// The number of elements.
     pub(crate) fn elements(&self) -> u32
         ensures { result ≡ self.now.elements }
@@ -90,10 +106,8 @@ impl<C: Cell> Ends<C> {
         ensures elements { self.new.elements ≡ self.old.elements }
         ensures ends { OnOk result (self.new.ends ≡ self.old.ends ++ end ∷ []) }
     {
-        match self.cells.push(C::pack(end)) {
-            Ok(()) => Ok(()),
-            Err(_) => Err(NoMemory),
-        }
+        self.cells.push(C::pack(end))?;
+        Ok(())
     }
 
     /// The same ends once more.

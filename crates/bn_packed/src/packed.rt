@@ -67,32 +67,36 @@ impl Packed {
         })
     }
 
-    /// Packs so many elements with the wires of this list, in this configuration. No net is made beside it.
+    /// Packs so many elements with the wires of this list, in this configuration. No net is made beside it, and neither
+    /// the states nor the list stands beside what is made of it whole.
     pub fn from_wires(
         alloc: Global,
         count: u32,
-        wires: &[Wire],
-        config: &Config,
+        wires: Vec<Wire>,
+        config: Config,
     ) -> Result<Packed, NoMemory>
-        requires apart { AreApart wires.now }
-        requires fitting { AreFitting count wires.now }
-        requires good { (net : Parts Rotary) → IsNetOf net count wires.now → IsConfig (rotary_circuit net) config.now }
-        ensures net { IfOk result (λ p. IsNetOf p.net count wires.now) }
+        requires apart { AreApart wires.items }
+        requires fitting { AreFitting count wires.items }
+        requires good { (net : Parts Rotary) → IsNetOf net count wires.items → IsConfig (rotary_circuit net) config }
+        ensures net { IfOk result (λ p. IsNetOf p.net count wires.items) }
         ensures circuit { IfOk result (λ p. IsCircuit (rotary_circuit p.net)) }
         ensures order { IfOk result (λ p. AreInOrder p.net.wires) }
-        ensures config { IfOk result (λ p. p.config ≡ config.now) }
+        ensures config { IfOk result (λ p. p.config ≡ config) }
     {
+        let Config {
+            states,
+            place,
+            steps,
+        } = config;
+        let bars = Bars::of(alloc, states.as_slice())?;
+        drop(states);
         let wires = Wires::from_wires(alloc, count, wires)?;
         // What all wires keep.
         let _elements = wires.len();
-        let bars = Bars::of(alloc, config.states.as_slice())?;
         Ok(Packed {
             wires,
             bars,
-            signal: Signal {
-                place: config.place,
-                steps: config.steps,
-            },
+            signal: Signal { place, steps },
         })
     }
 

@@ -40,10 +40,10 @@ impl Wires {
     }
 
     /// The wires of this list between the lines of so many elements.
-    pub(crate) fn from_wires(alloc: Global, count: u32, wires: &[Wire]) -> Result<Wires, NoMemory>
-        requires apart { AreApart wires.now }
-        requires fitting { AreFitting count wires.now }
-        ensures net { IfOk result (λ w. IsNetOf (net_in w) count wires.now) }
+    pub(crate) fn from_wires(alloc: Global, count: u32, wires: Vec<Wire>) -> Result<Wires, NoMemory>
+        requires apart { AreApart wires.items }
+        requires fitting { AreFitting count wires.items }
+        ensures net { IfOk result (λ w. IsNetOf (net_in w) count wires.items) }
         ensures order { IfOk result (λ w. AreInOrder (net_in w).wires) }
     {
         if count <= NARROW {

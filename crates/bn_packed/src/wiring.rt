@@ -6,7 +6,7 @@ ghost use Rattle.bn_net.specs.RotaryNets.{rotary_circuit};
 ghost use Rattle.bn_net.specs.Order.{AreInOrder};
 ghost use Rattle.bn_net.specs.RotaryNets.{IsNetOf};
 ghost use Rattle.bn_net.specs.Wirings.{AreApart, AreFitting};
-ghost use Rattle.bn_packed.specs.Ends.{AreEnds, AreEndsOf};
+ghost use Rattle.bn_packed.specs.Ends.{AreEnds, AreEndsOf, AreTargets, net_of};
 
 use crate::cells::{Cell, LINES, line_of};
 use crate::ends::Ends;
@@ -43,30 +43,33 @@ impl<C: Cell> Wiring<C> {
     {
         // What every net keeps: its wires are one to one, and in order.
         let _elements = net.len();
-        let targets = targets_of(alloc, net)?;
-        let sources = sources_of(alloc, net)?;
-        Ok(Wiring { targets, sources })
+        Wiring::from_targets(alloc, targets_of(alloc, net)?)
     }
 
-    /// The wires of this list between the lines of so many elements. No net is made beside it.
+    /// The wires of this list between the lines of so many elements. No net is made beside it, and the list goes before
+    /// room is taken for the way back.
     pub(crate) fn from_wires(
         alloc: Global,
         count: u32,
-        wires: &[Wire],
+        wires: Vec<Wire>,
     ) -> Result<Wiring<C>, NoMemory>
         requires few { count ≤ C.limit }
-        requires apart { AreApart wires.now }
-        requires fitting { AreFitting count wires.now }
-        ensures net { IfOk result (λ w. IsNetOf w count wires.now) }
+        requires apart { AreApart wires.items }
+        requires fitting { AreFitting count wires.items }
+        ensures net { IfOk result (λ w. IsNetOf w count wires.items) }
         ensures order { IfOk result (λ w. AreInOrder w.wires) }
     {
-        let mut targets = Ends::loose(alloc, count)?;
-        let mut sources = Ends::loose(alloc, count)?;
-        for index in 0..wires.len() {
-            let wire = wires[index];
-            targets.set(wire.from, wire.to);
-            sources.set(wire.to, wire.from);
-        }
+        let targets = targets_in(alloc, count, wires.as_slice())?;
+        drop(wires);
+        Wiring::from_targets(alloc, targets)
+    }
+
+    // The wires whose output lines lead so.
+    fn from_targets(alloc: Global, targets: Ends<C>) -> Result<Wiring<C>, NoMemory>
+        requires { AreTargets targets }
+        ensures { IfOk result (λ w. w ≡ net_of targets) }
+    {
+        let sources = targets.reversed(alloc)?;
         Ok(Wiring { targets, sources })
     }
 
@@ -122,14 +125,16 @@ fn targets_of<C: Cell>(alloc: Global, net: &Net<Rotary>) -> Result<Ends<C>, NoMe
     Ok(ends)
 }
 
-// Where each input line of the net comes from.
-fn sources_of<C: Cell>(alloc: Global, net: &Net<Rotary>) -> Result<Ends<C>, NoMemory>
-    requires { length net.now.elements ≤ C.limit }
-    ensures { IfOk result (AreEndsOf (source net.now.wires) (length net.now.elements)) }
+// Where each output line leads by the wires of this list.
+fn targets_in<C: Cell>(alloc: Global, count: u32, wires: &[Wire]) -> Result<Ends<C>, NoMemory>
+    requires few { count ≤ C.limit }
+    requires apart { AreApart wires.now }
+    requires fitting { AreFitting count wires.now }
+    ensures { IfOk result (AreEndsOf (target wires.now) count) }
 {
-    let mut ends = Ends::with_room(alloc, net.len())?;
-    for number in 0..line_count(net) {
-        ends.push(net.source(line_of(number)))?;
+    let mut ends = Ends::loose(alloc, count)?;
+    for wire in wires {
+        ends.set(wire.from, wire.to);
     }
     Ok(ends)
 }
