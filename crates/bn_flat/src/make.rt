@@ -57,7 +57,7 @@ fn packed_of(alloc: Global, assembly: &Assembly, count: u32) -> Result<Packed, N
         },
         steps: 0,
     };
-    let packed = Packed::from_wires(alloc, count, wires.as_slice(), &config)?;
+    let packed = Packed::from_wires(alloc, count, wires, config)?;
     Ok(packed)
 }
 

@@ -30,13 +30,13 @@ start_bars-requires-clause-within c = rw (c.as_slice.ensures, c.config.ensures.c
     c.net.ensures.kept)
 
 pub from_wires-requires-clause-apart : goal.from_wires-requires-clause-apart
-from_wires-requires-clause-apart c = rw c.as_slice-2.ensures.value c.in_ok-wires.ensures.apart
+from_wires-requires-clause-apart c = c.in_ok-wires.ensures.apart
 
 pub from_wires-requires-clause-fitting : goal.from_wires-requires-clause-fitting
 from_wires-requires-clause-fitting c =
     let wires : AreWiresOf (IsBoardWire (module_circuit c.args.assembly.now.net)) c.in_ok-wires.wires.items =
     subst (λ n. AreWiresOf (IsBoardWire (module_circuit n)) c.in_ok-wires.wires.items) c.net.ensures.net c.in_ok-wires.ensures in
-    rw (c.requires, c.as_slice-2.ensures.value) (board-fitting (module_circuit c.args.assembly.now.net) (kept-modules c.args.assembly.now c.net.ensures.kept) c.in_ok-wires.wires.items wires)
+    rw c.requires (board-fitting (module_circuit c.args.assembly.now.net) (kept-modules c.args.assembly.now c.net.ensures.kept) c.in_ok-wires.wires.items wires)
 
 pub from_wires-requires-clause-good : goal.from_wires-requires-clause-good
 from_wires-requires-clause-good c = λ net is.
@@ -47,9 +47,9 @@ from_wires-requires-clause-good c = λ net is.
 
 pub returns-clause-board : goal.returns-clause-board
 returns-clause-board c =
-    let wires : AreWiresOf (IsBoardWire (module_circuit c.args.assembly.now.net)) c.as_slice-2.result.now =
-    rw c.as_slice-2.ensures.value (subst (λ n. AreWiresOf (IsBoardWire (module_circuit n)) c.in_ok-wires.wires.items) c.net.ensures.net c.in_ok-wires.ensures) in
-    let net : IsNetOf c.in_ok-packed.packed.net (size (network_of c.args.assembly.now).tables) c.as_slice-2.result.now =
-    subst (λ n. IsNetOf c.in_ok-packed.packed.net n c.as_slice-2.result.now) c.requires c.in_ok-packed.ensures.net in
-    net-IsBoard (module_circuit c.args.assembly.now.net) (kept-modules c.args.assembly.now c.net.ensures.kept) c.in_ok-packed.packed.net c.as_slice-2.result.now wires net
+    let wires : AreWiresOf (IsBoardWire (module_circuit c.args.assembly.now.net)) c.in_ok-wires.wires.items =
+    subst (λ n. AreWiresOf (IsBoardWire (module_circuit n)) c.in_ok-wires.wires.items) c.net.ensures.net c.in_ok-wires.ensures in
+    let net : IsNetOf c.in_ok-packed.packed.net (size (network_of c.args.assembly.now).tables) c.in_ok-wires.wires.items =
+    subst (λ n. IsNetOf c.in_ok-packed.packed.net n c.in_ok-wires.wires.items) c.requires c.in_ok-packed.ensures.net in
+    net-IsBoard (module_circuit c.args.assembly.now.net) (kept-modules c.args.assembly.now c.net.ensures.kept) c.in_ok-packed.packed.net c.in_ok-wires.wires.items wires net
     c.in_ok-packed.ensures.circuit
