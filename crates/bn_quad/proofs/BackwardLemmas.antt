@@ -1,51 +1,18 @@
 -- Kept quadruples in the opposite order and turned round.
-use Rattle.std.specs.Prelude.{◌≡◌, ℕ, ◌<◌, ◌-◌, List, [], ◌∷◌, ◌++◌, Some, None, length, map, reverse, All}
+use Rattle.std.specs.Prelude.{◌≡◌, ℕ, ◌<◌, ◌-◌, List, [], ◌∷◌, ◌++◌, length, map, reverse, All}
 use Rattle.std.proofs.Common.{refl, sym, ap, ◌∙◌, subst, arith, get_or}
 use Rattle.std.proofs.lemmas.List.{length-map, length-reverse, get_or-reverse, map-append, reverse-append}
 use Rattle.std.proofs.lemmas.List.Elements.{All-map}
-use Rattle.bn_quad.specs.Quadruples.{Deed, Rewrite, Move, Rule, quadruples_of, inverse_of, turned_deed, turned, turned_list}
-use Rattle.bn_quad.specs.Kept.{deed_of, read_of, act_of, rule_of, rules_of, read_at, act_at, Agree, IsReadInRange, IsActInRange, IsSound, IsKept, turned_quad}
-use Rattle.bn_quad.proofs.KeptLemmas.{rule_of-quad_of}
+use Rattle.bn_quad.specs.Quadruples.{Rule, quadruples_of, inverse_of, turned, turned_list}
+use Rattle.bn_quad.specs.Kept.{rule_of, rules_of, IsSound, IsKept, turned_quad}
+use Rattle.bn_quad.proofs.KeptLemmas.{rule_in_range, rule_of-quad_of}
+use Rattle.bn_quad.proofs.SoundLemmas.{sound_rule, turned_in_range}
 use Rattle.bn_quad.specs.Calls.{StepsBack}
 use Rattle.bn_quad.proofs.ReversibleLemmas.{turned_list_steps_back}
 use Rattle.bn_quad.specs.declared.quad.Quad.{Quad}
-use Rattle.bn_quad.specs.declared.quad.Act.{Act}
-use Rattle.bn_quad.specs.declared.quad.Act.TheVariants.{Write, Shift}
-use Rattle.std.proofs.Common.{Option}
 
-agree_turned : (d : Deed) → Agree (read_of d) (act_of d)
-agree_turned (Rewrite r w) = tt
-agree_turned (Move s) = tt
-
-read_turned : (z : ℕ) (r : Option ℕ) (a : Act) → IsActInRange z a → IsReadInRange z (read_of (turned_deed (deed_of r a)))
-read_turned z None (Write w) h = tt
-read_turned z None (Shift s) h = tt
-read_turned z (Some r) (Write w) h = h
-read_turned z (Some r) (Shift s) h = tt
-
-act_turned : (z : ℕ) (r : Option ℕ) (a : Act) → IsReadInRange z r → IsActInRange z (act_of (turned_deed (deed_of r a)))
-act_turned z None (Write w) h = tt
-act_turned z None (Shift s) h = tt
-act_turned z (Some r) (Write w) h = h
-act_turned z (Some r) (Shift s) h = tt
-
-sound_turned : (states : ℕ) (symbols : List ℕ) (q : Quad) → IsSound states symbols q → IsSound states symbols (turned_quad q)
-sound_turned states symbols q h = record {
-  reads = refl;
-  acts = refl;
-  in_range = record {
-    state = h.in_range.next;
-    one = record { read = read_turned _ (read_at q 0) (act_at q 0) h.in_range.one.act; act = act_turned _ (read_at q 0) (act_at q 0) h.in_range.one.read };
-    two = record { read = read_turned _ (read_at q 1) (act_at q 1) h.in_range.two.act; act = act_turned _ (read_at q 1) (act_at q 1) h.in_range.two.read };
-    three = record { read = read_turned _ (read_at q 2) (act_at q 2) h.in_range.three.act; act = act_turned _ (read_at q 2) (act_at q 2) h.in_range.three.read };
-    next = h.in_range.state;
-  };
-  unmixed = record {
-    one = agree_turned (turned_deed (deed_of (read_at q 0) (act_at q 0)));
-    two = agree_turned (turned_deed (deed_of (read_at q 1) (act_at q 1)));
-    three = agree_turned (turned_deed (deed_of (read_at q 2) (act_at q 2)));
-  };
-}
+sound_turned : (states : ℕ) (symbols : List ℕ) (q : Quad) → length symbols ≡ 3 → IsSound states symbols q → IsSound states symbols (turned_quad q)
+sound_turned states symbols q tapes h = sound_rule states symbols (turned (rule_of q)) (turned_in_range states symbols (rule_of q) (rule_in_range states symbols q tapes h))
 
 all_reversed : {X : Type 0} (P : X → Type 0) (xs : List X) → All P xs → All P (reverse xs)
 all_reversed P xs h = λ k d inside.
@@ -60,7 +27,7 @@ turned_kept qs states symbols h =
       some = omega (arith, h.some);
       few = omega (arith, h.few);
       tapes = h.tapes;
-      sound = All-map (IsSound states symbols) turned_quad (reverse qs) (λ k d inside. sound_turned states symbols (get_or (reverse qs) k d) (all_reversed (IsSound states symbols) qs h.sound k d inside));
+      sound = All-map (IsSound states symbols) turned_quad (reverse qs) (λ k d inside. sound_turned states symbols (get_or (reverse qs) k d) h.tapes (all_reversed (IsSound states symbols) qs h.sound k d inside));
     }
 
 -- what is kept can be kept turned round

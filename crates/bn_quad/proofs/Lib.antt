@@ -1,9 +1,11 @@
 pub mod AnswerLemmas
 pub mod BackwardLemmas
+pub mod ClashLemmas
 pub mod IndexLemmas
 pub mod KeptLemmas
 pub mod NamesLemmas
 pub mod OverlapKeptLemmas
 pub mod ReversibleLemmas
 pub mod SearchLemmas
+pub mod SoundLemmas
 pub mod QuadStepLemmas

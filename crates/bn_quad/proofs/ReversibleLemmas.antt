@@ -11,7 +11,8 @@ use Rattle.bn_lists.specs.Lists.{nth}
 use Rattle.bn_lists.proofs.ListLemmas.{nth_within, nth_once}
 use Rattle.bn_quad.specs.Quadruples.{Deed, Rewrite, Move, Rule, Configuration, DeedApplies, done, AppliesTo, after, Leads, LeadsBy, HasOneSuccessor, HasOnePredecessor, turned_deed, turned, turned_list}
 use Rattle.bn_quad.specs.Overlap.{MeetsInDomain, MeetsInRange, OverlapsInDomain, OverlapsInRange, IsClash, IsDeterministic, IsReversible}
-use Rattle.bn_quad.specs.declared.clash.Clash.TheVariants.{Range}
+use Rattle.bn_quad.proofs.ClashLemmas.{clash_once}
+use Rattle.bn_quad.specs.declared.clash.Clash.TheVariants.{Domain, Range}
 
 -- a deed turned round leads back
 admits_back : (d : Deed) (t : Tape) → DeedApplies d t → DeedApplies (turned_deed d) (done d t)
@@ -121,21 +122,11 @@ module _ {Q : Type 0} where
 
   -- of quadruples that are apart in domain one at most applies
   pub one_applies : (rs : List (Rule Q)) (m n : ℕ) (r s : Rule Q) (c : Configuration Q) → IsDeterministic rs → nth rs m ≡ Some r → nth rs n ≡ Some s → AppliesTo r c → AppliesTo s c → m ≡ n
-  one_applies rs m n r s c apart here there h k = by_order (cases_lt m n) (cases_lt n m)
-    where
-      by_order : (m < n) ⊎ (n ≤ m) → (n < m) ⊎ (m ≤ n) → m ≡ n
-      by_order (inl low) p = absurd (apart.none m n (record { before = low; first = r; second = s; first_stands = here; second_stands = there; clashes = both_apply r s c h k }))
-      by_order (inr p) (inl low) = absurd (apart.none n m (record { before = low; first = s; second = r; first_stands = there; second_stands = here; clashes = both_apply s r c k h }))
-      by_order (inr p) (inr q) = omega arith
+  one_applies rs m n r s c apart here there h k = clash_once Domain rs m n r s apart here there (both_apply r s c h k)
 
   -- of quadruples that are apart in range one at most leads to a configuration
   pub one_leads : (rs : List (Rule Q)) (m n : ℕ) (r s : Rule Q) (c d e : Configuration Q) → IsReversible rs → nth rs m ≡ Some r → nth rs n ≡ Some s → Leads r c e → Leads s d e → m ≡ n
-  one_leads rs m n r s c d e apart here there h k = by_order (cases_lt m n) (cases_lt n m)
-    where
-      by_order : (m < n) ⊎ (n ≤ m) → (n < m) ⊎ (m ≤ n) → m ≡ n
-      by_order (inl low) p = absurd (apart.none m n (record { before = low; first = r; second = s; first_stands = here; second_stands = there; clashes = both_lead r s c d e h k }))
-      by_order (inr p) (inl low) = absurd (apart.none n m (record { before = low; first = s; second = r; first_stands = there; second_stands = here; clashes = both_lead s r d c e k h }))
-      by_order (inr p) (inr q) = omega arith
+  one_leads rs m n r s c d e apart here there h k = clash_once Range rs m n r s apart here there (both_lead r s c d e h k)
 
   pub one_successor : (rs : List (Rule Q)) → IsDeterministic rs → HasOneSuccessor rs
   one_successor rs apart = λ c d e f g.

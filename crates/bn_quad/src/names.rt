@@ -66,13 +66,9 @@ impl NameList {
         ensures ok { OnOk result (self.new ≡ self.old ++ name.now ∷ []) }
         ensures err { OnErr result (self.new ≡ self.old) }
     {
-        let Ok(owned) = Vec::from_slice(self.alloc, name) else {
-            return Err(NoMemory);
-        };
-        match self.names.push(owned) {
-            Ok(()) => Ok(()),
-            Err(_) => Err(NoMemory),
-        }
+        let owned = Vec::from_slice(self.alloc, name)?;
+        self.names.push(owned)?;
+        Ok(())
     }
 }
 
