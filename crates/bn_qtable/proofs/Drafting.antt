@@ -5,9 +5,10 @@ use Rattle.std.proofs.lemmas.List.Elements.{All-head, All-tail}
 use Rattle.std.proofs.lemmas.Option.{slice_get-get_or}
 use Rattle.bn_lists.specs.Lists.{nth}
 use Rattle.bn_quad.specs.Names.{Naming}
-use Rattle.bn_quad.specs.Quadruples.{Deed, Rewrite, Move, Rule, Quadruples, IsDeedInRange, IsRuleInRange}
-use Rattle.bn_quad.specs.Kept.{Agree, IsUnmixed, IsActInRange, IsFirstFault, IsReadInRange, IsSound, act_at, act_of, quad_of, read_at, read_of, rule_of, rules_of}
+use Rattle.bn_quad.specs.Quadruples.{Rule, Quadruples}
+use Rattle.bn_quad.specs.Kept.{Agree, IsUnmixed, IsFirstFault, IsSound, act_at, quad_of, read_at, rule_of, rules_of}
 use Rattle.bn_quad.proofs.KeptLemmas.{act_of-deed_of, read_of-deed_of, rule_of-quad_of, rules_of-quads}
+use Rattle.bn_quad.proofs.SoundLemmas.{no_first_fault, sound_if, unmixed_rule}
 use Rattle.bn_quad.specs.declared.quad.Quad.{Quad}
 use Rattle.bn_quad.specs.declared.quad.Act.{Act}
 use Rattle.bn_qtable.specs.Draft.{Adds, IsDraft, blanks_alone, drafted, names_of}
@@ -63,32 +64,6 @@ one-drafted d s q d2 h a last e =
 
 -- ---- the quadruples of a draft are sound
 
-read-within : (z : ℕ) (d : Deed) → IsDeedInRange z d → IsReadInRange z (read_of d)
-read-within z (Rewrite r w) h = h.0
-read-within z (Move s) h = tt
-
-act-within : (z : ℕ) (d : Deed) → IsDeedInRange z d → IsActInRange z (act_of d)
-act-within z (Rewrite r w) h = h.1
-act-within z (Move s) h = tt
-
-deed-agrees : (d : Deed) → Agree (read_of d) (act_of d)
-deed-agrees (Rewrite r w) = tt
-deed-agrees (Move s) = tt
-
-pub sound-rule : (states a b c : ℕ) (r : Rule ℕ) → IsRuleInRange states (a ∷ b ∷ c ∷ []) r → IsSound states (a ∷ b ∷ c ∷ []) (quad_of r)
-sound-rule states a b c r h = record {
-  reads = refl;
-  acts = refl;
-  in_range = record {
-    state = h.from;
-    one = record { read = read-within a r.one h.deeds.0; act = act-within a r.one h.deeds.0 };
-    two = record { read = read-within b r.two h.deeds.1.0; act = act-within b r.two h.deeds.1.0 };
-    three = record { read = read-within c r.three h.deeds.1.1.0; act = act-within c r.three h.deeds.1.1.0 };
-    next = h.to;
-  };
-  unmixed = record { one = deed-agrees r.one; two = deed-agrees r.two; three = deed-agrees r.three };
-}
-
 nth-map : (rs : List (Rule ℕ)) (i : ℕ) (q : Quad) → nth (map quad_of rs) i ≡ Some q → (r : Rule ℕ) × (nth rs i ≡ Some r) × (quad_of r ≡ q)
 nth-map rs zero q e = cc e
 nth-map [] (suc i) q e = cc e
@@ -104,16 +79,11 @@ nth-all P (x ∷ xs) (suc (suc i)) r h e = nth-all P xs (suc i) r (All-tail P x 
 pub no-first-fault : (d : Draft) (states : ℕ) (symbols : List ℕ) (i : ℕ) (q : Quad) → IsDraft d → states ≡ length (names_of d).states → symbols ≡ counts_of (names_of d)
     → IsFirstFault states symbols d.quads.items i q → ⊥
 no-first-fault d states symbols i q h e f fault =
-    let at : nth (map quad_of (rules_of d.quads.items)) i ≡ Some q = ap (λ (qs : List Quad). nth qs i) h.kept ∙ fault.stands in
-    let (r, there, is) = nth-map (rules_of d.quads.items) i q at in
-    let In : Rule ℕ → Type 0 = IsRuleInRange (length (names_of d).states) (counts_of (names_of d)) in
-    let within : In r = nth-all In (rules_of d.quads.items) i r h.spelled.in_range there in
     let n = names_of d in
-    let sound : IsSound (length n.states) (counts_of n) (quad_of r) = sound-rule (length n.states) (length n.one) (length n.two) (length n.three) r within in
-    let P : ℕ → Type 0 = λ n. IsSound n (counts_of (names_of d)) (quad_of r) in
-    let Q : List ℕ → Type 0 = λ zs. IsSound states zs (quad_of r) in
-    let R : Quad → Type 0 = IsSound states symbols in
-    fault.faulty (subst R is (subst Q (sym f) (subst P (sym e) sound)))
+    let sound : All (IsSound (length n.states) (counts_of n)) d.quads.items = sound_if (length n.states) (counts_of n) d.quads.items h.kept h.spelled.in_range in
+    let P : ℕ → Type 0 = λ m. All (IsSound m (counts_of n)) d.quads.items in
+    let Q : List ℕ → Type 0 = λ zs. All (IsSound states zs) d.quads.items in
+    no_first_fault states symbols d.quads.items i q (subst Q (sym f) (subst P (sym e) sound)) fault
 
 pub table-of-draft : (d : Draft) (p : Quadruples) (n : Naming) → IsDraft d → length (drafted d) ≤ MOST_ENTRIES → map quad_of p.rules ≡ d.quads.items → p.states ≡ length (names_of d).states → p.symbols ≡ counts_of (names_of d)
     → 0 < length p.rules → n ≡ names_of d → IsQuadTableOf (drafted d) (table_of p n)
@@ -151,8 +121,7 @@ quad-at rules quads k x e inside =
 pub unmixed-at : (rules : List (Rule ℕ)) (quads : List Quad) (k : ℕ) (x : Quad) → quads ≡ map quad_of rules → k < length quads → IsUnmixed (get_or quads k x)
 unmixed-at rules quads k x e inside =
     let (r, at, is) = quad-at rules quads k x e inside in
-    let u : IsUnmixed (quad_of r) = record { one = deed-agrees r.one; two = deed-agrees r.two; three = deed-agrees r.three } in
-    subst IsUnmixed is u
+    subst IsUnmixed is (unmixed_rule r)
 
 pub named-at : (n : Naming) (rules : List (Rule ℕ)) (quads : List Quad) (k : ℕ) (x : Quad) → quads ≡ map quad_of rules → k < length quads → All (RuleIsNamed n) rules → RuleIsNamed n (rule_of (get_or quads k x))
 named-at n rules quads k x e inside h =
