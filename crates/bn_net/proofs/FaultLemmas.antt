@@ -1,7 +1,7 @@
 -- Faults of wires, one after another.
-use Rattle.std.specs.Prelude.{◌≡◌, ℕ, ◌+◌, ◌-◌, ◌<◌, List, [], ◌∷◌, ◌++◌, length, take, Option, Some, None, Ok, Err, slice_get, if◌then◌else◌, refl, ◌⊎◌}
+use Rattle.std.specs.Prelude.{◌≡◌, ℕ, ◌+◌, ◌-◌, ◌<◌, ◌≤◌, List, [], ◌∷◌, ◌++◌, length, take, Option, Some, None, Ok, Err, slice_get, if◌then◌else◌, refl, ◌⊎◌}
 use Rattle.std.proofs.Common.{arith, sym, ap, subst, ◌∙◌, get_or, inl, inr}
-use Rattle.std.proofs.lemmas.List.{take_more}
+use Rattle.std.proofs.lemmas.List.{take_more, take_all}
 use Rattle.std.proofs.lemmas.Option.{slice_get-get_or}
 use Rattle.std.proofs.lemmas.Bool.Decides.{nat_tests}
 use Rattle.bn_element.specs.Tables.{Table}
@@ -61,6 +61,13 @@ more_built tables wires built after n w is within has none targets sources =
         let at_n : slice_get wires n ≡ Some v = subst (λ x. slice_get wires x ≡ Some v) e has_v in
         let same : w ≡ v = cc in
         subst (λ x. fault_of tables (take x wires) v ≡ None) (sym e) (subst (λ x. fault_of tables (take n wires) x ≡ None) same here)
+
+-- once every wire is built, the net has the list's wires
+pub built_targets : {tables : List Table} {wires built : List Wire} {n : ℕ} → IsBuilt tables wires built n → length wires ≤ n → (from : Line) → target built from ≡ target wires from
+built_targets {wires = wires} {n = n} is past from = is.targets from ∙ ap (λ ws. target ws from) (take_all n wires past)
+
+pub built_sources : {tables : List Table} {wires built : List Wire} {n : ℕ} → IsBuilt tables wires built n → length wires ≤ n → (to : Line) → source built to ≡ source wires to
+built_sources {wires = wires} {n = n} is past to = is.sources to ∙ ap (λ ws. source ws to) (take_all n wires past)
 
 -- a fault that the test finds is the first of the list
 pub refused_at : (tables : List Table) (wires built : List Wire) (n : ℕ) (w : Wire) → IsBuilt tables wires built n → slice_get wires n ≡ Some w → (refusal : NetRefusal) → checked (fault_of tables built w) (n + 1) ≡ Err refusal → IsRefusal tables wires refusal

@@ -1,16 +1,12 @@
 -- Lists of wires that are one to one, and what relation of lines they make.
-use Rattle.std.specs.Prelude.{◌≡◌, ◌≢◌, ℕ, ◌<◌, ◌-◌, true, nat_lt, List, [], ◌∷◌, ◌++◌, replicate, take, Option, Some, None, slice_get, refl, ◌⊎◌}
+use Rattle.std.specs.Prelude.{◌≡◌, ◌≢◌, ℕ, ◌<◌, true, nat_lt, List, [], ◌∷◌, ◌++◌, replicate, take, Option, Some, None, slice_get, refl, ◌⊎◌}
 use Rattle.std.proofs.Common.{zero, suc, arith, sym, subst, ◌∙◌, inl, inr}
 use Rattle.std.proofs.lemmas.Bool.Decides.{nat_tests}
-use Rattle.bn_element.specs.Tables.{Table}
 use Rattle.bn_circuits.specs.Circuits.{target, source, IsOneToOne, inputs_of, outputs_of}
 use Rattle.bn_circuits.specs.declared.line.Line.{Line}
 use Rattle.bn_circuits.specs.declared.line.Wire.{Wire}
 use Rattle.bn_element.specs.Rotary.{rotary}
-use Rattle.std.proofs.lemmas.Option.{slice_get_within}
-use Rattle.bn_net.specs.Faults.{WireFault, AreFaultless, IsFirstFault, out_of_range, second_target, second_source, IsRefusal}
-use Rattle.bn_net.specs.declared.refusal.NetRefusal.{NetRefusal}
-use Rattle.bn_net.specs.declared.refusal.NetRefusal.TheVariants.{Range, TwoTargets, TwoSources, NoMemory}
+use Rattle.bn_net.specs.Faults.{AreFaultless}
 use Rattle.bn_net.proofs.WireListLemmas.{line_tells}
 use Rattle.bn_net.specs.Wirings.{AreApart, AreWiresOf, AreFitting}
 

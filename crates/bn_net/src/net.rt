@@ -388,7 +388,7 @@ fn output_counts<E: Element>(alloc: Global, elements: &[E]) -> Result<Vec<u32>, 
         .iter()
         .map(|element| element.lines_out())
         .collect(alloc);
-    counts.map_err(|_| NoMemory)
+    Ok(counts?)
 }
 
 // The number of input lines of each element.
@@ -400,5 +400,5 @@ fn input_counts<E: Element>(alloc: Global, elements: &[E]) -> Result<Vec<u32>, N
         .iter()
         .map(|element| element.lines_in())
         .collect(alloc);
-    counts.map_err(|_| NoMemory)
+    Ok(counts?)
 }

@@ -1,7 +1,8 @@
 //! A flat map from lines to lines: a row of cells an element, all rows in one array.
 
 ghost use Rattle.std.specs.Prelude.{◌≡◌, ℕ, ◌+◌, ◌^◌, ◌<◌, ◌≤◌, List, [], length, map, replicate, None, IfOk};
-ghost use Rattle.std.specs.Prelude.{slice_get};
+ghost use Rattle.std.specs.Prelude.{Some, slice_get, slice_set, option_and_then};
+ghost use Rattle.bn_circuits.specs.declared.line.Line.{Line};
 ghost use Rattle.bn_net.specs.declared.end.TheConstants.{NO_ELEMENT};
 ghost use Rattle.bn_net.specs.Rows.{entry, width, put, rows_at, AreStarts, starts_from};
 
@@ -55,9 +56,7 @@ impl RowMap {
     {
         let starts = starts_of(alloc, widths)?;
         let total = starts[widths.len()];
-        let Ok(cells) = vec![in alloc; End::none(); total] else {
-            return Err(NoMemory);
-        };
+        let cells = vec![in alloc; End::none(); total]?;
         Ok(RowMap { starts, cells })
     }
 }
@@ -68,8 +67,7 @@ fn cell_at(starts: &[usize], cells: &[End], line: Line) -> Option<Line>
     requires within { line.line < width (rows_at starts.now cells.now) line.element }
     ensures { result ≡ entry (rows_at starts.now cells.now) line }
 {
-    let start = starts[line.element as usize];
-    cells[start + line.line as usize].line()
+    cells[place_of(starts, cells, line)].line()
 }
 
 // Writes a line into the cell of this line.
@@ -79,8 +77,20 @@ fn write_at(starts: &[usize], cells: &mut [End], line: Line, to: Line)
     requires low { to.element < NO_ELEMENT }
     ensures { rows_at starts.now cells.new ≡ put (rows_at starts.now cells.old) line to }
 {
-    let start = starts[line.element as usize];
-    cells[start + line.line as usize] = End::of(to);
+    let place = place_of(starts, cells, line);
+    cells[place] = End::of(to);
+}
+
+// The index of the cell of this line.
+fn place_of(starts: &[usize], cells: &[End], line: Line) -> usize
+    requires are { AreStarts starts.now (length cells.now) }
+    requires within { line.line < width (rows_at starts.now cells.now) line.element }
+    ensures cell { result < length cells.now }
+    ensures read { entry (rows_at starts.now cells.now) line ≡ option_and_then (λ o. o) (slice_get cells.now result) }
+    ensures written { (to : Line)
+        → rows_at starts.now (slice_set cells.now result (Some to)) ≡ put (rows_at starts.now cells.now) line to }
+{
+    starts[line.element as usize] + line.line as usize
 }
 
 // Where each row of these widths begins, and at last where all end.
@@ -88,14 +98,12 @@ fn starts_of(alloc: Global, widths: &[u32]) -> Result<Vec<usize>, NoMemory>
     requires { length widths.now < 2 ^ 32 }
     ensures { IfOk result (λ v. v.items ≡ starts_from 0 widths.now) }
 {
-    let Ok(mut starts) = Vec::with_capacity(alloc, widths.len() + 1) else {
-        return Err(NoMemory);
-    };
+    let mut starts = Vec::with_capacity(alloc, widths.len() + 1)?;
     let mut total: usize = 0;
-    starts.push(total).map_err(|_| NoMemory)?;
+    starts.push(total)?;
     for width in widths {
         total += *width as usize;
-        starts.push(total).map_err(|_| NoMemory)?;
+        starts.push(total)?;
     }
     Ok(starts)
 }

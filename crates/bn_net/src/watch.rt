@@ -66,9 +66,7 @@ impl MemWatch {
         ensures { IfOk result (λ w.
             w ≡ (let fresh : Heard = record { places = []; room = room; lost = false } in fresh)) }
     {
-        let Ok(places) = Vec::with_capacity(alloc, room) else {
-            return Err(NoMemory);
-        };
+        let places = Vec::with_capacity(alloc, room)?;
         Ok(MemWatch {
             places,
             room,

@@ -1,10 +1,8 @@
-use Rattle.std.proofs.Common.{◌≡◌, map, take, get_or, None, sym, ap, subst, ◌∙◌}
-use Rattle.std.proofs.lemmas.List.{take_all}
+use Rattle.std.proofs.Common.{◌≡◌, map, get_or, None, sym, subst, ◌∙◌}
 use Rattle.std.proofs.lemmas.Option.{slice_get-get_or}
-use Rattle.bn_circuits.specs.Circuits.{target, source}
 use Rattle.bn_net.specs.Faults.{fault_of}
 use Rattle.bn_net.proofs.WireLemmas.{view-IsCircuit}
-use Rattle.bn_net.proofs.FaultLemmas.{nothing_built, more_built, next_faultless}
+use Rattle.bn_net.proofs.FaultLemmas.{nothing_built, more_built, next_faultless, built_targets, built_sources}
 use Rattle.bn_net.proofs.net.Net.new.Goals as goal
 
 pub loop-index-init : goal.loop-index-init
@@ -27,14 +25,10 @@ loop-index-preserved g c =
     )
 
 pub returns-clause-targets : goal.returns-clause-targets
-returns-clause-targets g c = λ from.
-    let all : take c.loop-index.index c.args.wires.now ≡ c.args.wires.now = take_all c.loop-index.index c.args.wires.now c.loop-index-test.false in
-    c.loop-index.invariant.1.targets from ∙ ap (λ ws. target ws from) all
+returns-clause-targets g c = built_targets c.loop-index.invariant.1 c.loop-index-test.false
 
 pub returns-clause-sources : goal.returns-clause-sources
-returns-clause-sources g c = λ to.
-    let all : take c.loop-index.index c.args.wires.now ≡ c.args.wires.now = take_all c.loop-index.index c.args.wires.now c.loop-index-test.false in
-    c.loop-index.invariant.1.sources to ∙ ap (λ ws. source ws to) all
+returns-clause-sources g c = built_sources c.loop-index.invariant.1 c.loop-index-test.false
 
 pub returns-clause-circuit : goal.returns-clause-circuit
 returns-clause-circuit g c = view-IsCircuit g.E.Element.table g.met.E.Element.reversible c.net.inside.elements.items c.net.inside.targets c.net.inside.sources c.loop-index.net c.net.invariant c.net.view_is

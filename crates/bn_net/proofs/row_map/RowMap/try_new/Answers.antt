@@ -7,10 +7,10 @@ index-total-requires c = let within = empty_rows_end c.args.widths.now c.in_ok-s
 
 pub invariant_of-result : goal.invariant_of-result
 invariant_of-result c =
-    let cells : c.in-Ok.cells.items ≡ replicate c.index-total.result.now None = search rules in
-    (empty_rows c.args.widths.now c.in_ok-starts.starts.items c.in-Ok.cells.items c.index-total.result.now c.in_ok-starts.ensures c.index-total.ensures cells).starts_are
+    let cells : c.in_ok-cells.cells.items ≡ replicate c.index-total.result.now None = search rules in
+    (empty_rows c.args.widths.now c.in_ok-starts.starts.items c.in_ok-cells.cells.items c.index-total.result.now c.in_ok-starts.ensures c.index-total.ensures cells).starts_are
 
 pub returns : goal.returns
 returns c =
-    let cells : c.in-Ok.cells.items ≡ replicate c.index-total.result.now None = search rules in
-    (empty_rows c.args.widths.now c.in_ok-starts.starts.items c.in-Ok.cells.items c.index-total.result.now c.in_ok-starts.ensures c.index-total.ensures cells).rows_are
+    let cells : c.in_ok-cells.cells.items ≡ replicate c.index-total.result.now None = search rules in
+    (empty_rows c.args.widths.now c.in_ok-starts.starts.items c.in_ok-cells.cells.items c.index-total.result.now c.in_ok-starts.ensures c.index-total.ensures cells).rows_are
