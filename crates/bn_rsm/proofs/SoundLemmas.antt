@@ -123,7 +123,7 @@ none_indexed s k from to moves no_from no_to =
       sound = record { one_to_one = tt; within = tt };
     }
 
-take_one_more : (moves : List RsmMove) (n : ℕ) (m : RsmMove) → slice_get moves n ≡ Some m → take (n + 1) moves ≡ take n moves ++ m ∷ []
+pub take_one_more : (moves : List RsmMove) (n : ℕ) (m : RsmMove) → slice_get moves n ≡ Some m → take (n + 1) moves ≡ take n moves ++ m ∷ []
 take_one_more moves n m stands =
     let within = slice_get_within moves n m stands in
     take_more moves n m within ∙ ap (λ x. take n moves ++ x ∷ []) (get_or_from_slice_get moves n m m stands)
@@ -202,7 +202,7 @@ within_at s k (x ∷ ms) zero m within stands =
 within_at s k (x ∷ ms) (suc n) m within stands = within_at s k ms n m within.4 stands
 
 -- in sound moves no move has a fault
-sound-faultless : (s k : ℕ) (ms : List RsmMove) (n : ℕ) (m : RsmMove) → AreSound s k ms → slice_get ms n ≡ Some m → move_fault_of s k (take n ms) m ≡ None
+pub sound-faultless : (s k : ℕ) (ms : List RsmMove) (n : ℕ) (m : RsmMove) → AreSound s k ms → slice_get ms n ≡ Some m → move_fault_of s k (take n ms) m ≡ None
 sound-faultless s k ms n m sound stands =
     rw (within_at s k ms n m sound.within stands, no_earlier_from ms n 1 m sound.one_to_one stands, no_earlier_to ms n 1 m sound.one_to_one stands) refl
 

@@ -46,6 +46,22 @@ impl Index {
         Ok(index)
     }
 
+    /// The index of these moves. None of them is tested.
+    pub(crate) fn new(alloc: Global, moves: &[RsmMove]) -> Result<Index, NoMemory>
+        requires { length moves.now < 2 ^ 32 }
+        ensures { IfOk result (λ x. (states lines : ℕ) → AreSound states lines moves.now
+            → AreNumbers x.from x.to moves.now) }
+    {
+        let mut index = Index {
+            from: HashMap::new(alloc),
+            to: HashMap::new(alloc),
+        };
+        for n in 0..moves.len() {
+            index.add(&moves[n], n as u32 + 1)?;
+        }
+        Ok(index)
+    }
+
     // Tests a move against the earlier ones, which are indexed: its first fault, under its number,
     // counted from 1.
     fn check(&self, step: &RsmMove, states: u32, lines: u32, number: u32) -> Result<(), RsmRefusal>
@@ -90,8 +106,6 @@ fn put(
     ensures { OnOk result ((p : ℕ × ℕ)
         → get same_pair numbers.new p ≡ (if same_pair pair p then Some number else get same_pair numbers.old p)) }
 {
-    match numbers.insert(pair, number) {
-        Ok(_) => Ok(()),
-        Err(_) => Err(NoMemory),
-    }
+    numbers.insert(pair, number)?;
+    Ok(())
 }

@@ -1,6 +1,6 @@
 //! Reversible sequential machines.
 
-ghost use Rattle.std.specs.Prelude.{◌≡◌, ◌<◌, ◌^◌, length, map, slice_get, Some, IfOk, IfErr, OnOk};
+ghost use Rattle.std.specs.Prelude.{◌≡◌, ◌<◌, ◌≤◌, ◌-◌, ◌^◌, length, map, slice_get, Some, IfOk, IfErr, OnOk};
 ghost use Rattle.bn_rsm.specs.Machines.{AreSound, AreSound-prop};
 ghost use Rattle.bn_rsm.specs.Faults.{turned};
 
@@ -66,6 +66,22 @@ impl Rsm {
         })
     }
 
+    /// The machine of these moves with so many states and lines, where the moves are sound: no move is tested again,
+    /// and the call fails for want of memory alone.
+    pub fn new(alloc: Global, states: u32, lines: u32, moves: Vec<RsmMove>) -> Result<Rsm, NoMemory>
+        requires sound { AreSound states lines moves.items }
+        requires few { length moves.items < 2 ^ 32 }
+        ensures made { IfOk result (λ m. IsMadeOf m states lines moves.items) }
+    {
+        let index = Index::new(alloc, moves.as_slice())?;
+        Ok(Rsm {
+            states,
+            lines,
+            moves,
+            index,
+        })
+    }
+
     /// The moves in the order in which they were given.
     pub fn moves(&self) -> &[RsmMove]
         ensures { result.now ≡ self.now.moves }
@@ -78,13 +94,16 @@ impl Rsm {
         ensures made { IfOk result (λ m. IsMadeOf m self.now.states self.now.lines (map turned self.now.moves)) }
         ensures backward { IfOk result (IsBackward self.now) }
     {
-        let Ok(moves) = turned_moves(alloc, self.moves.as_slice()) else {
-            return Err(NoMemory);
-        };
-        match Rsm::try_new(alloc, self.states, self.lines, moves) {
-            Ok(rsm) => Ok(rsm),
-            Err(refusal) => Err(want_of_memory(refusal)),
-        }
+        let moves = turned_moves(alloc, self.moves.as_slice())?;
+        Rsm::new(alloc, self.states, self.lines, moves)
+    }
+
+    // The move of this number, counted from 1.
+    fn move_at(&self, number: u32) -> RsmMove
+        requires { (0 < number) × (number ≤ length self.now.moves) }
+        ensures { slice_get self.now.moves (number - 1) ≡ Some result }
+    {
+        self.moves[number as usize - 1]
     }
 }
 
@@ -109,24 +128,15 @@ impl Element for Rsm {
 
     fn go(&self, state: u32, line: u32) -> Option<(u32, u32)> {
         let number = *self.index.from.get(&(state, line))?;
-        let moves = self.moves.as_slice();
-        let step = moves[number as usize - 1];
+        let step = self.move_at(number);
         Some((step.next, step.out))
     }
 
     fn back(&self, state: u32, line: u32) -> Option<(u32, u32)> {
         let number = *self.index.to.get(&(state, line))?;
-        let moves = self.moves.as_slice();
-        let step = moves[number as usize - 1];
+        let step = self.move_at(number);
         Some((step.state, step.line))
     }
-}
-
-// The one refusal that sound moves can meet.
-fn want_of_memory(_refusal: RsmRefusal) -> NoMemory
-    requires { _refusal ≡ RsmRefusal.NoMemory }
-{
-    NoMemory
 }
 
 // The moves with their pairs exchanged.

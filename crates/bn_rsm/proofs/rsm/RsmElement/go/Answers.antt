@@ -1,6 +1,6 @@
-use Rattle.std.proofs.Common.{◌≡◌, ◌-◌, sym, ap}
-use Rattle.std.proofs.lemmas.Option.{slice_get_within, get_or_from_slice_get}
-use Rattle.bn_rsm.specs.declared.rsm_move.RsmMove.{RsmMove}
+use Rattle.std.proofs.Common.{◌≡◌, ◌≤◌, ◌-◌, Some, slice_get, length, sym, ap, subst, arith}
+use Rattle.std.proofs.lemmas.Option.{slice_get_within}
+use Rattle.bn_rsm.specs.Machines.{Machine}
 use Rattle.bn_rsm.proofs.NumberLemmas.{move_from, no_move_from}
 use Rattle.bn_rsm.proofs.rsm.RsmElement.go.Goals as goal
 
@@ -11,21 +11,19 @@ returns-in_err-number c =
     let same : m.moves.items ≡ c.args.self.now.moves = ap (λ v. v.moves) c.self.view_is in
     rw (c.from_residual.ensures, ← same) (sym none)
 
-pub overflow_sub-step : goal.overflow_sub-step
-overflow_sub-step c =
-    let m = c.self.inside in
-    (move_from m.index.from m.index.to m.moves.items c.self.invariant.numbers c.args.state c.args.line c.in_ok-number.field-0.now c.in_ok-number.ensures.value).low
-
-pub bounds-moves-number : goal.bounds-moves-number
-bounds-moves-number c =
+pub move_at-step-requires : goal.move_at-step-requires
+move_at-step-requires c =
     let m = c.self.inside in
     let found = move_from m.index.from m.index.to m.moves.items c.self.invariant.numbers c.args.state c.args.line c.in_ok-number.field-0.now c.in_ok-number.ensures.value in
-    rw (c.as_slice-moves.ensures.value) (slice_get_within m.moves.items (c.in_ok-number.field-0.now - 1) found.found found.stands)
+    let within = slice_get_within m.moves.items (c.in_ok-number.field-0.now - 1) found.found found.stands in
+    let high : c.in_ok-number.field-0.now ≤ length m.moves.items = omega (arith, within, found.low) in
+    (found.low, subst (λ (v : Machine). c.in_ok-number.field-0.now ≤ length v.moves) c.self.view_is high)
 
 pub returns : goal.returns
 returns c =
     let m = c.self.inside in
     let found = move_from m.index.from m.index.to m.moves.items c.self.invariant.numbers c.args.state c.args.line c.in_ok-number.field-0.now c.in_ok-number.ensures.value in
     let same : m.moves.items ≡ c.args.self.now.moves = ap (λ v. v.moves) c.self.view_is in
-    let read = λ (d : RsmMove). get_or_from_slice_get m.moves.items (c.in_ok-number.field-0.now - 1) found.found d found.stands in
-    rw (c.as_slice-moves.ensures.value, ← same, read (record { state = 0; line = 0; next = 0; out = 0 })) (sym found.goes)
+    let stands : slice_get m.moves.items (c.in_ok-number.field-0.now - 1) ≡ Some c.move_at-step.result = rw same c.move_at-step.ensures in
+    let step : found.found ≡ c.move_at-step.result = (let there = found.stands in cc) in
+    rw (← same, ← step) (sym found.goes)
