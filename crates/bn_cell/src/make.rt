@@ -1,13 +1,12 @@
 //! Cells are made here.
 ghost use Rattle.std.specs.Prelude.{◌≡◌, ◌<◌, ◌*◌, ◌++◌, IfOk, OnOk};
-ghost use Rattle.bn_rsm.specs.Machines.{AreSound};
 ghost use Rattle.bn_network.specs.Cells.{cell_table, cell_line_count};
 ghost use Rattle.bn_cell.specs.Sizes.{IsCellSize, IsCellOf};
 ghost use Rattle.bn_cell.specs.Rows.{row, rows};
 
 use crate::table::CellTable;
 use bn_element::Element;
-use bn_rsm::{NoMemory, Rsm, RsmMove, RsmRefusal};
+use bn_rsm::{NoMemory, Rsm, RsmMove};
 use std::alloc::{AllocError, Global};
 
 /// The tape cell for so many symbols as a machine given by its moves, state by state and in each by rising line. `Err`
@@ -16,20 +15,8 @@ pub fn cell(alloc: Global, symbols: u32) -> Result<Rsm, NoMemory>
     requires { IsCellSize symbols }
     ensures { IfOk result (λ m. IsCellOf symbols m) }
 {
-    let Ok(moves) = moves_of(alloc, &CellTable { symbols }) else {
-        return Err(NoMemory);
-    };
-    match Rsm::try_new(alloc, 2 * symbols, 2 * symbols + 8, moves) {
-        Ok(cell) => Ok(cell),
-        Err(refusal) => Err(want_of_memory(refusal)),
-    }
-}
-
-// The one refusal that sound moves can meet.
-fn want_of_memory(_refusal: RsmRefusal) -> NoMemory
-    requires { _refusal ≡ RsmRefusal.NoMemory }
-{
-    NoMemory
+    let moves = moves_of(alloc, &CellTable { symbols })?;
+    Rsm::new(alloc, 2 * symbols, 2 * symbols + 8, moves)
 }
 
 // The moves of a cell, state by state.
