@@ -1,3 +1,4 @@
+pub mod PackedLemmas
 pub mod ReadingLemmas
 pub mod PieceLemmas
 pub mod FromLemmas

@@ -5,13 +5,13 @@ ghost use Rattle.bn_base.specs.Line.{IsInLine};
 ghost use Rattle.bn_netlist_laws.specs.Sentences.{Sentence, lines_text};
 ghost use Rattle.bn_netlist_laws.specs.Spelling.{Spelled};
 ghost use Rattle.bn_netlist_lines.specs.LineReading.{RefusesLine};
-ghost use Rattle.bn_netlist_lines.specs.NetText.{spelling_of, IsTextRefusal};
+ghost use Rattle.bn_netlist_lines.specs.NetText.{IsTextRefusal};
 ghost use Rattle.bn_netlist_lines.specs.Stages.{AreTaken, HasTaken, TakesTo};
 ghost use Rattle.bn_netlist.specs.Pieces.{HasCome, IsFront, RefusesOn};
 ghost use Rattle.bn_netlist_lines.specs.declared.stage.Stage.{Stage};
 
 use bn_base::{Lines, NextLine};
-use bn_netlist_lines::{NetConfig, NetlistRefusal, Stage};
+use bn_netlist_lines::{FromWires, NetlistRefusal, Stage};
 use std::alloc::Global;
 
 /// The most bytes of a line that are kept: no line of any form is longer.
@@ -63,10 +63,10 @@ impl Front {
     }
 
     /// The configuration of a text that ends here.
-    pub(crate) fn finish(self, alloc: Global) -> Result<NetConfig, NetlistRefusal>
+    pub(crate) fn finish<C: FromWires>(self, alloc: Global) -> Result<C, NetlistRefusal>
         requires { IsFront self.line.items self.stage }
         ensures spelled { IfOk result (λ c. (text : List ℕ) → HasCome text self.line.items self.stage
-            → Spelled c.version (spelling_of c) text) }
+            → Spelled (C.version c) (C.spelling c) text) }
         ensures refused { IfErr result (λ r. (text : List ℕ) → HasCome text self.line.items self.stage
             → IsTextRefusal text r) }
     {

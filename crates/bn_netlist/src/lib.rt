@@ -23,8 +23,8 @@ pub use bn_netlist_laws::{
 pub use bn_netlist_lines::{NetConfig, NetlistRefusal, Spellable, circuits_agree};
 pub use column::column_at;
 pub use packed_config::PackedConfig;
-pub use read::read_config;
-pub use read_from::read_config_from;
+pub use read::{read_config, read_packed};
+pub use read_from::{read_config_from, read_packed_from};
 pub use refusal::{FromRefusal, ToRefusal};
 pub use write::write_config;
 pub use write_to::write_config_to;

@@ -1,9 +1,11 @@
 //! A packed net in a configuration, with what its text names.
 
-use bn_circuits::{Line, Place};
-use bn_netlist_laws::Version;
-use bn_netlist_lines::Spellable;
+use bn_circuits::{Config, Line, Place, States, Wire};
+use bn_lists::NoMemory;
+use bn_netlist_laws::{Header, Version};
+use bn_netlist_lines::{FromWires, Spellable};
 use bn_packed::Packed;
+use std::alloc::Global;
 
 /// A packed net of rotary elements in a configuration, with the two lines that its text names, and the version of that
 /// text. Elements and lines are counted from 0. (This project's own profile.)
@@ -59,5 +61,27 @@ impl Spellable for PackedConfig {
     fn target(&self, from: Line) -> Option<Line> {
         let _elements = self.packed.len();
         self.packed.target(from)
+    }
+}
+
+impl FromWires for PackedConfig {
+    fn from_wires(
+        alloc: Global,
+        header: &Header,
+        wires: Vec<Wire>,
+        states: Vec<u32>,
+    ) -> Result<PackedConfig, NoMemory> {
+        let config = Config {
+            states: States::new(states),
+            place: header.place,
+            steps: header.steps,
+        };
+        let packed = Packed::from_wires(alloc, header.count, wires, config)?;
+        Ok(PackedConfig {
+            version: header.version,
+            packed,
+            start: header.start,
+            end: header.end,
+        })
     }
 }

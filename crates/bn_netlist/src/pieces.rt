@@ -2,12 +2,12 @@
 
 ghost use Rattle.std.specs.Prelude.{◌≡◌, ◌≢◌, ℕ, List, ◌++◌, [], IfOk, IfErr};
 ghost use Rattle.bn_netlist_laws.specs.Spelling.{Spelled};
-ghost use Rattle.bn_netlist_lines.specs.NetText.{spelling_of, IsTextRefusal};
+ghost use Rattle.bn_netlist_lines.specs.NetText.{IsTextRefusal};
 ghost use Rattle.bn_netlist.specs.Coming.{HaveCome, ComeSome};
 
 use crate::front::Front;
 use bn_lists::NoMemory;
-use bn_netlist_lines::{NetConfig, NetlistRefusal};
+use bn_netlist_lines::{FromWires, NetlistRefusal};
 use std::alloc::Global;
 
 /// A configuration text that comes in pieces. Of a faulty text it keeps the fault alone.
@@ -46,10 +46,10 @@ impl Pieces {
     }
 
     /// The configuration of a text that ends here.
-    pub(crate) fn finish(self, alloc: Global) -> Result<NetConfig, NetlistRefusal>
+    pub(crate) fn finish<C: FromWires>(self, alloc: Global) -> Result<C, NetlistRefusal>
         requires { ComeSome self }
         ensures spelled { IfOk result (λ c. (text : List ℕ) → HaveCome self text
-            → Spelled c.version (spelling_of c) text) }
+            → Spelled (C.version c) (C.spelling c) text) }
         ensures refused { IfErr result (λ r. (text : List ℕ) → HaveCome self text → IsTextRefusal text r) }
     {
         match self {

@@ -8,11 +8,13 @@ ghost use Rattle.bn_netlist_laws.specs.Spelling.{Spelled};
 ghost use Rattle.bn_netlist_lines.specs.NetText.{spelling_of};
 ghost use Rattle.bn_netlist.specs.FromText.{IsFromRefusal, HasWhole, Ends};
 ghost use Rattle.bn_netlist.specs.Coming.{HaveCome, ComeSome};
+ghost use Rattle.bn_netlist.specs.PackedText.{spelling_of_packed};
 
+use crate::packed_config::PackedConfig;
 use crate::pieces::Pieces;
 use crate::refusal::FromRefusal;
-use bn_io::{Source, SourceFailed};
-use bn_netlist_lines::{NetConfig, NetlistRefusal};
+use bn_io::{Source, SourceFailed, piece_size};
+use bn_netlist_lines::{FromWires, NetConfig, NetlistRefusal};
 use std::alloc::Global;
 
 /// How many bytes one call asks of a source, at most.
@@ -39,6 +41,45 @@ pub fn read_config_from<S: Source>(
     ensures read_fault { IsErrOf result FromRefusal.ReadFault →
         Rose (S.faults source.old) (S.faults source.new) }
 {
+    read_from(alloc, source, limit)
+}
+
+/// Reads a configuration text from a source as `read_config_from` does, and packs the net from the wires that
+/// were read: no net of elements is made beside it. (This project's own profile.)
+pub fn read_packed_from<S: Source>(
+    alloc: Global,
+    source: &mut S,
+    limit: u64,
+) -> Result<PackedConfig, FromRefusal>
+    ensures taken { (piece : List ℕ) × ReadsWithin (S.left source.old) (S.left source.new) limit
+        (IsErrOf result FromRefusal.TooLong) piece
+        × IfOk result (λ c. Spelled c.version (spelling_of_packed c) piece)
+        × IfErr result (IsFromRefusal piece) }
+    ensures whole { IfOk result (λ _. Ends (S.left source.old) (S.left source.new)) }
+    ensures refused_whole { IfErr result (λ r. HasWhole r → Ends (S.left source.old) (S.left source.new)) }
+    ensures later { S.faults source.old ≤ S.faults source.new }
+    ensures read_fault { IsErrOf result FromRefusal.ReadFault →
+        Rose (S.faults source.old) (S.faults source.new) }
+{
+    read_from(alloc, source, limit)
+}
+
+// As both of them.
+fn read_from<C: FromWires, S: Source>(
+    alloc: Global,
+    source: &mut S,
+    limit: u64,
+) -> Result<C, FromRefusal>
+    ensures taken { (piece : List ℕ) × ReadsWithin (S.left source.old) (S.left source.new) limit
+        (IsErrOf result FromRefusal.TooLong) piece
+        × IfOk result (λ c. Spelled (C.version c) (C.spelling c) piece)
+        × IfErr result (IsFromRefusal piece) }
+    ensures whole { IfOk result (λ _. Ends (S.left source.old) (S.left source.new)) }
+    ensures refused_whole { IfErr result (λ r. HasWhole r → Ends (S.left source.old) (S.left source.new)) }
+    ensures later { S.faults source.old ≤ S.faults source.new }
+    ensures read_fault { IsErrOf result FromRefusal.ReadFault →
+        Rose (S.faults source.old) (S.faults source.new) }
+{
     let Ok(mut buffer) = vec![in alloc; 0u8; CHUNK] else {
         return Err(FromRefusal::NoMemory);
     };
@@ -47,10 +88,10 @@ pub fn read_config_from<S: Source>(
 }
 
 // The configuration of a text that has come whole.
-fn config_of(alloc: Global, pieces: Pieces) -> Result<NetConfig, FromRefusal>
+fn config_of<C: FromWires>(alloc: Global, pieces: Pieces) -> Result<C, FromRefusal>
     requires { ComeSome pieces }
     ensures spelled { IfOk result (λ c. (text : List ℕ) → HaveCome pieces text
-        → Spelled c.version (spelling_of c) text) }
+        → Spelled (C.version c) (C.spelling c) text) }
     ensures refused { IfErr result (λ r. (text : List ℕ) → HaveCome pieces text → IsFromRefusal text r) }
     ensures no_read_fault { IfErr result (λ r. r ≢ FromRefusal.ReadFault) }
     ensures short { IfErr result (λ r. r ≢ FromRefusal.TooLong) }
@@ -112,7 +153,7 @@ fn read_piece<S: Source>(source: &mut S, buffer: &mut [u8], room: u64) -> Result
     ensures read_fault { IsErrOf result FromRefusal.ReadFault →
         Rose (S.faults source.old) (S.faults source.new) }
 {
-    let asked = wanted(room, buffer.len());
+    let asked = piece_size(room, buffer.len());
     let count = match source.take(&mut buffer[..asked]) {
         Ok(count) => count,
         Err(SourceFailed) => return Err(FromRefusal::ReadFault),
@@ -121,16 +162,4 @@ fn read_piece<S: Source>(source: &mut S, buffer: &mut [u8], room: u64) -> Result
         return Err(FromRefusal::TooLong);
     }
     Ok(count)
-}
-
-// How many bytes to ask for: as many as there is space for, and at most one more than may still
-// come.
-fn wanted(room: u64, space: usize) -> usize
-    ensures { result ≡ min space (room + 1) }
-{
-    if room < space as u64 {
-        room as usize + 1
-    } else {
-        space
-    }
 }

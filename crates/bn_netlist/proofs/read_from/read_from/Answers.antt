@@ -1,11 +1,10 @@
 use Rattle.std.proofs.lemmas.Result.{err_from_is_err_and}
 use Rattle.bn_netlist_laws.specs.Spelling.{Spelled}
-use Rattle.bn_netlist_lines.specs.NetText.{spelling_of}
 use Rattle.bn_netlist.specs.FromText.{IsFromRefusal, HasWhole}
 use Rattle.bn_netlist.specs.Coming.{HaveCome}
 use Rattle.bn_netlist.specs.declared.refusal.FromRefusal.TheVariants.{TooLong}
 use Rattle.bn_netlist.proofs.FromLemmas.{reads_as, not_so, no_text, if_any_ok, if_any_err, if_ok_at, if_err_at}
-use Rattle.bn_netlist.proofs.read_from.read_config_from.Goals as goal
+use Rattle.bn_netlist.proofs.read_from.read_from.Goals as goal
 
 pub returns-in_err-pieces-clause-taken : goal.returns-in_err-pieces-clause-taken
 returns-in_err-pieces-clause-taken g c =
@@ -23,7 +22,7 @@ returns-clause-taken g c =
     let t = c.in_ok-pieces.ensures.taken in (
       t.0,
       reads_as _ _ _ _ _ _ t.1 (λ e. cc) (λ e. absurd (not_so c.config_of.result TooLong c.config_of.ensures.short e)),
-      if_ok_at c.config_of.result (λ k text. Spelled k.version (spelling_of k) text) (HaveCome c.in_ok-pieces.pieces) t.0 t.2 c.config_of.ensures.spelled,
+      if_ok_at c.config_of.result (λ k text. Spelled (g.C.Spellable.version k) (g.C.Spellable.spelling k) text) (HaveCome c.in_ok-pieces.pieces) t.0 t.2 c.config_of.ensures.spelled,
       if_err_at c.config_of.result (λ r text. IsFromRefusal text r) (HaveCome c.in_ok-pieces.pieces) t.0 t.2 c.config_of.ensures.refused,
     )
 
