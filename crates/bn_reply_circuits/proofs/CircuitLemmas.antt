@@ -1,16 +1,19 @@
 -- What the code replies.
 use Rattle.std.specs.Prelude.{◌≡◌, ℕ, List, [], length, Option, Result, Ok, Err, IfOk, OnErr, refl}
 use Rattle.std.proofs.Common.{sym, ap, subst, append-nil, ◌∙◌}
-use Rattle.bn_circuits.specs.Circuits.{IsConfig}
-use Rattle.bn_circuits.specs.Stepping.{run, back}
+use Rattle.bn_circuits.specs.Circuits.{Circuit, IsConfig}
+use Rattle.bn_element.specs.Rotary.{rotary}
+use Rattle.bn_element.specs.Tables.{Table}
 use Rattle.bn_circuits.proofs.RunLemmas.{run-IsConfig, back-IsConfig}
 use Rattle.bn_circuits.specs.declared.place.Place.{Place}
 use Rattle.bn_net.specs.RotaryNets.{rotary_circuit}
 use Rattle.bn_lists.specs.declared.memory.NoMemory.{NoMemory as WantOfMemory}
 use Rattle.bn_net.proofs.WalkLemmas.{hears-nothing}
 use Rattle.bn_net.specs.Watching.{Hears}
-use Rattle.bn_netlist_lines.proofs.NetLemmas.{circuits-agree}
-use Rattle.bn_netlist_laws.specs.Spelling.{circuit_of, moved_to}
+use Rattle.bn_netlist_lines.proofs.NetLemmas.{map-replicate}
+use Rattle.bn_netlist_laws.specs.Spelling as what
+use Rattle.bn_netlist_laws.specs.Spelling.{circuit_of}
+use Rattle.bn_netlist_laws.specs.declared.version.Version.{Version}
 use Rattle.bn_packed.specs.PackedNets.{PackedNet}
 use Rattle.bn_packed.specs.Running.{run_along, places_along}
 use Rattle.bn_packed.specs.declared.direction.Direction.{Direction}
@@ -30,13 +33,12 @@ use Rattle.bn_netlist_laws.proofs.VersionLemmas.{admission-rises, spellings-move
 use Rattle.bn_netlist_laws.specs.declared.version.Version.TheVariants.{Two}
 use Rattle.bn_netlist.specs.PackedText.{spelling_of_packed}
 use Rattle.bn_netlist.specs.declared.packed_config.PackedConfig.{PackedConfig}
-use Rattle.bn_netlist_lines.specs.NetText.{spelling_of, IsTextRefusal}
+use Rattle.bn_netlist_lines.specs.NetText.{IsTextRefusal}
 use Rattle.bn_reply_circuits_laws.specs.CircuitReply.{fault_text, Misspelled}
-use Rattle.bn_netlist_lines.specs.declared.net_config.NetConfig.{NetConfig}
 use Rattle.bn_netlist_lines.specs.declared.refusal.NetlistRefusal.{NetlistRefusal}
 use Rattle.bn_netlist_lines.specs.declared.refusal.NetlistRefusal.TheVariants.{Syntax, Order, Target, TwoSources, StartFed, EndWired, LeftWired, TooMany, Spelling, NoMemory}
 use Rattle.bn_reply_circuits.specs.Refused.{IsRefused}
-use Rattle.bn_reply_circuits.specs.Walking.{HearsFront, WalkReplies, walked_places, walked_to}
+use Rattle.bn_reply_circuits.specs.Walking.{WalkReplies, walked_places, walked_to}
 use Rattle.bn_reply_circuits_laws.specs.CircuitReply.{misspelled, walked}
 use Rattle.bn_reply_circuits_laws.specs.MigrateReply.{MigrateReplies, faulty, migrated}
 
@@ -65,33 +67,31 @@ pub migrate_refused : (bytes : List ℕ) (refusal : NetlistRefusal) (result : Re
 migrate_refused bytes refusal (Ok r) first is = let both = wrong bytes refusal r.status r.text.items first is in faulty both.1 both.0 refl
 migrate_refused bytes refusal (Err e) first is = tt
 
--- the net that was read may be spelled in version 2
-pub read-Admits_two : (c : NetConfig) (bytes : List ℕ) → Spelled c.version (spelling_of c) bytes → Admits Two (spelling_of c)
-read-Admits_two c bytes spelled = admission-rises c.version (spelling_of c) spelled.admitted
+-- what was read may be spelled in version 2
+pub read-Admits_two : (v : Version) (s : what.Spelling) (bytes : List ℕ) → Spelled v s bytes → Admits Two s
+read-Admits_two v s bytes spelled = admission-rises v s spelled.admitted
 
 -- what `migrate` replies to a text that is read
-pub migrate_read : (c : NetConfig) (bytes text : List ℕ) → Spelled c.version (spelling_of c) bytes → IsTextOf Two (spelling_of c) text →
-    MigrateReplies bytes Done text []
-migrate_read c bytes text spelled is = migrated (record { version = c.version; spelling = spelling_of c; spelled = spelled; written = is }) refl refl
+pub migrate_read : (v : Version) (s : what.Spelling) (bytes text : List ℕ) → Spelled v s bytes → IsTextOf Two s text → MigrateReplies bytes Done text []
+migrate_read v s bytes text spelled is = migrated (record { version = v; spelling = s; spelled = spelled; written = is }) refl refl
 
--- ---- a walk of the net that was read
+-- ---- a walk of what was read
 
--- the configuration that was read is one of the net's circuit
-pub read-IsConfig : (c : NetConfig) (bytes : List ℕ) → Spelled c.version (spelling_of c) bytes → IsConfig (rotary_circuit c.net) c.config
-read-IsConfig c bytes spelled = subst (λ k. IsConfig k c.config) (sym (circuits-agree c)) spelled.admitted.config
+-- the circuit of a packed net is that of its text
+pub packed-circuit : (c : PackedConfig) → rotary_circuit c.packed.net ≡ circuit_of (spelling_of_packed c)
+packed-circuit c = ap (λ (ts : List Table). let k : Circuit = record { tables = ts; wires = c.packed.net.wires } in k) (map-replicate rotary c.packed.net.elements)
 
--- a packed netlist of it after a run spells what is come to
-pub packed_walked : (way : Direction) (e : ℕ) (c : NetConfig) (p q : PackedNet) → p.net ≡ c.net → p.config ≡ c.config → q.net ≡ p.net →
-    q.config ≡ run_along way (rotary_circuit p.net) p.config e →
-    spelling_of_packed (record { version = c.version; packed = q; start = c.start; end = c.end }) ≡ spelling_of (walked_to way e c)
-packed_walked way e c p q net config same ran =
-    let here : q.net ≡ c.net = same ∙ net in
-    let there : q.config ≡ run_along way (rotary_circuit c.net) c.config e = ran ∙ (λ i. run_along way (rotary_circuit (net i)) (config i) e) in
-    λ i. record { elements = length (here i).elements; wires = (here i).wires; config = there i; start = c.start; end = c.end }
+-- the same packed netlist after a run spells what is come to
+pub packed_walked : (way : Direction) (e : ℕ) (c : PackedConfig) (q : PackedNet) → q.net ≡ c.packed.net →
+    q.config ≡ run_along way (rotary_circuit c.packed.net) c.packed.config e →
+    spelling_of_packed (record { version = c.version; packed = q; start = c.start; end = c.end }) ≡ walked_to way e (spelling_of_packed c)
+packed_walked way e c q net ran =
+    let there : q.config ≡ run_along way (circuit_of (spelling_of_packed c)) c.packed.config e = ran ∙ ap (λ k. run_along way k c.packed.config e) (packed-circuit c) in
+    λ i. record { elements = length (net i).elements; wires = (net i).wires; config = there i; start = c.start; end = c.end }
 
--- a watch that has heard all
-heard_all : (told heard : Option (List Place)) (places : List Place) → Hears told places heard → HearsFront told places heard
-heard_all told heard places hears = record { front = places; rest = []; split = sym (append-nil places); hears = hears }
+pub packed_heard : (way : Direction) (e : ℕ) (c : PackedConfig) (told heard : Option (List Place)) →
+    Hears told (places_along way (rotary_circuit c.packed.net) e c.packed.config) heard → Hears told (walked_places way e (spelling_of_packed c)) heard
+packed_heard way e c told heard hears = subst (λ k. Hears told (places_along way k e c.packed.config) heard) (packed-circuit c) hears
 
 module _ (way : Direction) (e : ℕ) (bytes : List ℕ) where
   -- the reply to a text that is refused
@@ -103,66 +103,51 @@ module _ (way : Direction) (e : ℕ) (bytes : List ℕ) where
   refused refusal (Err e) told first is = tt
 
   -- what was read has walked
-  module _ (c : NetConfig) (spelled : Spelled c.version (spelling_of c) bytes) where
-    walked-IsConfig : (w : Direction) → IsConfig (circuit_of (spelling_of c)) (run_along w (rotary_circuit c.net) c.config e)
-    walked-IsConfig Forward =
-        subst (λ k. IsConfig (circuit_of (spelling_of c)) (run k c.config e)) (sym (circuits-agree c))
-        (run-IsConfig (circuit_of (spelling_of c)) spelled.admitted.circuit c.config spelled.admitted.config e)
-    walked-IsConfig Backward =
-        subst (λ k. IsConfig (circuit_of (spelling_of c)) (back k c.config e)) (sym (circuits-agree c))
-        (back-IsConfig (circuit_of (spelling_of c)) spelled.admitted.circuit c.config spelled.admitted.config e)
+  module _ (v : Version) (s : what.Spelling) (spelled : Spelled v s bytes) where
+    walked-IsConfig : (w : Direction) → IsConfig (circuit_of s) (run_along w (circuit_of s) s.config e)
+    walked-IsConfig Forward = run-IsConfig (circuit_of s) spelled.admitted.circuit s.config spelled.admitted.config e
+    walked-IsConfig Backward = back-IsConfig (circuit_of s) spelled.admitted.circuit s.config spelled.admitted.config e
 
     -- it may be spelled
-    walked-Admits : Admits c.version (spelling_of (walked_to way e c))
-    walked-Admits =
-        spellings-move c.version (spelling_of c) (run_along way (rotary_circuit c.net) c.config e) spelled.admitted (walked-IsConfig way)
+    walked-Admits : Admits v (walked_to way e s)
+    walked-Admits = spellings-move v s (run_along way (circuit_of s) s.config e) spelled.admitted (walked-IsConfig way)
 
-    walked_right : (text : List ℕ) → IsTextOf c.version (spelling_of (walked_to way e c)) text → WalkReplies way e bytes Done text (walked_places way e c)
-    walked_right text written =
-        let same = circuits-agree c in
-        walked (record {
-          version = c.version;
-          spelling = spelling_of c;
-          spelled = spelled;
-          written = subst (λ k. IsTextOf c.version (moved_to (spelling_of c) (run_along way k c.config e)) text) same written;
-          places = ap (λ k. places_along way k e c.config) same;
-        }) refl
+    walked_right : (text : List ℕ) → IsTextOf v (walked_to way e s) text → WalkReplies way e bytes Done text (walked_places way e s)
+    walked_right text written = walked (record { version = v; spelling = s; spelled = spelled; written = written; places = refl }) refl
 
-    -- no reply, after the watch has heard a front
-    pub cut_short : (told heard : Option (List Place)) → HearsFront told (walked_places way e c) heard → IsUnfinished (WalkReplies way e bytes) told heard
-    cut_short told heard cut =
-        let text = has-text c.version (spelling_of (walked_to way e c)) walked-Admits in
-        told_some Done text.0 (walked_places way e c) cut.front cut.rest (walked_right text.0 text.1.is_text) cut.split cut.hears
-
-    pub unreplied : (result : Result Reply WantOfMemory) (told heard : Option (List Place)) → Hears told (walked_places way e c) heard →
+    -- no reply, after the watch has heard all
+    pub unreplied : (result : Result Reply WantOfMemory) (told heard : Option (List Place)) → Hears told (walked_places way e s) heard →
         OnErr result (IsUnfinished (WalkReplies way e bytes) told heard)
     unreplied (Ok r) told heard hears = tt
-    unreplied (Err x) told heard hears = cut_short told heard (heard_all told heard (walked_places way e c) hears)
+    unreplied (Err x) told heard hears =
+        let text = has-text v (walked_to way e s) walked-Admits in
+        told_some Done text.0 (walked_places way e s) (walked_places way e s) [] (walked_right text.0 text.1.is_text)
+        (sym (append-nil (walked_places way e s))) hears
 
-    module _ (m : PackedConfig) (same : m.version ≡ c.version) (is : spelling_of_packed m ≡ spelling_of (walked_to way e c)) where
+    module _ (m : PackedConfig) (same : m.version ≡ v) (is : spelling_of_packed m ≡ walked_to way e s) where
       pub moved-Admits : Admits m.version (spelling_of_packed m)
-      moved-Admits = subst (λ v. Admits v (spelling_of_packed m)) (sym same) (subst (Admits c.version) (sym is) walked-Admits)
+      moved-Admits = subst (λ w. Admits w (spelling_of_packed m)) (sym same) (subst (Admits v) (sym is) walked-Admits)
 
       -- the reply, whose text is this
-      moved_right : (text : List ℕ) → IsTextOf m.version (spelling_of_packed m) text → WalkReplies way e bytes Done text (walked_places way e c)
+      moved_right : (text : List ℕ) → IsTextOf m.version (spelling_of_packed m) text → WalkReplies way e bytes Done text (walked_places way e s)
       moved_right text written =
-          walked_right text (subst (λ s. IsTextOf c.version s text) is (subst (λ v. IsTextOf v (spelling_of_packed m) text) same written))
+          walked_right text (subst (λ t. IsTextOf v t text) is (subst (λ w. IsTextOf w (spelling_of_packed m) text) same written))
 
-      pub replied : (result : Result Reply WantOfMemory) (told heard : Option (List Place)) → Hears told (walked_places way e c) heard →
+      pub replied : (result : Result Reply WantOfMemory) (told heard : Option (List Place)) → Hears told (walked_places way e s) heard →
           IfOk result (λ r. r.status ≡ Done) → IfOk result (λ r. IsTextOf m.version (spelling_of_packed m) r.text.items) →
           IfOk result (λ r. IsReplied (WalkReplies way e bytes) r told heard)
       replied (Ok r) told heard hears done written = record {
-        places = walked_places way e c;
-        right = subst (λ st. WalkReplies way e bytes st r.text.items (walked_places way e c)) (sym done) (moved_right r.text.items written);
+        places = walked_places way e s;
+        right = subst (λ st. WalkReplies way e bytes st r.text.items (walked_places way e s)) (sym done) (moved_right r.text.items written);
         hears = hears;
       }
-      replied (Err e) told heard hears done written = tt
+      replied (Err x) told heard hears done written = tt
 
       -- how giving it ends
       pub moved_ends : (result : Status) (taken took : Option (List ℕ)) (before now : ℕ) (told heard : Option (List Place)) →
-          Hears told (walked_places way e c) heard → TextEnds (IsTextOf m.version (spelling_of_packed m)) result taken took before now →
+          Hears told (walked_places way e s) heard → TextEnds (IsTextOf m.version (spelling_of_packed m)) result taken took before now →
           AnswerEnds (WalkReplies way e bytes) result taken took before now told heard
       moved_ends result taken took before now told heard hears ends =
           let text = has-text m.version (spelling_of_packed m) moved-Admits in
-          text_ends (WalkReplies way e bytes) (IsTextOf m.version (spelling_of_packed m)) text.0 (walked_places way e c) result taken took
+          text_ends (WalkReplies way e bytes) (IsTextOf m.version (spelling_of_packed m)) text.0 (walked_places way e s) result taken took
           before now told heard text.1.is_text (moved_right text.0 text.1.is_text) hears ends

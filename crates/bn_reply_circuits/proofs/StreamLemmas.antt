@@ -10,12 +10,12 @@ use Rattle.bn_net.proofs.WalkLemmas.{hears-nothing}
 use Rattle.bn_netlist.specs.FromText.{IsFromRefusal, HasWhole, Ends}
 use Rattle.bn_netlist.specs.declared.refusal.FromRefusal.{FromRefusal}
 use Rattle.bn_netlist.specs.declared.refusal.FromRefusal.TheVariants as reading
-use Rattle.bn_netlist_laws.specs.Spelling.{IsTextOf, Spelled}
+use Rattle.bn_netlist_laws.specs.Spelling.{IsTextOf, Spelled, Spelling}
+use Rattle.bn_netlist_laws.specs.declared.version.Version.{Version}
 use Rattle.bn_netlist_laws.specs.declared.version.Version.TheVariants.{Two}
 use Rattle.bn_netlist_laws.proofs.EntryLemmas.{has-text}
 use Rattle.bn_netlist_laws.proofs.VersionLemmas.{admission-rises}
-use Rattle.bn_netlist_lines.specs.NetText.{spelling_of, IsTextRefusal}
-use Rattle.bn_netlist_lines.specs.declared.net_config.NetConfig.{NetConfig}
+use Rattle.bn_netlist_lines.specs.NetText.{IsTextRefusal}
 use Rattle.bn_netlist_lines.specs.declared.refusal.NetlistRefusal.{NetlistRefusal}
 use Rattle.bn_reply.specs.Ends.{TextEnds}
 use Rattle.bn_reply.specs.Outside.{outside}
@@ -34,7 +34,7 @@ use Rattle.bn_reply_circuits_laws.specs.CircuitReply.{Misspelled, misspelled}
 use Rattle.bn_reply_circuits_laws.specs.MigrateReply.{MigrateReplies, faulty}
 use Rattle.bn_reply_circuits.proofs.CircuitLemmas.{migrate_read, wrong}
 
-text_not_too_long : (r : NetlistRefusal) → IsErrOf {T = NetConfig} {E = FromRefusal} (Err (reading.Text r)) reading.TooLong → ⊥
+text_not_too_long : {T : Type 0} (r : NetlistRefusal) → IsErrOf {T = T} {E = FromRefusal} (Err (reading.Text r)) reading.TooLong → ⊥
 text_not_too_long r e = cc
 
 -- how a command ends that is refused or reads a text, where the source, the sink and the watch are at these before and
@@ -65,27 +65,27 @@ module _ (replies : List ℕ → Status → List ℕ → List Place → Type 0) 
       subst (λ st. replies bytes st r.text.items []) (sym both.0) (refuses bytes r.text.items both.1)
   refused_reply refusal (Err e) first is = tt
 
-  pub stream_unread : (refusal : FromRefusal) → ReadsWithin left after MOST_INPUT_BYTES (IsErrOf {T = NetConfig} (Err refusal) reading.TooLong) bytes →
-      IsFromRefusal bytes refusal → (HasWhole refusal → Ends left after) → (IsErrOf {T = NetConfig} (Err refusal) reading.ReadFault → Rose failed fails) →
+  pub stream_unread : {T : Type 0} (refusal : FromRefusal) → ReadsWithin left after MOST_INPUT_BYTES (IsErrOf {T = T} (Err refusal) reading.TooLong) bytes →
+      IsFromRefusal bytes refusal → (HasWhole refusal → Ends left after) → (IsErrOf {T = T} (Err refusal) reading.ReadFault → Rose failed fails) →
       UnreadEnds refusal result taken took before now → failed ≤ fails → before ≤ now →
       StreamEnds replies result (outside left taken told failed before) (outside after took told fails now)
-  stream_unread reading.ReadFault reads first all cause ends later_source later_sink = record {
+  stream_unread {T} reading.ReadFault reads first all cause ends later_source later_sink = record {
     input = Failed;
     gives = cause refl;
     ends = (ends, hears-nothing told);
     later = record { read = later_source; write = later_sink };
   }
-  stream_unread reading.TooLong reads first all cause ends later_source later_sink = record {
+  stream_unread {T} reading.TooLong reads first all cause ends later_source later_sink = record {
     input = TooLong;
-    gives = gave_more left after MOST_INPUT_BYTES (IsErrOf {T = NetConfig} (Err reading.TooLong) reading.TooLong) bytes reads refl;
+    gives = gave_more left after MOST_INPUT_BYTES (IsErrOf {T = T} (Err reading.TooLong) reading.TooLong) bytes reads refl;
     ends = (ends, hears-nothing told);
     later = record { read = later_source; write = later_sink };
   }
-  stream_unread (reading.Text r) reads first all cause ends later_source later_sink =
-      stream_read replies bytes result left after failed fails taken took before now told told (IsErrOf {T = NetConfig} (Err (reading.Text r)) reading.TooLong) reads
-      (text_not_too_long r) (all tt)
+  stream_unread {T} (reading.Text r) reads first all cause ends later_source later_sink =
+      stream_read replies bytes result left after failed fails taken took before now told told (IsErrOf {T = T} (Err (reading.Text r)) reading.TooLong) reads
+      (text_not_too_long {T = T} r) (all tt)
       (silent_ends (replies bytes) ends.0 result taken took before now told (refused_reply r ends.0 first.0 ends.1) ends.2) later_source later_sink
-  stream_unread reading.NoMemory reads first all cause ends later_source later_sink = record {
+  stream_unread {T} reading.NoMemory reads first all cause ends later_source later_sink = record {
     input = Unread;
     gives = tt;
     ends = (ends.0, grows_nothing taken took ends.1, hears-nothing told);
@@ -101,14 +101,13 @@ migrate_refuses bytes text is = faulty is refl refl
 pub plan_refuses : (bytes text : List ℕ) → Misspelled bytes text → PlanReplies bytes statuses.Text text []
 plan_refuses bytes text is = plans.misspelled is refl refl
 
-pub not_too_long : (c : NetConfig) → IsErrOf {T = NetConfig} {E = FromRefusal} (Ok c) reading.TooLong → ⊥
+pub not_too_long : {T : Type 0} (c : T) → IsErrOf {T = T} {E = FromRefusal} (Ok c) reading.TooLong → ⊥
 not_too_long c e = cc
 
 -- how the answer of `migrate` to a text that was read ends
-pub migrate_ends : (c : NetConfig) (bytes : List ℕ) (result : Status) (taken took : Option (List ℕ)) (before now : ℕ) (told : Option (List Place)) →
-    Spelled c.version (spelling_of c) bytes → TextEnds (IsTextOf Two (spelling_of c)) result taken took before now →
-    AnswerEnds (MigrateReplies bytes) result taken took before now told told
-migrate_ends c bytes result taken took before now told spelled ends =
-    let text = has-text Two (spelling_of c) (admission-rises c.version (spelling_of c) spelled.admitted) in
-    text_ends (MigrateReplies bytes) (IsTextOf Two (spelling_of c)) text.0 [] result taken took before now told told text.1.is_text
-    (migrate_read c bytes text.0 spelled text.1.is_text) (hears-nothing told) ends
+pub migrate_ends : (v : Version) (s : Spelling) (bytes : List ℕ) (result : Status) (taken took : Option (List ℕ)) (before now : ℕ) (told : Option (List Place)) →
+    Spelled v s bytes → TextEnds (IsTextOf Two s) result taken took before now → AnswerEnds (MigrateReplies bytes) result taken took before now told told
+migrate_ends v s bytes result taken took before now told spelled ends =
+    let text = has-text Two s (admission-rises v s spelled.admitted) in
+    text_ends (MigrateReplies bytes) (IsTextOf Two s) text.0 [] result taken took before now told told text.1.is_text
+    (migrate_read v s bytes text.0 spelled text.1.is_text) (hears-nothing told) ends

@@ -10,7 +10,7 @@ ghost use Rattle.bn_reply_circuits_laws.specs.CircuitReply.{BackReplies, StepRep
 use crate::refuse::refuse_config;
 use crate::walk::walk;
 use bn_net::Watch;
-use bn_netlist::{PackedConfig, read_config, write_config};
+use bn_netlist::{PackedConfig, read_packed, write_config};
 use bn_packed::Direction;
 use bn_reply::{NoMemory, Reply, Status};
 use std::alloc::Global;
@@ -60,11 +60,11 @@ fn reply_walk<W: Watch>(
     ensures interrupted { OnErr result (IsUnfinished (WalkReplies direction count bytes.now) (W.told watch.old)
         (W.told watch.new)) }
 {
-    let read = match read_config(alloc, bytes) {
+    let read = match read_packed(alloc, bytes) {
         Ok(read) => read,
         Err(refusal) => return refuse_config(alloc, refusal),
     };
-    let moved = walk(alloc, direction, count, read, watch)?;
+    let moved = walk(direction, count, read, watch);
     reply_config(alloc, &moved)
 }
 

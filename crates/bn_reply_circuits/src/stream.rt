@@ -18,9 +18,11 @@ use crate::refuse::refuse_config;
 use crate::walk::walk;
 use bn_io::{Sink, Source};
 use bn_net::Watch;
-use bn_netlist::{FromRefusal, Spellable, ToRefusal, Version, read_config_from, write_config_to};
+use bn_netlist::{
+    FromRefusal, Spellable, ToRefusal, Version, read_config_from, read_packed_from, write_config_to,
+};
 use bn_packed::Direction;
-use bn_reply::{MOST_INPUT_BYTES, NoMemory, Status, give_reply, tell_long_input, tell_read_fault};
+use bn_reply::{MOST_INPUT_BYTES, Status, give_reply, tell_long_input, tell_read_fault};
 use std::alloc::Global;
 
 /// Answers `step`: reads a configuration text from the source and gives the sink that of the configuration
@@ -67,14 +69,12 @@ fn walk_stream<S: Source, K: Sink, W: Watch>(
         (outside (S.left source.old) (K.taken sink.old) (W.told watch.old) (S.faults source.old) (K.faults sink.old))
         (outside (S.left source.new) (K.taken sink.new) (W.told watch.new) (S.faults source.new) (K.faults sink.new)) }
 {
-    let read = match read_config_from(alloc, source, MOST_INPUT_BYTES) {
+    let read = match read_packed_from(alloc, source, MOST_INPUT_BYTES) {
         Ok(read) => read,
         Err(refusal) => return refuse_from(alloc, sink, refusal),
     };
-    match walk(alloc, direction, count, read, watch) {
-        Ok(moved) => give_config(alloc, sink, &moved),
-        Err(NoMemory) => Status::NoMemory,
-    }
+    let moved = walk(direction, count, read, watch);
+    give_config(alloc, sink, &moved)
 }
 
 /// Answers `migrate`: reads a configuration text of either version from the source and gives the sink that
@@ -84,7 +84,7 @@ pub fn migrate_stream<S: Source, K: Sink>(alloc: Global, source: &mut S, sink: &
         (outside (S.left source.old) (K.taken sink.old) told (S.faults source.old) (K.faults sink.old))
         (outside (S.left source.new) (K.taken sink.new) told (S.faults source.new) (K.faults sink.new)) }
 {
-    let mut read = match read_config_from(alloc, source, MOST_INPUT_BYTES) {
+    let mut read = match read_packed_from(alloc, source, MOST_INPUT_BYTES) {
         Ok(read) => read,
         Err(refusal) => return refuse_from(alloc, sink, refusal),
     };

@@ -1,9 +1,6 @@
-use Rattle.std.proofs.Common.{arith, refl}
-use Rattle.bn_reply.proofs.ReplyLemmas.{broken_by}
-use Rattle.bn_reply.specs.Streams.{wanting}
-use Rattle.bn_reply.specs.declared.status.Status.TheVariants.{NoMemory}
+use Rattle.bn_netlist.specs.PackedText.{spelling_of_packed}
 use Rattle.bn_reply_circuits.specs.Walking.{WalkReplies}
-use Rattle.bn_reply_circuits.proofs.CircuitLemmas.{cut_short, moved-Admits, moved_ends, read-IsConfig}
+use Rattle.bn_reply_circuits.proofs.CircuitLemmas.{moved-Admits, moved_ends}
 use Rattle.bn_reply_circuits.proofs.StreamLemmas.{not_too_long, stream_read, stream_unread, walk_refuses}
 use Rattle.bn_reply_circuits.proofs.stream.walk_stream.Goals as goal
 
@@ -11,37 +8,24 @@ pub returns-in-Err : goal.returns-in-Err
 returns-in-Err g c =
     let e = c.in-Err.ensures in
     stream_unread (WalkReplies c.args.direction c.args.count) (walk_refuses c.args.direction c.args.count)
-    e.taken.0 c.refuse_from.result (g.S.Source.left c.args.source.now) (g.S.Source.left c.read_config_from.new.source) (g.S.Source.faults c.args.source.now)
-    (g.S.Source.faults c.read_config_from.new.source) (g.K.Sink.taken c.args.sink.now) (g.K.Sink.taken c.refuse_from.new.sink)
+    e.taken.0 c.refuse_from.result (g.S.Source.left c.args.source.now) (g.S.Source.left c.read_packed_from.new.source) (g.S.Source.faults c.args.source.now)
+    (g.S.Source.faults c.read_packed_from.new.source) (g.K.Sink.taken c.args.sink.now) (g.K.Sink.taken c.refuse_from.new.sink)
     (g.K.Sink.faults c.args.sink.now) (g.K.Sink.faults c.refuse_from.new.sink) (g.W.Watch.told c.args.watch.now) c.in-Err.refusal
     e.taken.1 e.taken.3 e.refused_whole e.read_fault c.refuse_from.ensures.ends e.later c.refuse_from.ensures.later
 
-pub walk-requires : goal.walk-requires
-walk-requires g c = read-IsConfig c.in-Ok.read c.in-Ok.ensures.taken.0 c.in-Ok.ensures.taken.2
-
 pub give_config-requires : goal.give_config-requires
 give_config-requires g c =
-    moved-Admits c.args.direction c.args.count c.in-Ok.ensures.taken.0 c.in-Ok.read c.in-Ok.ensures.taken.2 c.in-Ok-walk.moved c.in-Ok-walk.ensures.version c.in-Ok-walk.ensures.walked
+    moved-Admits c.args.direction c.args.count c.in-Ok.ensures.taken.0 c.in-Ok.read.version (spelling_of_packed c.in-Ok.read) c.in-Ok.ensures.taken.2 c.walk-moved.result
+    c.walk-moved.ensures.version c.walk-moved.ensures.walked
 
-pub returns-in-Ok-walk : goal.returns-in-Ok-walk
-returns-in-Ok-walk g c =
+pub returns : goal.returns
+returns g c =
     let e = c.in-Ok.ensures in
-    let ends = moved_ends c.args.direction c.args.count e.taken.0 c.in-Ok.read e.taken.2 c.in-Ok-walk.moved c.in-Ok-walk.ensures.version c.in-Ok-walk.ensures.walked c.give_config.result
+    let ends = moved_ends c.args.direction c.args.count e.taken.0 c.in-Ok.read.version (spelling_of_packed c.in-Ok.read) e.taken.2 c.walk-moved.result
+    c.walk-moved.ensures.version c.walk-moved.ensures.walked c.give_config.result
     (g.K.Sink.taken c.args.sink.now) (g.K.Sink.taken c.give_config.new.sink) (g.K.Sink.faults c.args.sink.now) (g.K.Sink.faults c.give_config.new.sink)
-    (g.W.Watch.told c.args.watch.now) (g.W.Watch.told c.walk.new.watch) c.in-Ok-walk.ensures.told c.give_config.ensures.ends in
+    (g.W.Watch.told c.args.watch.now) (g.W.Watch.told c.walk-moved.new.watch) c.walk-moved.ensures.told c.give_config.ensures.ends in
     stream_read (WalkReplies c.args.direction c.args.count) e.taken.0 c.give_config.result (g.S.Source.left c.args.source.now)
-    (g.S.Source.left c.read_config_from.new.source) (g.S.Source.faults c.args.source.now) (g.S.Source.faults c.read_config_from.new.source)
+    (g.S.Source.left c.read_packed_from.new.source) (g.S.Source.faults c.args.source.now) (g.S.Source.faults c.read_packed_from.new.source)
     (g.K.Sink.taken c.args.sink.now) (g.K.Sink.taken c.give_config.new.sink) (g.K.Sink.faults c.args.sink.now) (g.K.Sink.faults c.give_config.new.sink)
-    (g.W.Watch.told c.args.watch.now) (g.W.Watch.told c.walk.new.watch) _ e.taken.1 (not_too_long c.in-Ok.read) e.whole ends e.later c.give_config.ensures.later
-
-pub returns-in-Err-walk : goal.returns-in-Err-walk
-returns-in-Err-walk g c =
-    let e = c.in-Ok.ensures in
-    let broken = broken_by (WalkReplies c.args.direction c.args.count e.taken.0) (g.K.Sink.taken c.args.sink.now) (g.K.Sink.taken c.args.sink.now)
-    (g.W.Watch.told c.args.watch.now) (g.W.Watch.told c.walk.new.watch) refl
-    (cut_short c.args.direction c.args.count e.taken.0 c.in-Ok.read e.taken.2 (g.W.Watch.told c.args.watch.now) (g.W.Watch.told c.walk.new.watch)
-    c.in-Err-walk.ensures.cut) in
-    stream_read (WalkReplies c.args.direction c.args.count) e.taken.0 NoMemory (g.S.Source.left c.args.source.now)
-    (g.S.Source.left c.read_config_from.new.source) (g.S.Source.faults c.args.source.now) (g.S.Source.faults c.read_config_from.new.source)
-    (g.K.Sink.taken c.args.sink.now) (g.K.Sink.taken c.args.sink.now) (g.K.Sink.faults c.args.sink.now) (g.K.Sink.faults c.args.sink.now)
-    (g.W.Watch.told c.args.watch.now) (g.W.Watch.told c.walk.new.watch) _ e.taken.1 (not_too_long c.in-Ok.read) e.whole (wanting refl broken) e.later (omega arith)
+    (g.W.Watch.told c.args.watch.now) (g.W.Watch.told c.walk-moved.new.watch) _ e.taken.1 (not_too_long c.in-Ok.read) e.whole ends e.later c.give_config.ensures.later
