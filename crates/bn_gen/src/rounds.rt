@@ -1,5 +1,5 @@
 //! The quintuples of the machine, round by round.
-ghost use Rattle.std.specs.Prelude.{◌≡◌, ◌≤◌, ◌-◌, ◌++◌, ◌∷◌, [], OnOk, IfOk};
+ghost use Rattle.std.specs.Prelude.{◌≡◌, ◌≤◌, ◌-◌, ◌++◌, OnOk, IfOk};
 ghost use Rattle.bn_gen.specs.Increments as list;
 ghost use Rattle.bn_gen.specs.Increments.{IsRoundCount};
 
@@ -48,23 +48,13 @@ fn round_of(round: u32, shift: Shift, next: u32) -> [Quint; 9]
     ]
 }
 
-// Adds quintuples.
-fn add(quints: &mut Vec<Quint>, more: &[Quint]) -> Result<(), NoMemory>
-    ensures { OnOk result (quints.new.items ≡ quints.old.items ++ more.now) }
-{
-    match quints.extend_from_slice(more) {
-        Ok(()) => Ok(()),
-        Err(_) => Err(NoMemory),
-    }
-}
-
 // Adds all rounds but the last, each of which leads on to the next.
 fn add_rounds(quints: &mut Vec<Quint>, k: u32) -> Result<(), NoMemory>
     requires { IsRoundCount k }
     ensures { OnOk result (quints.new.items ≡ quints.old.items ++ list.rounds (k - 1)) }
 {
     for round in 1..k {
-        add(quints, &round_of(round, Shift::Right, 3 * round + 1))?;
+        quints.extend_from_slice(&round_of(round, Shift::Right, 3 * round + 1))?;
     }
     Ok(())
 }
@@ -75,8 +65,8 @@ pub(crate) fn list_quints(alloc: Global, k: u32) -> Result<Vec<Quint>, NoMemory>
     ensures { IfOk result (λ quints. quints.items ≡ list.quints_of k) }
 {
     let mut quints = Vec::new(alloc);
-    add(&mut quints, &[rule(0, BLANK, BLANK, Shift::Right, 1)])?;
+    quints.push(rule(0, BLANK, BLANK, Shift::Right, 1))?;
     add_rounds(&mut quints, k)?;
-    add(&mut quints, &round_of(k, Shift::Stay, 3 * k + 1))?;
+    quints.extend_from_slice(&round_of(k, Shift::Stay, 3 * k + 1))?;
     Ok(quints)
 }

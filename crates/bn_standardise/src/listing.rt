@@ -1,6 +1,6 @@
 //! The list of the machine in standard form, with names for its states.
 
-ghost use Rattle.std.specs.Prelude.{◌≡◌, ◌-◌, ◌<◌, ◌++◌, ◌∷◌, [], OnOk, IfOk, map};
+ghost use Rattle.std.specs.Prelude.{◌≡◌, ◌-◌, ◌<◌, ◌++◌, OnOk, IfOk, map};
 ghost use Rattle.bn_standardise.specs.Rules as rules;
 
 use crate::rule::{Rule, back_over, entering, leaving, renamed};
@@ -8,22 +8,12 @@ use bn_csv::NoMemory;
 use bn_machine::{Machine, Quint};
 use std::alloc::Global;
 
-// Adds a rule.
-fn add(list: &mut Vec<Rule>, rule: Rule) -> Result<(), NoMemory>
-    ensures { OnOk result (list.new.items ≡ list.old.items ++ rule ∷ []) }
-{
-    match list.push(rule) {
-        Ok(()) => Ok(()),
-        Err(_) => Err(NoMemory),
-    }
-}
-
 // Adds the machine's own quintuples.
 fn add_own(list: &mut Vec<Rule>, quints: &[Quint]) -> Result<(), NoMemory>
     ensures { OnOk result (list.new.items ≡ list.old.items ++ map rules.own_rule quints.now) }
 {
     for quint in quints {
-        add(list, renamed(quint))?;
+        list.push(renamed(quint))?;
     }
     Ok(())
 }
@@ -34,7 +24,7 @@ fn add_back(list: &mut Vec<Rule>, halt: u32, symbols: u32) -> Result<(), NoMemor
     ensures { OnOk result (list.new.items ≡ list.old.items ++ rules.back_over_all halt 1 (symbols - 1)) }
 {
     for letter in 1..symbols {
-        add(list, back_over(halt, letter))?;
+        list.push(back_over(halt, letter))?;
     }
     Ok(())
 }
@@ -45,9 +35,9 @@ pub(crate) fn list_rules(alloc: Global, machine: &Machine) -> Result<Vec<Rule>, 
 {
     let halt = machine.final_state();
     let mut list = Vec::new(alloc);
-    add(&mut list, entering(machine.start_state()))?;
+    list.push(entering(machine.start_state()))?;
     add_own(&mut list, machine.quints())?;
     add_back(&mut list, halt, machine.symbols())?;
-    add(&mut list, leaving(halt))?;
+    list.push(leaving(halt))?;
     Ok(list)
 }

@@ -1,6 +1,6 @@
 //! The states of the machine in standard form, by name.
 
-ghost use Rattle.std.specs.Prelude.{◌≡◌, ◌∷◌, [], IfOk};
+ghost use Rattle.std.specs.Prelude.{◌≡◌, IfOk};
 ghost use Rattle.bn_standardise.specs.Printed.{name_text};
 
 use bn_base::push_u64;
@@ -24,20 +24,8 @@ fn own_text(alloc: Global, state: u32) -> Result<Vec<u8>, NoMemory>
 {
     let mut text = Vec::new(alloc);
     text.push(b'Q')?;
-    match push_u64(&mut text, u64::from(state) + 1) {
-        Ok(()) => Ok(text),
-        Err(_) => Err(NoMemory),
-    }
-}
-
-// The text of a name without a number.
-fn letter_text(alloc: Global, letter: u8) -> Result<Vec<u8>, NoMemory>
-    ensures { IfOk result (λ text. text.items ≡ letter ∷ []) }
-{
-    match Vec::from_slice(alloc, &[letter]) {
-        Ok(text) => Ok(text),
-        Err(_) => Err(NoMemory),
-    }
+    push_u64(&mut text, u64::from(state) + 1)?;
+    Ok(text)
 }
 
 /// The printed text of a name.
@@ -45,8 +33,8 @@ pub(crate) fn text_of(alloc: Global, name: Name) -> Result<Vec<u8>, NoMemory>
     ensures { IfOk result (λ text. text.items ≡ name_text name) }
 {
     match name {
-        Name::First => letter_text(alloc, b'I'),
+        Name::First => Ok(Vec::from_slice(alloc, b"I")?),
         Name::Own(state) => own_text(alloc, state),
-        Name::Last => letter_text(alloc, b'O'),
+        Name::Last => Ok(Vec::from_slice(alloc, b"O")?),
     }
 }

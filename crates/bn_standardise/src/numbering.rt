@@ -1,6 +1,6 @@
 //! Numbers in place of names, by first appearance.
 
-ghost use Rattle.std.specs.Prelude.{◌≡◌, ◌<◌, ◌-◌, ◌^◌, ◌++◌, ◌∷◌, [], Some, OnOk, IfOk, length, map, slice_get};
+ghost use Rattle.std.specs.Prelude.{◌≡◌, ◌<◌, ◌-◌, ◌^◌, Some, OnOk, IfOk, length, map, slice_get};
 ghost use Rattle.bn_standardise.specs.Numbering as numbers;
 ghost use Rattle.bn_standardise.specs.Standardised.{numbered};
 
@@ -24,20 +24,8 @@ fn number_of(names: &mut IndexSet<Name>, name: Name) -> Result<u32, NoMemory>
     ensures names { OnOk result (names.new.keys ≡ numbers.with_name names.old.keys name) }
     ensures number { IfOk result (λ number. slice_get names.new.keys number ≡ Some name) }
 {
-    match names.insert_full(name) {
-        Ok((number, _)) => Ok(number as u32),
-        Err(_) => Err(NoMemory),
-    }
-}
-
-// Adds a quintuple.
-fn add(quints: &mut Vec<Quint>, quint: Quint) -> Result<(), NoMemory>
-    ensures { OnOk result (quints.new.items ≡ quints.old.items ++ quint ∷ []) }
-{
-    match quints.push(quint) {
-        Ok(()) => Ok(()),
-        Err(_) => Err(NoMemory),
-    }
+    let (number, _) = names.insert_full(name)?;
+    Ok(number as u32)
 }
 
 /// The quintuples of rules.
@@ -58,7 +46,7 @@ pub(crate) fn number_rules(alloc: Global, rules: &[Rule]) -> Result<Numbered, No
             shift: rule.shift,
             next,
         };
-        add(&mut quints, quint)?;
+        quints.push(quint)?;
     }
     let states = names.len() as u32;
     Ok(Numbered { quints, states })

@@ -10,6 +10,7 @@ use Rattle.std.proofs.lemmas.Option.{slice_get-get_or}
 use Rattle.std.proofs.lemmas.Slice.Eq.{bytes_eq-Decides}
 use Rattle.bn_csv.specs.Forms.{is_symbol_byte}
 use Rattle.bn_csv.specs.Numbering.{AreNumberedByFirst, firsts, numbers_from}
+use Rattle.bn_csv.specs.NumberingLaws.{AreApart}
 use Rattle.bn_csv.proofs.NumberingLemmas.{AreNumbersOf, apart-firsts, both_true, length-firsts, no_more_than, numbered-by-first}
 use Rattle.bn_machine.specs.Machine.{IsInRange}
 use Rattle.bn_machine.specs.declared.quint.Quint.{Quint}
@@ -72,11 +73,15 @@ few-names names letters quints entries h =
     let is : length names ≡ length (firsts (names_in entries)) = ap (λ (t : List (List ℕ)). length t) h.names_by_first in
     omega (arith, names-count entries)
 
+-- different letters are few
+pub few-different : (letters : List ℕ) → AreApart nat_eq Decides-eqb letters → list_all is_symbol_byte letters ≡ true → length letters ≤ 91
+few-different letters apart form = omega (arith, no_more_than nat_eq Decides-eqb symbol_bytes letters apart (all-symbol-bytes letters form), symbol_bytes-count)
+
 pub few-letters : (names : List (List ℕ)) (letters : List ℕ) (quints : List Quint) (entries : List (List (List ℕ))) → SpellsQuintuples names letters quints entries
     → length letters ≤ 91
 few-letters names letters quints entries h =
     let apart = rw (← h.letters_by_first) at (apart-firsts nat_eq Decides-eqb (blank ∷ letters_in entries)) in
-    omega (arith, no_more_than nat_eq Decides-eqb symbol_bytes letters apart (all-symbol-bytes letters h.letters_form), symbol_bytes-count)
+    few-different letters apart h.letters_form
 
 numbers-of-rows : (names : List (List ℕ)) (letters : List ℕ) (quints : List Quint) → All (IsInRange (length names) (length letters)) quints
     → AreNumbersOf names (states_in quints) (names_in (rows_by names letters quints))

@@ -30,7 +30,7 @@ fn number_letter(letters: &mut Vec<u8>, letter: u8) -> Result<u32, NoMemory>
     ensures number { IfOk result (λ symbol. slice_get letters.new.items symbol ≡ Some letter) }
 {
     if let Some(symbol) = place_of(letters.as_slice(), letter) {
-        return Ok(symbol as u32);
+        return Ok(symbol);
     }
     let symbol = letters.len() as u32;
     letters.push(letter)?;

@@ -1,16 +1,29 @@
 //! A machine with names for its states and letters for its symbols.
 
-ghost use Rattle.std.specs.Prelude.{◌≡◌, ◌<◌, Some, slice_get, IfSome, IfNone, Contains, position, ◌==◌};
+ghost use Rattle.std.specs.Prelude.{◌≡◌, ◌<◌, ◌^◌, Some, length, slice_get, IfSome, IfNone, Contains, position, ◌==◌};
 
 use bn_csv::Names;
 use bn_machine::Machine;
 use std::marker::Model;
 
-/// The place of a letter among others, counted from 0.
-pub(crate) fn place_of(letters: &[u8], letter: u8) -> Option<usize>
+// The first place of a letter among others.
+fn position_of(letters: &[u8], letter: u8) -> Option<usize>
     ensures { result ≡ position (λ known. letter == known) letters.now }
 {
     letters.iter().position(|known| letter == *known)
+}
+
+/// The first place of a letter among others, counted from 0. `None` comes exactly where it isn't among them.
+pub fn place_of(letters: &[u8], letter: u8) -> Option<u32>
+    requires few { length letters.now < 2 ^ 32 }
+    ensures place { result ≡ position (λ known. letter == known) letters.now }
+    ensures found { IfSome result (λ place. slice_get letters.now place ≡ Some letter) }
+    ensures none { IfNone result (¬ Contains letters.now letter) }
+{
+    match position_of(letters, letter) {
+        Some(place) => Some(place as u32),
+        None => None,
+    }
 }
 
 /// A table of quintuples: a machine, a name for each state, and a letter, one byte, for each symbol. Its states
@@ -54,6 +67,14 @@ impl Table {
         self.names.get(state)
     }
 
+    /// The letters of the symbols, each at its symbol's number.
+    pub fn letters(&self) -> &[u8]
+        ensures value { result.now ≡ self.now.letters }
+        ensures valid { IsTable self.now }
+    {
+        self.letters.as_slice()
+    }
+
     /// The letter of a symbol, counted from 0.
     pub fn letter(&self, symbol: u32) -> u8
         requires { symbol < self.now.machine.symbols }
@@ -67,9 +88,6 @@ impl Table {
         ensures found { IfSome result (λ symbol. slice_get self.now.letters symbol ≡ Some letter) }
         ensures none { IfNone result (¬ Contains self.now.letters letter) }
     {
-        match place_of(self.letters.as_slice(), letter) {
-            Some(symbol) => Some(symbol as u32),
-            None => None,
-        }
+        place_of(self.letters.as_slice(), letter)
     }
 }

@@ -6,7 +6,6 @@ use Rattle.bn_machine.specs.Machine.{Program}
 use Rattle.bn_machine.specs.declared.quint.Quint.{Quint}
 use Rattle.bn_machine.specs.declared.quint.Shift.TheVariants.{Left}
 use Rattle.bn_table.specs.Reading.{Reads}
-use Rattle.bn_table.proofs.SaidLemmas.{said_of}
 use Rattle.bn_table.proofs.Writing.{line-more}
 use Rattle.bn_gen.specs.Increments.{quints_of}
 use Rattle.bn_gen.specs.Text.{increments_table, increment_letters, increment_names}

@@ -40,11 +40,11 @@ loop-rule-preserved c =
       next_is = c.in_ok-next.ensures.number;
     } in (
       after_is rules i blank names middle after c.in_ok-state.state c.in_ok-next.next h,
-      quints_more rules i blank c.loop-rule.quints.items c.add.new.quints.items
+      quints_more rules i blank c.loop-rule.quints.items c.push.new.self.items
           (record { state = c.in_ok-state.state; read = (get_or rules i blank).read; write = (get_or rules i blank).write; shift = (get_or rules i blank).shift; next = c.in_ok-next.next })
           c.loop-rule-test.true c.loop-rule.invariant.1
           (quint_is rules i blank names middle after c.in_ok-state.state c.in_ok-next.next h)
-          c.in_ok-add.ensures,
+          c.in_ok-push.ensures.items,
     )
 
 pub overflow_cast-states : goal.overflow_cast-states

@@ -8,7 +8,6 @@ use Rattle.bn_machine.specs.declared.quint.Quint.{Quint}
 use Rattle.bn_machine.specs.declared.quint.Shift.TheVariants.{Left}
 use Rattle.bn_table.specs.Reading.{Reads}
 use Rattle.bn_table.specs.Rows.{Named, rows_by, rows_of}
-use Rattle.bn_table.proofs.SaidLemmas.{said_of}
 use Rattle.bn_table.proofs.Writing.{line-more, lines-all, reads-back}
 use Rattle.bn_table.proofs.text.write_quints.Goals as goal
 
