@@ -1,21 +1,18 @@
 -- The machine of a draft that has Bennett's list: its quadruples are sound, and they are deterministic, reversible and uniform.
-use Rattle.std.proofs.Common.{◌≡◌, ◌<◌, ◌+◌, ◌*◌, ◌∷◌, ◌∙◌, ℕ, suc, zero, List, [], length, Some, refl, sym, ap, subst, arith, get_or}
+use Rattle.std.proofs.Common.{◌≡◌, ◌<◌, ◌+◌, ◌*◌, ◌∙◌, ℕ, suc, List, length, map, refl, sym, ap, subst, arith, get_or}
 use Rattle.std.specs.List.{All}
-use Rattle.std.specs.Option.{option_map}
 use Rattle.std.proofs.lemmas.List.{length-map}
-use Rattle.std.proofs.lemmas.Option.{get_or_from_slice_get, slice_get-map, slice_get_within}
+use Rattle.std.proofs.lemmas.List.Elements.{All-map}
 use Rattle.bn_csv.specs.Numbering.{firsts_by}
 use Rattle.bn_machine.specs.declared.quint.Shift.TheVariants.{Stay}
 use Rattle.bn_machine.specs.Machine.{Program, IsMachine, final_of}
-use Rattle.bn_lists.specs.Lists.{nth, IsIn}
-use Rattle.bn_lists.proofs.ListLemmas.{nth-get_or, nth_once}
-use Rattle.bn_quad.specs.Quadruples.{Deed, Rewrite, Move, Rule, Quadruples, IsQuadMachine, IsDeedInRange, AreDeedsInRange, deeds_of}
-use Rattle.bn_quad.specs.Kept.{IsActInRange, IsReadInRange, IsSound, IsFirstFault, Agree, act_of, quad_of, read_of, rule_of, rules_of}
+use Rattle.bn_lists.specs.Lists.{IsIn}
+use Rattle.bn_quad.specs.Quadruples.{Rule, Quadruples, IsQuadMachine, IsRuleInRange, AreDeedsInRange, deeds_of}
+use Rattle.bn_quad.specs.Kept.{IsSound, quad_of, rule_of, rules_of}
 use Rattle.bn_quad.proofs.KeptLemmas.{nth-rules_of, quads-apart}
-use Rattle.bn_quad.specs.Calls.{IsMadeOf, IsUniformMachine, IsQuadRefusal}
+use Rattle.bn_quad.proofs.SoundLemmas.{sound_if}
+use Rattle.bn_quad.specs.Calls.{IsMadeOf, IsUniformMachine}
 use Rattle.bn_quad.specs.declared.quad.Quad.{Quad}
-use Rattle.bn_quad.specs.declared.refusal.QuadRefusal.{QuadRefusal}
-use Rattle.bn_quad.specs.declared.refusal.QuadRefusal.TheVariants as refusal
 use Rattle.bn_bennett_laws.proofs.MembershipLemmas.{in_map}
 use Rattle.bn_bennett_laws.specs.Laws.{ListCountsNames, ListHasLength, ListIsInRange, NumbersPassTests}
 use Rattle.bn_bennett_laws.specs.Names.{states_in}
@@ -29,33 +26,18 @@ use Rattle.bn_bennett_laws.specs.declared.name.Name.{Name}
 use Rattle.bn_bennett_laws.specs.declared.name.Name.TheVariants.{GoRight}
 use Rattle.bn_bennett.specs.Draft.{AreDrafted, IsBelow, renamed_back}
 
--- ---- a kept rule in range is sound
+-- ---- quadruples that are a list's, with numbers for its names, are sound
 
-read_in : (z : ℕ) (d : Deed) → IsDeedInRange z d → IsReadInRange z (read_of d)
-read_in z (Rewrite r w) h = h.0
-read_in z (Move s) h = tt
-
-act_in : (z : ℕ) (d : Deed) → IsDeedInRange z d → IsActInRange z (act_of d)
-act_in z (Rewrite r w) h = h.1
-act_in z (Move s) h = tt
-
-agree : (d : Deed) → Agree (read_of d) (act_of d)
-agree (Rewrite r w) = tt
-agree (Move s) = tt
-
-pub sound_kept : (states a b c : ℕ) (r : Rule ℕ) → IsBelow states (quad_of r) → AreDeedsInRange (a ∷ b ∷ c ∷ []) (deeds_of r) → IsSound states (a ∷ b ∷ c ∷ []) (quad_of r)
-sound_kept states a b c r below deeds = record {
-  reads = refl;
-  acts = refl;
-  in_range = record {
-    state = below.state;
-    one = record { read = read_in a r.one deeds.0; act = act_in a r.one deeds.0 };
-    two = record { read = read_in b r.two deeds.1.0; act = act_in b r.two deeds.1.0 };
-    three = record { read = read_in c r.three deeds.1.1.0; act = act_in c r.three deeds.1.1.0 };
-    next = below.next;
-  };
-  unmixed = record { one = agree r.one; two = agree r.two; three = agree r.three };
-}
+pub sound_listed : {N : Type 0} (name : ℕ → N) (states : ℕ) (symbols : List ℕ) (list : List (Rule N)) (quads : List Quad) → map quad_of (rules_of quads) ≡ quads → All (IsBelow states) quads
+    → rename name (rules_of quads) ≡ list → ((r : Rule N) → IsIn list r → AreDeedsInRange symbols (deeds_of r)) → All (IsSound states symbols) quads
+sound_listed {N} name states symbols list quads kept below same ranges = sound_if states symbols quads kept (All-map (IsRuleInRange states symbols) rule_of quads each)
+  where
+    each : All (λ q. IsRuleInRange states symbols (rule_of q)) quads
+    each = λ k e inside.
+        let r : Rule ℕ = rule_of (get_or quads k e) in
+        let there : IsIn (rules_of quads) r = record { place = suc k; stands = nth-rules_of quads k e inside } in
+        let listed : IsIn list (renamed name r) = subst (λ rs. IsIn rs (renamed name r)) same (in_map (renamed name) (rules_of quads) r there) in
+        record { from = (below k e inside).state; deeds = ranges (renamed name r) listed; to = (below k e inside).next }
 
 -- ---- the quadruples of the draft
 
@@ -65,16 +47,7 @@ some_symbols p h = let first = h.in_range 0 (record { state = 0; read = 0; write
 
 module _ (p : Program) (names : List Name) (quads : List Quad) (machine : IsMachine p) (ranges : ListIsInRange) (d : AreDrafted names quads) (list : renamed_back names quads ≡ bennett p) where
   pub sound : All (IsSound (length names) (symbols_of p)) quads
-  sound = λ k e inside.
-      let q = get_or quads k e in
-      let at : nth (rules_of quads) (suc k) ≡ Some (rule_of q) = nth-rules_of quads k e inside in
-      let kept : quad_of (rule_of q) ≡ q =
-      nth_once quads (suc k) (quad_of (rule_of q)) q (ap (λ qs. nth qs (suc k)) (sym d.kept) ∙ slice_get-map quad_of (rules_of quads) k ∙ ap (option_map quad_of) at) (nth-get_or quads k e inside) in
-      let there : IsIn (rules_of quads) (rule_of q) = record { place = suc k; stands = at } in
-      let listed : IsIn (bennett p) (renamed (name_at GoRight names) (rule_of q)) =
-      subst (λ rs. IsIn rs (renamed (name_at GoRight names) (rule_of q))) list (in_map (renamed (name_at GoRight names)) (rules_of quads) (rule_of q) there) in
-      let below : IsBelow (length names) (quad_of (rule_of q)) = subst (IsBelow (length names)) (sym kept) (d.below k e inside) in
-      subst (IsSound (length names) (symbols_of p)) kept (sound_kept (length names) p.symbols (length p.quints + 1) p.symbols (rule_of q) below (ranges p machine (renamed (name_at GoRight names) (rule_of q)) listed))
+  sound = sound_listed (name_at GoRight names) (length names) (symbols_of p) (bennett p) quads d.kept d.below list (ranges p machine)
 
   pub length-quads : length quads ≡ length (bennett p)
   length-quads = sym (length-map quads rule_of) ∙ sym (length-map (rules_of quads) (renamed (name_at GoRight names))) ∙ ap length list
@@ -105,19 +78,6 @@ module _ (p : Program) (names : List Name) (quads : List Quad) (machine : IsMach
   passes tests standard m made =
       let all = tests p (record { machine = machine; standard = standard }) (name_at GoRight names) m.rules (made_list m made) in
       record { deterministic = all.0; reversible = all.1; uniform = all.2 }
-
--- ---- what isn't refused
-
-none_faulty : (states : ℕ) (symbols : List ℕ) (quads : List Quad) (i : ℕ) (q : Quad) → All (IsSound states symbols) quads → IsFirstFault states symbols quads i q → ⊥
-none_faulty states symbols quads zero q all fault = cc fault.stands
-none_faulty states symbols quads (suc k) q all fault =
-    let inside : k < length quads = slice_get_within quads k q fault.stands in
-    fault.faulty (subst (IsSound states symbols) (get_or_from_slice_get quads k q q fault.stands) (all k q inside))
-
-pub no_quad_refusal : (states : ℕ) (symbols : List ℕ) (quads : List Quad) (why : QuadRefusal) → 0 < length quads → All (IsSound states symbols) quads → IsQuadRefusal quads states symbols why → ⊥
-no_quad_refusal states symbols quads refusal.Empty some all h = let none : length quads ≡ 0 = ap length h in omega arith
-no_quad_refusal states symbols quads (refusal.Range i) some all h = none_faulty states symbols quads i h.0 all h.1
-no_quad_refusal states symbols quads (refusal.Mixed i) some all h = none_faulty states symbols quads i h.0 all h.1
 
 -- the machine's own symbols, where they are those of an equal machine
 pub own_symbols : (p q : Program) (zs : List ℕ) → q ≡ p → zs ≡ symbols_of q → zs ≡ symbols_of p

@@ -9,16 +9,17 @@ use Rattle.std.proofs.lemmas.List.FromFn.{get_or-map-range_with_len, length-map-
 use Rattle.std.proofs.lemmas.Bool.{false≢true}
 use Rattle.std.proofs.lemmas.Bool.Decides.{Decides-eqb}
 use Rattle.std.proofs.lemmas.List.{append_cancel_left, get_or-map, get_or-take, length-map, length-take-le, map-append, take_more}
-use Rattle.std.proofs.lemmas.Option.{get_or_from_slice_get, slice_get-get_or}
+use Rattle.std.proofs.lemmas.Option.{slice_get-get_or}
 use Rattle.bn_base.specs.declared.numbers.Digits.{Digits}
 use Rattle.bn_base.specs.Number.{AreDigits, BeginsWithNoDigit, read_number}
 use Rattle.bn_base.proofs.NumberLemmas.{read_number-again}
 use Rattle.bn_table.specs.Rows.{IsTable, Named, blank}
+use Rattle.bn_table.proofs.Bounds.{few-letters}
 use Rattle.bn_table.proofs.RowsLemmas.{one_symbol}
 use Rattle.bn_quad.specs.Names.{Naming, naming_of, symbols_on, with_state, with_symbol}
 use Rattle.bn_bennett_laws.specs.declared.name.Name.{Name}
 use Rattle.bn_bennett_laws.specs.declared.name.Name.TheVariants.{Compute, ComputeWithin, GoRight, CopyLetter, GoLeft, PassLetter, Retrace, RetraceWithin}
-use Rattle.bn_bennett.specs.Printed.{ArePrintable, mark, number_names, one_byte, printed, print_of, bennett_state_text, with_states, on_tape}
+use Rattle.bn_bennett.specs.Printed.{AreDifferent, ArePrintable, mark, number_names, one_byte, printed, print_of, bennett_state_text, with_states, on_tape}
 use Rattle.bn_bennett.specs.declared.naming.Print.{Print}
 
 -- ---- a text tells its letter, its number and its prime
@@ -160,17 +161,23 @@ module _ (n : Naming) (tape : ℕ) (low : 1 ≤ tape) (old new : Naming) (texts 
   symbol_new none there = let P : List (List ℕ) → Type 0 = λ ts. Contains ts text in none (subst P symbols_before there)
 
 -- a letter isn't among those before it
-pub letter_new : (t : Named) → IsTable t → (i b : ℕ) → i < length t.letters → slice_get t.letters i ≡ Some b → Contains (map one_byte (take i t.letters)) (one_byte b) → ⊥
-letter_new t table i b inside at there =
-    let is : b ≡ get_or t.letters i 0 = sym (get_or_from_slice_get t.letters i b 0 at) in
-    let P : ℕ → Type 0 = λ c. Contains (map one_byte (take i t.letters)) (one_byte c) in
-    not_among_front one_byte t.letters i 0 inside (λ j low e.
-    let same : get_or t.letters j 0 ≡ get_or t.letters i 0 = cc in
-    let equal : j ≡ i = one_symbol t table j i (get_or t.letters i 0) (slice_get-get_or t.letters j 0 (omega arith) ∙ ap Some same) (slice_get-get_or t.letters i 0 inside) in
-    omega arith) (subst P is there)
+pub letter_new : (letters : List ℕ) → AreDifferent letters → (i d : ℕ) → i < length letters → Contains (map one_byte (take i letters)) (one_byte (get_or letters i d)) → ⊥
+letter_new letters apart i d inside = not_among_front one_byte letters i d inside (λ j low e.
+    let same : get_or letters j d ≡ get_or letters i d = cc in
+    let equal : j ≡ i = apart.same j i (get_or letters i d) (slice_get-get_or letters j d (omega arith) ∙ ap Some same) (slice_get-get_or letters i d inside) in
+    omega arith)
 
-pub letters_more : (t : Named) (i b : ℕ) → i < length t.letters → slice_get t.letters i ≡ Some b → map one_byte (take i t.letters) ++ one_byte b ∷ [] ≡ map one_byte (take (i + 1) t.letters)
-letters_more t i b inside at = texts_more one_byte t.letters i 0 (one_byte b) inside (ap one_byte (sym (get_or_from_slice_get t.letters i b 0 at)))
+pub letters_before : (letters : List ℕ) (i : ℕ) → i < length letters → length (map one_byte (take i letters)) ≡ i
+letters_before letters i inside = length-map (take i letters) one_byte ∙ length-take-le i letters (omega arith)
+
+pub letters_more : (letters : List ℕ) (i d : ℕ) → i < length letters → map one_byte (take i letters) ++ one_byte (get_or letters i d) ∷ [] ≡ map one_byte (take (i + 1) letters)
+letters_more letters i d inside = texts_more one_byte letters i d (one_byte (get_or letters i d)) inside refl
+
+-- a table's letters are few and apart
+pub table_letters : (t : Named) → IsTable t → (letters : List ℕ) → letters ≡ t.letters → AreDifferent letters × (length letters < 2 ^ 32)
+table_letters t table letters is =
+    let P : List ℕ → Type 0 = λ ls. AreDifferent ls × (length ls < 2 ^ 32) in
+    subst P (sym is) (record { same = one_symbol t table }, omega (arith, few-letters t.names t.letters t.machine.quints _ table.spelled))
 
 -- ---- the numbers of the history
 

@@ -1,30 +1,26 @@
 -- A machine in standard form has a translation.
-use Rattle.std.specs.Prelude.{◌≡◌, ℕ, ◌+◌, ◌*◌, ◌^◌, ◌<◌, ◌≤◌, Bool, true, false, List, [], ◌∷◌, length, map, Option, Some, None, slice_get, if◌then◌else◌, refl, ◌⊎◌}
+use Rattle.std.specs.Prelude.{◌≡◌, ℕ, ◌+◌, ◌*◌, ◌<◌, true, List, [], ◌∷◌, length, Some, slice_get, if◌then◌else◌, refl}
 use Rattle.std.specs.List.{All, list_any}
-use Rattle.std.specs.Bool.{Decides}
-use Rattle.std.proofs.Common.{zero, suc, arith, sym, ap, subst, ◌∙◌, inl, inr, get_or}
+use Rattle.std.proofs.Common.{zero, suc, arith, sym, ap, ◌∙◌, inl, inr, get_or}
 use Rattle.std.proofs.lemmas.Bool.{cases_Bool, false≢true}
 use Rattle.std.proofs.lemmas.List.{length-map}
-use Rattle.std.proofs.lemmas.Option.{get_or_from_slice_get, slice_get_within, slice_get-get_or}
+use Rattle.std.proofs.lemmas.Option.{get_or_from_slice_get, slice_get_within}
 use Rattle.bn_csv.specs.Numbering.{firsts_by}
 use Rattle.bn_csv.proofs.NumberingLemmas.{any-at, any-firsts}
 use Rattle.bn_machine.specs.Machine.{Program, IsMachine, final_of}
 use Rattle.bn_lists.specs.Lists.{nth, IsIn}
-use Rattle.bn_lists.proofs.ListLemmas.{nth-get_or}
 use Rattle.bn_machine.specs.declared.quint.Shift.TheVariants.{Stay}
-use Rattle.bn_quad.specs.Quadruples.{Rule, Quadruples, IsQuadMachine, IsRuleInRange}
+use Rattle.bn_quad.specs.Quadruples.{Rule, Quadruples, IsRuleInRange}
 use Rattle.bn_bennett_laws.proofs.MembershipLemmas.{in_head, in_tail}
 use Rattle.bn_bennett_laws.specs.Laws.{ListHasLength, ListIsInRange}
 use Rattle.bn_bennett_laws.specs.List.{bennett, symbols_of}
 use Rattle.bn_bennett_laws.specs.Names.{states_in}
 use Rattle.bn_bennett_laws.specs.Renamed.{rename, renamed, name_at}
 use Rattle.bn_bennett_laws.proofs.RenamedLemmas.{from_in, to_in}
-use Rattle.bn_bennett_laws.specs.Stages.{IsStandardMachine}
 use Rattle.bn_bennett_laws.specs.declared.name.Name.{Name}
 use Rattle.bn_bennett_laws.specs.declared.name.Name.TheVariants.{GoRight}
-use Rattle.bn_table.specs.Rows.{FitsTable}
 use Rattle.bn_bennett.proofs.NameLemmas.{is_same-Decides}
-use Rattle.bn_bennett.specs.Translation.{Translation, IsTranslation, is_same, name_of}
+use Rattle.bn_bennett.specs.Translation.{is_same}
 use Rattle.bn_bennett.specs.Laws.{TranslationsAreThere}
 
 -- the number of a name

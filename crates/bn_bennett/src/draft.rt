@@ -35,10 +35,8 @@ fn number_of(names: &mut IndexSet<Name>, name: Name) -> Result<u32, NoMemory>
     ensures names { OnOk result (names.new.keys ≡ with_name names.old.keys name) }
     ensures number { IfOk result (λ number. slice_get names.new.keys number ≡ Some name) }
 {
-    match names.insert_full(name) {
-        Ok((number, _)) => Ok(number as u32),
-        Err(_) => Err(NoMemory),
-    }
+    let (number, _) = names.insert_full(name)?;
+    Ok(number as u32)
 }
 
 // What is read on a tape, and what is done there.
@@ -75,10 +73,8 @@ pub fn add(draft: &mut Draft, quad: &NamedQuad) -> Result<(), NoMemory>
 {
     let state = number_of(&mut draft.names, quad.from)?;
     let next = number_of(&mut draft.names, quad.to)?;
-    match draft.quads.push(numbered(state, quad, next)) {
-        Ok(()) => Ok(()),
-        Err(_) => Err(NoMemory),
-    }
+    draft.quads.push(numbered(state, quad, next))?;
+    Ok(())
 }
 
 /// Adds two quadruples.

@@ -14,5 +14,5 @@ pub use laws::{
     translations_are_uniform, translations_end_alike, translations_halt_alike,
     translations_have_names, translations_have_no_room, translations_stand,
 };
-pub use naming::{add_history_symbols, name_text, names};
+pub use naming::{add_history_symbols, add_letters, name_text, names};
 pub use translated::{MachineState, Stage, Translated, translate};

@@ -6,7 +6,7 @@ ghost use Rattle.bn_qtable.specs.Named.{HasNames};
 ghost use Rattle.bn_qtable.specs.Rows.{IsTable, table_of};
 ghost use Rattle.bn_bennett.specs.Translation.{IsTranslation};
 ghost use Rattle.bn_bennett.specs.Printed.{print_of, bennett_state_text, one_byte, number_names, ArePrintable};
-ghost use Rattle.bn_bennett.specs.Printed.{with_states};
+ghost use Rattle.bn_bennett.specs.Printed.{AreDifferent, with_states};
 ghost use Rattle.bn_bennett.specs.Printed.{on_tape, translation_names};
 
 use crate::laws::{translations_are_tables, translations_have_names};
@@ -66,10 +66,8 @@ fn number_text(alloc: Global, number: u32) -> Result<Vec<u8>, NoMemory>
     ensures { IfOk result (λ text. text.items ≡ decimal number) }
 {
     let mut text = Vec::new(alloc);
-    match push_u64(&mut text, u64::from(number)) {
-        Ok(()) => Ok(text),
-        Err(_) => Err(NoMemory),
-    }
+    push_u64(&mut text, u64::from(number))?;
+    Ok(text)
 }
 
 // Names each state.
@@ -85,16 +83,18 @@ fn add_states(alloc: Global, names: &mut QuadNames, states: &[Name]) -> Result<(
     Ok(())
 }
 
-// Names each symbol of a tape by its letter.
-fn add_letters(names: &mut QuadNames, tape: u32, table: &Table) -> Result<(), NoMemory>
+/// Names the symbols of a tape from 1 to 3, which have no names yet, by these letters, no two of them the same. After
+/// `NoMemory` some of them have names.
+pub fn add_letters(names: &mut QuadNames, tape: u32, letters: &[u8]) -> Result<(), NoMemory>
     requires first { 1 ≤ tape }
     requires last { tape ≤ 3 }
+    requires few { length letters.now < 2 ^ 32 }
+    requires apart { AreDifferent letters.now }
     requires empty { symbols_on names.old tape ≡ [] }
-    ensures { OnOk result (names.new ≡ on_tape names.old tape (map one_byte table.now.letters)) }
+    ensures { OnOk result (names.new ≡ on_tape names.old tape (map one_byte letters.now)) }
 {
-    for symbol in 0..table.machine().symbols() {
-        let letter = table.letter(symbol);
-        names.add_symbol(tape, &[letter])?;
+    for letter in letters {
+        names.add_symbol(tape, &[*letter])?;
     }
     Ok(())
 }
@@ -122,9 +122,9 @@ fn all_names(alloc: Global, table: &Table, translated: &Translated) -> Result<Qu
     let mut names = QuadNames::empty(alloc);
     let count = table.machine().quints().len() as u32;
     add_states(alloc, &mut names, translated.names())?;
-    add_letters(&mut names, 1, table)?;
+    add_letters(&mut names, 1, table.letters())?;
     add_history_symbols(alloc, &mut names, count)?;
-    add_letters(&mut names, 3, table)?;
+    add_letters(&mut names, 3, table.letters())?;
     Ok(names)
 }
 

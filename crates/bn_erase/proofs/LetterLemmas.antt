@@ -11,48 +11,15 @@ use Rattle.std.proofs.lemmas.List.Folds.{list_all-append}
 use Rattle.std.proofs.lemmas.Option.{cond_some, get_or_from_slice_get, slice_get_within}
 use Rattle.bn_csv.specs.Forms.{is_symbol_byte}
 use Rattle.bn_csv.specs.NumberingLaws.{AreApart}
-use Rattle.bn_csv.proofs.NumberingLemmas.{both_true, no_more_than}
+use Rattle.bn_csv.proofs.NumberingLemmas.{both_true}
 use Rattle.bn_lists.specs.Lists.{nth, IsIn}
 use Rattle.bn_bennett_laws.proofs.Apart.{Apart}
-use Rattle.bn_bennett_laws.proofs.ListLemmas.{in_range}
+use Rattle.bn_table.proofs.Bounds.{few-different}
 use Rattle.bn_bennett_laws.proofs.MembershipLemmas.{in_head, in_tail, in_cases, not_in_empty}
 use Rattle.bn_erase.specs.Joint.{number_in}
-use Rattle.bn_erase.proofs.JointLemmas.{among_in, in_among, in_filter, is_among}
+use Rattle.bn_erase.proofs.JointLemmas.{among_in, in_among, is_among}
 
 -- ---- how many letters there are
-
--- the bytes that may be letters
-symbol_bytes : List ℕ
-symbol_bytes = filter is_symbol_byte (range_with_len 33 94)
-
-symbol_bytes_counted : length symbol_bytes ≡ 91
-unfolding symbol_bytes
-symbol_bytes_counted = refl
-
-byte_in : (b : ℕ) → is_symbol_byte b ≡ true → IsIn symbol_bytes b
-unfolding symbol_bytes
-byte_in b e =
-    let low : 33 ≤ b = grind (arith, nat_tests) in
-    let high : b ≤ 126 = grind (arith, nat_tests) in
-    in_filter is_symbol_byte (range_with_len 33 94) b (in_range 33 94 b low (omega arith)) e
-
--- what stands in a list is found there
-any_in : (xs : List ℕ) (x : ℕ) → IsIn xs x → list_any (nat_eq x) xs ≡ true
-any_in [] x h = absurd (not_in_empty x h)
-any_in (y ∷ ys) x h =
-    elim (eqb_tells x y) [
-      | inl same ↦ ap (λ b. b || list_any (nat_eq x) ys) same.0
-      | inr other ↦ elim (in_cases y x ys h) [
-        | inl same ↦ absurd (other.1 (sym same))
-        | inr further ↦ ap (λ b. b || list_any (nat_eq x) ys) other.0 ∙ any_in ys x further
-      ]
-    ]
-
-all_bytes : (letters : List ℕ) → list_all is_symbol_byte letters ≡ true → list_all (λ b. list_any (nat_eq b) symbol_bytes) letters ≡ true
-all_bytes [] e = refl
-all_bytes (b ∷ rest) e =
-    let both = both_true (is_symbol_byte b) (list_all is_symbol_byte rest) e in
-    ap (λ t. t && list_all (λ b. list_any (nat_eq b) symbol_bytes) rest) (any_in symbol_bytes b (byte_in b both.0)) ∙ all_bytes rest both.1
 
 none_same : (x : ℕ) (xs : List ℕ) → ((y : ℕ) → IsIn xs y → x ≢ y) → list_any (nat_eq x) xs ≡ false
 none_same x [] h = refl
@@ -68,7 +35,7 @@ told_apart (x ∷ xs) a = (none_same x xs a.0, told_apart xs a.1)
 
 -- different letters are 91 at most
 pub few_letters : (letters : List ℕ) → Apart (λ x y. x ≢ y) letters → list_all is_symbol_byte letters ≡ true → length letters ≤ 91
-few_letters letters a e = omega (arith, no_more_than nat_eq Decides-eqb symbol_bytes letters (told_apart letters a) (all_bytes letters e), symbol_bytes_counted)
+few_letters letters a e = few-different letters (told_apart letters a) e
 
 -- letters of both lists, some of the second left out, have the form of letters where those of the two have it
 all_filtered : (p q : ℕ → Bool) (xs : List ℕ) → list_all p xs ≡ true → list_all p (filter q xs) ≡ true
@@ -85,11 +52,14 @@ all_joined p q xs ys e f = list_all-append p xs (filter q ys) ∙ ap (λ b. b &&
 
 -- ---- the number of a letter
 
-number_is : (letters : List ℕ) (letter : ℕ) → number_in letters letter ≡ position_or_len (λ known. known == letter) letters
+number_is : (letters : List ℕ) (letter : ℕ) → number_in letters letter ≡ position_or_len (nat_eq letter) letters
 number_is [] letter = refl
-number_is (x ∷ letters) letter = elim (cases_Bool (x == letter)) [
-  | inl hit ↦ rw hit refl
-  | inr miss ↦ rw miss (omega (arith, number_is letters letter))
+number_is (x ∷ letters) letter = elim (eqb_tells x letter) [
+  | inl same ↦ rw (same.0, (Decides-eqb letter x).1 (sym same.1)) refl
+  | inr other ↦ elim (eqb_tells letter x) [
+    | inl same ↦ absurd (other.1 (sym same.1))
+    | inr miss ↦ rw (other.0, miss.0) (omega (arith, number_is letters letter))
+  ]
 ]
 
 number_most : (letters : List ℕ) (letter : ℕ) → number_in letters letter ≤ length letters
@@ -99,16 +69,16 @@ number_most (x ∷ letters) letter = elim (cases_Bool (x == letter)) [
   | inr miss ↦ rw miss (omega (arith, number_most letters letter))
 ]
 
-pub number_found : (letters : List ℕ) (letter n : ℕ) → position (λ known. known == letter) letters ≡ Some n → n ≡ number_in letters letter
+pub number_found : (letters : List ℕ) (letter n : ℕ) → position (nat_eq letter) letters ≡ Some n → n ≡ number_in letters letter
 number_found letters letter n e =
-    sym (cond_some (nat_lt (position_or_len (λ known. known == letter) letters) (length letters)) (position_or_len (λ known. known == letter) letters) n e).1
+    sym (cond_some (nat_lt (position_or_len (nat_eq letter) letters) (length letters)) (position_or_len (nat_eq letter) letters) n e).1
     ∙ sym (number_is letters letter)
 
-pub number_missing : (letters : List ℕ) (letter : ℕ) → position (λ known. known == letter) letters ≡ None → length letters ≡ number_in letters letter
-number_missing letters letter e = elim (cases_Bool (nat_lt (position_or_len (λ known. known == letter) letters) (length letters))) [
-  | inl hit ↦ let none : Some (position_or_len (λ known. known == letter) letters) ≡ None = rw hit at e in cc
+pub number_missing : (letters : List ℕ) (letter : ℕ) → position (nat_eq letter) letters ≡ None → length letters ≡ number_in letters letter
+number_missing letters letter e = elim (cases_Bool (nat_lt (position_or_len (nat_eq letter) letters) (length letters))) [
+  | inl hit ↦ let none : Some (position_or_len (nat_eq letter) letters) ≡ None = rw hit at e in cc
   | inr miss ↦
-      let past : length letters ≤ position_or_len (λ known. known == letter) letters = grind (arith, nat_tests) in
+      let past : length letters ≤ position_or_len (nat_eq letter) letters = grind (arith, nat_tests) in
       omega (arith, past, number_is letters letter, number_most letters letter)
 ]
 
@@ -141,14 +111,6 @@ new_letter letters l none = elim (cases_Bool (is_among letters l)) [
 pub known_is : (letters : List ℕ) (l : ℕ) (found : Option ℕ) → IfSome found (λ n. slice_get letters n ≡ Some l) → IfNone found (Contains letters l → ⊥) → is_among letters l ≡ is_some found
 known_is letters l (Some n) at none = known_letter letters l n at
 known_is letters l None at none = new_letter letters l none
-
--- one more letter of a list
-pub taken_more : (all front new : List ℕ) (i l : ℕ) → slice_get all i ≡ Some l → front ≡ take i all → new ≡ front ++ l ∷ [] → new ≡ take (i + 1) all
-taken_more all front new i l at before now =
-    now
-    ∙ ap (λ xs. xs ++ l ∷ []) before
-    ∙ ap (λ x. take i all ++ x ∷ []) (sym (get_or_from_slice_get all i l 0 at))
-    ∙ sym (take_more all i 0 (slice_get_within all i l at))
 
 module _ (test : ℕ → Bool) (all : List ℕ) (i l : ℕ) (at : slice_get all i ≡ Some l) where
   -- one more letter that passes a test, or one that doesn't

@@ -1,25 +1,20 @@
 -- The machine of quadruples that are the erasing machine's list: they are sound, and they are deterministic, reversible and uniform.
-use Rattle.std.specs.Prelude.{◌≡◌, ℕ, suc, ◌+◌, ◌*◌, ◌<◌, ◌^◌, List, length, All, Some}
-use Rattle.std.specs.Option.{option_map}
-use Rattle.std.proofs.Common.{sym, ap, ◌∙◌, subst, arith, get_or}
+use Rattle.std.specs.Prelude.{◌≡◌, ℕ, ◌+◌, ◌*◌, ◌<◌, ◌^◌, List, length, All}
+use Rattle.std.proofs.Common.{sym, ap, ◌∙◌, subst, arith}
 use Rattle.std.proofs.lemmas.List.{length-map}
-use Rattle.std.proofs.lemmas.Option.{slice_get-map}
 use Rattle.bn_machine.specs.Machine.{IsMachine, Program}
-use Rattle.bn_lists.specs.Lists.{nth, IsIn}
-use Rattle.bn_lists.proofs.ListLemmas.{nth-get_or, nth_once}
 use Rattle.bn_quad.specs.Calls.{IsMadeOf, IsQuadRefusal, IsUniformMachine}
-use Rattle.bn_quad.specs.Kept.{IsSound, quad_of, rule_of, rules_of}
-use Rattle.bn_quad.specs.Quadruples.{AreDeedsInRange, IsQuadMachine, Quadruples, deeds_of}
-use Rattle.bn_quad.proofs.KeptLemmas.{nth-rules_of, quads-apart}
+use Rattle.bn_quad.specs.Kept.{IsSound, rule_of, rules_of}
+use Rattle.bn_quad.specs.Quadruples.{IsQuadMachine, Quadruples}
+use Rattle.bn_quad.proofs.KeptLemmas.{quads-apart}
+use Rattle.bn_quad.proofs.SoundLemmas.{no_quad_refusal}
 use Rattle.bn_quad.specs.declared.quad.Quad.{Quad}
 use Rattle.bn_quad.specs.declared.refusal.QuadRefusal.{QuadRefusal}
-use Rattle.bn_bennett_laws.proofs.MembershipLemmas.{in_map}
 use Rattle.bn_bennett_laws.specs.Renamed.{rename, renamed, name_at}
 use Rattle.bn_bennett_laws.specs.Stages.{IsStandardMachine}
 use Rattle.bn_bennett_laws.specs.declared.name.Name.TheVariants.{GoRight}
 use Rattle.bn_table.specs.Rows.{FitsTable}
-use Rattle.bn_bennett.specs.Draft.{IsBelow}
-use Rattle.bn_bennett.proofs.Machines.{no_quad_refusal, some_symbols, sound_kept}
+use Rattle.bn_bennett.proofs.Machines.{some_symbols, sound_listed}
 use Rattle.bn_erase_laws.specs.Erasing.{erasing, erasing_symbols}
 use Rattle.bn_erase_laws.specs.ErasingLaws.{ErasingHasLength, ErasingIsInRange, ErasingNumbersPassTests}
 use Rattle.bn_erase_laws.specs.declared.name.ErasingName.{ErasingName}
@@ -67,17 +62,7 @@ module _ (p q : Program) (names : List ErasingName) (quads : List Quad) (left : 
 
   module _ (ranges : ErasingIsInRange) (same : p.symbols ≡ q.symbols) where
     sound : All (IsSound (length names) (erasing_symbols p q)) quads
-    sound = λ k e inside.
-        let quad = get_or quads k e in
-        let at : nth (rules_of quads) (suc k) ≡ Some (rule_of quad) = nth-rules_of quads k e inside in
-        let kept : quad_of (rule_of quad) ≡ quad =
-        nth_once quads (suc k) (quad_of (rule_of quad)) quad (ap (λ qs. nth qs (suc k)) (sym d.kept) ∙ slice_get-map quad_of (rules_of quads) k ∙ ap (option_map quad_of) at) (nth-get_or quads k e inside) in
-        let there : IsIn (rules_of quads) (rule_of quad) = record { place = suc k; stands = at } in
-        let listed : IsIn (erasing p q) (renamed (name_at (First GoRight) names) (rule_of quad)) =
-        subst (λ rs. IsIn rs (renamed (name_at (First GoRight) names) (rule_of quad))) d.list (in_map (renamed (name_at (First GoRight) names)) (rules_of quads) (rule_of quad) there) in
-        let below : IsBelow (length names) (quad_of (rule_of quad)) = subst (IsBelow (length names)) (sym kept) (d.below k e inside) in
-        let range : AreDeedsInRange (erasing_symbols p q) (deeds_of (rule_of quad)) = ranges p q left right same (renamed (name_at (First GoRight) names) (rule_of quad)) listed in
-        subst (IsSound (length names) (erasing_symbols p q)) kept (sound_kept (length names) _ _ _ (rule_of quad) below range)
+    sound = sound_listed (name_at (First GoRight) names) (length names) (erasing_symbols p q) (erasing p q) quads d.kept d.below d.list (ranges p q left right same)
 
     pub none_refused : ErasingHasLength → (why : QuadRefusal) → IsQuadRefusal quads (length names) (erasing_symbols p q) why → ⊥
     none_refused has_length why refused = no_quad_refusal (length names) (erasing_symbols p q) quads why (some_quads has_length) sound refused

@@ -47,24 +47,6 @@ module _ (names : List ErasingName) (all : ArePrintable names) (i : ℕ) (d : Er
   pub state_room : length old.states < 2 ^ 32 - 1
   state_room = text_room erasing_text names i d old text inside before is all.few
 
--- ---- the next letter is new
-
-module _ (blank : ℕ) (letters : List ℕ) (alphabet : IsAlphabet blank letters) (i b : ℕ) (inside : i < length letters) (at : slice_get letters i ≡ Some b) where
-  pub letter_new : Contains (map one_byte (take i letters)) (one_byte b) → ⊥
-  letter_new there =
-      let is : b ≡ get_or letters i 0 = sym (get_or_from_slice_get letters i b 0 at) in
-      let P : ℕ → Type 0 = λ c. Contains (map one_byte (take i letters)) (one_byte c) in
-      not_among_front one_byte letters i 0 inside (λ j low e.
-      let same : get_or letters j 0 ≡ get_or letters i 0 = cc in
-      let equal : j ≡ i = alphabet.apart j i (get_or letters i 0) (slice_get-get_or letters j 0 (omega arith) ∙ ap Some same) (slice_get-get_or letters i 0 inside) in
-      omega arith) (subst P is there)
-
-  pub letters_more : map one_byte (take i letters) ++ one_byte b ∷ [] ≡ map one_byte (take (i + 1) letters)
-  letters_more =
-      ap (λ (c : ℕ). map one_byte (take i letters) ++ one_byte c ∷ []) (sym (get_or_from_slice_get letters i b 0 at))
-      ∙ sym (map-append one_byte (take i letters) (get_or letters i 0 ∷ []))
-      ∙ ap (map one_byte) (sym (take_more letters i 0 inside))
-
 -- ---- small numbers
 
 module _ (p q : Program) (e : Erasure) (left : IsMachine p) (right : IsMachine q) (fits : FitsTable p) (also : FitsTable q) (h : IsErasing p q e) where

@@ -1,6 +1,6 @@
 //! Two machines over one alphabet.
 ghost use Rattle.std.specs.Prelude.{◌≡◌, ℕ, ◌<◌, ◌≤◌, ◌^◌, ◌++◌, ◌==◌, All, IfOk, OnOk, IfSome, IfNone, Some, Contains};
-ghost use Rattle.std.specs.Prelude.{filter, length, map, not, position, slice_get, slice_index};
+ghost use Rattle.std.specs.Prelude.{filter, length, map, not, slice_get, slice_index};
 ghost use Rattle.std.specs.List.{list_any};
 ghost use Rattle.bn_machine.specs.Machine.{IsInRange};
 ghost use Rattle.bn_lists.specs.Lists.{IsIn};
@@ -10,7 +10,7 @@ ghost use Rattle.bn_erase.specs.Recoded.{recoded, recoded_quint, with_symbols};
 
 use bn_machine::{Machine, Quint};
 use bn_quad::NoMemory;
-use bn_table::Table;
+use bn_table::{Table, place_of};
 use std::alloc::Global;
 use std::marker::Model;
 
@@ -52,6 +52,14 @@ impl Joined {
         &self.second
     }
 
+    /// The letters of the symbols, each at its symbol's number.
+    pub fn letters(&self) -> &[u8]
+        ensures value { result.now ≡ self.now.letters }
+        ensures valid { IsJoint self.now }
+    {
+        self.letters.as_slice()
+    }
+
     /// The letter of a symbol, counted from 0.
     pub fn letter(&self, symbol: u32) -> u8
         requires { symbol < length self.now.letters }
@@ -65,10 +73,7 @@ impl Joined {
         ensures found { IfSome result (λ symbol. slice_get self.now.letters symbol ≡ Some letter) }
         ensures none { IfNone result (¬ Contains self.now.letters letter) }
     {
-        match place_of(self.letters.as_slice(), letter) {
-            Some(symbol) => Some(symbol as u32),
-            None => None,
-        }
+        place_of(self.letters.as_slice(), letter)
     }
 }
 
@@ -93,35 +98,19 @@ fn joint_letters(alloc: Global, first: &Table, second: &Table) -> Result<Vec<u8>
     ensures first { OnOk result (IsTable first.now) }
     ensures second { OnOk result (IsTable second.now) }
 {
-    let mut letters = letters_of(alloc, first)?;
-    add_further_letters(&mut letters, first, second)?;
+    let mut letters = Vec::from_slice(alloc, first.letters())?;
+    add_further_letters(&mut letters, first, second.letters())?;
     Ok(letters)
 }
 
-// The letters of a table.
-fn letters_of(alloc: Global, table: &Table) -> Result<Vec<u8>, NoMemory>
-    ensures made { IfOk result (λ letters. letters.items ≡ table.now.letters) }
-    ensures valid { IsTable table.now }
+// Appends those of more letters that the first table hasn't.
+fn add_further_letters(letters: &mut Vec<u8>, first: &Table, more: &[u8]) -> Result<(), NoMemory>
+    ensures { OnOk result (letters.new.items ≡ letters.old.items
+        ++ filter (λ letter. not (list_any (λ known. known == letter) first.now.letters)) more.now) }
 {
-    let mut letters = Vec::new(alloc);
-    for symbol in 0..table.machine().symbols() {
-        if letters.push(table.letter(symbol)).is_err() {
-            return Err(NoMemory);
-        }
-    }
-    Ok(letters)
-}
-
-// Appends the letters of the second table that the first hasn't.
-fn add_further_letters(letters: &mut Vec<u8>, first: &Table, second: &Table) -> Result<(), NoMemory>
-    ensures added { OnOk result (letters.new.items ≡ letters.old.items
-        ++ filter (λ letter. not (list_any (λ known. known == letter) first.now.letters)) second.now.letters) }
-    ensures valid { IsTable second.now }
-{
-    for symbol in 0..second.machine().symbols() {
-        let letter = second.letter(symbol);
-        if first.symbol_of(letter).is_none() && letters.push(letter).is_err() {
-            return Err(NoMemory);
+    for letter in more {
+        if first.symbol_of(*letter).is_none() {
+            letters.push(*letter)?;
         }
     }
     Ok(())
@@ -195,17 +184,7 @@ fn number_in(letters: &[u8], letter: u8) -> u32
     ensures { result ≡ number_in letters.now letter }
 {
     match place_of(letters, letter) {
-        Some(number) => number as u32,
+        Some(number) => number,
         None => letters.len() as u32,
     }
-}
-
-// The place of a letter among others, counted from 0.
-fn place_of(letters: &[u8], letter: u8) -> Option<usize>
-    ensures place { result ≡ position (λ known. known == letter) letters.now }
-    ensures within { IfSome result (λ place. place < length letters.now) }
-    ensures found { IfSome result (λ place. slice_get letters.now place ≡ Some letter) }
-    ensures none { IfNone result (¬ Contains letters.now letter) }
-{
-    letters.iter().position(|known| *known == letter)
 }

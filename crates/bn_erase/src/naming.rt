@@ -1,16 +1,16 @@
 //! The printed names of the erasing machine's states and symbols.
-ghost use Rattle.std.specs.Prelude.{◌≡◌, ◌<◌, ◌≤◌, [], ◌∷◌, IfOk, OnOk, length, map};
-ghost use Rattle.bn_quad.specs.Names.{nameless, symbols_on};
+ghost use Rattle.std.specs.Prelude.{◌≡◌, ◌∷◌, IfOk, OnOk, map};
+ghost use Rattle.bn_quad.specs.Names.{nameless};
 ghost use Rattle.bn_qtable.specs.Named.{HasNames};
-ghost use Rattle.bn_bennett.specs.Printed.{on_tape, bennett_state_text, with_states};
+ghost use Rattle.bn_bennett.specs.Printed.{bennett_state_text, with_states};
 ghost use Rattle.bn_erase.specs.Made.{IsErasing};
 ghost use Rattle.bn_erase.specs.Printable.{ArePrintable};
-ghost use Rattle.bn_erase.specs.Printed.{erasing_text, letter_names, names_of};
+ghost use Rattle.bn_erase.specs.Printed.{erasing_text, names_of};
 
 use crate::erasing::Erasing;
 use crate::joined::Joined;
 use crate::laws::erasings_have_names;
-use bn_bennett::{add_history_symbols, name_text};
+use bn_bennett::{add_history_symbols, add_letters, name_text};
 use bn_bennett_laws::Name;
 use bn_erase_laws::{ErasingName, erasing_names as erasing_has_names};
 use bn_quad::{NoMemory, QuadNames};
@@ -44,9 +44,9 @@ fn all_names(alloc: Global, joined: &Joined, erasing: &Erasing) -> Result<QuadNa
     let first = joined.first().quints().len() as u32;
     let second = joined.second().quints().len() as u32;
     add_states(alloc, &mut names, erasing.names())?;
-    add_letters(&mut names, 1, joined)?;
+    add_letters(&mut names, 1, joined.letters())?;
     add_history_symbols(alloc, &mut names, first.max(second))?;
-    add_letters(&mut names, 3, joined)?;
+    add_letters(&mut names, 3, joined.letters())?;
     Ok(names)
 }
 
@@ -80,22 +80,6 @@ fn marked_text(alloc: Global, letter: u8, name: Name) -> Result<Vec<u8>, NoMemor
     let own = name_text(alloc, name)?;
     let mut text = Vec::new(alloc);
     text.push(letter)?;
-    match text.extend_from_slice(own.as_slice()) {
-        Ok(()) => Ok(text),
-        Err(_) => Err(NoMemory),
-    }
-}
-
-// Names each symbol of a tape by its letter.
-fn add_letters(names: &mut QuadNames, tape: u32, joined: &Joined) -> Result<(), NoMemory>
-    requires first { 1 ≤ tape }
-    requires last { tape ≤ 3 }
-    requires empty { symbols_on names.old tape ≡ [] }
-    ensures { OnOk result (names.new ≡ on_tape names.old tape (letter_names joined.now)) }
-{
-    for symbol in 0..joined.first().symbols() {
-        let letter = joined.letter(symbol);
-        names.add_symbol(tape, &[letter])?;
-    }
-    Ok(())
+    text.extend_from_slice(own.as_slice())?;
+    Ok(text)
 }

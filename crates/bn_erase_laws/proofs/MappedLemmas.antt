@@ -4,10 +4,10 @@ use Rattle.std.specs.Option.{option_map}
 use Rattle.std.proofs.Common.{refl, sym, ap, ◌∙◌}
 use Rattle.std.proofs.lemmas.Option.{slice_get-map}
 use Rattle.bn_lists.specs.Lists.{nth}
-use Rattle.bn_quad.specs.Quadruples.{Deed, Rewrite, Move, Rule}
-use Rattle.bn_quad.specs.Overlap.{MeetsInDomain, MeetsInRange, IsAlike, QuadruplesClash, HasNoClash}
+use Rattle.bn_quad.specs.Quadruples.{Rule}
+use Rattle.bn_quad.specs.Overlap.{QuadruplesClash, HasNoClash}
+use Rattle.bn_quad.proofs.ClashLemmas.{clash_again}
 use Rattle.bn_quad.specs.declared.clash.Clash.{Clash}
-use Rattle.bn_quad.specs.declared.clash.Clash.TheVariants.{Domain, Range, Reads, Writes}
 use Rattle.bn_bennett_laws.proofs.Apart.{Apart, apart_places, apart_from_places, apart_map, apart_weaker}
 
 -- what stands among the mapped entries is a mapped one
@@ -27,33 +27,7 @@ nth_mapped f xs (suc i) x e = slice_get-map f xs i ∙ ap (option_map f) e
 pub record AreFree {Q : Type 0} (clash : Clash) (r s : Rule Q) : Type 0 where
   pub free : QuadruplesClash clash r s → ⊥
 
--- a deed meets where it is met
-meets_in_domain_again : (d e : Deed) → MeetsInDomain d e → MeetsInDomain e d
-meets_in_domain_again (Rewrite r w) (Rewrite r' w') h = sym h
-meets_in_domain_again (Rewrite r w) (Move s) h = tt
-meets_in_domain_again (Move s) (Rewrite r w) h = tt
-meets_in_domain_again (Move s) (Move s') h = tt
-
-meets_in_range_again : (d e : Deed) → MeetsInRange d e → MeetsInRange e d
-meets_in_range_again (Rewrite r w) (Rewrite r' w') h = sym h
-meets_in_range_again (Rewrite r w) (Move s) h = tt
-meets_in_range_again (Move s) (Rewrite r w) h = tt
-meets_in_range_again (Move s) (Move s') h = tt
-
-alike_again : (d e : Deed) → IsAlike d e → IsAlike e d
-alike_again (Rewrite r w) (Rewrite r' w') h = tt
-alike_again (Rewrite r w) (Move s) h = absurd h
-alike_again (Move s) (Rewrite r w) h = absurd h
-alike_again (Move s) (Move s') h = tt
-
 module _ {Q : Type 0} where
-  -- two quadruples clash in either order
-  pub clash_again : (clash : Clash) (r s : Rule Q) → QuadruplesClash clash r s → QuadruplesClash clash s r
-  clash_again Domain r s h = record { from = sym h.from; tapes = (meets_in_domain_again r.one s.one h.tapes.0, (meets_in_domain_again r.two s.two h.tapes.1.0, (meets_in_domain_again r.three s.three h.tapes.1.1.0, tt))) }
-  clash_again Range r s h = record { to = sym h.to; tapes = (meets_in_range_again r.one s.one h.tapes.0, (meets_in_range_again r.two s.two h.tapes.1.0, (meets_in_range_again r.three s.three h.tapes.1.1.0, tt))) }
-  clash_again Reads r s h = record { from = sym h.from; apart = λ k. h.apart (alike_again s.one r.one k.0, (alike_again s.two r.two k.1.0, (alike_again s.three r.three k.1.1.0, tt))) }
-  clash_again Writes r s h = record { to = sym h.to; apart = λ k. h.apart (alike_again s.one r.one k.0, (alike_again s.two r.two k.1.0, (alike_again s.three r.three k.1.1.0, tt))) }
-
   pub free_again : (clash : Clash) (r s : Rule Q) → AreFree clash r s → AreFree clash s r
   free_again clash r s h = record { free = λ k. h.free (clash_again clash s r k) }
 

@@ -2,5 +2,5 @@
 use Rattle.bn_bennett.proofs.SameNames.{any_same}
 use Rattle.bn_bennett.proofs.draft.number_of.Goals as goal
 
-pub returns-in-Ok-clause-names : goal.returns-in-Ok-clause-names
-returns-in-Ok-clause-names c = rw (← any_same c.args.name c.args.names.now.keys) c.in-Ok.ensures.keys
+pub returns-clause-names : goal.returns-clause-names
+returns-clause-names c = rw (← any_same c.args.name c.args.names.now.keys) c.in_ok-number.ensures.keys

@@ -1,22 +1,28 @@
 -- Each letter is new.
-use Rattle.std.proofs.Common.{◌<◌, ◌∙◌, ap, length, map, take}
-use Rattle.std.proofs.lemmas.Option.{slice_get_within}
+use Rattle.std.proofs.Common.{◌≡◌, ◌∙◌, ap, arith, length, map, take, get_or}
+use Rattle.bn_quad.specs.Names.{symbols_on}
 use Rattle.bn_bennett.specs.Printed.{one_byte, on_tape}
-use Rattle.bn_bennett.proofs.Texts.{letter_new, letters_more, symbol_new, symbols_more}
+use Rattle.bn_bennett.proofs.Texts.{letter_new, letters_before, letters_more, symbol_new, symbols_before, symbols_more}
 use Rattle.bn_bennett.proofs.naming.add_letters.Goals as goal
 
 pub add_symbol-requires-clause-new : goal.add_symbol-requires-clause-new
 add_symbol-requires-clause-new c =
-    let t = c.args.table.now in
-    let i = c.loop-symbol.symbol in
-    let inside : i < length t.letters = slice_get_within t.letters i c.letter-letter.result c.letter-letter.ensures in
-    symbol_new c.args.names.now c.args.tape c.requires.first c.loop-symbol.names c.loop-symbol.names (map one_byte (take i t.letters)) (one_byte c.letter-letter.result) c.loop-symbol.invariant
-    (letter_new t c.machine.ensures.valid i c.letter-letter.result inside c.letter-letter.ensures)
+    let letters = c.args.letters.now in
+    let i = c.loop-letter.letter-index in
+    symbol_new c.args.names.now c.args.tape c.requires.first c.loop-letter.names c.loop-letter.names (map one_byte (take i letters)) (one_byte (get_or letters i 0)) c.loop-letter.invariant
+    (letter_new letters c.requires.apart i 0 c.loop-letter-test.true)
 
-pub loop-symbol-preserved : goal.loop-symbol-preserved
-loop-symbol-preserved c =
-    let t = c.args.table.now in
-    let i = c.loop-symbol.symbol in
-    let inside : i < length t.letters = slice_get_within t.letters i c.letter-letter.result c.letter-letter.ensures in
-    symbols_more c.args.names.now c.args.tape c.requires.first c.loop-symbol.names c.add_symbol.new.self (map one_byte (take i t.letters)) (one_byte c.letter-letter.result) c.loop-symbol.invariant c.in_ok-add_symbol.ensures.ok
-    ∙ ap (on_tape c.args.names.now c.args.tape) (letters_more t i c.letter-letter.result inside c.letter-letter.ensures)
+pub add_symbol-requires-clause-room : goal.add_symbol-requires-clause-room
+add_symbol-requires-clause-room c =
+    let letters = c.args.letters.now in
+    let i = c.loop-letter.letter-index in
+    let long : length (symbols_on c.loop-letter.names c.args.tape) ≡ i =
+    ap length (symbols_before c.args.names.now c.args.tape c.requires.first c.loop-letter.names c.loop-letter.names (map one_byte (take i letters)) (one_byte (get_or letters i 0)) c.loop-letter.invariant) ∙ letters_before letters i c.loop-letter-test.true in
+    omega (arith, long, c.loop-letter-test.true, c.requires.few)
+
+pub loop-letter-preserved : goal.loop-letter-preserved
+loop-letter-preserved c =
+    let letters = c.args.letters.now in
+    let i = c.loop-letter.letter-index in
+    symbols_more c.args.names.now c.args.tape c.requires.first c.loop-letter.names c.add_symbol.new.self (map one_byte (take i letters)) (one_byte (get_or letters i 0)) c.loop-letter.invariant c.in_ok-add_symbol.ensures.ok
+    ∙ ap (on_tape c.args.names.now c.args.tape) (letters_more letters i 0 c.loop-letter-test.true)

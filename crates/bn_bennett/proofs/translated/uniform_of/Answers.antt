@@ -4,7 +4,8 @@ use Rattle.bn_machine.specs.Machine.{IsMachine, final_of}
 use Rattle.bn_quad.specs.Calls.{IsMadeOf, IsQuadRefusal}
 use Rattle.bn_quad.specs.declared.quad.Quad.{Quad}
 use Rattle.bn_bennett_laws.specs.List.{symbols_of}
-use Rattle.bn_bennett.proofs.Machines.{count_names, count_quads, count_rules, made_translation, no_quad_refusal, own_counts, own_made, own_symbols, own_translation, passes, sound}
+use Rattle.bn_quad.proofs.SoundLemmas.{no_quad_refusal}
+use Rattle.bn_bennett.proofs.Machines.{count_names, count_quads, count_rules, made_translation, own_counts, own_made, own_symbols, own_translation, passes, sound}
 use Rattle.bn_bennett_laws.proofs.Counts.{list_is_in_range}
 use Rattle.bn_bennett_laws.proofs.Counts.{list_has_length}
 use Rattle.bn_bennett_laws.proofs.Counts.{list_counts_names}
