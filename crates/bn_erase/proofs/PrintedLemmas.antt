@@ -5,8 +5,8 @@ use Rattle.std.proofs.Common.{refl, sym, ap, ◌∙◌, subst, arith, get_or, le
 use Rattle.std.proofs.lemmas.Bool.{and_from, and_parts}
 use Rattle.std.proofs.lemmas.Bool.Decides.{nat_tests}
 use Rattle.std.proofs.lemmas.Fmt.{length-decimal-le}
-use Rattle.std.proofs.lemmas.List.{length-map, map-append, take_more}
-use Rattle.std.proofs.lemmas.Option.{get_or_from_slice_get, same_Some, slice_get-get_or}
+use Rattle.std.proofs.lemmas.List.{length-map}
+use Rattle.std.proofs.lemmas.Option.{same_Some, slice_get-get_or}
 use Rattle.bn_csv.specs.Forms.{is_name_byte, is_state_name, is_symbol}
 use Rattle.bn_csv.proofs.FormsLemmas.{all-at}
 use Rattle.bn_machine.specs.Machine.{IsMachine, Program}
@@ -19,12 +19,11 @@ use Rattle.bn_bennett.specs.Printed.{mark, one_byte, print_of, bennett_state_tex
 use Rattle.bn_bennett.proofs.Counting.{each_mentioned}
 use Rattle.bn_bennett.proofs.Forms.{letters_form, numbers_form, states_form}
 use Rattle.bn_bennett.proofs.Printable.{number_bound}
-use Rattle.bn_bennett.proofs.Texts.{length-number_names, not_among_front, state_text-once, text_new, text_room}
+use Rattle.bn_bennett.proofs.Texts.{length-number_names, state_text-once, text_new, text_room}
 use Rattle.bn_erase_laws.specs.Erasing.{IsErasingName}
 use Rattle.bn_erase_laws.specs.ErasingLaws.{ErasingCountsNames, ErasingHasNames}
 use Rattle.bn_erase_laws.specs.declared.name.ErasingName.{ErasingName}
 use Rattle.bn_erase_laws.specs.declared.name.ErasingName.TheVariants.{First, Second}
-use Rattle.bn_erase.specs.Joint.{IsAlphabet}
 use Rattle.bn_erase.specs.Laws.{ErasingsHaveNames}
 use Rattle.bn_erase.specs.Made.{Erasure, IsErasing}
 use Rattle.bn_erase.specs.Printable.{ArePrintable, own_name}

@@ -10,7 +10,7 @@ use Rattle.bn_machine.specs.Tape.{Tape, scanned, ahead, word_tape}
 use Rattle.bn_machine.proofs.TapeLemmas.{write-scanned, scanned-ahead}
 use Rattle.bn_machine.specs.Window.{anywhere}
 use Rattle.bn_machine.specs.Machine.{Program, Moment, MachineRunsTo, IsFinal, start, final_of}
-use Rattle.bn_lists.specs.Lists.{nth, IsIn}
+use Rattle.bn_lists.specs.Lists.{IsIn}
 use Rattle.bn_machine.specs.Machine as machine
 use Rattle.bn_machine.specs.Run.{After, Follows, IsOutput, Ending, EndsAt, halts, sticks, runs}
 use Rattle.bn_machine.proofs.MachineStepLemmas.{run_follows}
