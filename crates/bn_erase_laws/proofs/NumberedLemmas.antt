@@ -1,22 +1,14 @@
 -- The erasing machine over numbers: the tests, its ends, and its runs.
 use Rattle.std.specs.Prelude.{◌≡◌, ℕ, zero, suc, ◌+◌, ◌<◌, List, [], ◌∷◌, ◌++◌, length, Some}
-use Rattle.std.proofs.Common.{sym, ap, ◌∙◌, subst, arith, length-append}
-use Rattle.std.proofs.lemmas.List.{length-map}
-use Rattle.bn_lists.specs.Runs.{Reaches}
+use Rattle.std.proofs.Common.{ap, ◌∙◌, subst, arith, length-append}
 use Rattle.bn_machine.specs.Machine.{Program}
-use Rattle.bn_lists.specs.Lists.{nth, IsIn}
-use Rattle.bn_quad.specs.Quadruples.{Rule, Configuration, turned, turned_list, Rooms, initial_of, final_state_of}
-use Rattle.bn_quad.specs.Overlap.{HasNoClash}
+use Rattle.bn_lists.specs.Lists.{nth}
+use Rattle.bn_quad.specs.Quadruples.{Rule, turned, turned_list}
 use Rattle.bn_quad.proofs.ReversibleLemmas.{nth-turned_list}
-use Rattle.bn_quad.specs.declared.clash.Clash.TheVariants.{Domain, Range}
 use Rattle.bn_bennett_laws.specs.List.{bennett}
-use Rattle.bn_bennett_laws.specs.Names.{states_in, IsUniformFrom}
-use Rattle.bn_bennett_laws.proofs.NumberLemmas.{uniform_numbers, run_of_goes, run_of_steps}
-use Rattle.bn_bennett_laws.specs.Renamed.{renamed, rename, in_state}
-use Rattle.bn_bennett_laws.proofs.RenamedLemmas.{to_in, nth_before, no_clash_before, uniform_before, run_renamed, run_before, ends_renamed, ends_before}
+use Rattle.bn_bennett_laws.specs.Renamed.{renamed}
 use Rattle.bn_bennett_laws.specs.Stages.{IsStandardMachine}
-use Rattle.bn_bennett_laws.specs.Steps.{Steps, Exit, EndsAt}
-use Rattle.bn_bennett_laws.proofs.Numbering.{first_state, last_state}
+use Rattle.bn_bennett_laws.proofs.Numbering.{pass_tests, run_alike}
 use Rattle.bn_bennett_laws.proofs.Counts.{list_has_ends}
 use Rattle.bn_erase_laws.specs.declared.name.ErasingName.{ErasingName}
 use Rattle.bn_erase_laws.specs.declared.name.ErasingName.TheVariants.{First}
@@ -76,69 +68,13 @@ module _ (p q : Program) (left : IsStandardMachine p) (right : IsStandardMachine
       let count : length (erasing p q) ≡ length (first_half p) + length (bennett q) = length-append (first_half p) (second_half p q) ∙ ap (λ n. length (first_half p) + n) (length-second p q) in
       (last.0, nth_right (first_half p) (second_half p q) (length (bennett q)) (length (erasing p q)) last.0 count some_quadruple last.1, last.2)
 
--- ---- any list over numbers
-
-module _ {Q : Type 0} (name : ℕ → Q) (rs : List (Rule ℕ)) (list : List (Rule Q)) (same : rename name rs ≡ list) where
-  -- the first rule, before renaming, and the last
-  initial_named : (r : Rule Q) → nth list 1 ≡ Some r → name (initial_of rs) ≡ r.from
-  initial_named r e =
-      let first = nth_before name rs 1 r (ap (λ ss. nth ss 1) same ∙ e) in
-      ap name (sym (first_state rs first.0 first.1)) ∙ ap (λ (r : Rule Q). r.from) first.2
-
-  last_before : (r : Rule Q) → nth list (length list) ≡ Some r → (s : Rule ℕ) × (nth rs (length rs) ≡ Some s) × (renamed name s ≡ r)
-  last_before r e =
-      let count : length list ≡ length rs = ap length (sym same) ∙ length-map rs (renamed name) in
-      nth_before name rs (length rs) r (ap (λ ss. nth ss (length rs)) same ∙ subst (λ n. nth list n ≡ Some r) count e)
-
-  final_named : (r : Rule Q) → nth list (length list) ≡ Some r → name (final_state_of rs) ≡ r.to
-  final_named r e =
-      let last = last_before r e in
-      ap name (sym (last_state rs last.0 last.1)) ∙ ap (λ (r : Rule Q). r.to) last.2
-
-  final_listed : (r : Rule Q) → nth list (length list) ≡ Some r → IsIn (states_in rs) (final_state_of rs)
-  final_listed r e =
-      let last = last_before r e in
-      subst (IsIn (states_in rs)) (last_state rs last.0 last.1) (to_in rs last.0 (record { place = length rs; stands = last.1 }))
-
--- the same runs, and the same ends, where rules and final state are the same
-same_runs : {Q : Type 0} (rooms : Rooms) (rs ss : List (Rule Q)) (f g : Q) (n : ℕ) (x y : Configuration Q) → rs ≡ ss → f ≡ g → Reaches (Steps rooms rs f) n x y → Reaches (Steps rooms ss g) n x y
-same_runs rooms rs ss f g n x y rules finals run = subst (λ t. Reaches (Steps rooms t g) n x y) rules (subst (λ h. Reaches (Steps rooms rs h) n x y) finals run)
-
-same_ends : {Q : Type 0} (rooms : Rooms) (rs ss : List (Rule Q)) (f g : Q) (x : Configuration Q) (e : Exit) → rs ≡ ss → f ≡ g → EndsAt rooms rs f x e → EndsAt rooms ss g x e
-same_ends rooms rs ss f g x e rules finals ends = subst (λ t. EndsAt rooms t g x e) rules (subst (λ h. EndsAt rooms rs h x e) finals ends)
-
 -- ---- the laws
 
 pub erasing_numbers_pass_tests : ErasingNumbersPassTests
 erasing_numbers_pass_tests p q left right name rs same =
     let tests = erasing_passes_tests p q left right in
-    let first = has_first p q left right in
-    let last = has_last p q left right in
-    let initial : name (initial_of rs) ≡ erasing_initial p = initial_named name rs (erasing p q) same first.0 first.1 ∙ first.2 in
-    let final : name (final_state_of rs) ≡ erasing_final q = final_named name rs (erasing p q) same last.0 last.1 ∙ last.2 in
-    let named : IsUniformFrom (name (initial_of rs)) (name (final_state_of rs)) (rename name rs) =
-    subst (λ n. IsUniformFrom n (name (final_state_of rs)) (rename name rs)) (sym initial)
-    (subst (λ n. IsUniformFrom (erasing_initial p) n (rename name rs)) (sym final)
-    (subst (IsUniformFrom (erasing_initial p) (erasing_final q)) (sym same) tests.2)) in (
-      no_clash_before name rs Domain (subst (HasNoClash Domain) (sym same) tests.0),
-      no_clash_before name rs Range (subst (HasNoClash Range) (sym same) tests.1),
-      (uniform_numbers rs).1 (uniform_before name rs (initial_of rs) (final_state_of rs) named),
-      initial,
-      final,
-    )
+    pass_tests name rs (erasing p q) (erasing_initial p) (erasing_final q) (has_first p q left right) (has_last p q left right) same tests.0 tests.1 tests.2
 
 pub erasing_numbers_run_alike : ErasingNumbersRunAlike
 erasing_numbers_run_alike p q left right name machine same keeps rooms c here =
-    let tests = erasing_numbers_pass_tests p q left right name machine.rules same in
-    let final : name (final_state_of machine.rules) ≡ erasing_final q = tests.4 in
-    let last = has_last p q left right in
-    let listed = final_listed name machine.rules (erasing p q) same last.0 last.1 in (
-      λ n d run. same_runs rooms _ _ _ _ n (in_state name c) (in_state name d) same final (run_renamed name machine.rules keeps rooms (final_state_of machine.rules) listed n c d (run_of_goes rooms machine n c d run)),
-      λ n e run.
-          let found = run_before name machine.rules keeps rooms (final_state_of machine.rules) listed n c e here (same_runs rooms _ _ _ _ n (in_state name c) e (sym same) (sym final) run) in
-          (found.0, run_of_steps rooms machine tests.0 n c found.0 found.1, found.2, found.3),
-      λ e. (
-        λ h. same_ends rooms _ _ _ _ (in_state name c) e same final (ends_renamed name machine.rules keeps rooms (final_state_of machine.rules) listed c e here h),
-        λ h. ends_before name machine.rules keeps rooms (final_state_of machine.rules) listed c e here (same_ends rooms _ _ _ _ (in_state name c) e (sym same) (sym final) h),
-      ),
-    )
+    run_alike name machine (erasing p q) (erasing_initial p) (erasing_final q) (has_first p q left right) (has_last p q left right) same (erasing_numbers_pass_tests p q left right name machine.rules same).0 keeps rooms c here
