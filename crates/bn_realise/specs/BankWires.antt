@@ -1,11 +1,11 @@
 -- The wires of a bank: where they begin and end, that they are one to one, and lists of them column by column.
 use Rattle.std.specs.Prelude.{◌≡◌, ℕ, ◌+◌, ◌<◌, ◌≤◌, Some}
-use Rattle.bn_element.specs.Tables.{Table, IsReversible}
+use Rattle.bn_element.specs.Tables.{Table}
 use Rattle.bn_circuits.specs.declared.line.Line.{Line}
 use Rattle.bn_element.specs.Rotary.{east, west}
 use Rattle.bn_column.specs.Columns.{IsInner}
 use Rattle.bn_circuits.specs.Circuits.{line_at}
-use Rattle.bn_realise.specs.Banks.{column_at, inner, across}
+use Rattle.bn_realise.specs.Banks.{column_at}
 
 -- the numbers of a bank's own wire: both ends are lines of the bank
 pub record IsWithinLines (b : ℕ) (t : Table) (from to : Line) : Type 0 where

@@ -19,9 +19,7 @@ pub fn bank_wires<E: Element>(alloc: Global, machine: &E, first: u32) -> Result<
         length v.items ≤ (E.table machine.now).states * (4 * (E.table machine.now).inputs + 3)) }
 {
     let (states, lines) = (machine.states() as usize, machine.lines_in() as usize);
-    let Ok(mut wires) = Vec::with_capacity(alloc, states * (4 * lines + 3)) else {
-        return Err(NoMemory);
-    };
+    let mut wires = Vec::with_capacity(alloc, states * (4 * lines + 3))?;
     for column in 0..machine.states() {
         push_column(alloc, &mut wires, machine, first, column)?;
     }
@@ -44,10 +42,8 @@ fn push_column<E: Element>(
         length wires.new.items ≤ length wires.old.items + (4 * (E.table machine.now).inputs + 3)) }
 {
     let rows = machine.lines_in();
-    let Ok(inner) = column_wires(alloc, element_at(first, rows, column, 0), rows) else {
-        return Err(NoMemory);
-    };
-    extend(wires, inner.as_slice())?;
+    let inner = column_wires(alloc, element_at(first, rows, column, 0), rows)?;
+    wires.extend_from_slice(inner.as_slice())?;
     for row in 0..rows {
         push_onward(wires, machine, first, column, row)?;
         push_turned(wires, machine, first, column, row)?;
@@ -76,7 +72,7 @@ fn push_onward<E: Element>(
     let rows = machine.lines_in();
     let from = element_at(first, rows, column, row);
     let to = element_at(first, rows, column + 1, row);
-    push(wires, wire(from, EAST, to, WEST))?;
+    wires.push(wire(from, EAST, to, WEST))?;
     Ok(())
 }
 
@@ -101,7 +97,7 @@ fn push_turned<E: Element>(
     let rows = machine.lines_in();
     let from = element_at(first, rows, column, row);
     let to = element_at(first, rows, next, out);
-    push(wires, wire(from, WEST, to, EAST))?;
+    wires.push(wire(from, WEST, to, EAST))?;
     Ok(())
 }
 
@@ -112,22 +108,4 @@ fn element_at(first: u32, rows: u32, column: u32, row: u32) -> u32
 {
     let before = u64::from(column) * (u64::from(rows) + 1);
     (u64::from(first) + before + u64::from(row)) as u32
-}
-
-fn push(wires: &mut Vec<Wire>, wire: Wire) -> Result<(), NoMemory>
-    ensures { OnOk result (wires.new.items ≡ wires.old.items ++ wire ∷ []) }
-{
-    match wires.push(wire) {
-        Ok(()) => Ok(()),
-        Err(_) => Err(NoMemory),
-    }
-}
-
-fn extend(wires: &mut Vec<Wire>, more: &[Wire]) -> Result<(), NoMemory>
-    ensures { OnOk result (wires.new.items ≡ wires.old.items ++ more.now) }
-{
-    match wires.extend_from_slice(more) {
-        Ok(()) => Ok(()),
-        Err(_) => Err(NoMemory),
-    }
 }

@@ -13,4 +13,4 @@ element_at-to-requires g c =
 
 pub returns-clause-stage : goal.returns-clause-stage
 returns-clause-stage g c =
-    stage_pushed c.args.first (g.E.Element.table c.args.machine.now) c.lines_in-rows.result c.args.column c.args.row c.in-Some.next c.in-Some.out c.element_at-from.result c.element_at-to.result c.args.wires.now.items c.push.new.wires.items c.wire.result (g.met.E.Element.reversible c.args.machine.now) c.requires.room c.lines_in-rows.ensures c.requires.column c.requires.row (sym c.go.ensures ∙ c.in-Some.is) c.element_at-from.ensures c.element_at-to.ensures c.wire.ensures c.in_ok-push.ensures c.requires.half
+    stage_pushed c.args.first (g.E.Element.table c.args.machine.now) c.lines_in-rows.result c.args.column c.args.row c.in-Some.next c.in-Some.out c.element_at-from.result c.element_at-to.result c.args.wires.now.items c.push.new.self.items c.wire.result (g.met.E.Element.reversible c.args.machine.now) c.requires.room c.lines_in-rows.ensures c.requires.column c.requires.row (sym c.go.ensures ∙ c.in-Some.is) c.element_at-from.ensures c.element_at-to.ensures c.wire.ensures c.in_ok-push.ensures.items c.requires.half
