@@ -19,7 +19,7 @@ use Rattle.bn_table.proofs.RowsLemmas.{one_symbol}
 use Rattle.bn_quad.specs.Names.{Naming, naming_of, symbols_on, with_state, with_symbol}
 use Rattle.bn_bennett_laws.specs.declared.name.Name.{Name}
 use Rattle.bn_bennett_laws.specs.declared.name.Name.TheVariants.{Compute, ComputeWithin, GoRight, CopyLetter, GoLeft, PassLetter, Retrace, RetraceWithin}
-use Rattle.bn_bennett.specs.Printed.{AreDifferent, ArePrintable, mark, number_names, one_byte, printed, print_of, bennett_state_text, with_states, on_tape}
+use Rattle.bn_bennett.specs.Printed.{AreLetters, ArePrintable, mark, number_names, one_byte, printed, print_of, bennett_state_text, with_states, on_tape}
 use Rattle.bn_bennett.specs.declared.naming.Print.{Print}
 
 -- ---- a text tells its letter, its number and its prime
@@ -161,10 +161,10 @@ module _ (n : Naming) (tape : ℕ) (low : 1 ≤ tape) (old new : Naming) (texts 
   symbol_new none there = let P : List (List ℕ) → Type 0 = λ ts. Contains ts text in none (subst P symbols_before there)
 
 -- a letter isn't among those before it
-pub letter_new : (letters : List ℕ) → AreDifferent letters → (i d : ℕ) → i < length letters → Contains (map one_byte (take i letters)) (one_byte (get_or letters i d)) → ⊥
-letter_new letters apart i d inside = not_among_front one_byte letters i d inside (λ j low e.
+pub letter_new : (letters : List ℕ) → AreLetters letters → (i d : ℕ) → i < length letters → Contains (map one_byte (take i letters)) (one_byte (get_or letters i d)) → ⊥
+letter_new letters all i d inside = not_among_front one_byte letters i d inside (λ j low e.
     let same : get_or letters j d ≡ get_or letters i d = cc in
-    let equal : j ≡ i = apart.same j i (get_or letters i d) (slice_get-get_or letters j d (omega arith) ∙ ap Some same) (slice_get-get_or letters i d inside) in
+    let equal : j ≡ i = all.apart j i (get_or letters i d) (slice_get-get_or letters j d (omega arith) ∙ ap Some same) (slice_get-get_or letters i d inside) in
     omega arith)
 
 pub letters_before : (letters : List ℕ) (i : ℕ) → i < length letters → length (map one_byte (take i letters)) ≡ i
@@ -173,11 +173,12 @@ letters_before letters i inside = length-map (take i letters) one_byte ∙ lengt
 pub letters_more : (letters : List ℕ) (i d : ℕ) → i < length letters → map one_byte (take i letters) ++ one_byte (get_or letters i d) ∷ [] ≡ map one_byte (take (i + 1) letters)
 letters_more letters i d inside = texts_more one_byte letters i d (one_byte (get_or letters i d)) inside refl
 
--- a table's letters are few and apart
-pub table_letters : (t : Named) → IsTable t → (letters : List ℕ) → letters ≡ t.letters → AreDifferent letters × (length letters < 2 ^ 32)
-table_letters t table letters is =
-    let P : List ℕ → Type 0 = λ ls. AreDifferent ls × (length ls < 2 ^ 32) in
-    subst P (sym is) (record { same = one_symbol t table }, omega (arith, few-letters t.names t.letters t.machine.quints _ table.spelled))
+-- so are a table's letters
+pub table_letters : (t : Named) → IsTable t → (letters : List ℕ) → letters ≡ t.letters → AreLetters letters
+table_letters t table letters is = subst AreLetters (sym is) (record {
+  few = omega (arith, few-letters t.names t.letters t.machine.quints _ table.spelled);
+  apart = one_symbol t table;
+})
 
 -- ---- the numbers of the history
 

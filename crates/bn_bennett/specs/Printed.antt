@@ -44,9 +44,10 @@ pub record ArePrintable (names : List Name) : Type 0 where
 
 -- ---- symbols
 
--- no two of these letters are the same
-pub record AreDifferent (letters : List ℕ) : Type 0 where
-  pub same : (m n letter : ℕ) → slice_get letters m ≡ Some letter → slice_get letters n ≡ Some letter → m ≡ n
+-- letters of symbols: fewer than 2^32, and no two of them the same
+pub record AreLetters (letters : List ℕ) : Type 0 where
+  pub few : length letters < 2 ^ 32
+  pub apart : (m n letter : ℕ) → slice_get letters m ≡ Some letter → slice_get letters n ≡ Some letter → m ≡ n
 
 -- a letter's text
 abbrev pub one_byte : ℕ → List ℕ

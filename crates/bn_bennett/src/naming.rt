@@ -6,7 +6,7 @@ ghost use Rattle.bn_qtable.specs.Named.{HasNames};
 ghost use Rattle.bn_qtable.specs.Rows.{IsTable, table_of};
 ghost use Rattle.bn_bennett.specs.Translation.{IsTranslation};
 ghost use Rattle.bn_bennett.specs.Printed.{print_of, bennett_state_text, one_byte, number_names, ArePrintable};
-ghost use Rattle.bn_bennett.specs.Printed.{AreDifferent, with_states};
+ghost use Rattle.bn_bennett.specs.Printed.{AreLetters, with_states};
 ghost use Rattle.bn_bennett.specs.Printed.{on_tape, translation_names};
 
 use crate::laws::{translations_are_tables, translations_have_names};
@@ -84,12 +84,11 @@ fn add_states(alloc: Global, names: &mut QuadNames, states: &[Name]) -> Result<(
 }
 
 /// Names the symbols of a tape from 1 to 3, which have no names yet, by these letters, no two of them the same. After
-/// `NoMemory` some of them have names.
+/// `NoMemory` some of the symbols have names.
 pub fn add_letters(names: &mut QuadNames, tape: u32, letters: &[u8]) -> Result<(), NoMemory>
     requires first { 1 ≤ tape }
     requires last { tape ≤ 3 }
-    requires few { length letters.now < 2 ^ 32 }
-    requires apart { AreDifferent letters.now }
+    requires letters { AreLetters letters.now }
     requires empty { symbols_on names.old tape ≡ [] }
     ensures { OnOk result (names.new ≡ on_tape names.old tape (map one_byte letters.now)) }
 {

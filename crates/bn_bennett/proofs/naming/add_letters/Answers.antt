@@ -10,7 +10,7 @@ add_symbol-requires-clause-new c =
     let letters = c.args.letters.now in
     let i = c.loop-letter.letter-index in
     symbol_new c.args.names.now c.args.tape c.requires.first c.loop-letter.names c.loop-letter.names (map one_byte (take i letters)) (one_byte (get_or letters i 0)) c.loop-letter.invariant
-    (letter_new letters c.requires.apart i 0 c.loop-letter-test.true)
+    (letter_new letters c.requires.letters i 0 c.loop-letter-test.true)
 
 pub add_symbol-requires-clause-room : goal.add_symbol-requires-clause-room
 add_symbol-requires-clause-room c =
@@ -18,7 +18,7 @@ add_symbol-requires-clause-room c =
     let i = c.loop-letter.letter-index in
     let long : length (symbols_on c.loop-letter.names c.args.tape) ≡ i =
     ap length (symbols_before c.args.names.now c.args.tape c.requires.first c.loop-letter.names c.loop-letter.names (map one_byte (take i letters)) (one_byte (get_or letters i 0)) c.loop-letter.invariant) ∙ letters_before letters i c.loop-letter-test.true in
-    omega (arith, long, c.loop-letter-test.true, c.requires.few)
+    omega (arith, long, c.loop-letter-test.true, c.requires.letters.few)
 
 pub loop-letter-preserved : goal.loop-letter-preserved
 loop-letter-preserved c =

@@ -15,14 +15,8 @@ add_states-requires-clause-printable c =
     subst P (sym c.names.ensures.value)
     (printable c.args.table.now.machine c.args.translated.now (subst IsMachine c.machine.ensures.value c.quints.ensures.valid) c.machine.ensures.fits list_has_names list_counts_names c.requires)
 
-pub add_letters-requires-clause-apart : goal.add_letters-requires-clause-apart
-add_letters-requires-clause-apart c = (table_letters c.args.table.now c.letters.ensures.valid c.letters.result.now c.letters.ensures.value).0
+pub add_letters-requires-clause-letters : goal.add_letters-requires-clause-letters
+add_letters-requires-clause-letters c = table_letters c.args.table.now c.letters.ensures.valid c.letters.result.now c.letters.ensures.value
 
-pub add_letters-requires-clause-few : goal.add_letters-requires-clause-few
-add_letters-requires-clause-few c = (table_letters c.args.table.now c.letters.ensures.valid c.letters.result.now c.letters.ensures.value).1
-
-pub add_letters-requires-2-clause-apart : goal.add_letters-requires-2-clause-apart
-add_letters-requires-2-clause-apart c = (table_letters c.args.table.now c.letters-2.ensures.valid c.letters-2.result.now c.letters-2.ensures.value).0
-
-pub add_letters-requires-2-clause-few : goal.add_letters-requires-2-clause-few
-add_letters-requires-2-clause-few c = (table_letters c.args.table.now c.letters-2.ensures.valid c.letters-2.result.now c.letters-2.ensures.value).1
+pub add_letters-requires-2-clause-letters : goal.add_letters-requires-2-clause-letters
+add_letters-requires-2-clause-letters c = table_letters c.args.table.now c.letters-2.ensures.valid c.letters-2.result.now c.letters-2.ensures.value

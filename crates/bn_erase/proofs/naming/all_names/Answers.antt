@@ -2,7 +2,7 @@
 use Rattle.std.proofs.Common.{◌<◌, ◌^◌, ◌≡◌, List, ℕ, arith, length, subst, sym}
 use Rattle.bn_machine.specs.Machine.{IsMachine}
 use Rattle.bn_erase_laws.specs.declared.name.ErasingName.{ErasingName}
-use Rattle.bn_bennett.specs.Printed.{AreDifferent}
+use Rattle.bn_bennett.specs.Printed.{AreLetters}
 use Rattle.bn_erase.specs.Joint.{Joint, IsJoint}
 use Rattle.bn_erase.specs.Printable.{ArePrintable}
 use Rattle.bn_erase.proofs.PrintedLemmas.{printable}
@@ -17,20 +17,12 @@ add_states-requires-clause-printable c =
     subst P (sym c.names.ensures)
     (printable j.first j.second c.args.erasing.now left right c.first.ensures.valid.first_fits c.first.ensures.valid.second_fits c.requires c.erasing_names.ensures.names c.erasing_names.ensures.count)
 
--- the letters are few and apart
-joint_letters : (j : Joint) → IsJoint j → (letters : List ℕ) → letters ≡ j.letters → AreDifferent letters × (length letters < 2 ^ 32)
-joint_letters j h letters is =
-    let P : List ℕ → Type 0 = λ ls. AreDifferent ls × (length ls < 2 ^ 32) in
-    subst P (sym is) (record { same = h.alphabet.apart }, omega (arith, h.first_symbols, h.first_fits.symbols))
+-- the joint letters are letters of symbols
+joint_letters : (j : Joint) → IsJoint j → (letters : List ℕ) → letters ≡ j.letters → AreLetters letters
+joint_letters j h letters is = subst AreLetters (sym is) (record { few = omega (arith, h.first_symbols, h.first_fits.symbols); apart = h.alphabet.apart })
 
-pub add_letters-requires-clause-apart : goal.add_letters-requires-clause-apart
-add_letters-requires-clause-apart c = (joint_letters c.args.joined.now c.letters.ensures.valid c.letters.result.now c.letters.ensures.value).0
+pub add_letters-requires-clause-letters : goal.add_letters-requires-clause-letters
+add_letters-requires-clause-letters c = joint_letters c.args.joined.now c.letters.ensures.valid c.letters.result.now c.letters.ensures.value
 
-pub add_letters-requires-clause-few : goal.add_letters-requires-clause-few
-add_letters-requires-clause-few c = (joint_letters c.args.joined.now c.letters.ensures.valid c.letters.result.now c.letters.ensures.value).1
-
-pub add_letters-requires-2-clause-apart : goal.add_letters-requires-2-clause-apart
-add_letters-requires-2-clause-apart c = (joint_letters c.args.joined.now c.letters-2.ensures.valid c.letters-2.result.now c.letters-2.ensures.value).0
-
-pub add_letters-requires-2-clause-few : goal.add_letters-requires-2-clause-few
-add_letters-requires-2-clause-few c = (joint_letters c.args.joined.now c.letters-2.ensures.valid c.letters-2.result.now c.letters-2.ensures.value).1
+pub add_letters-requires-2-clause-letters : goal.add_letters-requires-2-clause-letters
+add_letters-requires-2-clause-letters c = joint_letters c.args.joined.now c.letters-2.ensures.valid c.letters-2.result.now c.letters-2.ensures.value
