@@ -65,9 +65,7 @@ fn assemble_fitting(
         × IsAssembled machine.now (limits_of windows.now) word.now names a) }
     ensures refused { IfErr result (IsRefusal machine.now (limits_of windows.now) word.now) }
 {
-    let Ok(control) = control(alloc, machine) else {
-        return Err(AssembleRefusal::NoMemory);
-    };
+    let control = control(alloc, machine)?;
     let machine = machine.machine();
     // (for the prover: the contract of this call tells what the type keeps.)
     let _ = machine.quads();
@@ -75,10 +73,7 @@ fn assemble_fitting(
     if count > MOST_ELEMENTS {
         return Err(AssembleRefusal::Elements { count });
     }
-    match join(alloc, control, machine, windows, word) {
-        Ok(assembly) => Ok(assembly),
-        Err(_) => Err(AssembleRefusal::NoMemory),
-    }
+    Ok(join(alloc, control, machine, windows, word)?)
 }
 
 /// How many elements the flat board of a uniform machine's network has in these windows. It takes no memory.

@@ -26,7 +26,7 @@ pub(crate) fn network_modules(
     ensures { IfOk result (λ v. AreModules machine.now (limits_of windows.now) control v.items) }
 {
     let mut modules = Vec::new(alloc);
-    push(&mut modules, Module::Control(control))?;
+    modules.push(Module::Control(control))?;
     push_row(&mut modules, letters(machine, 1), windows.cells(1))?;
     push_row(&mut modules, letters(machine, 2), windows.cells(2))?;
     push_row(&mut modules, letters(machine, 3), windows.cells(3))?;
@@ -50,16 +50,7 @@ fn push_row(modules: &mut Vec<Module>, symbols: u32, count: u32) -> Result<(), N
     ensures { OnOk result (IsRow modules.old.items symbols count modules.new.items) }
 {
     for _ in 0..count {
-        push(modules, Module::Cell(CellTable { symbols }))?;
+        modules.push(Module::Cell(CellTable { symbols }))?;
     }
     Ok(())
-}
-
-fn push(modules: &mut Vec<Module>, added: Module) -> Result<(), NoMemory>
-    ensures { OnOk result (modules.new.items ≡ modules.old.items ++ added ∷ []) }
-{
-    match modules.push(added) {
-        Ok(()) => Ok(()),
-        Err(_) => Err(NoMemory),
-    }
 }

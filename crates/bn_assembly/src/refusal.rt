@@ -1,5 +1,7 @@
 //! Why a network isn't assembled.
 
+use bn_control::NoMemory;
+
 /// Why `assemble` refuses; tested in this order.
 #[derive(Clone, Copy, PartialEq, Eq, Debug)]
 pub enum AssembleRefusal {
@@ -15,4 +17,15 @@ pub enum AssembleRefusal {
     },
     /// There is not enough memory.
     NoMemory,
+}
+
+impl From<NoMemory> for AssembleRefusal {
+    ghost use Rattle.std.specs.Prelude.{◌≡◌};
+    ghost use Rattle.bn_assembly.specs.declared.refusal.AssembleRefusal.TheVariants.{NoMemory};
+
+    ghost from_gives = { λ _ refusal. refusal ≡ NoMemory };
+
+    fn from(_want: NoMemory) -> AssembleRefusal {
+        AssembleRefusal::NoMemory
+    }
 }

@@ -28,7 +28,7 @@ pub(crate) fn start_states(
     ensures { IfOk result (λ v. v.items ≡ (network_start machine.now (limits_of windows.now) word.now).states) }
 {
     let mut states = Vec::new(alloc);
-    push(&mut states, 0)?;
+    states.push(0)?;
     push_cells(
         &mut states,
         machine.symbols(1),
@@ -55,7 +55,7 @@ fn push_cells(
     ensures { OnOk result (states.new.items ≡ states.old.items ++ start_cells symbols left word.now right) }
 {
     for cell in 0..left + right + 1 {
-        push(states, start_state(symbols, left, cell, word))?;
+        states.push(start_state(symbols, left, cell, word))?;
     }
     Ok(())
 }
@@ -72,13 +72,4 @@ fn start_state(symbols: u32, left: u32, cell: u32, word: &[u32]) -> u32
     }
     let letter = (cell - left - 1) as usize;
     if letter < word.len() { word[letter] } else { 0 }
-}
-
-fn push(states: &mut Vec<u32>, state: u32) -> Result<(), NoMemory>
-    ensures { OnOk result (states.new.items ≡ states.old.items ++ state ∷ []) }
-{
-    match states.push(state) {
-        Ok(()) => Ok(()),
-        Err(_) => Err(NoMemory),
-    }
 }

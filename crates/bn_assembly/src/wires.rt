@@ -94,7 +94,7 @@ fn push_bundle(wires: &mut Vec<Wire>, from: Line, to: Line, count: u32) -> Resul
             from: at(from.element, from.line + number),
             to: at(to.element, to.line + number),
         };
-        push(wires, wire)?;
+        wires.push(wire)?;
     }
     Ok(())
 }
@@ -103,13 +103,4 @@ fn at(element: u32, line: u32) -> Line
     ensures { result ≡ line_at element line }
 {
     Line { element, line }
-}
-
-fn push(wires: &mut Vec<Wire>, wire: Wire) -> Result<(), NoMemory>
-    ensures { OnOk result (wires.new.items ≡ wires.old.items ++ wire ∷ []) }
-{
-    match wires.push(wire) {
-        Ok(()) => Ok(()),
-        Err(_) => Err(NoMemory),
-    }
 }

@@ -1,19 +1,17 @@
 use Rattle.std.specs.Prelude.{map}
 use Rattle.bn_assembly.specs.Modules.{module_table}
-use Rattle.std.proofs.Common.{List, refl, ◌≡◌, ◌∙◌, ℕ, ◌<◌, ◌≤◌, length, arith, sym, ap, subst}
+use Rattle.std.proofs.Common.{List, refl, ◌∙◌, sym, subst}
 use Rattle.bn_element.specs.Tables.{Table}
 use Rattle.bn_circuits.specs.declared.line.Wire.{Wire}
 use Rattle.bn_circuits.specs.declared.place.Place.TheVariants.{Enter}
 use Rattle.bn_net.specs.Faults.{AreFaultless}
 use Rattle.bn_rsm.specs.Machines.{machine_table}
-use Rattle.bn_network.specs.Networks.{IsTape, IsNetWire, module_tables}
+use Rattle.bn_network.specs.Networks.{IsNetWire, module_tables}
 use Rattle.bn_network_laws.proofs.WiredLemmas.{wired}
 use Rattle.bn_assembly.specs.Assembled.{limits_of}
 use Rattle.bn_assembly.specs.WireLists.{network_wires}
 use Rattle.bn_assembly.proofs.FaultLemmas.{wires-faultless}
 use Rattle.bn_assembly.proofs.JoinLemmas.{joined_some, tables_are}
-use Rattle.bn_assembly.proofs.PushLemmas.{network_count}
-use Rattle.bn_assembly.proofs.SymbolLemmas.{some_letters}
 use Rattle.bn_assembly.proofs.WireLemmas.{network_wires-are}
 use Rattle.bn_assembly.proofs.make.join.Goals as goal
 
