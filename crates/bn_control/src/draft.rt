@@ -8,7 +8,7 @@ use crate::numbered::{numbered, rsm_moves};
 use crate::order::in_order;
 use crate::state::State;
 use crate::states::number_of;
-use bn_rsm::{Rsm, RsmRefusal};
+use bn_rsm::{NoMemory, Rsm};
 use std::alloc::{AllocError, Global};
 
 /// What a control is made of: the numbers of symbols of a machine of quadruples, what is sent first in each of its
@@ -34,7 +34,7 @@ impl Draft {
     ghost use Rattle.bn_control.specs.Made.{TellsAwaited};
 
     /// The control as a sequential machine.
-    pub(crate) fn rsm(&self, alloc: Global) -> Result<Rsm, AllocError>
+    pub(crate) fn rsm(&self, alloc: Global) -> Result<Rsm, NoMemory>
         requires { IsSomeDraft self.now }
         ensures { (m : Quadruples) → IsDraft m self.now
             → IfOk result (λ r. IsControlTable m (map name_of self.now.states.items) (machine_table r)) }
@@ -44,10 +44,7 @@ impl Draft {
         let ordered = in_order(numbered)?;
         let moves = rsm_moves(alloc, ordered.as_slice())?;
         let lines = lines_before(&self.symbols, 3);
-        match Rsm::try_new(alloc, states.len() as u32, lines, moves) {
-            Ok(rsm) => Ok(rsm),
-            Err(refusal) => Err(want_of_memory(refusal)),
-        }
+        Rsm::new(alloc, states.len() as u32, lines, moves)
     }
 
     /// For each state of the machine of quadruples the control's state that awaits the answer to its first command,
@@ -108,11 +105,4 @@ impl Draft {
             _ => None,
         }
     }
-}
-
-// The one refusal that sound moves can meet.
-fn want_of_memory(_refusal: RsmRefusal) -> AllocError
-    requires { _refusal ≡ RsmRefusal.NoMemory }
-{
-    AllocError
 }

@@ -33,18 +33,7 @@ pub fn control(alloc: Global, machine: &Uniform) -> Result<Control, NoMemory>
     requires { IsWithinLimits machine.now }
     ensures { IfOk result (λ c. (names : List ControlState) × IsControlOf machine.now names c) }
 {
-    match made(alloc, machine.machine()) {
-        Ok(control) => Ok(control),
-        Err(_) => Err(NoMemory),
-    }
-}
-
-// The control of a machine that is uniform.
-fn made(alloc: Global, machine: &QuadMachine) -> Result<Control, AllocError>
-    requires limits { IsWithinLimits machine.now }
-    requires uniform { IsUniformMachine machine.now }
-    ensures { IfOk result (λ c. (names : List ControlState) × IsControlOf machine.now names c) }
-{
+    let machine = machine.machine();
     let draft = drafted(alloc, machine)?;
     let rsm = draft.rsm(alloc)?;
     let firsts = draft.firsts(alloc)?;
