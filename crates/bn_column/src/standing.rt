@@ -119,8 +119,6 @@ fn resting(alloc: Global, rows: u32, marked: bool) -> Result<Vec<u32>, NoMemory>
     ensures { IfOk result (λ v. v.items ≡ replicate rows 1 ++ bar marked ∷ []) }
 {
     let mut states = vec![in alloc; VERTICAL; rows as usize]?;
-    match states.push(if marked { HORIZONTAL } else { VERTICAL }) {
-        Ok(()) => Ok(states),
-        Err(_) => Err(NoMemory),
-    }
+    states.push(if marked { HORIZONTAL } else { VERTICAL })?;
+    Ok(states)
 }

@@ -16,9 +16,7 @@ pub fn column_wires(alloc: Global, first: u32, rows: u32) -> Result<Vec<Wire>, N
     ensures wires { IfOk result (λ v. AreWiresOf (IsInner first rows) v.items) }
     ensures count { IfOk result (λ v. length v.items ≡ 2 * rows + 3) }
 {
-    let Ok(mut wires) = Vec::with_capacity(alloc, 2 * rows as usize + 3) else {
-        return Err(NoMemory);
-    };
+    let mut wires = Vec::with_capacity(alloc, 2 * rows as usize + 3)?;
     for row in 0..rows {
         push_rung(&mut wires, first + row)?;
     }

@@ -45,11 +45,9 @@ impl Bars {
     pub(crate) fn to_states(&self, alloc: Global) -> Result<Vec<u32>, NoMemory>
         ensures { IfOk result (λ v. v.items ≡ self.now) }
     {
-        let Ok(mut states) = Vec::with_capacity(alloc, self.count) else {
-            return Err(NoMemory);
-        };
+        let mut states = Vec::with_capacity(alloc, self.count)?;
         for element in 0..self.count {
-            states.push(self.get(element)).map_err(|_| NoMemory)?;
+            states.push(self.get(element))?;
         }
         Ok(states)
     }
@@ -136,9 +134,7 @@ impl Bars {
     fn horizontal(alloc: Global, count: usize) -> Result<Bars, NoMemory>
         ensures { IfOk result (λ b. b ≡ replicate count 0) }
     {
-        let Ok(words) = vec![in alloc; 0; count.div_ceil(64)] else {
-            return Err(NoMemory);
-        };
+        let words = vec![in alloc; 0; count.div_ceil(64)]?;
         Ok(Bars { count, words })
     }
 

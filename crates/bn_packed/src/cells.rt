@@ -88,9 +88,7 @@ impl Cell for u32 {
 
     #[tactic(auto, using(crate::proofs::LooseLemmas::loose_narrow))]
     fn loose(alloc: Global, count: usize) -> Result<Vec<u32>, NoMemory> {
-        let Ok(cells) = vec![in alloc; LOOSE; count] else {
-            return Err(NoMemory);
-        };
+        let cells = vec![in alloc; LOOSE; count]?;
         Ok(cells)
     }
 }
@@ -130,9 +128,7 @@ impl Cell for u64 {
 
     #[tactic(auto, using(crate::proofs::LooseLemmas::loose_wide))]
     fn loose(alloc: Global, count: usize) -> Result<Vec<u64>, NoMemory> {
-        let Ok(cells) = vec![in alloc; WIDE_LOOSE; count] else {
-            return Err(NoMemory);
-        };
+        let cells = vec![in alloc; WIDE_LOOSE; count]?;
         Ok(cells)
     }
 }

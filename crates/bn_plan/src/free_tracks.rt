@@ -42,9 +42,7 @@ impl FreeTracks {
     pub(crate) fn add(&mut self, track: u32) -> Result<(), NoMemory>
         ensures { OnOk result (IsPermutation (track ∷ self.old) self.new) }
     {
-        let Ok(()) = self.tracks.push(Reverse(track)) else {
-            return Err(NoMemory);
-        };
+        self.tracks.push(Reverse(track))?;
         Ok(())
     }
 

@@ -113,9 +113,7 @@ impl Sweep {
         let input = input_position(to);
         let track = self.take_track(output.min(input));
         self.ending[output.max(input) as usize] = Some(track);
-        let Ok(()) = self.wires.push(Tracked { from, to, track }) else {
-            return Err(NoMemory);
-        };
+        self.wires.push(Tracked { from, to, track })?;
         Ok(())
     }
 

@@ -5,5 +5,5 @@ use Rattle.bn_packed.proofs.bars.Bars.horizontal.Goals as goal
 
 pub returns : goal.returns
 returns c =
-    let words : c.in-Ok.words.items ≡ replicate {A = ℕ} c.div_ceil.result 0 = search rules in
+    let words : c.in_ok-words.words.items ≡ replicate {A = ℕ} c.div_ceil.result 0 = search rules in
     ap (λ ws. bars_of ws c.args.count) words ∙ bars-zero c.div_ceil.result c.args.count

@@ -2,4 +2,4 @@ use Rattle.std.proofs.lemmas.List.Sorted.{IsPermutation-map}
 use Rattle.bn_plan.proofs.free_tracks.FreeTracks.add.Goals as goal
 
 pub returns : goal.returns
-returns c = rw (← c.self.view_is) (IsPermutation-map (λ r. r.0) _ _ c.in-Ok.ensures.permutation)
+returns c = rw (← c.self.view_is) (IsPermutation-map (λ r. r.0) _ _ c.in_ok-push.ensures.permutation)

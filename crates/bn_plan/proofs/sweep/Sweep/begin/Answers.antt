@@ -19,4 +19,4 @@ returns-clause-swept c =
     let last : c.max.result ≡ greater c.args.wire = omega (arith, c.max.ensures, c.output_position-output.ensures, c.input_position-input.ensures) in
     begin_swept c.args.wire c.args.self.now _ c.take_track-track.result c.min.result c.max.result
     (omega (arith, c.min.ensures, c.output_position-output.ensures, c.input_position-input.ensures)) last
-    takes (still_within c.args.self.now _ c.min.result c.take_track-track.result (greater c.args.wire) c.max.result (omega (arith, last)) takes c.requires.position) c.push.new.self.items _ c.in-Ok.ensures.items refl
+    takes (still_within c.args.self.now _ c.min.result c.take_track-track.result (greater c.args.wire) c.max.result (omega (arith, last)) takes c.requires.position) c.push.new.self.items _ c.in_ok-push.ensures.items refl
