@@ -1,5 +1,5 @@
 -- All names are apart.
-use Rattle.std.proofs.Common.{◌<◌, ◌^◌, ◌≡◌, List, ℕ, arith, length, subst, sym}
+use Rattle.std.proofs.Common.{◌≡◌, List, ℕ, arith, subst, sym}
 use Rattle.bn_machine.specs.Machine.{IsMachine}
 use Rattle.bn_erase_laws.specs.declared.name.ErasingName.{ErasingName}
 use Rattle.bn_bennett.specs.Printed.{AreLetters}
