@@ -2,7 +2,7 @@
 //! or what is answered where there is none.
 
 ghost use Rattle.std.specs.Prelude.{◌≡◌, IfOk};
-ghost use Rattle.bn_reply.specs.Lines.{long_line};
+ghost use Rattle.bn_reply.specs.Lines.{foreign_line, long_line};
 ghost use Rattle.bn_reply.specs.Opened.{IsJudged, IsOpenedTable, IsOpenedWord};
 
 use crate::letters::symbol_of;
@@ -75,15 +75,22 @@ pub fn open_word(alloc: Global, table: &Table, word: &[u8]) -> Result<OpenedWord
     let mut symbols = Vec::new(alloc);
     for (index, byte) in word.iter().enumerate() {
         let Some(symbol) = symbol_of(table, *byte) else {
-            let place = index + 1;
-            return Ok(OpenedWord::Refused(Reply {
-                text: format!(in alloc; "word: {place}\n")?.into_bytes(),
-                status: Status::Word,
-            }));
+            return Ok(OpenedWord::Refused(foreign_letter(alloc, index + 1)?));
         };
         symbols.push(symbol)?;
     }
     Ok(OpenedWord::Symbols(symbols))
+}
+
+/// The answer that a word's letter at this place, counted from 1, is none that it may have.
+pub fn foreign_letter(alloc: Global, place: usize) -> Result<Reply, NoMemory>
+    ensures status { IfOk result (λ r. r.status ≡ Status.Word) }
+    ensures text { IfOk result (λ r. r.text.items ≡ foreign_line place) }
+{
+    Ok(Reply {
+        text: format!(in alloc; "word: {place}\n")?.into_bytes(),
+        status: Status::Word,
+    })
 }
 
 /// The answer that a word of so many letters is too long.
