@@ -7,7 +7,7 @@ ghost use Rattle.bn_reply.specs.Words.{IsLetterOf, letters_of};
 ghost use Rattle.bn_reply_erase.specs.EraseReply.{lettered};
 
 use bn_erase::Joined;
-use bn_reply::{NoMemory, OpenedWord, Reply, Status};
+use bn_reply::{NoMemory, OpenedWord, foreign_letter};
 use std::alloc::Global;
 
 /// The blank's letter.
@@ -20,11 +20,7 @@ pub(crate) fn open_word(alloc: Global, joined: &Joined, word: &[u8]) -> Result<O
     let mut symbols = Vec::new(alloc);
     for (index, byte) in word.iter().enumerate() {
         let Some(symbol) = symbol_of(joined, *byte) else {
-            let place = index + 1;
-            return Ok(OpenedWord::Refused(Reply {
-                text: format!(in alloc; "word: {place}\n")?.into_bytes(),
-                status: Status::Word,
-            }));
+            return Ok(OpenedWord::Refused(foreign_letter(alloc, index + 1)?));
         };
         symbols.push(symbol)?;
     }
