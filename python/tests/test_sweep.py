@@ -190,7 +190,7 @@ class Resumed(Sweeps):
 
 class Long(Sweeps):
     def test_a_case_that_takes_too_long_has_its_row_and_the_sweep_goes_on(self):
-        words = ["sweep", self.file("endless.csv", ENDLESS), "--up-to", 1, "--form", "run", "--seconds", 0.6, "--jobs", 1]
+        words = ["sweep", self.file("endless.csv", ENDLESS), "--up-to", 1, "--form", "run", "--seconds", 4, "--jobs", 1]
         status, out, said = self.call(*words)
         self.assertEqual(status, 0)
         self.assert_line(said, "took too long: 1")
