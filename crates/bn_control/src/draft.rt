@@ -4,7 +4,7 @@ ghost use Rattle.std.specs.Prelude.{◌≡◌};
 use crate::finite::lines_before;
 use crate::line::{Line, Sending};
 use crate::named::NamedMove;
-use crate::numbered::{numbered, rsm_moves};
+use crate::numbered::{in_numbers, rsm_moves};
 use crate::order::in_order;
 use crate::state::State;
 use crate::states::number_of;
@@ -40,7 +40,7 @@ impl Draft {
             → IfOk result (λ r. IsControlTable m (map name_of self.now.states.items) (machine_table r)) }
     {
         let states = self.states.as_slice();
-        let numbered = numbered(alloc, states, &self.symbols, self.moves.as_slice())?;
+        let numbered = in_numbers(alloc, states, &self.symbols, self.moves.as_slice())?;
         let ordered = in_order(numbered)?;
         let moves = rsm_moves(alloc, ordered.as_slice())?;
         let lines = lines_before(&self.symbols, 3);

@@ -34,7 +34,7 @@ pub fn control(alloc: Global, machine: &Uniform) -> Result<Control, NoMemory>
     ensures { IfOk result (λ c. (names : List ControlState) × IsControlOf machine.now names c) }
 {
     let machine = machine.machine();
-    let draft = drafted(alloc, machine)?;
+    let draft = draft_of(alloc, machine)?;
     let rsm = draft.rsm(alloc)?;
     let firsts = draft.firsts(alloc)?;
     let awaited = draft.awaited(alloc)?;
@@ -42,7 +42,7 @@ pub fn control(alloc: Global, machine: &Uniform) -> Result<Control, NoMemory>
 }
 
 // What the control is made of.
-fn drafted(alloc: Global, machine: &QuadMachine) -> Result<Draft, AllocError>
+fn draft_of(alloc: Global, machine: &QuadMachine) -> Result<Draft, AllocError>
     requires limits { IsWithinLimits machine.now }
     requires uniform { IsUniformMachine machine.now }
     ensures { IfOk result (IsDraft machine.now) }

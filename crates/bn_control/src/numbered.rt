@@ -32,7 +32,7 @@ pub(crate) struct Move {
 }
 
 /// The moves in numbers, in the order in which they are given.
-pub(crate) fn numbered(
+pub(crate) fn in_numbers(
     alloc: Global,
     states: &[State],
     symbols: &[u32; 3],

@@ -16,14 +16,10 @@ use Rattle.bn_net.specs.Order.{AreInOrder}
 use Rattle.bn_net.proofs.WireLemmas.{target-wires, source-wires, wired-IsCircuit, tables-reversible, output-within}
 use Rattle.bn_net.proofs.OrderLemmas.{in_order-same, rows_in_order}
 use Rattle.bn_net.specs.RotaryNets.{rotary_circuit}
-use Rattle.bn_packed.specs.Ends.{line_of, IsLineBelow, EndList, AreEnds, AreEndsOf, rows_of, rotaries, net_of, IsWiring}
+use Rattle.bn_packed.specs.Ends.{line_of, IsLineBelow, EndList, AreEnds, AreEndsOf, end_at, rows_of, rotaries, net_of, IsWiring}
 
 abbrev Ends : Type 0
 Ends = List (Option Line)
-
--- what an end by its number tells
-abbrev pub end_at : Ends → ℕ → Option Line
-end_at ends n = option_and_then (λ o. o) (slice_get ends n)
 
 -- ---- rows of four
 
@@ -135,7 +131,7 @@ wiring-IsCircuit targets sources now wiring is =
     (wired-IsCircuit (map (λ _. rotary) (rotaries targets.elements)) (rows_of targets.ends) (rows_of sources.ends)
     (tables-reversible (λ _. rotary) (λ _. rotary-IsReversible) (rotaries targets.elements)) (wiring-wired targets sources wiring))
 
-length-net : (targets : EndList) (now : Parts Rotary) → net_of targets ≡ now → length now.elements ≡ targets.elements
+pub length-net : (targets : EndList) (now : Parts Rotary) → net_of targets ≡ now → length now.elements ≡ targets.elements
 length-net targets now is = sym (ap (λ (n : Parts Rotary). length n.elements) is) ∙ length-replicate {A = Rotary} targets.elements (record {})
 
 -- the end of a line that is there is there

@@ -1,3 +1,4 @@
+pub mod AcrossLemmas
 pub mod BarLemmas
 pub mod CrossLemmas
 pub mod EndLemmas

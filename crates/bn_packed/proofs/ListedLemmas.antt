@@ -16,7 +16,8 @@ use Rattle.bn_net.proofs.OrderLemmas.{rows_in_order}
 use Rattle.bn_net.specs.RotaryNets.{IsNetOf}
 use Rattle.bn_net.specs.Wirings.{AreApart, AreFitting}
 use Rattle.bn_net.proofs.WiringsLemmas.{apart-IsOneToOne, earlier_target}
-use Rattle.bn_packed.specs.Ends.{line_of, IsLineBelow, EndList, AreEndsOf, AreTargets, rows_of, rotaries, net_of}
+use Rattle.bn_packed.specs.Ends.{line_of, opposite, ahead, targets_by, IsLineBelow, EndList, AreEndsOf, AreTargets, rows_of, rotaries, net_of}
+use Rattle.bn_packed.proofs.AcrossLemmas.{opposite_below, test_across, ahead-AreTargets, targets_ahead}
 use Rattle.bn_packed.proofs.EndLemmas.{line_by_number, ends_entry}
 use Rattle.bn_packed.proofs.ReversedLemmas.{set_length, ends-AreTargets}
 
@@ -76,21 +77,27 @@ fits_at n ws i w fitting has =
     let fits = fitting.fits i w has in
     record { from = record { element = fits.0; line = fits.1 }; to = record { element = fits.2; line = fits.3 } }
 
+pub ends_below : (n k : ℕ) (ws : List Wire) (i : ℕ) (w : Wire) → k ≡ n → AreFitting n ws → i < length ws → IsLineBelow k (get_or ws i w).to
+ends_below n k ws i w same fitting within =
+    subst (λ m. IsLineBelow m (get_or ws i w).to) (sym same) (fits_at n ws i (get_or ws i w) fitting (slice_get-get_or ws i w within)).to
+
 -- ---- where the first wires of a list lead
 
 pub ends_none : (count : ℕ) (ws : List Wire) (e : EndList) → e.elements ≡ count → e.ends ≡ replicate (4 * count) None
-    → AreEndsOf (target (take 0 ws)) count e
-ends_none count ws e elements ends = loose_ends (target (take 0 ws)) count e (λ l. refl) elements ends
+    → AreEndsOf (ahead (take 0 ws)) count e
+ends_none count ws e elements ends = loose_ends (ahead (take 0 ws)) count e (λ l. refl) elements ends
 
-pub ends_more : (count : ℕ) (ws : List Wire) (n : ℕ) (w : Wire) (before after : EndList) → AreApart ws → AreFitting count ws
-    → n < length ws → slice_get ws n ≡ Some w → AreEndsOf (target (take n ws)) count before → after.elements ≡ before.elements
-    → after.ends ≡ slice_set before.ends (4 * w.from.element + w.from.line) (Some w.to) → AreEndsOf (target (take (n + 1) ws)) count after
-ends_more count ws n w before after apart fitting within has so_far elements ends =
+pub ends_more : (count : ℕ) (ws : List Wire) (n : ℕ) (w : Wire) (over : Line) (before after : EndList) → AreApart ws → AreFitting count ws
+    → n < length ws → slice_get ws n ≡ Some w → over ≡ opposite w.from → AreEndsOf (ahead (take n ws)) count before → after.elements ≡ before.elements
+    → after.ends ≡ slice_set before.ends (4 * over.element + over.line) (Some w.to) → AreEndsOf (ahead (take (n + 1) ws)) count after
+ends_more count ws n w over before after apart fitting within has is so_far elements ends =
     let fit = fits_at count ws n w fitting has in
     let is_w : get_or ws n w ≡ w = let read = slice_get-get_or ws n w within in cc in
     let more : take (n + 1) ws ≡ take n ws ++ w ∷ [] = take_more ws n w within ∙ ap (λ x. take n ws ++ x ∷ []) is_w in
-    set_ends (target (take n ws)) (target (take (n + 1) ws)) count w.from w.to before after fit.from
-    (λ l. ap (λ xs. target xs l) more ∙ target-push (take n ws) w l (earlier_target ws n w apart has)) so_far elements ends
+    set_ends (ahead (take n ws)) (ahead (take (n + 1) ws)) count (opposite w.from) w.to before after (opposite_below count w.from fit.from)
+    (λ l. ap (λ xs. target xs (opposite l)) more ∙ target-push (take n ws) w (opposite l) (earlier_target ws n w apart has)
+    ∙ ap (λ b. if b then Some w.to else target (take n ws) (opposite l)) (test_across w.from l)) so_far elements
+    (ends ∙ ap (λ (l : Line). slice_set before.ends (4 * l.element + l.line) (Some w.to)) is)
 
 -- ---- the net of a list of wires
 
@@ -128,16 +135,17 @@ pub listed-is : (n : ℕ) (ws : List Wire) → IsNetOf (listed n ws) n ws
 listed-is n ws = record { elements = long n; targets = λ from. refl }
 
 -- the ends that lead as the list says
-pub listed-AreTargets : (count : ℕ) (ws : List Wire) (e : EndList) → count < 2 ^ 32 → AreApart ws → AreFitting count ws → AreEndsOf (target ws) count e
+pub listed-AreTargets : (count : ℕ) (ws : List Wire) (e : EndList) → count < 2 ^ 32 → AreApart ws → AreFitting count ws → AreEndsOf (ahead ws) count e
     → AreTargets e
 listed-AreTargets count ws e few apart fitting ends =
-    ends-AreTargets ws count e few ends (apart-IsOneToOne ws apart) (λ from to is. (listed_fit count ws from to fitting is).1)
+    targets_ahead e (ends-AreTargets ws count (targets_by e) few (ahead-AreTargets (target ws) count e ends) (apart-IsOneToOne ws apart)
+    (λ from to is. (listed_fit count ws from to fitting is).1))
 
-pub listed-IsNetOf : (count : ℕ) (ws : List Wire) (e : EndList) → AreFitting count ws → AreEndsOf (target ws) count e → IsNetOf (net_of e) count ws
+pub listed-IsNetOf : (count : ℕ) (ws : List Wire) (e : EndList) → AreFitting count ws → AreEndsOf (ahead ws) count e → IsNetOf (net_of (targets_by e)) count ws
 listed-IsNetOf count ws e fitting ends = record {
   elements = long e.elements ∙ ends.elements;
-  targets = λ from. target-wires (rows_of e.ends) from
-      ∙ ends_entry (target ws) count e ends (λ l to is. (listed_fit count ws l to fitting is).0) from;
+  targets = λ from. target-wires (rows_of (targets_by e).ends) from
+      ∙ ends_entry (target ws) count (targets_by e) (ahead-AreTargets (target ws) count e ends) (λ l to is. (listed_fit count ws l to fitting is).0) from;
 }
 
 pub ends-AreInOrder : (e : EndList) → AreInOrder (net_of e).wires

@@ -1,7 +1,7 @@
 -- Steps by the numbers of lines.
-use Rattle.std.specs.Prelude.{◌≡◌, ℕ, ◌+◌, ◌-◌, ◌*◌, ◌/◌, ◌%◌, ◌<◌, Bool, true, List, [], ◌∷◌, length, Option, Some, None, is_none, slice_get, refl}
+use Rattle.std.specs.Prelude.{◌≡◌, ℕ, ◌+◌, ◌-◌, ◌*◌, ◌/◌, ◌%◌, ◌<◌, Bool, true, List, [], ◌∷◌, length, Option, Some, None, is_none, slice_get, bit_xor, refl}
 use Rattle.std.proofs.Common.{arith, sym, ap, subst, ◌∙◌}
-use Rattle.bn_circuits.specs.Circuits.{IsCircuit, IsConfig, IsOutputOf, clock, place_at, place_after, target, source}
+use Rattle.bn_circuits.specs.Circuits.{IsCircuit, IsConfig, IsOutputOf, clock, place_at, place_after, source}
 use Rattle.bn_circuits.specs.declared.line.Line.{Line}
 use Rattle.bn_circuits.specs.declared.place.Place.{Place}
 use Rattle.bn_circuits.specs.declared.place.Place.TheVariants.{Enter}
@@ -12,11 +12,13 @@ use Rattle.bn_net.specs.Watching.{Hears}
 use Rattle.bn_net.specs.Walking.{HasWalkedBack}
 use Rattle.bn_net.specs.RotaryNets.{rotary_circuit}
 use Rattle.bn_packed.specs.Bars.{HasCrossed, HasCrossedBack}
-use Rattle.bn_packed.specs.Ends.{line_of, AreEnds}
+use Rattle.std.specs.Option.{option_map}
+use Rattle.bn_packed.specs.Ends.{line_of, opposite, ahead, behind, AreEnds}
 use Rattle.bn_packed.specs.PackedNets.{config_at}
 use Rattle.bn_packed.specs.Stopping.{passes_by}
 use Rattle.bn_packed.proofs.EndLemmas.{input_below, output_below, line_by_number, source_output}
-use Rattle.bn_packed.proofs.StepLemmas.{IsOnWay, way_more, crossed-output, leaving_below, walked_back_more}
+use Rattle.bn_packed.proofs.AcrossLemmas.{opposite_twice}
+use Rattle.bn_packed.proofs.StepLemmas.{IsOnWay, way_more, leaving_below, walked_back_more}
 
 -- the signal is about to enter the line of a number
 abbrev pub entered : ℕ → Place
@@ -42,29 +44,39 @@ pub none_read : (o : Option Line) → is_none o ≡ true → o ≡ None
 none_read None is = refl
 none_read (Some l) is = absurd (cc)
 
+-- and where it tells of a line, by that across
+behind_read : (o : Option Line) (l : Line) → Some l ≡ option_map opposite o → o ≡ Some (opposite l)
+behind_read None l is = absurd (cc)
+behind_read (Some m) l is =
+    let same : l ≡ opposite m = cc in
+    ap Some (sym (opposite_twice m) ∙ ap opposite (sym same))
+
+pub behind_none : (o : Option Line) → option_map opposite o ≡ None → o ≡ None
+behind_none None is = refl
+behind_none (Some m) is = absurd (cc)
+
 module _ (net : Parts Rotary) (circuit : IsCircuit (rotary_circuit net)) where
-  -- the number of the line by which the signal goes out is one of an output line
+  -- the number of the line across from that by which the signal goes out is one of a line
   pub crossed_low : (bars after : List ℕ) (n from steps : ℕ) → IsConfig (rotary_circuit net) (config_at bars (entered n) steps) → HasCrossed bars n after from
       → from < 4 * length net.elements
   crossed_low bars after n from steps config cross =
-      let there = crossed-output net circuit bars after (entered n) (n / 4) (n % 4) (from % 4) steps config refl cross.moved in
-      let low = (output_below net.elements (record { element = n / 4; line = from % 4 }) there).element in
+      let low = (input_below net.elements (line_of n) config.place).element in
       let same = cross.same in
       omega arith
 
   -- the line to which it leads is there
-  pub led_low : (from to : ℕ) → Some (line_of to) ≡ target net.wires (line_of from) → to / 4 < length net.elements
-  led_low from to leads = (input_below net.elements (line_of to) (circuit.wired (line_of from) (line_of to) (sym leads)).1).element
+  pub led_low : (from to : ℕ) → Some (line_of to) ≡ ahead net.wires (line_of from) → to / 4 < length net.elements
+  led_low from to leads = (input_below net.elements (line_of to) (circuit.wired (opposite (line_of from)) (line_of to) (sym leads)).1).element
 
   -- a step more on the way past these lines
   pub number_more : (stops : Line → Bool) (first : Config) (bars after : List ℕ) (then : Place) (n from steps made p q : ℕ) (old mid new : Option (List Place))
       → IsOnWay (rotary_circuit net) stops first (config_at bars (entered n) (steps + made)) made old mid → (0 < made → passes_by stops (entered n) ≡ true)
-      → HasCrossed bars n after from → then ≡ place_at (target net.wires (line_of from)) (line_of from) → steps + made < clock → p ≡ steps + made + 1
+      → HasCrossed bars n after from → then ≡ place_at (ahead net.wires (line_of from)) (opposite (line_of from)) → steps + made < clock → p ≡ steps + made + 1
       → q ≡ made + 1 → Hears mid (then ∷ []) new
       → IsOnWay (rotary_circuit net) stops first (config_at after then p) q old new
   number_more stops first bars after then n from steps made p q old mid new way calm cross leads room counted more hears =
-      let same : line_of from ≡ record { element = n / 4; line = from % 4 } = (λ i. record { element = cross.same i; line = from % 4 }) in
-      way_more net circuit stops first bars after (entered n) then (n / 4) (n % 4) (from % 4) steps made p q old mid new way calm refl cross.moved
+      let same : opposite (line_of from) ≡ record { element = n / 4; line = bit_xor (from % 4) 2 } = (λ i. record { element = cross.same i; line = bit_xor (from % 4) 2 }) in
+      way_more net circuit stops first bars after (entered n) then (n / 4) (n % 4) (bit_xor (from % 4) 2) steps made p q old mid new way calm refl cross.moved
       (leads ∙ ap (place_after net.wires) same) room counted more hears
 
   -- the number of an input line is one of all
@@ -74,27 +86,30 @@ module _ (net : Parts Rotary) (circuit : IsCircuit (rotary_circuit net)) where
       omega arith
 
   -- what feeds it
-  fed_by : (n from : ℕ) → Some (line_of from) ≡ source net.wires (line_of n) → IsOutputOf (rotary_circuit net).tables (line_of from)
-  fed_by n from came = source_output net circuit (line_of n) (Some (line_of from)) came
+  came_by : (n from : ℕ) → Some (line_of from) ≡ behind net.wires (line_of n) → source net.wires (line_of n) ≡ Some (opposite (line_of from))
+  came_by n from came = behind_read (source net.wires (line_of n)) (line_of from) came
+
+  fed_by : (n from : ℕ) → Some (line_of from) ≡ behind net.wires (line_of n) → IsOutputOf (rotary_circuit net).tables (opposite (line_of from))
+  fed_by n from came = source_output net circuit (line_of n) (Some (opposite (line_of from))) (sym (came_by n from came))
 
   pub fed_low : (bars : List ℕ) (n from steps : ℕ) → IsConfig (rotary_circuit net) (config_at bars (entered n) steps)
-      → Some (line_of from) ≡ source net.wires (line_of n) → from / 4 < length bars
-  fed_low bars n from steps config came = (leaving_below net (config_at bars (entered n) steps) (line_of from) config (fed_by n from came)).0
+      → Some (line_of from) ≡ behind net.wires (line_of n) → from / 4 < length bars
+  fed_low bars n from steps config came = (leaving_below net (config_at bars (entered n) steps) (opposite (line_of from)) config (fed_by n from came)).0
 
-  pub back_low : (bars before : List ℕ) (n from into : ℕ) → Some (line_of from) ≡ source net.wires (line_of n) → HasCrossedBack bars from before into
+  pub back_low : (bars before : List ℕ) (n from into : ℕ) → Some (line_of from) ≡ behind net.wires (line_of n) → HasCrossedBack bars from before into
       → into / 4 < length net.elements
   back_low bars before n from into came cross =
-      let low = (output_below net.elements (line_of from) (fed_by n from came)).element in
+      let low = (output_below net.elements (opposite (line_of from)) (fed_by n from came)).element in
       let same = cross.same in
       omega arith
 
   -- a step more back
   pub number_back_more : (first : Config) (bars before : List ℕ) (n from into steps made : ℕ) (old mid new : Option (List Place))
       → HasWalkedBack (rotary_circuit net) first (config_at bars (entered n) (steps - made)) made old mid
-      → Some (line_of from) ≡ source net.wires (line_of n) → HasCrossedBack bars from before into → made < steps → Hears mid (entered into ∷ []) new
+      → Some (line_of from) ≡ behind net.wires (line_of n) → HasCrossedBack bars from before into → made < steps → Hears mid (entered into ∷ []) new
       → HasWalkedBack (rotary_circuit net) first (config_at before (entered into) (steps - (made + 1))) (made + 1) old new
   number_back_more first bars before n from into steps made old mid new walked came cross some hears =
       let same : Enter (from / 4) (into % 4) ≡ entered into = (λ i. Enter (sym cross.same i) (into % 4)) in
       subst (λ p. HasWalkedBack (rotary_circuit net) first (config_at before p (steps - (made + 1))) (made + 1) old new) same
-      (walked_back_more net circuit first bars before (entered n) (line_of from) (into % 4) steps made old mid new walked (sym came) (fed_by n from came)
+      (walked_back_more net circuit first bars before (entered n) (opposite (line_of from)) (into % 4) steps made old mid new walked (came_by n from came) (fed_by n from came)
       cross.moved some (subst (λ p. Hears mid (p ∷ []) new) (sym same) hears))

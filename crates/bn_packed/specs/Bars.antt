@@ -1,6 +1,6 @@
 -- Bars of rotary elements, kept as bits and crossed by the signal.
 use Rattle.std.specs.Prelude.{ℕ, ◌-◌, ◌/◌, ◌%◌, ◌<◌, ◌≡◌, List, map, slice_get, slice_set, slice_index, Option, Some}
-use Rattle.std.specs.Prelude.{option_and_then}
+use Rattle.std.specs.Prelude.{option_and_then, bit_xor}
 use Rattle.std.specs.List.{range_with_len}
 use Rattle.std.specs.Int.{bit_at}
 use Rattle.bn_element.specs.Rotary.{rotary}
@@ -31,15 +31,14 @@ abbrev pub crossed_back : List ℕ → ℕ → ℕ → Option (List ℕ × ℕ)
 crossed_back bars e o = option_and_then (λ r. option_and_then (λ m. Some (slice_set bars e m.0, m.1))
     (rotary.back r o)) (slice_get bars e)
 
--- the bars after the signal came into an element by the line of this number, and the number of the line by which it
--- goes
--- out of it
+-- the bars after the signal came into an element by the line of this number, and the number of the line across the
+-- element from that by which it goes out
 pub record HasCrossed (before : List ℕ) (into : ℕ) (after : List ℕ) (out : ℕ) : Type 0 where
   pub same : out / 4 ≡ into / 4
-  pub moved : crossed before (into / 4) (into % 4) ≡ Some (after, out % 4)
+  pub moved : crossed before (into / 4) (into % 4) ≡ Some (after, bit_xor (out % 4) 2)
 
--- the bars before it went out of an element by the line of this number, and the number of the line by which it had
--- come in
+-- the bars before it went out of an element by the line across from that of this number, and the number of the line by
+-- which it had come in
 pub record HasCrossedBack (after : List ℕ) (out : ℕ) (before : List ℕ) (into : ℕ) : Type 0 where
   pub same : into / 4 ≡ out / 4
-  pub moved : crossed_back after (out / 4) (out % 4) ≡ Some (before, into % 4)
+  pub moved : crossed_back after (out / 4) (bit_xor (out % 4) 2) ≡ Some (before, into % 4)

@@ -1,7 +1,13 @@
--- How a packed netlist keeps its wires: for each line the line at the other end, in the order of the lines' numbers.
--- Line l of element e has number 4 * e + l.
-use Rattle.std.specs.Prelude.{◌≡◌, ℕ, ◌+◌, ◌*◌, ◌/◌, ◌%◌, ◌^◌, ◌<◌, ◌==◌, nat_lt, ◌↔◌, if◌then◌else◌, List, [], ◌∷◌, length}
-use Rattle.std.specs.Prelude.{replicate, Option, Some, None, slice_get}
+-- How a packed netlist keeps its wires: for each input line the one to which the signal comes next where it crosses the
+-- element straight, and the one from which it came so, in the order of the lines' numbers. Line l of element e has
+-- number 4 * e + l. So an output line goes by the number of the input line across the element.
+use Rattle.std.specs.Prelude.{◌≡◌, ℕ, ◌+◌, ◌*◌, ◌/◌, ◌%◌, ◌^◌, ◌<◌, ◌==◌, nat_lt, ◌↔◌, if◌then◌else◌}
+use Rattle.std.specs.Prelude.{List, [], ◌∷◌, length, map, replicate, Option, Some, None, slice_get, option_and_then}
+use Rattle.std.specs.Prelude.{bit_xor}
+use Rattle.std.specs.Option.{option_map}
+use Rattle.std.specs.List.{range_with_len}
+use Rattle.bn_circuits.specs.Circuits.{target, source}
+use Rattle.bn_circuits.specs.declared.line.Wire.{Wire}
 use Rattle.bn_circuits.specs.declared.line.Line.{Line}
 use Rattle.bn_element.specs.declared.rotary.Rotary.{Rotary}
 use Rattle.bn_net.specs.Rows.{Rows, entry, wires_of}
@@ -10,6 +16,18 @@ use Rattle.bn_net.specs.Parts.{Parts}
 -- the line with this number
 abbrev pub line_of : ℕ → Line
 line_of n = record { element = n / 4; line = n % 4 }
+
+-- the line across the element: north and south, east and west
+abbrev pub opposite : Line → Line
+opposite l = record { element = l.element; line = bit_xor l.line 2 }
+
+-- the input line to which the signal comes next from this one, where it crosses the element straight
+abbrev pub ahead : List Wire → Line → Option Line
+ahead wires l = target wires (opposite l)
+
+-- the input line from which it came to this one so
+abbrev pub behind : List Wire → Line → Option Line
+behind wires l = option_map opposite (source wires l)
 
 -- the line is one of the four of one of so many elements
 pub record IsLineBelow (elements : ℕ) (l : Line) : Type 0 where
@@ -39,6 +57,21 @@ pub record AreEndsOf (f : Line → Option Line) (n : ℕ) (e : EndList) : Type 0
   pub elements : e.elements ≡ n
   pub ends : AreEnds f (4 * n) e.ends
 
+-- what the end of this number tells
+abbrev pub end_at : List (Option Line) → ℕ → Option Line
+end_at ends n = option_and_then (λ o. o) (slice_get ends n)
+
+-- where output lines lead, by the ends that are ahead of input lines
+abbrev pub targets_by : EndList → EndList
+targets_by e = record {
+  elements = e.elements;
+  ends = map (λ n. end_at e.ends (bit_xor n 2)) (range_with_len 0 (length e.ends));
+}
+
+-- where input lines come from, by the ends that are behind them
+abbrev pub sources_by : EndList → EndList
+sources_by e = record { elements = e.elements; ends = map (option_map opposite) e.ends }
+
 -- the ends in rows of four, a row an element
 abbrev pub rows_of : List (Option Line) → Rows
 rows_of (north ∷ east ∷ south ∷ west ∷ ends) = (north ∷ east ∷ south ∷ west ∷ []) ∷ rows_of ends
@@ -52,8 +85,8 @@ rotaries n = replicate n (record {})
 abbrev pub net_of : EndList → Parts Rotary
 net_of targets = record { elements = rotaries targets.elements; wires = wires_of 0 (rows_of targets.ends) }
 
--- The ends are where output lines lead: four for each of fewer than 2 to the power 32 elements, each an input line of
--- one of these, and no two the same.
+-- The ends are those of lines that lead on: four for each of fewer than 2 to the power 32 elements, each a line of one
+-- of these, and no two the same.
 pub record AreTargets (e : EndList) : Type 0 where
   pub few : e.elements < 2 ^ 32
   pub whole : length e.ends ≡ 4 * e.elements

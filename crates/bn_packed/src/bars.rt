@@ -3,9 +3,9 @@
 ghost use Rattle.std.specs.Prelude.{◌≡◌, ◌/◌, ℕ, ◌<◌, ◌≤◌, List, length, replicate, Some, IfOk, slice_get, slice_set};
 ghost use Rattle.bn_packed.specs.Bars.{AreBars, HasCrossed, HasCrossedBack, turned, crossed_back};
 
-use crate::cells::LINES;
+use crate::cells::{LINES, line_number, opposite};
 use bn_element::VERTICAL;
-use bn_net::NoMemory;
+use bn_net::{Line, NoMemory};
 use std::alloc::Global;
 use std::marker::Model;
 
@@ -61,8 +61,9 @@ impl Bars {
         ((self.words[element / 64] >> (element % 64)) & 1) as u32
     }
 
-    /// Lets the signal cross an element from the line of this number, and answers the number of the output line. The
-    /// bar turns where the signal comes across it. The two numbers differ in their last two bits alone.
+    /// Lets the signal cross an element from the line of this number, and answers the number of the line across from
+    /// the output line: the same number where the signal goes straight. The bar turns where the signal comes across it.
+    /// The two numbers differ in their last two bits alone.
     #[tactic(auto, using(crate::proofs::CrossLemmas::crossings))]
     pub(crate) fn cross(&mut self, number: usize) -> usize
         requires { number / 4 < length self.old }
@@ -71,16 +72,16 @@ impl Bars {
         let element = number / LINES as usize;
         if self.get(element) == VERTICAL {
             if number % 2 == 0 {
-                number ^ 2
+                number
             } else {
                 self.turn(element);
-                number ^ 1
+                number ^ 3
             }
         } else if number % 2 == 1 {
-            number ^ 2
+            number
         } else {
             self.turn(element);
-            number ^ 3
+            number ^ 1
         }
     }
 
@@ -92,12 +93,12 @@ impl Bars {
         requires line { line < 4 }
         ensures { crossed_back self.old element line ≡ Some (self.new, result) }
     {
-        let number = LINES as usize * element as usize + line as usize;
-        (self.cross_back_at(number) % LINES as usize) as u32
+        let out = opposite(Line { element, line });
+        (self.cross_back_at(line_number(out)) % LINES as usize) as u32
     }
 
-    /// The same from the number of the output line to that of the line by which it came. The two numbers differ in
-    /// their last two bits alone.
+    /// The same from the number of the line across from the output line to that of the line by which it came. The two
+    /// numbers differ in their last two bits alone.
     #[tactic(auto, using(crate::proofs::CrossLemmas::crossings_back))]
     pub(crate) fn cross_back_at(&mut self, number: usize) -> usize
         requires { number / 4 < length self.old }
@@ -106,16 +107,16 @@ impl Bars {
         let element = number / LINES as usize;
         if self.get(element) == VERTICAL {
             if number % 2 == 0 {
-                number ^ 2
+                number
             } else {
                 self.turn(element);
-                number ^ 3
+                number ^ 1
             }
         } else if number % 2 == 1 {
-            number ^ 2
+            number
         } else {
             self.turn(element);
-            number ^ 1
+            number ^ 3
         }
     }
 

@@ -1,7 +1,7 @@
-//! The other end of a line's wire as one number.
+//! The line to which another one leads, as one number.
 
 ghost use Rattle.std.specs.Prelude.{◌≡◌, ◌+◌, ◌*◌, ◌/◌, ◌^◌, ◌<◌, length, map, Some, IfSome, slice_get};
-ghost use Rattle.bn_packed.specs.Ends.{line_of, narrow_end, wide_end, IsLineBelow};
+ghost use Rattle.bn_packed.specs.Ends.{line_of, opposite, narrow_end, wide_end, IsLineBelow};
 
 use bn_net::{Line, NoMemory};
 use std::alloc::Global;
@@ -19,7 +19,7 @@ const LOOSE: u32 = 4_294_967_295;
 /// What stands for no wire among numbers of 64 bits.
 const WIDE_LOOSE: u64 = 18_446_744_073_709_551_615;
 
-/// A number that tells the other end of a line's wire, or that there is no wire.
+/// A number that tells to which line another one leads, or that there is no wire.
 pub(crate) trait Cell: Copy {
     ghost use Rattle.std.specs.Prelude.{ℕ, Option, IfOk, map, replicate, None, Some, is_none, false};
     ghost use Rattle.bn_circuits.specs.declared.line.Line.{Line};
@@ -138,6 +138,16 @@ pub(crate) fn line_number(line: Line) -> usize
     ensures { result ≡ 4 * line.element + line.line }
 {
     LINES as usize * line.element as usize + line.line as usize
+}
+
+/// The line across the element from this one.
+pub(crate) fn opposite(line: Line) -> Line
+    ensures { result ≡ opposite line }
+{
+    Line {
+        element: line.element,
+        line: line.line ^ 2,
+    }
 }
 
 /// The end that the cell of this line tells.

@@ -1,4 +1,4 @@
-//! The other ends of the wires of all lines, in one array.
+//! For each line of the elements the line to which it leads, in one array.
 
 ghost use Rattle.std.specs.Prelude.{◌≡◌, ◌+◌, ◌*◌, ◌<◌, ◌≤◌, [], ◌∷◌, ◌++◌, length, map, Some, IfOk, IfSome, OnOk};
 ghost use Rattle.std.specs.Prelude.{slice_get, slice_set, replicate, None};
@@ -8,8 +8,9 @@ use bn_net::{Line, NoMemory};
 use std::alloc::Global;
 use std::marker::Model;
 
-/// For each line, in the order of the lines' numbers, the line at the other end of its wire. Clauses
-/// see the number of elements that these ends may name, and the list of ends.
+/// For each input line, in the order of the lines' numbers, another one: that to which the signal comes next where it
+/// goes straight, or that from which it came so. Clauses see the number of elements that these ends may name, and the
+/// list of ends.
 #[derive(Debug, Drop)]
 pub(crate) struct Ends<C: Cell> {
     elements: u32,
@@ -51,7 +52,7 @@ impl<C: Cell> Ends<C> {
         Ok(Ends { elements, cells })
     }
 
-    /// Writes the other end of this line's wire.
+    /// Writes to which line this one leads.
     pub(crate) fn set(&mut self, line: Line, end: Line)
         requires there { 4 * line.element + line.line < length self.old.ends }
         requires below { IsLineBelow self.old.elements end }
@@ -62,8 +63,8 @@ impl<C: Cell> Ends<C> {
         cells[line_number(line)] = C::pack(Some(end));
     }
 
-    /// The ends of the same wires seen from their other lines.
-    pub(crate) fn reversed(&self, alloc: Global) -> Result<Ends<C>, NoMemory>
+    /// The same ends the other way round: from the lines to which these lead.
+    pub(crate) fn inverse(&self, alloc: Global) -> Result<Ends<C>, NoMemory>
         requires { AreTargets self.now }
         ensures elements { IfOk result (λ m. m.elements ≡ self.now.elements) }
         ensures ends { IfOk result (λ m. AreReversed self.now.ends (length self.now.ends) m.ends) }
@@ -85,7 +86,7 @@ impl<C: Cell> Ends<C> {
         self.elements
     }
 
-    /// The other end of this line's wire.
+    /// To which line this one leads.
     pub(crate) fn get(&self, line: Line) -> Option<Line>
         requires { 4 * line.element + line.line < length self.now.ends }
         ensures { slice_get self.now.ends (4 * line.element + line.line) ≡ Some result }
@@ -100,7 +101,7 @@ impl<C: Cell> Ends<C> {
         self.cells.as_slice()
     }
 
-    /// Adds the end of the next line's wire.
+    /// Adds to which line the next one leads.
     pub(crate) fn push(&mut self, end: Option<Line>) -> Result<(), NoMemory>
         requires { IfSome end (IsLineBelow self.old.elements) }
         ensures elements { self.new.elements ≡ self.old.elements }

@@ -9,7 +9,7 @@ ghost use Rattle.bn_packed.specs.PackedNets.{config_at};
 ghost use Rattle.bn_packed.specs.Stopping.{PassesBy, stops_at};
 
 use crate::bars::Bars;
-use crate::cells::{Cell, cell_at, line_number, line_of};
+use crate::cells::{Cell, cell_at, line_number, line_of, opposite};
 use crate::signal::Signal;
 use crate::stop::{Nowhere, Stop};
 use crate::wiring::Wiring;
@@ -68,13 +68,13 @@ pub(crate) fn walk_until<C: Cell, S: Stop, W: Watch>(
     let Place::Enter { element, line } = signal.place else {
         return signal;
     };
-    let targets = wiring.targets();
+    let ahead = wiring.ahead();
     let mut number = line_number(Line { element, line });
     for made in 0..count {
         let from = bars.cross(number);
-        let cell = cell_at(targets, from);
+        let cell = cell_at(ahead, from);
         if cell.is_loose() {
-            let place = left_by(line_of(from));
+            let place = left_by(opposite(line_of(from)));
             watch.enter(&place);
             return Signal {
                 place,
@@ -157,10 +157,10 @@ fn walk_back_from<C: Cell, W: Watch>(
         → IsFirst (rotary_circuit wiring.now) (config_at bars.new result.place result.steps) }
 {
     let _elements = wiring.len();
-    let sources = wiring.sources();
+    let behind = wiring.behind();
     let mut number = line_number(to);
     for made in 0..count {
-        let cell = cell_at(sources, number);
+        let cell = cell_at(behind, number);
         if cell.is_loose() {
             return Signal {
                 place: entering(line_of(number)),

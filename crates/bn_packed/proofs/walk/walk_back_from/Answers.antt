@@ -1,4 +1,4 @@
-use Rattle.std.proofs.Common.{length, map, Some, None, ◌≡◌, ◌<◌, ◌^◌, ◌-◌, ◌∷◌, [], refl, sym, ap, subst, ◌∙◌, arith, rules}
+use Rattle.std.proofs.Common.{length, map, Some, ◌≡◌, ◌<◌, ◌^◌, ◌-◌, ◌∷◌, [], refl, sym, ap, subst, ◌∙◌, arith, rules}
 use Rattle.std.proofs.lemmas.List.{length-map}
 use Rattle.bn_circuits.specs.Circuits.{source}
 use Rattle.bn_circuits.specs.Stepping.{line_before}
@@ -7,19 +7,19 @@ use Rattle.bn_net.specs.Watching.{Hears}
 use Rattle.bn_net.specs.Walking.{HasWalkedBack}
 use Rattle.bn_net.proofs.NetSteps.{first_by_line}
 use Rattle.bn_net.specs.RotaryNets.{rotary_circuit}
-use Rattle.bn_packed.specs.Ends.{line_of}
+use Rattle.bn_packed.specs.Ends.{line_of, behind}
 use Rattle.bn_packed.specs.PackedNets.{config_at}
 use Rattle.bn_packed.proofs.EndLemmas.{input_below}
 use Rattle.bn_packed.proofs.StepLemmas.{walked_back_none}
-use Rattle.bn_packed.proofs.NumberLemmas.{entered_line, entered_by, cell_read, none_read, entered_low, fed_low, back_low, number_back_more}
+use Rattle.bn_packed.proofs.NumberLemmas.{entered_line, entered_by, cell_read, none_read, behind_none, entered_low, fed_low, back_low, number_back_more}
 use Rattle.bn_packed.proofs.walk.walk_back_from.Goals as goal
 
 pub cell_at-cell-requires : goal.cell_at-cell-requires
 cell_at-cell-requires g c =
     let low = entered_low c.args.wiring.now c.len-elements.ensures.circuit c.loop-made.bars c.loop-made.number (c.args.steps - c.loop-made.made)
     c.loop-made.invariant.good in
-    let count = c.sources-sources.ensures.count in
-    let same : length (map g.C.Cell.tells c.sources-sources.result.now) ≡ length c.sources-sources.result.now = length-map c.sources-sources.result.now g.C.Cell.tells in
+    let count = c.behind-behind.ensures.count in
+    let same : length (map g.C.Cell.tells c.behind-behind.result.now) ≡ length c.behind-behind.result.now = length-map c.behind-behind.result.now g.C.Cell.tells in
     omega arith
 
 pub loop-made-init : goal.loop-made-init
@@ -48,9 +48,9 @@ pub returns-then-is_loose-clause-ended : goal.returns-then-is_loose-clause-ended
 returns-then-is_loose-clause-ended g c fewer =
     let low = entered_low c.args.wiring.now c.len-elements.ensures.circuit c.loop-made.bars c.loop-made.number (c.args.steps - c.loop-made.made)
     c.loop-made.invariant.good in
-    let read = cell_read (source c.args.wiring.now.wires) (map g.C.Cell.tells c.sources-sources.result.now) c.loop-made.number
-    (length c.args.wiring.now.elements) (g.C.Cell.tells c.cell_at-cell.result) c.sources-sources.ensures low c.cell_at-cell.ensures in
-    let none : source c.args.wiring.now.wires (line_of c.loop-made.number) ≡ None = sym read ∙ none_read (g.C.Cell.tells c.cell_at-cell.result) (sym c.is_loose.ensures ∙ c.if-is_loose.true) in
+    let read = cell_read (behind c.args.wiring.now.wires) (map g.C.Cell.tells c.behind-behind.result.now) c.loop-made.number
+    (length c.args.wiring.now.elements) (g.C.Cell.tells c.cell_at-cell.result) c.behind-behind.ensures low c.cell_at-cell.ensures in
+    let none = behind_none (source c.args.wiring.now.wires (line_of c.loop-made.number)) (sym read ∙ none_read (g.C.Cell.tells c.cell_at-cell.result) (sym c.is_loose.ensures ∙ c.if-is_loose.true)) in
     first_by_line (rotary_circuit c.args.wiring.now) c.len-elements.ensures.circuit
     (config_at c.loop-made.bars c.entering.result (c.args.steps - c.loop-made.made))
     (ap (line_before c.args.wiring.now.wires) (c.entering.ensures ∙ entered_by c.line_of.result c.loop-made.number c.line_of.ensures) ∙ none)
@@ -59,9 +59,9 @@ pub cross_back_at-number-requires : goal.cross_back_at-number-requires
 cross_back_at-number-requires g c =
     let low = entered_low c.args.wiring.now c.len-elements.ensures.circuit c.loop-made.bars c.loop-made.number (c.args.steps - c.loop-made.made)
     c.loop-made.invariant.good in
-    let read = cell_read (source c.args.wiring.now.wires) (map g.C.Cell.tells c.sources-sources.result.now) c.loop-made.number
-    (length c.args.wiring.now.elements) (g.C.Cell.tells c.cell_at-cell.result) c.sources-sources.ensures low c.cell_at-cell.ensures in
-    let came : Some (line_of c.number-from.result) ≡ source c.args.wiring.now.wires (line_of c.loop-made.number) = sym c.number-from.ensures ∙ read in
+    let read = cell_read (behind c.args.wiring.now.wires) (map g.C.Cell.tells c.behind-behind.result.now) c.loop-made.number
+    (length c.args.wiring.now.elements) (g.C.Cell.tells c.cell_at-cell.result) c.behind-behind.ensures low c.cell_at-cell.ensures in
+    let came : Some (line_of c.number-from.result) ≡ behind c.args.wiring.now.wires (line_of c.loop-made.number) = sym c.number-from.ensures ∙ read in
     fed_low c.args.wiring.now c.len-elements.ensures.circuit c.loop-made.bars c.loop-made.number c.number-from.result (c.args.steps - c.loop-made.made)
     c.loop-made.invariant.good came
 
@@ -69,9 +69,9 @@ pub line_of-requires-in-loop-made : goal.line_of-requires-in-loop-made
 line_of-requires-in-loop-made g c =
     let low = entered_low c.args.wiring.now c.len-elements.ensures.circuit c.loop-made.bars c.loop-made.number (c.args.steps - c.loop-made.made)
     c.loop-made.invariant.good in
-    let read = cell_read (source c.args.wiring.now.wires) (map g.C.Cell.tells c.sources-sources.result.now) c.loop-made.number
-    (length c.args.wiring.now.elements) (g.C.Cell.tells c.cell_at-cell.result) c.sources-sources.ensures low c.cell_at-cell.ensures in
-    let came : Some (line_of c.number-from.result) ≡ source c.args.wiring.now.wires (line_of c.loop-made.number) = sym c.number-from.ensures ∙ read in
+    let read = cell_read (behind c.args.wiring.now.wires) (map g.C.Cell.tells c.behind-behind.result.now) c.loop-made.number
+    (length c.args.wiring.now.elements) (g.C.Cell.tells c.cell_at-cell.result) c.behind-behind.ensures low c.cell_at-cell.ensures in
+    let came : Some (line_of c.number-from.result) ≡ behind c.args.wiring.now.wires (line_of c.loop-made.number) = sym c.number-from.ensures ∙ read in
     let within = back_low c.args.wiring.now c.len-elements.ensures.circuit c.loop-made.bars c.cross_back_at-number.new.self c.loop-made.number c.number-from.result
     c.cross_back_at-number.result came c.cross_back_at-number.ensures in
     let few : length c.args.wiring.now.elements < 2 ^ 32 = search rules in
@@ -81,9 +81,9 @@ pub loop-made-preserved : goal.loop-made-preserved
 loop-made-preserved g c =
     let low = entered_low c.args.wiring.now c.len-elements.ensures.circuit c.loop-made.bars c.loop-made.number (c.args.steps - c.loop-made.made)
     c.loop-made.invariant.good in
-    let read = cell_read (source c.args.wiring.now.wires) (map g.C.Cell.tells c.sources-sources.result.now) c.loop-made.number
-    (length c.args.wiring.now.elements) (g.C.Cell.tells c.cell_at-cell.result) c.sources-sources.ensures low c.cell_at-cell.ensures in
-    let came : Some (line_of c.number-from.result) ≡ source c.args.wiring.now.wires (line_of c.loop-made.number) = sym c.number-from.ensures ∙ read in
+    let read = cell_read (behind c.args.wiring.now.wires) (map g.C.Cell.tells c.behind-behind.result.now) c.loop-made.number
+    (length c.args.wiring.now.elements) (g.C.Cell.tells c.cell_at-cell.result) c.behind-behind.ensures low c.cell_at-cell.ensures in
+    let came : Some (line_of c.number-from.result) ≡ behind c.args.wiring.now.wires (line_of c.loop-made.number) = sym c.number-from.ensures ∙ read in
     number_back_more c.args.wiring.now c.len-elements.ensures.circuit (config_at c.args.bars.now (Enter c.args.to.element c.args.to.line) c.args.steps)
     c.loop-made.bars c.cross_back_at-number.new.self c.loop-made.number c.number-from.result c.cross_back_at-number.result c.args.steps c.loop-made.made
     (g.W.Watch.told c.args.watch.now) (g.W.Watch.told c.loop-made.watch) (g.W.Watch.told c.enter.new.self)

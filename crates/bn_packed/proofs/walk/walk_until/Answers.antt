@@ -1,11 +1,12 @@
 use Rattle.std.proofs.Common.{length, map, Some, None, ◌≡◌, ◌<◌, ◌*◌, ◌/◌, ◌%◌, ◌^◌, ◌+◌, ◌-◌, ◌∷◌, [], refl, sym, ap, subst, ◌∙◌, arith, not, rules}
-use Rattle.bn_circuits.specs.Circuits.{place_at, target}
+use Rattle.bn_circuits.specs.Circuits.{place_at}
+use Rattle.bn_circuits.specs.declared.line.Line.{Line}
 use Rattle.bn_circuits.specs.declared.place.Place.TheVariants.{Left}
 use Rattle.bn_net.specs.Watching.{Hears}
 use Rattle.bn_net.specs.RotaryNets.{rotary_circuit}
 use Rattle.bn_packed.specs.PackedNets.{config_at}
 use Rattle.std.proofs.lemmas.List.{length-map}
-use Rattle.bn_packed.specs.Ends.{line_of}
+use Rattle.bn_packed.specs.Ends.{line_of, opposite, ahead}
 use Rattle.bn_packed.proofs.EndLemmas.{input_below}
 use Rattle.bn_packed.proofs.NumberLemmas.{entered, entered_line, entered_by, cell_read, none_read, crossed_low, led_low, number_more}
 use Rattle.bn_packed.proofs.StepLemmas.{IsOnWay, way_none, entering_below}
@@ -53,19 +54,19 @@ low_from g c =
 pub cell_at-cell-requires : goal.cell_at-cell-requires
 cell_at-cell-requires g c =
     let low = low_from g c in
-    let count = c.targets-targets.ensures.count in
-    let same : length (map g.C.Cell.tells c.targets-targets.result.now) ≡ length c.targets-targets.result.now = length-map c.targets-targets.result.now g.C.Cell.tells in
+    let count = c.ahead-ahead.ensures.count in
+    let same : length (map g.C.Cell.tells c.ahead-ahead.result.now) ≡ length c.ahead-ahead.result.now = length-map c.ahead-ahead.result.now g.C.Cell.tells in
     omega arith
 
 pub returns-then-is_loose-clause-walked : goal.returns-then-is_loose-clause-walked
 returns-then-is_loose-clause-walked g c =
     let low = crossed_low c.args.wiring.now c.len-elements.ensures.circuit c.loop-made.bars c.cross-from.new.self c.loop-made.number c.cross-from.result
     (c.args.signal.steps + c.loop-made.made) c.loop-made.invariant.way.walked.good c.cross-from.ensures in
-    let read = cell_read (target c.args.wiring.now.wires) (map g.C.Cell.tells c.targets-targets.result.now) c.cross-from.result
-    (length c.args.wiring.now.elements) (g.C.Cell.tells c.cell_at-cell.result) c.targets-targets.ensures low c.cell_at-cell.ensures in
-    let none : None ≡ target c.args.wiring.now.wires (line_of c.cross-from.result) = sym (none_read (g.C.Cell.tells c.cell_at-cell.result) (sym c.is_loose.ensures ∙ c.if-is_loose.true)) ∙ read in
-    let then = c.left_by-place.ensures ∙ (λ i. Left (c.line_of.ensures i).element (c.line_of.ensures i).line)
-    ∙ ap (λ o. place_at o (line_of c.cross-from.result)) none in
+    let read = cell_read (ahead c.args.wiring.now.wires) (map g.C.Cell.tells c.ahead-ahead.result.now) c.cross-from.result
+    (length c.args.wiring.now.elements) (g.C.Cell.tells c.cell_at-cell.result) c.ahead-ahead.ensures low c.cell_at-cell.ensures in
+    let none : None ≡ ahead c.args.wiring.now.wires (line_of c.cross-from.result) = sym (none_read (g.C.Cell.tells c.cell_at-cell.result) (sym c.is_loose.ensures ∙ c.if-is_loose.true)) ∙ read in
+    let then = c.left_by-place.ensures ∙ ap (λ (l : Line). Left l.element l.line) (c.opposite.ensures ∙ ap opposite c.line_of.ensures)
+    ∙ ap (λ o. place_at o (opposite (line_of c.cross-from.result))) none in
     (number_more c.args.wiring.now c.len-elements.ensures.circuit (g.S.Stop.stops c.args.stop.now)
     (config_at c.args.bars.now c.args.signal.place c.args.signal.steps) c.loop-made.bars c.cross-from.new.self c.left_by-place.result c.loop-made.number c.cross-from.result
     c.args.signal.steps c.loop-made.made _ _ (g.W.Watch.told c.args.watch.now) (g.W.Watch.told c.loop-made.watch) (g.W.Watch.told c.enter.new.self)
@@ -76,11 +77,11 @@ pub returns-then-is_loose-clause-between : goal.returns-then-is_loose-clause-bet
 returns-then-is_loose-clause-between g c =
     let low = crossed_low c.args.wiring.now c.len-elements.ensures.circuit c.loop-made.bars c.cross-from.new.self c.loop-made.number c.cross-from.result
     (c.args.signal.steps + c.loop-made.made) c.loop-made.invariant.way.walked.good c.cross-from.ensures in
-    let read = cell_read (target c.args.wiring.now.wires) (map g.C.Cell.tells c.targets-targets.result.now) c.cross-from.result
-    (length c.args.wiring.now.elements) (g.C.Cell.tells c.cell_at-cell.result) c.targets-targets.ensures low c.cell_at-cell.ensures in
-    let none : None ≡ target c.args.wiring.now.wires (line_of c.cross-from.result) = sym (none_read (g.C.Cell.tells c.cell_at-cell.result) (sym c.is_loose.ensures ∙ c.if-is_loose.true)) ∙ read in
-    let then = c.left_by-place.ensures ∙ (λ i. Left (c.line_of.ensures i).element (c.line_of.ensures i).line)
-    ∙ ap (λ o. place_at o (line_of c.cross-from.result)) none in
+    let read = cell_read (ahead c.args.wiring.now.wires) (map g.C.Cell.tells c.ahead-ahead.result.now) c.cross-from.result
+    (length c.args.wiring.now.elements) (g.C.Cell.tells c.cell_at-cell.result) c.ahead-ahead.ensures low c.cell_at-cell.ensures in
+    let none : None ≡ ahead c.args.wiring.now.wires (line_of c.cross-from.result) = sym (none_read (g.C.Cell.tells c.cell_at-cell.result) (sym c.is_loose.ensures ∙ c.if-is_loose.true)) ∙ read in
+    let then = c.left_by-place.ensures ∙ ap (λ (l : Line). Left l.element l.line) (c.opposite.ensures ∙ ap opposite c.line_of.ensures)
+    ∙ ap (λ o. place_at o (opposite (line_of c.cross-from.result))) none in
     (number_more c.args.wiring.now c.len-elements.ensures.circuit (g.S.Stop.stops c.args.stop.now)
     (config_at c.args.bars.now c.args.signal.place c.args.signal.steps) c.loop-made.bars c.cross-from.new.self c.left_by-place.result c.loop-made.number c.cross-from.result
     c.args.signal.steps c.loop-made.made _ _ (g.W.Watch.told c.args.watch.now) (g.W.Watch.told c.loop-made.watch) (g.W.Watch.told c.enter.new.self)
@@ -91,9 +92,9 @@ pub line_of-at_line-requires : goal.line_of-at_line-requires
 line_of-at_line-requires g c =
     let low = crossed_low c.args.wiring.now c.len-elements.ensures.circuit c.loop-made.bars c.cross-from.new.self c.loop-made.number c.cross-from.result
     (c.args.signal.steps + c.loop-made.made) c.loop-made.invariant.way.walked.good c.cross-from.ensures in
-    let read = cell_read (target c.args.wiring.now.wires) (map g.C.Cell.tells c.targets-targets.result.now) c.cross-from.result
-    (length c.args.wiring.now.elements) (g.C.Cell.tells c.cell_at-cell.result) c.targets-targets.ensures low c.cell_at-cell.ensures in
-    let leads : Some (line_of c.number-to.result) ≡ target c.args.wiring.now.wires (line_of c.cross-from.result) = sym c.number-to.ensures ∙ read in
+    let read = cell_read (ahead c.args.wiring.now.wires) (map g.C.Cell.tells c.ahead-ahead.result.now) c.cross-from.result
+    (length c.args.wiring.now.elements) (g.C.Cell.tells c.cell_at-cell.result) c.ahead-ahead.ensures low c.cell_at-cell.ensures in
+    let leads : Some (line_of c.number-to.result) ≡ ahead c.args.wiring.now.wires (line_of c.cross-from.result) = sym c.number-to.ensures ∙ read in
     let within = led_low c.args.wiring.now c.len-elements.ensures.circuit c.cross-from.result c.number-to.result leads in
     let few : length c.args.wiring.now.elements < 2 ^ 32 = search rules in
     omega arith
@@ -102,11 +103,11 @@ pub returns-then-stops-clause-walked : goal.returns-then-stops-clause-walked
 returns-then-stops-clause-walked g c =
     let low = crossed_low c.args.wiring.now c.len-elements.ensures.circuit c.loop-made.bars c.cross-from.new.self c.loop-made.number c.cross-from.result
     (c.args.signal.steps + c.loop-made.made) c.loop-made.invariant.way.walked.good c.cross-from.ensures in
-    let read = cell_read (target c.args.wiring.now.wires) (map g.C.Cell.tells c.targets-targets.result.now) c.cross-from.result
-    (length c.args.wiring.now.elements) (g.C.Cell.tells c.cell_at-cell.result) c.targets-targets.ensures low c.cell_at-cell.ensures in
-    let leads : Some (line_of c.number-to.result) ≡ target c.args.wiring.now.wires (line_of c.cross-from.result) = sym c.number-to.ensures ∙ read in
+    let read = cell_read (ahead c.args.wiring.now.wires) (map g.C.Cell.tells c.ahead-ahead.result.now) c.cross-from.result
+    (length c.args.wiring.now.elements) (g.C.Cell.tells c.cell_at-cell.result) c.ahead-ahead.ensures low c.cell_at-cell.ensures in
+    let leads : Some (line_of c.number-to.result) ≡ ahead c.args.wiring.now.wires (line_of c.cross-from.result) = sym c.number-to.ensures ∙ read in
     let here = entered_by c.line_of-at_line.result c.number-to.result c.line_of-at_line.ensures in
-    let then = c.entering-then-stops.ensures ∙ here ∙ ap (λ o. place_at o (line_of c.cross-from.result)) leads in
+    let then = c.entering-then-stops.ensures ∙ here ∙ ap (λ o. place_at o (opposite (line_of c.cross-from.result))) leads in
     let hears = subst (λ p. Hears (g.W.Watch.told c.loop-made.watch) (p ∷ []) (g.W.Watch.told c.enter-in-loop-made.new.self))
     (c.entering.ensures ∙ sym c.entering-then-stops.ensures) c.enter-in-loop-made.ensures in
     (number_more c.args.wiring.now c.len-elements.ensures.circuit (g.S.Stop.stops c.args.stop.now)
@@ -119,11 +120,11 @@ pub returns-then-stops-clause-between : goal.returns-then-stops-clause-between
 returns-then-stops-clause-between g c =
     let low = crossed_low c.args.wiring.now c.len-elements.ensures.circuit c.loop-made.bars c.cross-from.new.self c.loop-made.number c.cross-from.result
     (c.args.signal.steps + c.loop-made.made) c.loop-made.invariant.way.walked.good c.cross-from.ensures in
-    let read = cell_read (target c.args.wiring.now.wires) (map g.C.Cell.tells c.targets-targets.result.now) c.cross-from.result
-    (length c.args.wiring.now.elements) (g.C.Cell.tells c.cell_at-cell.result) c.targets-targets.ensures low c.cell_at-cell.ensures in
-    let leads : Some (line_of c.number-to.result) ≡ target c.args.wiring.now.wires (line_of c.cross-from.result) = sym c.number-to.ensures ∙ read in
+    let read = cell_read (ahead c.args.wiring.now.wires) (map g.C.Cell.tells c.ahead-ahead.result.now) c.cross-from.result
+    (length c.args.wiring.now.elements) (g.C.Cell.tells c.cell_at-cell.result) c.ahead-ahead.ensures low c.cell_at-cell.ensures in
+    let leads : Some (line_of c.number-to.result) ≡ ahead c.args.wiring.now.wires (line_of c.cross-from.result) = sym c.number-to.ensures ∙ read in
     let here = entered_by c.line_of-at_line.result c.number-to.result c.line_of-at_line.ensures in
-    let then = c.entering-then-stops.ensures ∙ here ∙ ap (λ o. place_at o (line_of c.cross-from.result)) leads in
+    let then = c.entering-then-stops.ensures ∙ here ∙ ap (λ o. place_at o (opposite (line_of c.cross-from.result))) leads in
     let hears = subst (λ p. Hears (g.W.Watch.told c.loop-made.watch) (p ∷ []) (g.W.Watch.told c.enter-in-loop-made.new.self))
     (c.entering.ensures ∙ sym c.entering-then-stops.ensures) c.enter-in-loop-made.ensures in
     (number_more c.args.wiring.now c.len-elements.ensures.circuit (g.S.Stop.stops c.args.stop.now)
@@ -136,9 +137,9 @@ pub loop-made-preserved : goal.loop-made-preserved
 loop-made-preserved g c =
     let low = crossed_low c.args.wiring.now c.len-elements.ensures.circuit c.loop-made.bars c.cross-from.new.self c.loop-made.number c.cross-from.result
     (c.args.signal.steps + c.loop-made.made) c.loop-made.invariant.way.walked.good c.cross-from.ensures in
-    let read = cell_read (target c.args.wiring.now.wires) (map g.C.Cell.tells c.targets-targets.result.now) c.cross-from.result
-    (length c.args.wiring.now.elements) (g.C.Cell.tells c.cell_at-cell.result) c.targets-targets.ensures low c.cell_at-cell.ensures in
-    let leads : Some (line_of c.number-to.result) ≡ target c.args.wiring.now.wires (line_of c.cross-from.result) = sym c.number-to.ensures ∙ read in
+    let read = cell_read (ahead c.args.wiring.now.wires) (map g.C.Cell.tells c.ahead-ahead.result.now) c.cross-from.result
+    (length c.args.wiring.now.elements) (g.C.Cell.tells c.cell_at-cell.result) c.ahead-ahead.ensures low c.cell_at-cell.ensures in
+    let leads : Some (line_of c.number-to.result) ≡ ahead c.args.wiring.now.wires (line_of c.cross-from.result) = sym c.number-to.ensures ∙ read in
     let here = entered_by c.line_of-at_line.result c.number-to.result c.line_of-at_line.ensures in
     let hears = subst (λ p. Hears (g.W.Watch.told c.loop-made.watch) (p ∷ []) (g.W.Watch.told c.enter-in-loop-made.new.self))
     (c.entering.ensures ∙ here) c.enter-in-loop-made.ensures in
@@ -146,7 +147,7 @@ loop-made-preserved g c =
       way = (number_more c.args.wiring.now c.len-elements.ensures.circuit (g.S.Stop.stops c.args.stop.now)
           (config_at c.args.bars.now c.args.signal.place c.args.signal.steps) c.loop-made.bars c.cross-from.new.self (entered c.number-to.result) c.loop-made.number c.cross-from.result
           c.args.signal.steps c.loop-made.made _ _ (g.W.Watch.told c.args.watch.now) (g.W.Watch.told c.loop-made.watch) (g.W.Watch.told c.enter-in-loop-made.new.self)
-          c.loop-made.invariant.way c.loop-made.invariant.calm c.cross-from.ensures (ap (λ o. place_at o (line_of c.cross-from.result)) leads)
+          c.loop-made.invariant.way c.loop-made.invariant.calm c.cross-from.ensures (ap (λ o. place_at o (opposite (line_of c.cross-from.result))) leads)
           (omega (arith, c.requires.room, c.loop-made-test.true)) (omega arith) refl hears);
       calm = λ some. ap not (sym (c.stops.ensures ∙ ap (g.S.Stop.stops c.args.stop.now) c.line_of-at_line.ensures) ∙ c.if-stops.false);
     }

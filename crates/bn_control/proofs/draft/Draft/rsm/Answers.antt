@@ -10,8 +10,8 @@ use Rattle.bn_rsm.specs.Machines.{IsMadeOf, machine_table}
 use Rattle.bn_control.specs.States.{name_of}
 use Rattle.bn_control.proofs.draft.Draft.rsm.Goals as goal
 
-pub numbered-requires-clause-known : goal.numbered-requires-clause-known
-numbered-requires-clause-known c = λ n x e.
+pub in_numbers-requires-clause-known : goal.in_numbers-requires-clause-known
+in_numbers-requires-clause-known c = λ n x e.
     let d = c.requires.is in
     let e' = subst (λ (l : List NamedMove). slice_get l n ≡ Some x) c.as_slice.ensures.value e in
     let numbers = move_numbers c.requires.machine d.valid c.args.self.now.states.items d.ordered c.args.self.now.moves.items d.moves n x e' in

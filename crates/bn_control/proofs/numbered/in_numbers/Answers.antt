@@ -6,7 +6,7 @@ use Rattle.bn_control.specs.declared.named.NamedMove.{NamedMove}
 use Rattle.bn_control.specs.declared.state.State.TheVariants.{Begin}
 use Rattle.bn_control.specs.Numbered.{AreNumbered}
 use Rattle.bn_control.proofs.NumberedLemmas.{next_numbered}
-use Rattle.bn_control.proofs.numbered.numbered.Goals as goal
+use Rattle.bn_control.proofs.numbered.in_numbers.Goals as goal
 
 -- what a look-up past the end gives
 abbrev nothing : NamedMove

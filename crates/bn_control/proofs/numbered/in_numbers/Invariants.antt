@@ -1,7 +1,7 @@
 use Rattle.std.proofs.Common.{◌≡◌, length, take}
 use Rattle.bn_quad.specs.Quadruples.{Quadruples}
 use Rattle.bn_control.specs.Numbered.{AreNumbered}
-use Rattle.bn_control.proofs.numbered.numbered.Given as goal
+use Rattle.bn_control.proofs.numbered.in_numbers.Given as goal
 
 abbrev pub invariant-loop-step : goal.invariant-loop-step
 invariant-loop-step l = record {

@@ -1,8 +1,8 @@
 use Rattle.std.proofs.Common.{◌≡◌, ◌+◌, ◌*◌, Some, slice_set, ◌∙◌, ap, subst, sym}
 use Rattle.bn_packed.specs.Ends.{AreReversed, EndList, line_of}
 use Rattle.bn_packed.proofs.ReversedLemmas.{by_line, has_room, loose_reversed, more_reversed}
-use Rattle.bn_packed.proofs.ends.Ends.reversed.Goals.{in-Some, in_default}
-use Rattle.bn_packed.proofs.ends.Ends.reversed.Goals as goal
+use Rattle.bn_packed.proofs.ends.Ends.inverse.Goals.{in-Some, in_default}
+use Rattle.bn_packed.proofs.ends.Ends.inverse.Goals as goal
 
 pub set-requires-clause-there : goal.set-requires-clause-there
 set-requires-clause-there g c =
