@@ -15,9 +15,10 @@ that other work on the machine slows all of them, and what they write goes nowhe
 and system, the medians of --runs runs. A ratio is that of two medians; behind it stand the least and the greatest one
 of a turn. The peak of memory is what the process had itself, least of all runs; none below some 15 MB can be seen.
 
-Of steps, the program's seconds are those of `step E` or `back E` less those of `step 0` in the same turn. Of texts a
-ratio above 1 means that the program is slower, of steps that it is faster. The tables at the end are in Markdown, as
-they stand in docs/BENCHMARKS.md.
+Of steps, the program's seconds are those of `step E` or `back E` less those of `step 0` in the same turn. The C loop is
+compiled in two forms: a line has its own number, or an output line has that of the line across, as in the program. Of
+texts a ratio above 1 means that the program is slower, of steps that it is faster. The tables at the end are in
+Markdown, as they stand in docs/BENCHMARKS.md.
 """
 import argparse
 import filecmp
@@ -140,6 +141,13 @@ def text_tables(options, program, folder):
     return told
 
 
+def loops_in(folder):
+    """The C loop of each compiler in each of its forms."""
+    forms = {"C by {}": [], "across, {}": ["-DACROSS"]}
+    return {form.format(compiler): measuring.compiled("loop", compiler, folder, *flags)
+            for form, flags in forms.items() for compiler in measuring.compilers()}
+
+
 def loop_speeds(loop, order, count, steps):
     """Millions of steps a second of the C loop, both ways."""
     with open(order, "rb") as given:
@@ -169,17 +177,17 @@ def step_rows(options, program, folder, name, count, is_shuffled):
     measuring.run_once([*program, "back", str(steps)], moved, back)
     if not filecmp.cmp(source, back, shallow=False):
         sys.exit(f"{name}: {steps} steps and as many back give another text")
-    loops = {compiler: measuring.compiled("loop", compiler, folder) for compiler in measuring.compilers()}
+    loops = loops_in(folder)
     found = {who: [] for who in ("program", *loops)}
     for _ in range(options.runs):
         found["program"].append(program_speeds(program, source, moved, steps))
-        for compiler, loop in loops.items():
-            found[compiler].append(loop_speeds(loop, order, count, steps))
+        for who, loop in loops.items():
+            found[who].append(loop_speeds(loop, order, count, steps))
     for way, words in enumerate(("step", "back")):
         speeds = {who: [pair[way] for pair in pairs] for who, pairs in found.items()}
         row = [f"{name}, `{words}`", f"{statistics.median(speeds['program']):.1f}"]
-        for compiler in loops:
-            row += [f"{statistics.median(speeds[compiler]):.1f}", ratio(speeds["program"], speeds[compiler])]
+        for who in loops:
+            row += [f"{statistics.median(speeds[who]):.1f}", ratio(speeds["program"], speeds[who])]
         print(" | ".join(row), flush=True)
         yield row
 
@@ -194,10 +202,10 @@ def step_counts(program, folder):
         steps, none = (instructions([*command, word, str(n)], given, folder) for n in (COUNTED_STEPS, 0))
         return (steps - none) / COUNTED_STEPS
     row = ["one element", f"{counted(program, 'step', source):.1f}", f"{counted(program, 'back', moved):.1f}"]
-    for compiler in measuring.compilers():
-        row.append(f"{counted([measuring.compiled('loop', compiler, folder)], '1', order) / 2:.1f}")
+    loops = loops_in(folder)
+    row += [f"{counted([loop], '1', order) / 2:.1f}" for loop in loops.values()]
     heads = ["Instructions a step", "Program, `step`", "Program, `back`"]
-    return measuring.table([*heads, *(f"C by {name}, both ways" for name in measuring.compilers())], [row])
+    return measuring.table([*heads, *(f"{who}, both ways" for who in loops)], [row])
 
 
 def step_tables(options, program, folder):
@@ -208,8 +216,8 @@ def step_tables(options, program, folder):
                                      (f"ring of {count:,} shuffled", count, True)):
         rows += step_rows(options, program, folder, name, count, is_shuffled)
     heads = ["Million steps a second", "Program"]
-    for name in measuring.compilers():
-        heads += [f"C by {name}", "Ratio"]
+    for who in loops_in(folder):
+        heads += [who, "Ratio"]
     told = measuring.table(heads, rows)
     return f"{told}\n\n{step_counts(program, folder)}" if options.count else told
 

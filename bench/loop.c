@@ -1,11 +1,13 @@
-/* Steps of a ring both ways over the arrays of the packed netlist, as a measure beside the program's own steps.
+/* Steps of a ring both ways over arrays like those of the packed netlist, as a measure beside the program's own steps.
  *
  *     loop COUNT STEPS    the ring's elements, in the order of a round, as 32-bit numbers on standard input
  *
  * Each element leads with its south output to the next one's north input, and all bars stand upright, which is a bit
  * 1. A line has one number from step to step: 4 times its element's, and its own: north 0, east 1, south 2, west 3. So
  * a step needs no element by itself: it goes straight to the opposite line by an exclusive or with 2, and by 1 or 3
- * round the bar, which turns. Prints the millions of steps a second forward and back, by the processor's clock. */
+ * round the bar, which turns. Compiled with -DACROSS an output line has the number of the input line across from it,
+ * as in the program: straight on, the number stays, and the last bits change only round the bar. Prints the millions of
+ * steps a second forward and back, by the processor's clock. */
 #include <stdint.h>
 #include <stdio.h>
 #include <stdlib.h>
@@ -14,17 +16,23 @@
 
 #define LOOSE UINT32_MAX
 
+#ifdef ACROSS
+enum { STRAIGHT = 0, UPRIGHT = 3, LEVEL = 1, UPRIGHT_BACK = 1, LEVEL_BACK = 3 };
+#else
+enum { STRAIGHT = 2, UPRIGHT = 1, LEVEL = 3, UPRIGHT_BACK = 3, LEVEL_BACK = 1 };
+#endif
+
 static uint64_t forward(const uint32_t *targets, uint64_t *upright, uint32_t *now_at, uint64_t steps) {
     uint32_t place = *now_at;
     for (uint64_t made = 0; made < steps; made++) {
         uint64_t *word = &upright[place >> 8], bit = 1ull << (place >> 2 & 63);
         uint32_t out, is_odd = place & 1;
         if (*word & bit) {
-            if (!is_odd) out = place ^ 2;
-            else { *word ^= bit; out = place ^ 1; }
+            if (!is_odd) out = place ^ STRAIGHT;
+            else { *word ^= bit; out = place ^ UPRIGHT; }
         } else {
-            if (is_odd) out = place ^ 2;
-            else { *word ^= bit; out = place ^ 3; }
+            if (is_odd) out = place ^ STRAIGHT;
+            else { *word ^= bit; out = place ^ LEVEL; }
         }
         uint32_t to = targets[out];
         if (to == LOOSE) { *now_at = out; return made + 1; }
@@ -42,11 +50,11 @@ static uint64_t back(const uint32_t *sources, uint64_t *upright, uint32_t *now_a
         uint64_t *word = &upright[from >> 8], bit = 1ull << (from >> 2 & 63);
         uint32_t is_odd = from & 1;
         if (*word & bit) {
-            if (!is_odd) place = from ^ 2;
-            else { *word ^= bit; place = from ^ 3; }
+            if (!is_odd) place = from ^ STRAIGHT;
+            else { *word ^= bit; place = from ^ UPRIGHT_BACK; }
         } else {
-            if (is_odd) place = from ^ 2;
-            else { *word ^= bit; place = from ^ 1; }
+            if (is_odd) place = from ^ STRAIGHT;
+            else { *word ^= bit; place = from ^ LEVEL_BACK; }
         }
     }
     *now_at = place;
@@ -67,7 +75,7 @@ static void *filled(size_t bytes) {
 
 static void wire(const uint32_t *order, uint32_t count, uint32_t *targets, uint32_t *sources) {
     for (uint32_t each = 0; each < count; each++) {
-        uint32_t from = 4 * order[each] + 2, to = 4 * order[(each + 1) % count];
+        uint32_t from = (4 * order[each]) ^ STRAIGHT, to = 4 * order[(each + 1) % count];
         targets[from] = to;
         sources[to] = from;
     }

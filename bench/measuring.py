@@ -58,10 +58,10 @@ def compilers():
     return found or sys.exit(f"none of {', '.join(COMPILERS)} is installed")
 
 
-def compiled(name, compiler, folder):
-    """The C program of this name, as this compiler makes it."""
-    made = os.path.join(folder, f"{name}-{compiler}")
-    subprocess.run([compiler, "-O2", "-o", made, os.path.join(BENCH, f"{name}.c")], check=True)
+def compiled(name, compiler, folder, *flags):
+    """The C program of this name, as this compiler makes it with these flags."""
+    made = os.path.join(folder, f"{name}-{compiler}{''.join(flags)}")
+    subprocess.run([compiler, "-O2", *flags, "-o", made, os.path.join(BENCH, f"{name}.c")], check=True)
     return made
 
 

@@ -1,11 +1,11 @@
 #!/usr/bin/env python3
-"""Tells how `step 0` divides into reading, running and writing a text. It proves nothing and is no part of rt ci.
+"""Tells how `step 0` divides into reading, packing and writing a text. It proves nothing and is no part of rt ci.
 
     bench/profile.py                                  by the proved program, crates/bn_main/out/bn_main
     bench/profile.py --by callgrind                   by instructions, where perf can't take samples
 
-Reading is from the first byte to the circuit with its faults tested, running is packing the circuit, no step, and
-unpacking its bars, and writing is from there to the last byte. The parts come one after another. So where perf takes
+Reading is from the first byte to the list of wires with its faults tested, packing makes the circuit of that list, and
+writing is from there to the last byte; no step is run. The parts come one after another. So where perf takes
 samples of the processor's clock, one in a function that serves more than one part, or in the kernel, counts for the
 part that was under way; what comes before the first part and behind the last one is the rest. Without perf, callgrind
 counts instructions, and a function's are divided as those of its callers are; that is slow, so its texts are smaller.
@@ -31,7 +31,8 @@ PARTS = {
     "reading": ("bn_netlist::read", "bn_netlist::front", "bn_netlist::pieces", "bn_netlist_lines::bytes",
                 "bn_netlist_lines::draft", "bn_netlist_lines::entries", "bn_netlist_lines::finish",
                 "bn_netlist_lines::forms", "bn_netlist_lines::stage", "bn_netlist_lines::take_line"),
-    "running": ("bn_packed::",),
+    "packing": ("bn_packed::bars::Bars::of", "bn_packed::ends", "bn_packed::packed::Packed::from_wires",
+                "bn_packed::wires::Wires::from_wires", "bn_packed::wiring"),
     "writing": ("bn_netlist::write", "bn_reply_circuits::stream::give_config"),
 }
 REST = "rest"
