@@ -16,8 +16,8 @@ use Rattle.bn_element.specs.declared.rotary.Rotary.{Rotary}
 use Rattle.bn_net.specs.Parts.{Parts}
 use Rattle.bn_net.proofs.WireListLemmas.{line_tells}
 use Rattle.bn_net.specs.Rows.{entry}
-use Rattle.bn_packed.specs.Ends.{line_of, opposite, ahead, behind, IsLineBelow, EndList, AreEnds, AreEndsOf, AreTargets, IsWiring, end_at, targets_by, sources_by, rows_of, net_of}
-use Rattle.bn_packed.proofs.EndLemmas.{row_entry, row_entry_past, output_below, end_there, length-net, target_read, targets-AreEnds, sources-AreEnds}
+use Rattle.bn_packed.specs.Ends.{nth_line, opposite, ahead, behind, IsLineBelow, EndList, AreEnds, AreEndsOf, AreTargets, IsWiring, end_at, targets_by, sources_by, rows_of, net_of}
+use Rattle.bn_packed.proofs.EndLemmas.{row_entry, row_entry_past, output_below, length-net, target_read, targets-AreEnds, sources-AreEnds}
 
 -- ---- lines across
 
@@ -35,12 +35,9 @@ across_low l low = xor_lt 2 l 2 low (omega arith)
 pub opposite_twice : (l : Line) → opposite (opposite l) ≡ l
 opposite_twice l = same_lines (opposite (opposite l)) l refl (xor_twice l.line)
 
-pub opposite_same : (l m : Line) → opposite l ≡ opposite m → l ≡ m
-opposite_same l m same = sym (opposite_twice l) ∙ ap opposite same ∙ opposite_twice m
-
 -- by the line's number
-pub opposite_number : (n : ℕ) → line_of (bit_xor n 2) ≡ opposite (line_of n)
-opposite_number n = same_lines (line_of (bit_xor n 2)) (opposite (line_of n)) (same_element n 2 refl) (xor_mod n 2 2)
+pub opposite_number : (n : ℕ) → nth_line (bit_xor n 2) ≡ opposite (nth_line n)
+opposite_number n = same_lines (nth_line (bit_xor n 2)) (opposite (nth_line n)) (same_element n 2 refl) (xor_mod n 2 2)
 
 pub number_across : (e l : ℕ) → l < 4 → bit_xor (4 * e + l) 2 ≡ 4 * e + bit_xor l 2
 number_across e l low =
@@ -90,10 +87,10 @@ read_by e n within =
     ∙ ap Some (get_or-map-range_with_len (λ i. end_at e.ends (bit_xor i 2)) 0 (length e.ends) n n None within (omega arith))
 
 -- an end that is read
-end_read : (ends : List (Option Line)) (n : ℕ) (o : Option Line) → slice_get ends n ≡ Some o → end_at ends n ≡ o
+pub end_read : (ends : List (Option Line)) (n : ℕ) (o : Option Line) → slice_get ends n ≡ Some o → end_at ends n ≡ o
 end_read ends n o has = rw has refl
 
-read_end : (ends : List (Option Line)) (n : ℕ) → n < length ends → slice_get ends n ≡ Some (end_at ends n)
+pub read_end : (ends : List (Option Line)) (n : ℕ) → n < length ends → slice_get ends n ≡ Some (end_at ends n)
 read_end ends n within =
     let has = slice_get-get_or ends n None within in
     has ∙ ap Some (sym (end_read ends n (get_or ends n None) has))
@@ -115,8 +112,8 @@ ahead-AreTargets f k e are = record {
   ends = record {
     count = length_by e ∙ are.ends.count;
     each = λ i low.
-        read_across e k i (f (line_of i)) are.ends.count
-        (are.ends.each (bit_xor i 2) (number_below i k low) ∙ ap (λ l. Some (f l)) (ap opposite (opposite_number i) ∙ opposite_twice (line_of i)));
+        read_across e k i (f (nth_line i)) are.ends.count
+        (are.ends.each (bit_xor i 2) (number_below i k low) ∙ ap (λ l. Some (f l)) (ap opposite (opposite_number i) ∙ opposite_twice (nth_line i)));
   };
 }
 
@@ -127,12 +124,12 @@ targets-AreAhead f k e are = record { count = whole; each = each }
     whole : length e.ends ≡ 4 * k
     whole = sym (length_by e) ∙ are.count
 
-    each : (i : ℕ) → i < 4 * k → slice_get e.ends i ≡ Some (f (opposite (line_of i)))
+    each : (i : ℕ) → i < 4 * k → slice_get e.ends i ≡ Some (f (opposite (nth_line i)))
     each i low =
         let over = number_below i k low in
         let within : i < length e.ends = omega (arith, whole) in
         let beyond : bit_xor i 2 < length e.ends = omega (arith, whole) in
-        let told : Some (end_at e.ends (bit_xor (bit_xor i 2) 2)) ≡ Some (f (line_of (bit_xor i 2))) =
+        let told : Some (end_at e.ends (bit_xor (bit_xor i 2) 2)) ≡ Some (f (nth_line (bit_xor i 2))) =
         sym (read_by e (bit_xor i 2) beyond) ∙ are.each (bit_xor i 2) over in
         read_end e.ends i within ∙ ap (λ n. Some (end_at e.ends n)) (sym (xor_twice i)) ∙ told ∙ ap (λ l. Some (f l)) (opposite_number i)
 
@@ -143,9 +140,9 @@ sources-AreBehind f n e are = record {
   each = λ i low.
       let within : i < length e.ends = (let count = are.count in let same : length (sources_by e).ends ≡ length e.ends = length-map e.ends (option_map opposite) in omega arith) in
       let has = read_end e.ends i within in
-      let told : Some (across (end_at e.ends i)) ≡ Some (f (line_of i)) =
+      let told : Some (across (end_at e.ends i)) ≡ Some (f (nth_line i)) =
       sym (ap (option_map across) has) ∙ sym (slice_get-map across e.ends i) ∙ are.each i low in
-      let one : across (end_at e.ends i) ≡ f (line_of i) = cc in
+      let one : across (end_at e.ends i) ≡ f (nth_line i) = cc in
       has ∙ ap Some (sym (across_twice (end_at e.ends i)) ∙ ap across one);
 }
 
@@ -239,13 +236,11 @@ across-IsWiring e s wiring = record {
 
 -- ---- what a wiring keeps
 
-pub across_there : (e s : EndList) (now : Parts Rotary) (from over : Line) → IsWiring (targets_by e) (sources_by s) → net_of (targets_by e) ≡ now
-    → over ≡ opposite from → IsOutputOf (map (λ _. rotary) now.elements) from
-    → 4 * over.element + over.line < length e.ends
-across_there e s now from over wiring is across_from there =
+pub across_there : (e : EndList) (now : Parts Rotary) (from over : Line) → net_of (targets_by e) ≡ now → over ≡ opposite from
+    → IsOutputOf (map (λ _. rotary) now.elements) from → IsLineBelow e.elements over
+across_there e now from over is across_from there =
     let below = subst (λ n. IsLineBelow n from) (length-net (targets_by e) now is) (output_below now.elements from there) in
-    let whole : length e.ends ≡ 4 * e.elements = sym (length_by e) ∙ wiring.all_targets in
-    end_there e.elements e.ends over whole (subst (IsLineBelow e.elements) (sym across_from) (opposite_below e.elements from below))
+    subst (IsLineBelow e.elements) (sym across_from) (opposite_below e.elements from below)
 
 pub across_read : (e s : EndList) (now : Parts Rotary) (from over : Line) (o : Option Line) → IsWiring (targets_by e) (sources_by s)
     → net_of (targets_by e) ≡ now → over ≡ opposite from → IsOutputOf (map (λ _. rotary) now.elements) from

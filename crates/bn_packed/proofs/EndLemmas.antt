@@ -1,8 +1,8 @@
 -- Ends of wires in rows of four: how a line's end is read, and the wires of a net by them.
-use Rattle.std.specs.Prelude.{◌≡◌, ℕ, ◌+◌, ◌*◌, ◌/◌, ◌%◌, ◌^◌, ◌<◌, ◌≤◌, List, [], ◌∷◌, ◌++◌, length, map, Option, Some, None, IfSome, slice_get, option_and_then, refl, ◌⊎◌}
+use Rattle.std.specs.Prelude.{◌≡◌, ℕ, ◌+◌, ◌*◌, ◌/◌, ◌%◌, ◌^◌, ◌<◌, ◌≤◌, List, [], ◌∷◌, length, map, Option, Some, None, IfSome, slice_get, option_and_then, refl, ◌⊎◌}
 use Rattle.std.proofs.Common.{zero, suc, get_or, arith, sym, ap, subst, ◌∙◌, inl, inr}
 use Rattle.std.proofs.lemmas.Bool.Decides.{nat_tests}
-use Rattle.std.proofs.lemmas.List.{length-replicate, length-append, length-map}
+use Rattle.std.proofs.lemmas.List.{length-replicate}
 use Rattle.std.proofs.lemmas.Option.{slice_get-get_or, slice_get_past}
 use Rattle.bn_element.specs.Tables.{Table}
 use Rattle.bn_circuits.specs.Circuits.{IsCircuit, IsInputOf, IsOutputOf, target, source, inputs_of, outputs_of}
@@ -16,7 +16,7 @@ use Rattle.bn_net.specs.Order.{AreInOrder}
 use Rattle.bn_net.proofs.WireLemmas.{target-wires, source-wires, wired-IsCircuit, tables-reversible, output-within}
 use Rattle.bn_net.proofs.OrderLemmas.{in_order-same, rows_in_order}
 use Rattle.bn_net.specs.RotaryNets.{rotary_circuit}
-use Rattle.bn_packed.specs.Ends.{line_of, IsLineBelow, EndList, AreEnds, AreEndsOf, end_at, rows_of, rotaries, net_of, IsWiring}
+use Rattle.bn_packed.specs.Ends.{nth_line, IsLineBelow, EndList, AreEnds, AreEndsOf, end_at, rows_of, rotaries, net_of, IsWiring}
 
 abbrev Ends : Type 0
 Ends = List (Option Line)
@@ -106,11 +106,11 @@ below_input : (elements : List Rotary) (l : Line) → IsLineBelow (length elemen
 below_input elements l below = subst (λ n. l.line < n) (sym (four_in elements l.element below.element)) below.line
 
 -- the line with a number is there
-pub line_below : (n i : ℕ) → i < 4 * n → IsLineBelow n (line_of i)
+pub line_below : (n i : ℕ) → i < 4 * n → IsLineBelow n (nth_line i)
 line_below n i low = record { element = omega arith; line = omega arith }
 
-pub line_by_number : (l : Line) (i : ℕ) → l.line < 4 → i ≡ 4 * l.element + l.line → line_of i ≡ l
-line_by_number l i low is = same_lines (line_of i) l (omega arith) (omega arith)
+pub line_by_number : (l : Line) (i : ℕ) → l.line < 4 → i ≡ 4 * l.element + l.line → nth_line i ≡ l
+line_by_number l i low is = same_lines (nth_line i) l (omega arith) (omega arith)
 
 -- ---- the wires of ends
 
@@ -134,17 +134,6 @@ wiring-IsCircuit targets sources now wiring is =
 pub length-net : (targets : EndList) (now : Parts Rotary) → net_of targets ≡ now → length now.elements ≡ targets.elements
 length-net targets now is = sym (ap (λ (n : Parts Rotary). length n.elements) is) ∙ length-replicate {A = Rotary} targets.elements (record {})
 
--- the end of a line that is there is there
-pub end_there : (n : ℕ) (ends : Ends) (l : Line) → length ends ≡ 4 * n → IsLineBelow n l → 4 * l.element + l.line < length ends
-end_there n ends l whole below = let e = below.element in let low = below.line in omega arith
-
-pub target_there : (targets sources : EndList) (now : Parts Rotary) (from : Line) → IsWiring targets sources → net_of targets ≡ now
-    → IsOutputOf (map (λ _. rotary) now.elements) from
-    → 4 * from.element + from.line < length targets.ends
-target_there targets sources now from wiring is there =
-    end_there targets.elements targets.ends from wiring.all_targets (subst (λ n. IsLineBelow n from) (length-net targets now is)
-    (output_below now.elements from there))
-
 entry_read : (ends : Ends) (n : ℕ) (l : Line) (o : Option Line) → length ends ≡ 4 * n → l.line < 4 → slice_get ends (4 * l.element + l.line) ≡ Some o
     → entry (rows_of ends) l ≡ o
 entry_read ends n l o whole low read = row_entry ends n l.element l.line (4 * l.element + l.line) whole low refl ∙ rw read refl
@@ -165,32 +154,6 @@ source_read targets sources now to o wiring is there read =
     sources.ends targets.elements to o wiring.all_sources below.line read)
 
 -- ---- the ends of a net's wires
-
-get-front : {X : Type 0} (xs ys : List X) (i : ℕ) → i < length xs → slice_get (xs ++ ys) i ≡ slice_get xs i
-get-front [] ys i low = absurd (omega arith)
-get-front (x ∷ xs) ys zero low = refl
-get-front (x ∷ xs) ys (suc i) low = get-front xs ys i (omega arith)
-
-get-last : {X : Type 0} (xs : List X) (x : X) (i : ℕ) → i ≡ length xs → slice_get (xs ++ x ∷ []) i ≡ Some x
-get-last [] x i is = ap (slice_get (x ∷ [])) is
-get-last (y ∷ xs) x zero is = absurd (omega arith)
-get-last (y ∷ xs) x (suc i) is = get-last xs x i (omega arith)
-
--- one end more
-pub more_ends : (f : Line → Option Line) (n : ℕ) (ends after : Ends) (o : Option Line) → AreEnds f n ends → o ≡ f (line_of n) → after ≡ ends ++ o ∷ []
-    → AreEnds f (n + 1) after
-more_ends f n ends after o so_far is pushed =
-    record {
-      count = ap length pushed ∙ length-append ends (o ∷ []) ∙ ap (λ k. k + 1) so_far.count;
-      each = λ i low. ap (λ xs. slice_get xs i) pushed ∙ at i low (cases i low);
-    }
-  where
-    cases : (i : ℕ) → i < n + 1 → (i < n) ⊎ (i ≡ n)
-    cases i low = grind (arith, nat_tests)
-
-    at : (i : ℕ) → i < n + 1 → (i < n) ⊎ (i ≡ n) → slice_get (ends ++ o ∷ []) i ≡ Some (f (line_of i))
-    at i low (inl below) = let count = so_far.count in get-front ends (o ∷ []) i (omega arith) ∙ so_far.each i below
-    at i low (inr here) = get-last ends o i (here ∙ sym so_far.count) ∙ ap Some (is ∙ ap (λ k. f (line_of k)) (sym here))
 
 -- the rows hold what f tells, where f tells nothing of lines that aren't there
 pub ends_entry : (f : Line → Option Line) (n : ℕ) (e : EndList) → AreEndsOf f n e → ((l to : Line) → f l ≡ Some to → IsLineBelow n l) → (l : Line)
@@ -261,9 +224,9 @@ targets-AreEnds targets sources now ends wiring is same =
           let there : i < length targets.ends = omega arith in
           let number : i ≡ 4 * (i / 4) + i % 4 = omega arith in
           let read : slice_get targets.ends i ≡ Some (get_or targets.ends i None) = slice_get-get_or targets.ends i None there in
-          let output = below_output now.elements (line_of i) (line_below (length now.elements) i low) in
+          let output = below_output now.elements (nth_line i) (line_below (length now.elements) i low) in
           ap (λ xs. slice_get xs i) same ∙ read
-          ∙ ap Some (target_read targets sources now (line_of i) (get_or targets.ends i None) wiring is output
+          ∙ ap Some (target_read targets sources now (nth_line i) (get_or targets.ends i None) wiring is output
           (ap (slice_get targets.ends) (sym number) ∙ read));
     }
 
@@ -278,24 +241,8 @@ sources-AreEnds targets sources now ends wiring is same =
           let there : i < length sources.ends = omega arith in
           let number : i ≡ 4 * (i / 4) + i % 4 = omega arith in
           let read : slice_get sources.ends i ≡ Some (get_or sources.ends i None) = slice_get-get_or sources.ends i None there in
-          let input = below_input now.elements (line_of i) (line_below (length now.elements) i low) in
+          let input = below_input now.elements (nth_line i) (line_below (length now.elements) i low) in
           ap (λ xs. slice_get xs i) same ∙ read
-          ∙ ap Some (source_read targets sources now (line_of i) (get_or sources.ends i None) wiring is input
+          ∙ ap Some (source_read targets sources now (nth_line i) (get_or sources.ends i None) wiring is input
           (ap (slice_get sources.ends) (sym number) ∙ read));
     }
-
--- what is read of them
-pub ends_there : {X : Type 0} (f : Line → Option Line) (tells : X → Option Line) (n : ℕ) (cells : List X) (l : Line) → AreEnds f (4 * n) (map tells cells)
-    → IsLineBelow n l → 4 * l.element + l.line < length cells
-ends_there f tells n cells l are below =
-    let e = below.element in let low = below.line in let count = are.count in let same : length (map tells cells) ≡ length cells = length-map cells tells in
-    omega arith
-
-pub ends_read : (f : Line → Option Line) (n : ℕ) (ends : Ends) (l : Line) (o : Option Line) → AreEnds f (4 * n) ends → IsLineBelow n l
-    → slice_get ends (4 * l.element + l.line) ≡ Some o → o ≡ f l
-ends_read f n ends l o are below read =
-    let i : 4 * l.element + l.line < 4 * n = let a = below.element in let b = below.line in omega arith in
-    let told : slice_get ends (4 * l.element + l.line) ≡ Some (f l) = are.each (4 * l.element + l.line) i ∙ ap (λ x. Some (f x))
-    (line_by_number l (4 * l.element + l.line) below.line refl) in
-    let same : Some o ≡ Some (f l) = sym read ∙ told in
-    cc

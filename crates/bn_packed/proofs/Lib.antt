@@ -1,5 +1,6 @@
 pub mod AcrossLemmas
 pub mod BarLemmas
+pub mod BlockLemmas
 pub mod CrossLemmas
 pub mod EndLemmas
 pub mod NumberLemmas

@@ -1,6 +1,7 @@
 -- The ends of a list of wires, written one wire after another, and the net that they make.
-use Rattle.std.specs.Prelude.{◌≡◌, ℕ, ◌+◌, ◌*◌, ◌^◌, ◌<◌, List, [], ◌∷◌, ◌++◌, length, replicate, take, Option, Some, None, if◌then◌else◌, slice_get, slice_set, refl}
+use Rattle.std.specs.Prelude.{◌≡◌, ◌⊎◌, ℕ, ◌+◌, ◌*◌, ◌^◌, ◌<◌, ◌≤◌, List, [], ◌∷◌, ◌++◌, length, replicate, take, Option, Some, None, if◌then◌else◌, slice_get, slice_set, refl}
 use Rattle.std.proofs.Common.{zero, suc, get_or, arith, sym, ap, subst, ◌∙◌, inl, inr}
+use Rattle.std.proofs.lemmas.Bool.Decides.{nat_tests}
 use Rattle.std.proofs.lemmas.List.{length-replicate, take_more}
 use Rattle.std.proofs.lemmas.Option.{slice_get-get_or}
 use Rattle.bn_circuits.specs.Circuits.{target, same_line}
@@ -16,7 +17,7 @@ use Rattle.bn_net.proofs.OrderLemmas.{rows_in_order}
 use Rattle.bn_net.specs.RotaryNets.{IsNetOf}
 use Rattle.bn_net.specs.Wirings.{AreApart, AreFitting}
 use Rattle.bn_net.proofs.WiringsLemmas.{apart-IsOneToOne, earlier_target}
-use Rattle.bn_packed.specs.Ends.{line_of, opposite, ahead, targets_by, IsLineBelow, EndList, AreEndsOf, AreTargets, rows_of, rotaries, net_of}
+use Rattle.bn_packed.specs.Ends.{nth_line, opposite, ahead, targets_by, IsLineBelow, EndList, AreEndsOf, AreTargets, rows_of, rotaries, net_of}
 use Rattle.bn_packed.proofs.AcrossLemmas.{opposite_below, test_across, ahead-AreTargets, targets_ahead}
 use Rattle.bn_packed.proofs.EndLemmas.{line_by_number, ends_entry}
 use Rattle.bn_packed.proofs.ReversedLemmas.{set_length, ends-AreTargets}
@@ -35,7 +36,7 @@ loose_ends f n e none elements is = record {
   elements = elements;
   ends = record {
     count = ap length is ∙ length-replicate {A = Option Line} (4 * n) None;
-    each = λ i low. ap (λ xs. slice_get xs i) is ∙ all_loose (4 * n) i low ∙ ap Some (sym (none (line_of i)));
+    each = λ i low. ap (λ xs. slice_get xs i) is ∙ all_loose (4 * n) i low ∙ ap Some (sym (none (nth_line i)));
   };
 }
 
@@ -51,21 +52,78 @@ set_ends f g k here to before after below says are same is = record {
     within : 4 * here.element + here.line < length before.ends
     within = let e = below.element in let l = below.line in let count = are.ends.count in omega arith
 
-    each : (i : ℕ) → i < 4 * k → slice_get after.ends i ≡ Some (g (line_of i))
-    each i low = ap (λ xs. slice_get xs i) is ∙ elim (line_tells here (line_of i)) [
+    each : (i : ℕ) → i < 4 * k → slice_get after.ends i ≡ Some (g (nth_line i))
+    each i low = ap (λ xs. slice_get xs i) is ∙ elim (line_tells here (nth_line i)) [
       | inl at ↦
           let number : i ≡ 4 * here.element + here.line = (let e = ap (λ (l : Line). l.element) at.1 in let l = ap (λ (l : Line). l.line) at.1 in omega arith) in
           let written = slice_get-set_same before.ends (4 * here.element + here.line) (Some to) within in
           let read : slice_get (slice_set before.ends (4 * here.element + here.line) (Some to)) i ≡ Some (Some to) =
           ap (λ n. slice_get (slice_set before.ends (4 * here.element + here.line) (Some to)) n) number ∙ written in
-          let told : g (line_of i) ≡ Some to = says (line_of i) ∙ rw at.0 refl in
+          let told : g (nth_line i) ≡ Some to = says (nth_line i) ∙ rw at.0 refl in
           read ∙ ap Some (sym told)
       | inr off ↦
           let read = slice_get-set_other before.ends (4 * here.element + here.line) i (Some to)
           (λ number. absurd (off.1 (sym (line_by_number here i below.line number)))) in
-          let told : g (line_of i) ≡ f (line_of i) = says (line_of i) ∙ rw off.0 refl in
+          let told : g (nth_line i) ≡ f (nth_line i) = says (nth_line i) ∙ rw off.0 refl in
           read ∙ are.ends.each i low ∙ ap Some (sym told)
     ]
+
+-- ---- one line after another
+
+-- what f tells stands in the first n places, and in all others that there is no wire
+pub record AreFirst (f : Line → Option Line) (n k : ℕ) (e : EndList) : Type 0 where
+  pub elements : e.elements ≡ k
+  pub count : length e.ends ≡ 4 * k
+  pub before : (i : ℕ) → i < n → i < 4 * k → slice_get e.ends i ≡ Some (f (nth_line i))
+  pub behind : (i : ℕ) → n ≤ i → i < 4 * k → slice_get e.ends i ≡ Some None
+
+pub first_none : (f : Line → Option Line) (k : ℕ) (e : EndList) → e.elements ≡ k → e.ends ≡ replicate (4 * k) None → AreFirst f 0 k e
+first_none f k e elements is = record {
+  elements = elements;
+  count = ap length is ∙ length-replicate {A = Option Line} (4 * k) None;
+  before = λ i low. absurd (omega arith);
+  behind = λ i past low. ap (λ xs. slice_get xs i) is ∙ all_loose (4 * k) i low;
+}
+
+last : (i n : ℕ) → i < n + 1 → (i < n) ⊎ (i ≡ n)
+last i n low = grind (arith, nat_tests)
+
+pub first_loose : (f : Line → Option Line) (n k : ℕ) (l : Line) (e : EndList) → AreFirst f n k e → l ≡ nth_line n → None ≡ f l → AreFirst f (n + 1) k e
+first_loose f n k l e are is none = record {
+  elements = are.elements;
+  count = are.count;
+  before = λ i more low. elim (last i n more) [
+    | inl below ↦ are.before i below low
+    | inr here ↦ are.behind i (omega arith) low ∙ ap Some (none ∙ ap f (is ∙ ap nth_line (sym here)))
+  ];
+  behind = λ i past low. are.behind i (omega arith) low;
+}
+
+pub first_more : (f : Line → Option Line) (n k : ℕ) (l to : Line) (e after : EndList) → AreFirst f n k e → n < 4 * k → l ≡ nth_line n → Some to ≡ f l
+    → after.elements ≡ e.elements → after.ends ≡ slice_set e.ends (4 * l.element + l.line) (Some to) → AreFirst f (n + 1) k after
+first_more f n k l to e after are within is leads same written = record {
+  elements = same ∙ are.elements;
+  count = ap length written ∙ set_length e.ends (4 * l.element + l.line) (Some to) ∙ are.count;
+  before = λ i more low. ap (λ xs. slice_get xs i) (written ∙ ap (λ p. slice_set e.ends p (Some to)) place) ∙ elim (last i n more) [
+    | inl below ↦ slice_get-set_other e.ends n i (Some to) (λ at. absurd (omega arith)) ∙ are.before i below low
+    | inr here ↦ ap (slice_get (slice_set e.ends n (Some to))) here ∙ slice_get-set_same e.ends n (Some to) there
+        ∙ ap Some (leads ∙ ap f (is ∙ ap nth_line (sym here)))
+  ];
+  behind = λ i past low. ap (λ xs. slice_get xs i) (written ∙ ap (λ p. slice_set e.ends p (Some to)) place)
+      ∙ slice_get-set_other e.ends n i (Some to) (λ at. absurd (omega arith)) ∙ are.behind i (omega arith) low;
+}
+  where
+    place : 4 * l.element + l.line ≡ n
+    place = let element = ap (λ (x : Line). x.element) is in let line = ap (λ (x : Line). x.line) is in omega arith
+
+    there : n < length e.ends
+    there = let count = are.count in omega arith
+
+pub first_all : (f : Line → Option Line) (n k : ℕ) (e : EndList) → AreFirst f n k e → 4 * k ≤ n → AreEndsOf f k e
+first_all f n k e are all = record {
+  elements = are.elements;
+  ends = record { count = are.count; each = λ i low. are.before i (omega arith) low };
+}
 
 -- both lines of a wire of the list are there
 pub record IsFit (n : ℕ) (w : Wire) : Type 0 where

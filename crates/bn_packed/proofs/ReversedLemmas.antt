@@ -12,7 +12,7 @@ use Rattle.bn_element.specs.declared.rotary.Rotary.{Rotary}
 use Rattle.bn_net.specs.Parts.{Parts}
 use Rattle.bn_net.specs.Rows.{entry}
 use Rattle.bn_net.specs.RotaryNets.{rotary_circuit}
-use Rattle.bn_packed.specs.Ends.{line_of, IsLineBelow, EndList, AreEndsOf, AreReversed, AreTargets, IsWiring, rows_of}
+use Rattle.bn_packed.specs.Ends.{nth_line, IsLineBelow, EndList, AreEndsOf, AreReversed, AreTargets, IsWiring, rows_of}
 use Rattle.bn_packed.proofs.EndLemmas.{input_below, line_by_number, row_entry, row_entry_past}
 
 -- ---- one end after another
@@ -56,15 +56,15 @@ loose_reversed e n back none so_far = record {
   only = λ to from low h. let found = so_far.only to from low h in (found.0, omega (arith, found.1), found.2, found.3);
 }
   where
-    at : (i : ℕ) (to : Line) → slice_get e.ends i ≡ Some (Some to) → (i < n) ⊎ (i ≡ n) → slice_get back (4 * to.element + to.line) ≡ Some (Some (line_of i))
+    at : (i : ℕ) (to : Line) → slice_get e.ends i ≡ Some (Some to) → (i < n) ⊎ (i ≡ n) → slice_get back (4 * to.element + to.line) ≡ Some (Some (nth_line i))
     at i to has (inl below) = so_far.held i to below has
     at i to has (inr here) = let h = ap (slice_get e.ends) here in absurd (cc)
 
 -- an end that leads to a line
 pub more_reversed : (e : EndList) (n : ℕ) (to : Line) (back after : List (Option Line)) → AreTargets e → slice_get e.ends n ≡ Some (Some to)
-    → after ≡ slice_set back (4 * to.element + to.line) (Some (line_of n)) → AreReversed e.ends n back → AreReversed e.ends (n + 1) after
+    → after ≡ slice_set back (4 * to.element + to.line) (Some (nth_line n)) → AreReversed e.ends n back → AreReversed e.ends (n + 1) after
 more_reversed e n to back after are here is so_far = record {
-  count = ap length is ∙ set_length back k (Some (line_of n)) ∙ so_far.count;
+  count = ap length is ∙ set_length back k (Some (nth_line n)) ∙ so_far.count;
   held = λ i t low has. at i t has (sides i n low);
   only = λ t from low h. from_where t from low h (ways (4 * t.element + t.line) k);
 }
@@ -78,13 +78,13 @@ more_reversed e n to back after are here is so_far = record {
     within : k < length back
     within = let element = below.element in let line = below.line in let whole = are.whole in let count = so_far.count in omega arith
 
-    written : slice_get after k ≡ Some (Some (line_of n))
-    written = ap (λ xs. slice_get xs k) is ∙ slice_get-set_same back k (Some (line_of n)) within
+    written : slice_get after k ≡ Some (Some (nth_line n))
+    written = ap (λ xs. slice_get xs k) is ∙ slice_get-set_same back k (Some (nth_line n)) within
 
     other : (t : Line) → (4 * t.element + t.line ≡ k → ⊥) → slice_get after (4 * t.element + t.line) ≡ slice_get back (4 * t.element + t.line)
-    other t off = ap (λ xs. slice_get xs (4 * t.element + t.line)) is ∙ slice_get-set_other back k (4 * t.element + t.line) (Some (line_of n)) off
+    other t off = ap (λ xs. slice_get xs (4 * t.element + t.line)) is ∙ slice_get-set_other back k (4 * t.element + t.line) (Some (nth_line n)) off
 
-    at : (i : ℕ) (t : Line) → slice_get e.ends i ≡ Some (Some t) → (i < n) ⊎ (i ≡ n) → slice_get after (4 * t.element + t.line) ≡ Some (Some (line_of i))
+    at : (i : ℕ) (t : Line) → slice_get e.ends i ≡ Some (Some t) → (i < n) ⊎ (i ≡ n) → slice_get after (4 * t.element + t.line) ≡ Some (Some (nth_line i))
     at i t has (inl low) = other t off ∙ so_far.held i t low has
       where
         off : 4 * t.element + t.line ≡ k → ⊥
@@ -94,36 +94,25 @@ more_reversed e n to back after are here is so_far = record {
             omega arith
     at i t has (inr last) =
         let one : t ≡ to = (let h : slice_get e.ends n ≡ Some (Some t) = ap (slice_get e.ends) (sym last) ∙ has in cc) in
-        ap (λ (l : Line). slice_get after (4 * l.element + l.line)) one ∙ written ∙ ap (λ j. Some (Some (line_of j))) (sym last)
+        ap (λ (l : Line). slice_get after (4 * l.element + l.line)) one ∙ written ∙ ap (λ j. Some (Some (nth_line j))) (sym last)
 
     from_where : (t from : Line) → t.line < 4 → slice_get after (4 * t.element + t.line) ≡ Some (Some from)
         → ((4 * t.element + t.line ≡ k) ⊎ (4 * t.element + t.line ≡ k → ⊥))
-        → (i : ℕ) × (i < n + 1) × (from ≡ line_of i) × (slice_get e.ends i ≡ Some (Some t))
+        → (i : ℕ) × (i < n + 1) × (from ≡ nth_line i) × (slice_get e.ends i ≡ Some (Some t))
     from_where t from low h (inl same) =
         let one : t ≡ to = by_number t to low below.line same in
-        let told : Some (Some from) ≡ Some (Some (line_of n)) = sym h ∙ ap (slice_get after) same ∙ written in
+        let told : Some (Some from) ≡ Some (Some (nth_line n)) = sym h ∙ ap (slice_get after) same ∙ written in
         (n, omega arith, cc, here ∙ ap (λ x. Some (Some x)) (sym one))
     from_where t from low h (inr off) =
         let found = so_far.only t from low (sym (other t off) ∙ h) in
         (found.0, omega (arith, found.1), found.2, found.3)
 
 -- what is read of a line is read of its number
-pub by_line : (ends : List (Option Line)) (n : ℕ) (l : Line) (o : Option Line) → l ≡ line_of n → slice_get ends (4 * l.element + l.line) ≡ Some o
+pub by_line : (ends : List (Option Line)) (n : ℕ) (l : Line) (o : Option Line) → l ≡ nth_line n → slice_get ends (4 * l.element + l.line) ≡ Some o
     → slice_get ends n ≡ Some o
 by_line ends n l o is has =
     let number : 4 * l.element + l.line ≡ n = (let e = ap (λ (x : Line). x.element) is in let l = ap (λ (x : Line). x.line) is in omega arith) in
     ap (slice_get ends) (sym number) ∙ has
-
--- and there is room for it
-pub has_room : (e : EndList) (n : ℕ) (l : Line) (back : List (Option Line)) → AreTargets e → slice_get e.ends n ≡ Some (Some l)
-    → AreReversed e.ends n back → 4 * l.element + l.line < length back
-has_room e n l back are has so_far =
-    let below = are.inside n l has in
-    let element = below.element in
-    let line = below.line in
-    let whole = are.whole in
-    let count = so_far.count in
-    omega arith
 
 -- ---- the wiring
 
@@ -170,7 +159,7 @@ reversed-IsWiring e s are same back = record {
     λ h.
         let has = read s to from whole h in
         let found = back.only to from has.0 has.1 in
-        let line : from ≡ line_of found.0 = found.2 in
+        let line : from ≡ nth_line found.0 = found.2 in
         let low : from.line < 4 = ap-low found.0 line in
         says e from to are.whole low (ap (slice_get e.ends) (number found.0 line) ∙ found.3),
   );
@@ -179,10 +168,10 @@ reversed-IsWiring e s are same back = record {
     whole : length s.ends ≡ 4 * s.elements
     whole = back.count ∙ are.whole ∙ ap (λ n. 4 * n) (sym same)
 
-    ap-low : {from : Line} (i : ℕ) → from ≡ line_of i → from.line < 4
+    ap-low : {from : Line} (i : ℕ) → from ≡ nth_line i → from.line < 4
     ap-low i is = let l = ap (λ (x : Line). x.line) is in omega arith
 
-    number : {from : Line} (i : ℕ) → from ≡ line_of i → 4 * from.element + from.line ≡ i
+    number : {from : Line} (i : ℕ) → from ≡ nth_line i → 4 * from.element + from.line ≡ i
     number i is = let e = ap (λ (x : Line). x.element) is in let l = ap (λ (x : Line). x.line) is in omega arith
 
 -- ---- where such ends come from
@@ -192,17 +181,17 @@ pub ends-AreTargets : (ws : List Wire) (n : ℕ) (e : EndList) → n < 2 ^ 32 �
 ends-AreTargets ws n e few ends one_to_one below = record {
   few = subst (λ k. k < 2 ^ 32) (sym ends.elements) few;
   whole = ends.ends.count ∙ ap (λ k. 4 * k) (sym ends.elements);
-  inside = λ i to has. subst (λ k. IsLineBelow k to) (sym ends.elements) (below (line_of i) to (leads i to has));
+  inside = λ i to has. subst (λ k. IsLineBelow k to) (sym ends.elements) (below (nth_line i) to (leads i to has));
   apart = λ i j to has_i has_j.
-      let one = (one_to_one (line_of i) to).0 (leads i to has_i) in
-      let two = (one_to_one (line_of j) to).0 (leads j to has_j) in
-      let same : line_of i ≡ line_of j = cc in
+      let one = (one_to_one (nth_line i) to).0 (leads i to has_i) in
+      let two = (one_to_one (nth_line j) to).0 (leads j to has_j) in
+      let same : nth_line i ≡ nth_line j = cc in
       let element = ap (λ (x : Line). x.element) same in
       let line = ap (λ (x : Line). x.line) same in
       omega arith;
 }
   where
-    leads : (i : ℕ) (to : Line) → slice_get e.ends i ≡ Some (Some to) → target ws (line_of i) ≡ Some to
+    leads : (i : ℕ) (to : Line) → slice_get e.ends i ≡ Some (Some to) → target ws (nth_line i) ≡ Some to
     leads i to has =
         let within = slice_get_within e.ends i (Some to) has in
         let count = ends.ends.count in

@@ -1,13 +1,19 @@
 -- Bars of rotary elements, kept as bits and crossed by the signal.
-use Rattle.std.specs.Prelude.{ℕ, ◌-◌, ◌/◌, ◌%◌, ◌<◌, ◌≡◌, List, map, slice_get, slice_set, slice_index, Option, Some}
-use Rattle.std.specs.Prelude.{option_and_then, bit_xor}
+use Rattle.std.specs.Prelude.{ℕ, ◌+◌, ◌-◌, ◌*◌, ◌/◌, ◌%◌, ◌<◌, ◌≡◌, List, map, slice_get, slice_set, slice_index}
+use Rattle.std.specs.Prelude.{Option, Some, option_and_then, bit_xor}
 use Rattle.std.specs.List.{range_with_len}
 use Rattle.std.specs.Int.{bit_at}
 use Rattle.bn_element.specs.Rotary.{rotary}
+use Rattle.bn_packed.specs.Numbers.{line_of}
+
+-- the number of the word of an element's bar: of 64 words for a block of 1,024 elements the first 16 are used, since a
+-- line's number leads to the word so by a shift and a mask
+abbrev pub word_of : ℕ → ℕ
+word_of e = 64 * (e / 1024) + e % 1024 / 64
 
 -- the bar of element e among words of 64 bits
 abbrev pub bar_in : List ℕ → ℕ → ℕ
-bar_in words e = bit_at (slice_index words (e / 64)) (e % 64)
+bar_in words e = bit_at (slice_index words (word_of e)) (e % 64)
 
 -- the first n bars
 abbrev pub bars_of : List ℕ → ℕ → List ℕ
@@ -34,11 +40,12 @@ crossed_back bars e o = option_and_then (λ r. option_and_then (λ m. Some (slic
 -- the bars after the signal came into an element by the line of this number, and the number of the line across the
 -- element from that by which it goes out
 pub record HasCrossed (before : List ℕ) (into : ℕ) (after : List ℕ) (out : ℕ) : Type 0 where
-  pub same : out / 4 ≡ into / 4
-  pub moved : crossed before (into / 4) (into % 4) ≡ Some (after, bit_xor (out % 4) 2)
+  pub same : (line_of out).element ≡ (line_of into).element
+  pub moved : crossed before (line_of into).element (line_of into).line ≡ Some (after, bit_xor (line_of out).line 2)
 
 -- the bars before it went out of an element by the line across from that of this number, and the number of the line by
 -- which it had come in
 pub record HasCrossedBack (after : List ℕ) (out : ℕ) (before : List ℕ) (into : ℕ) : Type 0 where
-  pub same : into / 4 ≡ out / 4
-  pub moved : crossed_back after (out / 4) (bit_xor (out % 4) 2) ≡ Some (before, into % 4)
+  pub same : (line_of into).element ≡ (line_of out).element
+  pub moved : crossed_back after (line_of out).element (bit_xor (line_of out).line 2)
+      ≡ Some (before, (line_of into).line)

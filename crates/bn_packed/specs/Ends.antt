@@ -1,6 +1,6 @@
 -- How a packed netlist keeps its wires: for each input line the one to which the signal comes next where it crosses the
--- element straight, and the one from which it came so, in the order of the lines' numbers. Line l of element e has
--- number 4 * e + l. So an output line goes by the number of the input line across the element.
+-- element straight, and the one from which it came so, element by element. So an output line goes by the number of the
+-- input line across the element.
 use Rattle.std.specs.Prelude.{◌≡◌, ℕ, ◌+◌, ◌*◌, ◌/◌, ◌%◌, ◌^◌, ◌<◌, ◌==◌, nat_lt, ◌↔◌, if◌then◌else◌}
 use Rattle.std.specs.Prelude.{List, [], ◌∷◌, length, map, replicate, Option, Some, None, slice_get, option_and_then}
 use Rattle.std.specs.Prelude.{bit_xor}
@@ -12,10 +12,11 @@ use Rattle.bn_circuits.specs.declared.line.Line.{Line}
 use Rattle.bn_element.specs.declared.rotary.Rotary.{Rotary}
 use Rattle.bn_net.specs.Rows.{Rows, entry, wires_of}
 use Rattle.bn_net.specs.Parts.{Parts}
+use Rattle.bn_packed.specs.Numbers.{line_of, number_of}
 
--- the line with this number
-abbrev pub line_of : ℕ → Line
-line_of n = record { element = n / 4; line = n % 4 }
+-- the line in this place of a list that has all lines, element by element
+abbrev pub nth_line : ℕ → Line
+nth_line n = record { element = n / 4; line = n % 4 }
 
 -- the line across the element: north and south, east and west
 abbrev pub opposite : Line → Line
@@ -40,7 +41,7 @@ narrow_end cell = if cell == 4294967295 then None else Some (line_of cell)
 
 -- what a number of 64 bits tells: one past all lines that there is no wire
 abbrev pub wide_end : ℕ → Option Line
-wide_end cell = if nat_lt 4294967295 (cell / 4) then None else Some (line_of cell)
+wide_end cell = if nat_lt 17179869183 cell then None else Some (line_of cell)
 
 -- the ends of wires that lead to so many elements
 pub record EndList : Type 0 where
@@ -50,16 +51,28 @@ pub record EndList : Type 0 where
 -- the ends of the first n lines are what f tells of them
 pub record AreEnds (f : Line → Option Line) (n : ℕ) (ends : List (Option Line)) : Type 0 where
   pub count : length ends ≡ n
-  pub each : (i : ℕ) → i < n → slice_get ends i ≡ Some (f (line_of i))
+  pub each : (i : ℕ) → i < n → slice_get ends i ≡ Some (f (nth_line i))
 
 -- the ends of all lines of so many elements are what f tells of them
 pub record AreEndsOf (f : Line → Option Line) (n : ℕ) (e : EndList) : Type 0 where
   pub elements : e.elements ≡ n
   pub ends : AreEnds f (4 * n) e.ends
 
--- what the end of this number tells
+-- what the end in this place tells
 abbrev pub end_at : List (Option Line) → ℕ → Option Line
 end_at ends n = option_and_then (λ o. o) (slice_get ends n)
+
+-- the ends of all lines of so many elements, of a list that has them by the lines' numbers
+abbrev pub ends_in : List (Option Line) → ℕ → List (Option Line)
+ends_in cells n = map (λ i. end_at cells (number_of (nth_line i))) (range_with_len 0 (4 * n))
+
+-- as many numbers as whole blocks have for so many elements
+abbrev pub numbers_for : ℕ → ℕ
+numbers_for n = 4096 * ((n + 1023) / 1024)
+
+-- such a list has what f tells of each line of so many elements
+pub record HasEnds (f : Line → Option Line) (n : ℕ) (cells : List (Option Line)) : Type 0 where
+  pub each : (l : Line) → IsLineBelow n l → slice_get cells (number_of l) ≡ Some (f l)
 
 -- where output lines lead, by the ends that are ahead of input lines
 abbrev pub targets_by : EndList → EndList
@@ -97,9 +110,9 @@ pub record AreTargets (e : EndList) : Type 0 where
 pub record AreReversed (ends : List (Option Line)) (n : ℕ) (back : List (Option Line)) : Type 0 where
   pub count : length back ≡ length ends
   pub held : (i : ℕ) (to : Line) → i < n → slice_get ends i ≡ Some (Some to)
-      → slice_get back (4 * to.element + to.line) ≡ Some (Some (line_of i))
+      → slice_get back (4 * to.element + to.line) ≡ Some (Some (nth_line i))
   pub only : (to from : Line) → to.line < 4 → slice_get back (4 * to.element + to.line) ≡ Some (Some from)
-      → (i : ℕ) × (i < n) × (from ≡ line_of i) × (slice_get ends i ≡ Some (Some to))
+      → (i : ℕ) × (i < n) × (from ≡ nth_line i) × (slice_get ends i ≡ Some (Some to))
 
 -- The ends are those of the same wires, kept both ways: four for each of the elements, and an output line leads to an
 -- input line exactly where that one comes from it.

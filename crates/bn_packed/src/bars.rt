@@ -1,16 +1,18 @@
 //! The bars of rotary elements, one bit each.
 
 ghost use Rattle.std.specs.Prelude.{◌≡◌, ◌/◌, ℕ, ◌<◌, ◌≤◌, List, length, replicate, Some, IfOk, slice_get, slice_set};
-ghost use Rattle.bn_packed.specs.Bars.{AreBars, HasCrossed, HasCrossedBack, turned, crossed_back};
+ghost use Rattle.bn_packed.specs.Numbers.{line_of};
+ghost use Rattle.bn_packed.specs.Bars.{AreBars, HasCrossed, HasCrossedBack, crossed_back, turned, word_of};
 
-use crate::cells::{LINES, line_number, opposite};
+use crate::cells::{BLOCK, LINES, element_of, line_number, opposite};
 use bn_element::VERTICAL;
 use bn_net::{Line, NoMemory};
 use std::alloc::Global;
 use std::marker::Model;
 
-/// The bars of elements, 64 in a word: a bit is 1 where the bar lies along north and south. Clauses
-/// see the list of states.
+/// The bars of elements, 64 in a word: a bit is 1 where the bar lies along north and south. Of the words for a block of
+/// elements a quarter is used, so that a line's number leads to its word by a shift and a mask. Clauses see the list of
+/// states.
 #[derive(Debug, Drop)]
 pub(crate) struct Bars {
     count: usize,
@@ -25,7 +27,7 @@ impl Model for Bars {
 
     ghost view = { λ b. bars_of b.words.items b.count };
 
-    ghost invariant = { λ b. b.count ≤ 64 * length b.words.items };
+    ghost invariant = { λ b. b.count ≤ 16 * length b.words.items };
 }
 
 impl Bars {
@@ -58,30 +60,31 @@ impl Bars {
         ensures bar { slice_get self.now element ≡ Some result }
         ensures range { result < 2 }
     {
-        ((self.words[element / 64] >> (element % 64)) & 1) as u32
+        ((self.words[word_of(element)] >> (element % 64)) & 1) as u32
     }
 
     /// Lets the signal cross an element from the line of this number, and answers the number of the line across from
-    /// the output line: the same number where the signal goes straight. The bar turns where the signal comes across it.
-    /// The two numbers differ in their last two bits alone.
+    /// the output line: the same number where the signal goes straight. The bar turns where the signal comes across it,
+    /// and the number becomes that of a neighbouring line.
     #[tactic(auto, using(crate::proofs::CrossLemmas::crossings))]
     pub(crate) fn cross(&mut self, number: usize) -> usize
-        requires { number / 4 < length self.old }
+        requires { (line_of number).element < length self.old }
         ensures { HasCrossed self.old number self.new result }
     {
-        let element = number / LINES as usize;
+        let element = element_of(number);
+        let is_east_or_west = number / BLOCK % 2 == 1;
         if self.get(element) == VERTICAL {
-            if number % 2 == 0 {
-                number
-            } else {
+            if is_east_or_west {
                 self.turn(element);
-                number ^ 3
+                number ^ 3 * BLOCK
+            } else {
+                number
             }
-        } else if number % 2 == 1 {
+        } else if is_east_or_west {
             number
         } else {
             self.turn(element);
-            number ^ 1
+            number ^ BLOCK
         }
     }
 
@@ -94,29 +97,30 @@ impl Bars {
         ensures { crossed_back self.old element line ≡ Some (self.new, result) }
     {
         let out = opposite(Line { element, line });
-        (self.cross_back_at(line_number(out)) % LINES as usize) as u32
+        let into = self.cross_back_at(line_number(out));
+        (into / BLOCK % LINES) as u32
     }
 
-    /// The same from the number of the line across from the output line to that of the line by which it came. The two
-    /// numbers differ in their last two bits alone.
+    /// The same from the number of the line across from the output line to that of the line by which it came.
     #[tactic(auto, using(crate::proofs::CrossLemmas::crossings_back))]
     pub(crate) fn cross_back_at(&mut self, number: usize) -> usize
-        requires { number / 4 < length self.old }
+        requires { (line_of number).element < length self.old }
         ensures { HasCrossedBack self.old number self.new result }
     {
-        let element = number / LINES as usize;
+        let element = element_of(number);
+        let is_east_or_west = number / BLOCK % 2 == 1;
         if self.get(element) == VERTICAL {
-            if number % 2 == 0 {
-                number
-            } else {
+            if is_east_or_west {
                 self.turn(element);
-                number ^ 1
+                number ^ BLOCK
+            } else {
+                number
             }
-        } else if number % 2 == 1 {
+        } else if is_east_or_west {
             number
         } else {
             self.turn(element);
-            number ^ 3
+            number ^ 3 * BLOCK
         }
     }
 
@@ -135,7 +139,7 @@ impl Bars {
     fn horizontal(alloc: Global, count: usize) -> Result<Bars, NoMemory>
         ensures { IfOk result (λ b. b ≡ replicate count 0) }
     {
-        let words = vec![in alloc; 0; count.div_ceil(64)]?;
+        let words = vec![in alloc; 0; count.div_ceil(16)]?;
         Ok(Bars { count, words })
     }
 
@@ -155,6 +159,13 @@ impl Bars {
         requires { element < length self.old }
         ensures { turned self.old element ≡ Some self.new }
     {
-        self.words[element / 64] ^= 1 << (element % 64);
+        self.words[word_of(element)] ^= 1 << (element % 64);
     }
+}
+
+// The number of the word of an element's bar.
+fn word_of(element: usize) -> usize
+    ensures { result ≡ word_of element }
+{
+    64 * (element / BLOCK) + element % BLOCK / 64
 }

@@ -1,13 +1,17 @@
 //! The line to which another one leads, as one number.
 
-ghost use Rattle.std.specs.Prelude.{◌≡◌, ◌+◌, ◌*◌, ◌/◌, ◌^◌, ◌<◌, length, map, Some, IfSome, slice_get};
-ghost use Rattle.bn_packed.specs.Ends.{line_of, opposite, narrow_end, wide_end, IsLineBelow};
+ghost use Rattle.std.specs.Prelude.{◌≡◌, ◌/◌, ◌^◌, ◌<◌, length, map, Some, IfSome, slice_get};
+ghost use Rattle.bn_packed.specs.Numbers.{line_of, number_of};
+ghost use Rattle.bn_packed.specs.Ends.{nth_line, opposite, narrow_end, wide_end, IsLineBelow};
 
 use bn_net::{Line, NoMemory};
 use std::alloc::Global;
 
 /// The number of lines of an element, in and out.
-pub(crate) const LINES: u32 = 4;
+pub(crate) const LINES: usize = 4;
+
+/// The number of elements in a block of lines' numbers.
+pub(crate) const BLOCK: usize = 1_024;
 
 /// The greatest number of elements whose lines have numbers of 32 bits, with one number left for
 /// `LOOSE`.
@@ -19,11 +23,14 @@ const LOOSE: u32 = 4_294_967_295;
 /// What stands for no wire among numbers of 64 bits.
 const WIDE_LOOSE: u64 = 18_446_744_073_709_551_615;
 
+/// The greatest number of a line where as many elements are as a number of 32 bits can count.
+const WIDE_GREATEST: u64 = 17_179_869_183;
+
 /// A number that tells to which line another one leads, or that there is no wire.
 pub(crate) trait Cell: Copy {
     ghost use Rattle.std.specs.Prelude.{ℕ, Option, IfOk, map, replicate, None, Some, is_none, false};
     ghost use Rattle.bn_circuits.specs.declared.line.Line.{Line};
-    ghost use Rattle.bn_packed.specs.Ends.{line_of};
+    ghost use Rattle.bn_packed.specs.Numbers.{line_of};
 
     /// What it tells.
     ghost tells: { Self → Option Line };
@@ -63,7 +70,7 @@ impl Cell for u32 {
 
     fn pack(end: Option<Line>) -> u32 {
         match end {
-            Some(line) => LINES * line.element + line.line,
+            Some(line) => line_number(line) as u32,
             None => LOOSE,
         }
     }
@@ -72,10 +79,7 @@ impl Cell for u32 {
         if self == LOOSE {
             return None;
         }
-        Some(Line {
-            element: self / LINES,
-            line: self % LINES,
-        })
+        Some(line_of(self as usize))
     }
 
     fn is_loose(self) -> bool {
@@ -102,24 +106,20 @@ impl Cell for u64 {
 
     fn pack(end: Option<Line>) -> u64 {
         match end {
-            Some(line) => u64::from(LINES) * u64::from(line.element) + u64::from(line.line),
+            Some(line) => line_number(line) as u64,
             None => WIDE_LOOSE,
         }
     }
 
     fn end(self) -> Option<Line> {
-        let element = self / u64::from(LINES);
-        if element > u64::from(u32::MAX) {
+        if self > WIDE_GREATEST {
             return None;
         }
-        Some(Line {
-            element: element as u32,
-            line: (self % u64::from(LINES)) as u32,
-        })
+        Some(line_of(self as usize))
     }
 
     fn is_loose(self) -> bool {
-        self / u64::from(LINES) > u64::from(u32::MAX)
+        self > WIDE_GREATEST
     }
 
     fn number(self) -> usize {
@@ -133,11 +133,44 @@ impl Cell for u64 {
     }
 }
 
-/// The number of a line among those of all elements, element by element.
+/// The number of a line: in blocks of elements, first the north lines of a block, then the east, the south and the west
+/// ones.
 pub(crate) fn line_number(line: Line) -> usize
-    ensures { result ≡ 4 * line.element + line.line }
+    requires { line.line < 4 }
+    ensures { result ≡ number_of line }
 {
-    LINES as usize * line.element as usize + line.line as usize
+    let element = line.element as usize;
+    let row = LINES * (element / BLOCK) + line.line as usize;
+    BLOCK * row + element % BLOCK
+}
+
+/// The line with this number.
+pub(crate) fn line_of(number: usize) -> Line
+    requires { (line_of number).element < 2 ^ 32 }
+    ensures { result ≡ line_of number }
+{
+    Line {
+        element: element_of(number) as u32,
+        line: (number / BLOCK % LINES) as u32,
+    }
+}
+
+/// The element of the line with this number.
+pub(crate) fn element_of(number: usize) -> usize
+    ensures { result ≡ (line_of number).element }
+{
+    BLOCK * (number / BLOCK / LINES) + number % BLOCK
+}
+
+/// The line in this place among those of all elements, element by element.
+pub(crate) fn nth_line(place: usize) -> Line
+    requires { place / 4 < 2 ^ 32 }
+    ensures { result ≡ nth_line place }
+{
+    Line {
+        element: (place / LINES) as u32,
+        line: (place % LINES) as u32,
+    }
 }
 
 /// The line across the element from this one.
@@ -150,29 +183,10 @@ pub(crate) fn opposite(line: Line) -> Line
     }
 }
 
-/// The end that the cell of this line tells.
-pub(crate) fn end_of<C: Cell>(cells: &[C], line: Line) -> Option<Line>
-    requires { 4 * line.element + line.line < length cells.now }
-    ensures { slice_get (map C.tells cells.now) (4 * line.element + line.line) ≡ Some result }
-{
-    cells[line_number(line)].end()
-}
-
-/// The cell of the line with this number.
+/// What is kept of the line with this number.
 pub(crate) fn cell_at<C: Cell>(cells: &[C], number: usize) -> C
     requires { number < length cells.now }
     ensures { slice_get (map C.tells cells.now) number ≡ Some (C.tells result) }
 {
     cells[number]
-}
-
-/// The line with this number.
-pub(crate) fn line_of(number: usize) -> Line
-    requires { number / 4 < 2 ^ 32 }
-    ensures { result ≡ line_of number }
-{
-    Line {
-        element: (number / LINES as usize) as u32,
-        line: (number % LINES as usize) as u32,
-    }
 }

@@ -1,16 +1,15 @@
 //! For each line of the elements the line to which it leads, in one array.
 
-ghost use Rattle.std.specs.Prelude.{◌≡◌, ◌+◌, ◌*◌, ◌<◌, ◌≤◌, [], ◌∷◌, ◌++◌, length, map, Some, IfOk, IfSome, OnOk};
-ghost use Rattle.std.specs.Prelude.{slice_get, slice_set, replicate, None};
+ghost use Rattle.std.specs.Prelude.{◌≡◌, ◌+◌, ◌*◌, ◌≤◌, length, map, Some, IfOk, slice_get, slice_set, replicate, None};
 
-use crate::cells::{Cell, LINES, line_number, line_of};
+use crate::cells::{BLOCK, Cell, LINES, cell_at, line_number, nth_line};
 use bn_net::{Line, NoMemory};
 use std::alloc::Global;
 use std::marker::Model;
 
-/// For each input line, in the order of the lines' numbers, another one: that to which the signal comes next where it
-/// goes straight, or that from which it came so. Clauses see the number of elements that these ends may name, and the
-/// list of ends.
+/// For each input line of so many elements another one: that to which the signal comes next where it goes straight, or
+/// that from which it came so. They stand by the lines' numbers, in whole blocks. Clauses see the number of elements,
+/// and the list of ends element by element.
 #[derive(Debug, Drop)]
 pub(crate) struct Ends<C: Cell> {
     elements: u32,
@@ -18,29 +17,18 @@ pub(crate) struct Ends<C: Cell> {
 }
 
 impl<C: Cell> Model for Ends<C> {
-    ghost use Rattle.std.specs.Prelude.{map, ◌≤◌};
-    ghost use Rattle.bn_packed.specs.Ends.{EndList};
+    ghost use Rattle.std.specs.Prelude.{map, length, ◌≤◌};
+    ghost use Rattle.bn_packed.specs.Ends.{EndList, ends_in, numbers_for};
 
     ghost Value = { EndList };
 
-    ghost view = { λ m. record { elements = m.elements; ends = map C.tells m.cells.items } };
+    ghost view = { λ m. record { elements = m.elements; ends = ends_in (map C.tells m.cells.items) m.elements } };
 
-    ghost invariant = { λ m. m.elements ≤ C.limit };
+    ghost invariant = { λ m. (m.elements ≤ C.limit) × (numbers_for m.elements ≤ length m.cells.items) };
 }
 
 impl<C: Cell> Ends<C> {
-    ghost use Rattle.bn_packed.specs.Ends.{EndList, IsLineBelow, AreTargets, AreReversed};
-
-    /// No ends yet, with room for those of so many elements.
-    pub(crate) fn with_room(alloc: Global, elements: u32) -> Result<Ends<C>, NoMemory>
-        requires { elements ≤ C.limit }
-        ensures elements { IfOk result (λ m. m.elements ≡ elements) }
-        ensures ends { IfOk result (λ m. m.ends ≡ []) }
-    {
-        let lines = LINES as usize * elements as usize;
-        let cells = Vec::with_capacity(alloc, lines)?;
-        Ok(Ends { elements, cells })
-    }
+    ghost use Rattle.bn_packed.specs.Ends.{EndList, IsLineBelow, AreTargets, AreReversed, ends_in, numbers_for};
 
     /// Loose ends alone, for the lines of so many elements.
     pub(crate) fn loose(alloc: Global, elements: u32) -> Result<Ends<C>, NoMemory>
@@ -48,13 +36,14 @@ impl<C: Cell> Ends<C> {
         ensures elements { IfOk result (λ m. m.elements ≡ elements) }
         ensures ends { IfOk result (λ m. m.ends ≡ replicate (4 * elements) None) }
     {
-        let cells = C::loose(alloc, LINES as usize * elements as usize)?;
+        let blocks = (elements as usize).div_ceil(BLOCK);
+        let cells = C::loose(alloc, LINES * BLOCK * blocks)?;
         Ok(Ends { elements, cells })
     }
 
     /// Writes to which line this one leads.
     pub(crate) fn set(&mut self, line: Line, end: Line)
-        requires there { 4 * line.element + line.line < length self.old.ends }
+        requires there { IsLineBelow self.old.elements line }
         requires below { IsLineBelow self.old.elements end }
         ensures elements { self.new.elements ≡ self.old.elements }
         ensures ends { self.new.ends ≡ slice_set self.old.ends (4 * line.element + line.line) (Some end) }
@@ -70,8 +59,8 @@ impl<C: Cell> Ends<C> {
         ensures ends { IfOk result (λ m. AreReversed self.now.ends (length self.now.ends) m.ends) }
     {
         let mut ends = Ends::loose(alloc, self.elements)?;
-        for number in 0..self.cells.len() {
-            let line = line_of(number);
+        for place in 0..LINES * self.elements as usize {
+            let line = nth_line(place);
             if let Some(end) = self.get(line) {
                 ends.set(end, line);
             }
@@ -88,27 +77,18 @@ impl<C: Cell> Ends<C> {
 
     /// To which line this one leads.
     pub(crate) fn get(&self, line: Line) -> Option<Line>
-        requires { 4 * line.element + line.line < length self.now.ends }
+        requires { IsLineBelow self.now.elements line }
         ensures { slice_get self.now.ends (4 * line.element + line.line) ≡ Some result }
     {
-        self.cells[line_number(line)].end()
+        cell_at(self.cells.as_slice(), line_number(line)).end()
     }
 
-    /// The ends as numbers.
+    /// The ends by the lines' numbers.
     pub(crate) fn as_slice(&self) -> &[C]
-        ensures { map C.tells result.now ≡ self.now.ends }
+        ensures ends { self.now.ends ≡ ends_in (map C.tells result.now) self.now.elements }
+        ensures whole { numbers_for self.now.elements ≤ length result.now }
     {
         self.cells.as_slice()
-    }
-
-    /// Adds to which line the next one leads.
-    pub(crate) fn push(&mut self, end: Option<Line>) -> Result<(), NoMemory>
-        requires { IfSome end (IsLineBelow self.old.elements) }
-        ensures elements { self.new.elements ≡ self.old.elements }
-        ensures ends { OnOk result (self.new.ends ≡ self.old.ends ++ end ∷ []) }
-    {
-        self.cells.push(C::pack(end))?;
-        Ok(())
     }
 
     /// The same ends once more.

@@ -1,14 +1,14 @@
 //! The wires of a net of rotary elements, kept both ways.
 
-ghost use Rattle.std.specs.Prelude.{◌≡◌, ◌*◌, ◌≤◌, length, map, IfOk};
+ghost use Rattle.std.specs.Prelude.{◌≡◌, ◌≤◌, length, map, IfOk};
 ghost use Rattle.bn_circuits.specs.Circuits.{IsCircuit, IsOutputOf, target};
 ghost use Rattle.bn_net.specs.RotaryNets.{rotary_circuit};
 ghost use Rattle.bn_net.specs.Order.{AreInOrder};
 ghost use Rattle.bn_net.specs.RotaryNets.{IsNetOf};
 ghost use Rattle.bn_net.specs.Wirings.{AreApart, AreFitting};
-ghost use Rattle.bn_packed.specs.Ends.{AreEnds, AreEndsOf, AreTargets, ahead, behind, targets_by, net_of};
+ghost use Rattle.bn_packed.specs.Ends.{AreEndsOf, AreTargets, HasEnds, ahead, behind, targets_by, net_of};
 
-use crate::cells::{Cell, LINES, line_of, opposite};
+use crate::cells::{Cell, LINES, nth_line, opposite};
 use crate::ends::Ends;
 use bn_element::Rotary;
 use bn_net::{Line, Net, NoMemory, Wire};
@@ -90,16 +90,16 @@ impl<C: Cell> Wiring<C> {
         self.ahead.get(opposite(from))
     }
 
-    /// Where the signal comes next from each input line where it goes straight, in the order of the lines' numbers.
+    /// Where the signal comes next from each input line where it goes straight, by the lines' numbers.
     pub(crate) fn ahead(&self) -> &[C]
-        ensures { AreEnds (ahead self.now.wires) (4 * length self.now.elements) (map C.tells result.now) }
+        ensures { HasEnds (ahead self.now.wires) (length self.now.elements) (map C.tells result.now) }
     {
         self.ahead.as_slice()
     }
 
-    /// From where it came to each so.
+    /// From where it came to each input line where it went straight, by the lines' numbers.
     pub(crate) fn behind(&self) -> &[C]
-        ensures { AreEnds (behind self.now.wires) (4 * length self.now.elements) (map C.tells result.now) }
+        ensures { HasEnds (behind self.now.wires) (length self.now.elements) (map C.tells result.now) }
     {
         self.behind.as_slice()
     }
@@ -119,9 +119,12 @@ fn ahead_of<C: Cell>(alloc: Global, net: &Net<Rotary>) -> Result<Ends<C>, NoMemo
     requires { length net.now.elements ≤ C.limit }
     ensures { IfOk result (AreEndsOf (ahead net.now.wires) (length net.now.elements)) }
 {
-    let mut ends = Ends::with_room(alloc, net.len())?;
-    for number in 0..line_count(net) {
-        ends.push(net.target(opposite(line_of(number))))?;
+    let mut ends = Ends::loose(alloc, net.len())?;
+    for place in 0..LINES * net.len() as usize {
+        let line = nth_line(place);
+        if let Some(to) = net.target(opposite(line)) {
+            ends.set(line, to);
+        }
     }
     Ok(ends)
 }
@@ -138,11 +141,4 @@ fn ahead_in<C: Cell>(alloc: Global, count: u32, wires: &[Wire]) -> Result<Ends<C
         ends.set(opposite(wire.from), wire.to);
     }
     Ok(ends)
-}
-
-// The number of output lines, and of input lines.
-fn line_count(net: &Net<Rotary>) -> usize
-    ensures { result ≡ 4 * length net.now.elements }
-{
-    LINES as usize * net.len() as usize
 }

@@ -1,5 +1,4 @@
 use Rattle.std.proofs.Common.{length, map, Some, ◌≡◌, ◌<◌, ◌^◌, ◌-◌, ◌∷◌, [], refl, sym, ap, subst, ◌∙◌, arith, rules}
-use Rattle.std.proofs.lemmas.List.{length-map}
 use Rattle.bn_circuits.specs.Circuits.{source}
 use Rattle.bn_circuits.specs.Stepping.{line_before}
 use Rattle.bn_circuits.specs.declared.place.Place.TheVariants.{Enter}
@@ -7,20 +6,20 @@ use Rattle.bn_net.specs.Watching.{Hears}
 use Rattle.bn_net.specs.Walking.{HasWalkedBack}
 use Rattle.bn_net.proofs.NetSteps.{first_by_line}
 use Rattle.bn_net.specs.RotaryNets.{rotary_circuit}
-use Rattle.bn_packed.specs.Ends.{line_of, behind}
+use Rattle.bn_packed.specs.Numbers.{line_of}
+use Rattle.bn_packed.specs.Ends.{behind}
 use Rattle.bn_packed.specs.PackedNets.{config_at}
 use Rattle.bn_packed.proofs.EndLemmas.{input_below}
 use Rattle.bn_packed.proofs.StepLemmas.{walked_back_none}
-use Rattle.bn_packed.proofs.NumberLemmas.{entered_line, entered_by, cell_read, none_read, behind_none, entered_low, fed_low, back_low, number_back_more}
+use Rattle.bn_packed.proofs.NumberLemmas.{entered_line, entered_by, cell_read, cell_within, none_read, behind_none, entered_low, fed_low, back_low, number_back_more}
 use Rattle.bn_packed.proofs.walk.walk_back_from.Goals as goal
 
 pub cell_at-cell-requires : goal.cell_at-cell-requires
 cell_at-cell-requires g c =
     let low = entered_low c.args.wiring.now c.len-elements.ensures.circuit c.loop-made.bars c.loop-made.number (c.args.steps - c.loop-made.made)
     c.loop-made.invariant.good in
-    let count = c.behind-behind.ensures.count in
-    let same : length (map g.C.Cell.tells c.behind-behind.result.now) ≡ length c.behind-behind.result.now = length-map c.behind-behind.result.now g.C.Cell.tells in
-    omega arith
+    cell_within (behind c.args.wiring.now.wires) g.C.Cell.tells c.behind-behind.result.now c.loop-made.number (length c.args.wiring.now.elements)
+    c.behind-behind.ensures low
 
 pub loop-made-init : goal.loop-made-init
 loop-made-init g c =
@@ -90,3 +89,6 @@ loop-made-preserved g c =
     c.loop-made.invariant came c.cross_back_at-number.ensures (omega (arith, c.requires.counted, c.loop-made-test.true))
     (subst (λ p. Hears (g.W.Watch.told c.loop-made.watch) (p ∷ []) (g.W.Watch.told c.enter.new.self))
     (c.entering-in-loop-made.ensures ∙ entered_by c.line_of-in-loop-made.result c.cross_back_at-number.result c.line_of-in-loop-made.ensures) c.enter.ensures)
+
+pub line_number-number-requires : goal.line_number-number-requires
+line_number-number-requires g c = (input_below c.args.wiring.now.elements c.args.to c.requires.good.place).line

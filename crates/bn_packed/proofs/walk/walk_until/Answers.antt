@@ -1,14 +1,14 @@
-use Rattle.std.proofs.Common.{length, map, Some, None, ◌≡◌, ◌<◌, ◌*◌, ◌/◌, ◌%◌, ◌^◌, ◌+◌, ◌-◌, ◌∷◌, [], refl, sym, ap, subst, ◌∙◌, arith, not, rules}
+use Rattle.std.proofs.Common.{length, map, Some, None, ◌≡◌, ◌<◌, ◌^◌, ◌+◌, ◌-◌, ◌∷◌, [], refl, sym, ap, subst, ◌∙◌, arith, not, rules}
 use Rattle.bn_circuits.specs.Circuits.{place_at}
 use Rattle.bn_circuits.specs.declared.line.Line.{Line}
 use Rattle.bn_circuits.specs.declared.place.Place.TheVariants.{Left}
 use Rattle.bn_net.specs.Watching.{Hears}
 use Rattle.bn_net.specs.RotaryNets.{rotary_circuit}
 use Rattle.bn_packed.specs.PackedNets.{config_at}
-use Rattle.std.proofs.lemmas.List.{length-map}
-use Rattle.bn_packed.specs.Ends.{line_of, opposite, ahead}
+use Rattle.bn_packed.specs.Numbers.{line_of}
+use Rattle.bn_packed.specs.Ends.{IsLineBelow, opposite, ahead}
 use Rattle.bn_packed.proofs.EndLemmas.{input_below}
-use Rattle.bn_packed.proofs.NumberLemmas.{entered, entered_line, entered_by, cell_read, none_read, crossed_low, led_low, number_more}
+use Rattle.bn_packed.proofs.NumberLemmas.{entered, entered_line, entered_by, cell_read, cell_within, none_read, crossed_low, led_low, number_more}
 use Rattle.bn_packed.proofs.StepLemmas.{IsOnWay, way_none, entering_below}
 use Rattle.bn_packed.proofs.walk.walk_until.Given.{Over}
 use Rattle.bn_packed.proofs.walk.walk_until.Goals as goal
@@ -44,19 +44,17 @@ loop-made-init g c =
 pub cross-from-requires : goal.cross-from-requires
 cross-from-requires g c =
     (entering_below c.args.wiring.now (config_at c.loop-made.bars (entered c.loop-made.number) (c.args.signal.steps + c.loop-made.made))
-    (c.loop-made.number / 4) (c.loop-made.number % 4) c.loop-made.invariant.way.walked.good refl).0
+    (line_of c.loop-made.number).element (line_of c.loop-made.number).line c.loop-made.invariant.way.walked.good refl).0
 
-low_from : (g : Over) (c : goal.After-cross-from g) → c.cross-from.result < 4 * length c.args.wiring.now.elements
+low_from : (g : Over) (c : goal.After-cross-from g) → IsLineBelow (length c.args.wiring.now.elements) (line_of c.cross-from.result)
 low_from g c =
     crossed_low c.args.wiring.now c.len-elements.ensures.circuit c.loop-made.bars c.cross-from.new.self c.loop-made.number c.cross-from.result
     (c.args.signal.steps + c.loop-made.made) c.loop-made.invariant.way.walked.good c.cross-from.ensures
 
 pub cell_at-cell-requires : goal.cell_at-cell-requires
 cell_at-cell-requires g c =
-    let low = low_from g c in
-    let count = c.ahead-ahead.ensures.count in
-    let same : length (map g.C.Cell.tells c.ahead-ahead.result.now) ≡ length c.ahead-ahead.result.now = length-map c.ahead-ahead.result.now g.C.Cell.tells in
-    omega arith
+    cell_within (ahead c.args.wiring.now.wires) g.C.Cell.tells c.ahead-ahead.result.now c.cross-from.result (length c.args.wiring.now.elements)
+    c.ahead-ahead.ensures (low_from g c)
 
 pub returns-then-is_loose-clause-walked : goal.returns-then-is_loose-clause-walked
 returns-then-is_loose-clause-walked g c =
@@ -155,5 +153,17 @@ loop-made-preserved g c =
 pub line_of-requires-2 : goal.line_of-requires-2
 line_of-requires-2 g c =
     let within = (input_below c.args.wiring.now.elements (line_of c.loop-made.number) c.loop-made.invariant.way.walked.good.place).element in
+    let few : length c.args.wiring.now.elements < 2 ^ 32 = search rules in
+    omega arith
+
+pub line_number-number-requires : goal.line_number-number-requires
+line_number-number-requires g c =
+    (entering_below c.args.wiring.now (config_at c.args.bars.now c.args.signal.place c.args.signal.steps) c.in-Enter.element c.in-Enter.line
+    c.requires.good c.in-Enter.is).1
+
+pub line_of-requires : goal.line_of-requires
+line_of-requires g c =
+    let within = (crossed_low c.args.wiring.now c.len-elements.ensures.circuit c.loop-made.bars c.cross-from.new.self c.loop-made.number c.cross-from.result
+    (c.args.signal.steps + c.loop-made.made) c.loop-made.invariant.way.walked.good c.cross-from.ensures).element in
     let few : length c.args.wiring.now.elements < 2 ^ 32 = search rules in
     omega arith

@@ -2,7 +2,6 @@ use Rattle.std.proofs.Common.{sym, subst}
 use Rattle.std.proofs.lemmas.Option.{slice_get-get_or}
 use Rattle.bn_packed.specs.Ends.{IsLineBelow}
 use Rattle.bn_packed.proofs.AcrossLemmas.{opposite_below}
-use Rattle.bn_packed.proofs.EndLemmas.{end_there}
 use Rattle.bn_packed.proofs.ListedLemmas.{fits_at, ends_below, ends_more}
 use Rattle.bn_packed.proofs.wiring.ahead_in.Goals as goal
 
@@ -10,7 +9,7 @@ pub set-requires-clause-there : goal.set-requires-clause-there
 set-requires-clause-there g c =
     let fit = fits_at c.args.count c.args.wires.now c.loop-wire.wire-index _ c.requires.fitting
     (slice_get-get_or c.args.wires.now c.loop-wire.wire-index _ c.loop-wire-test.true) in
-    end_there c.args.count c.loop-wire.ends.ends c.opposite.result c.loop-wire.invariant.ends.count
+    subst (λ n. IsLineBelow n c.opposite.result) (sym c.loop-wire.invariant.elements)
     (subst (IsLineBelow c.args.count) (sym c.opposite.ensures) (opposite_below c.args.count _ fit.from))
 
 pub set-requires-clause-below : goal.set-requires-clause-below

@@ -3,8 +3,7 @@ use Rattle.bn_packed.proofs.wiring.Wiring.target.Goals as goal
 
 pub get-requires : goal.get-requires
 get-requires g c =
-    across_there c.self.inside.ahead c.self.inside.behind c.args.self.now c.args.from c.opposite.result c.self.invariant c.self.view_is c.opposite.ensures
-    c.requires
+    across_there c.self.inside.ahead c.args.self.now c.args.from c.opposite.result c.self.view_is c.opposite.ensures c.requires
 
 pub returns : goal.returns
 returns g c =
