@@ -26,8 +26,8 @@ use std::marker::Model;
 
 /// A net of rotary elements with a configuration of it, packed: one bit a bar, and one number of 32
 /// bits an output line and an input line, in nets of fewer than 2 to the power 30 elements (in larger
-/// ones one of 64 bits). Elements and lines are counted from 0. Clauses see the net and the
-/// configuration.
+/// ones one of 64 bits). The lines are numbered in blocks of 1,024 elements, so that lines of one name
+/// lie side by side. Elements and lines are counted from 0. Clauses see the net and the configuration.
 #[derive(Debug, Drop)]
 pub struct Packed {
     wires: Wires,
