@@ -16,9 +16,9 @@ and system, the medians of --runs runs. A ratio is that of two medians; behind i
 of a turn. The peak of memory is what the process had itself, least of all runs; none below some 15 MB can be seen.
 
 Of steps, the program's seconds are those of `step E` or `back E` less those of `step 0` in the same turn. The C loop is
-compiled in two forms: a line has its own number, or an output line has that of the line across, as in the program. Of
-texts a ratio above 1 means that the program is slower, of steps that it is faster. The tables at the end are in
-Markdown, as they stand in docs/BENCHMARKS.md.
+compiled in two forms: a line has its own number, element by element, or lines are numbered in blocks, as in the
+program. Of texts a ratio above 1 means that the program is slower, of steps that it is faster. The tables at the end
+are in Markdown, as they stand in docs/BENCHMARKS.md.
 """
 import argparse
 import filecmp
@@ -143,7 +143,7 @@ def text_tables(options, program, folder):
 
 def loops_in(folder):
     """The C loop of each compiler in each of its forms."""
-    forms = {"C by {}": [], "across, {}": ["-DACROSS"]}
+    forms = {"C by {}": [], "blocks, {}": ["-DBLOCKS"]}
     return {form.format(compiler): measuring.compiled("loop", compiler, folder, *flags)
             for form, flags in forms.items() for compiler in measuring.compilers()}
 

@@ -35,7 +35,7 @@ across_low l low = xor_lt 2 l 2 low (omega arith)
 pub opposite_twice : (l : Line) → opposite (opposite l) ≡ l
 opposite_twice l = same_lines (opposite (opposite l)) l refl (xor_twice l.line)
 
--- by the line's number
+-- by the line's place
 pub opposite_number : (n : ℕ) → nth_line (bit_xor n 2) ≡ opposite (nth_line n)
 opposite_number n = same_lines (nth_line (bit_xor n 2)) (opposite (nth_line n)) (same_element n 2 refl) (xor_mod n 2 2)
 
@@ -95,7 +95,7 @@ read_end ends n within =
     let has = slice_get-get_or ends n None within in
     has ∙ ap Some (sym (end_read ends n (get_or ends n None) has))
 
--- what is kept at the number of a line is the end of the line across
+-- what is kept in the place of a line is the end of the line across
 pub read_across : (e : EndList) (k n : ℕ) (o : Option Line) → length e.ends ≡ 4 * k → slice_get e.ends (bit_xor n 2) ≡ Some o
     → slice_get (targets_by e).ends n ≡ Some o
 read_across e k n o whole has =

@@ -105,7 +105,7 @@ below_output elements l below = subst (λ n. l.line < n) (sym (four_out elements
 below_input : (elements : List Rotary) (l : Line) → IsLineBelow (length elements) l → IsInputOf (map (λ _. rotary) elements) l
 below_input elements l below = subst (λ n. l.line < n) (sym (four_in elements l.element below.element)) below.line
 
--- the line with a number is there
+-- the line in a place is there
 pub line_below : (n i : ℕ) → i < 4 * n → IsLineBelow n (nth_line i)
 line_below n i low = record { element = omega arith; line = omega arith }
 
@@ -210,7 +210,7 @@ net_again net targets circuit order forth =
     (in_order-same (wires_of 0 (rows_of targets.ends)) net.wires (rows_in_order 0 (rows_of targets.ends)) order
     (λ from. target-wires (rows_of targets.ends) from ∙ t from))
 
--- ---- ends in a row of numbers
+-- ---- ends element by element
 
 -- the ends that a wiring keeps are what its wires tell
 pub targets-AreEnds : (targets sources : EndList) (now : Parts Rotary) (ends : Ends) → IsWiring targets sources → net_of targets ≡ now → ends ≡ targets.ends

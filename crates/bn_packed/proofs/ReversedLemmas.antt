@@ -107,7 +107,7 @@ more_reversed e n to back after are here is so_far = record {
         let found = so_far.only t from low (sym (other t off) ∙ h) in
         (found.0, omega (arith, found.1), found.2, found.3)
 
--- what is read of a line is read of its number
+-- what is read of a line is read in its place
 pub by_line : (ends : List (Option Line)) (n : ℕ) (l : Line) (o : Option Line) → l ≡ nth_line n → slice_get ends (4 * l.element + l.line) ≡ Some o
     → slice_get ends n ≡ Some o
 by_line ends n l o is has =

@@ -6,8 +6,8 @@ use Rattle.std.specs.Int.{bit_at}
 use Rattle.bn_element.specs.Rotary.{rotary}
 use Rattle.bn_packed.specs.Numbers.{line_of}
 
--- the number of the word of an element's bar: of 64 words for a block of 1,024 elements the first 16 are used, since a
--- line's number leads to the word so by a shift and a mask
+-- the number of the word of an element's bar: a block of 1,024 elements has 64 words, of which the first 16 are used,
+-- so that a shift and a mask lead to the word from a line's number
 abbrev pub word_of : ℕ → ℕ
 word_of e = 64 * (e / 1024) + e % 1024 / 64
 

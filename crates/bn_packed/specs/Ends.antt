@@ -1,6 +1,6 @@
 -- How a packed netlist keeps its wires: for each input line the one to which the signal comes next where it crosses the
--- element straight, and the one from which it came so, element by element. So an output line goes by the number of the
--- input line across the element.
+-- element straight, and the one from which it came so. So an output line goes by the number of the input line across
+-- the element. They are kept by the lines' numbers; the lists of ends here have them element by element.
 use Rattle.std.specs.Prelude.{◌≡◌, ℕ, ◌+◌, ◌*◌, ◌/◌, ◌%◌, ◌^◌, ◌<◌, ◌==◌, nat_lt, ◌↔◌, if◌then◌else◌}
 use Rattle.std.specs.Prelude.{List, [], ◌∷◌, length, map, replicate, Option, Some, None, slice_get, option_and_then}
 use Rattle.std.specs.Prelude.{bit_xor}
@@ -39,7 +39,7 @@ pub record IsLineBelow (elements : ℕ) (l : Line) : Type 0 where
 abbrev pub narrow_end : ℕ → Option Line
 narrow_end cell = if cell == 4294967295 then None else Some (line_of cell)
 
--- what a number of 64 bits tells: one past all lines that there is no wire
+-- what a number of 64 bits tells: any beyond those of all lines that there is no wire
 abbrev pub wide_end : ℕ → Option Line
 wide_end cell = if nat_lt 17179869183 cell then None else Some (line_of cell)
 
@@ -48,12 +48,12 @@ pub record EndList : Type 0 where
   pub elements : ℕ
   pub ends : List (Option Line)
 
--- the ends of the first n lines are what f tells of them
+-- the ends of the first n lines, element by element, are what f tells of them
 pub record AreEnds (f : Line → Option Line) (n : ℕ) (ends : List (Option Line)) : Type 0 where
   pub count : length ends ≡ n
   pub each : (i : ℕ) → i < n → slice_get ends i ≡ Some (f (nth_line i))
 
--- the ends of all lines of so many elements are what f tells of them
+-- the ends of all lines of so many elements, element by element, are what f tells of them
 pub record AreEndsOf (f : Line → Option Line) (n : ℕ) (e : EndList) : Type 0 where
   pub elements : e.elements ≡ n
   pub ends : AreEnds f (4 * n) e.ends
@@ -62,15 +62,15 @@ pub record AreEndsOf (f : Line → Option Line) (n : ℕ) (e : EndList) : Type 0
 abbrev pub end_at : List (Option Line) → ℕ → Option Line
 end_at ends n = option_and_then (λ o. o) (slice_get ends n)
 
--- the ends of all lines of so many elements, of a list that has them by the lines' numbers
+-- the ends of all lines of so many elements, element by element, out of a list that has them by the lines' numbers
 abbrev pub ends_in : List (Option Line) → ℕ → List (Option Line)
 ends_in cells n = map (λ i. end_at cells (number_of (nth_line i))) (range_with_len 0 (4 * n))
 
--- as many numbers as whole blocks have for so many elements
+-- how many numbers of lines the blocks for so many elements have
 abbrev pub numbers_for : ℕ → ℕ
 numbers_for n = 4096 * ((n + 1023) / 1024)
 
--- such a list has what f tells of each line of so many elements
+-- a list by the lines' numbers has what f tells of each line of so many elements
 pub record HasEnds (f : Line → Option Line) (n : ℕ) (cells : List (Option Line)) : Type 0 where
   pub each : (l : Line) → IsLineBelow n l → slice_get cells (number_of l) ≡ Some (f l)
 
@@ -106,7 +106,8 @@ pub record AreTargets (e : EndList) : Type 0 where
   pub inside : (i : ℕ) (to : Line) → slice_get e.ends i ≡ Some (Some to) → IsLineBelow e.elements to
   pub apart : (i j : ℕ) (to : Line) → slice_get e.ends i ≡ Some (Some to) → slice_get e.ends j ≡ Some (Some to) → i ≡ j
 
--- the other way round: as many ends, and one tells a line exactly where the end of that one, of the first n, tells it
+-- the other way round: as many ends, and a line's end tells one of the first n lines exactly where the end of that one
+-- tells the line
 pub record AreReversed (ends : List (Option Line)) (n : ℕ) (back : List (Option Line)) : Type 0 where
   pub count : length back ≡ length ends
   pub held : (i : ℕ) (to : Line) → i < n → slice_get ends i ≡ Some (Some to)
@@ -114,8 +115,8 @@ pub record AreReversed (ends : List (Option Line)) (n : ℕ) (back : List (Optio
   pub only : (to from : Line) → to.line < 4 → slice_get back (4 * to.element + to.line) ≡ Some (Some from)
       → (i : ℕ) × (i < n) × (from ≡ nth_line i) × (slice_get ends i ≡ Some (Some to))
 
--- The ends are those of the same wires, kept both ways: four for each of the elements, and an output line leads to an
--- input line exactly where that one comes from it.
+-- The ends are those of the same wires, kept both ways: four for each of fewer than 2 to the power 32 elements, and an
+-- output line leads to an input line exactly where that one comes from it.
 pub record IsWiring (targets sources : EndList) : Type 0 where
   pub same : sources.elements ≡ targets.elements
   pub few : targets.elements < 2 ^ 32

@@ -10,9 +10,9 @@ use bn_net::{Line, NoMemory};
 use std::alloc::Global;
 use std::marker::Model;
 
-/// The bars of elements, 64 in a word: a bit is 1 where the bar lies along north and south. Of the words for a block of
-/// elements a quarter is used, so that a line's number leads to its word by a shift and a mask. Clauses see the list of
-/// states.
+/// The bars of elements, 64 in a word: a bit is 1 where the bar lies along north and south. Of the 64 words of a block
+/// of elements 16 are used, so that a shift and a mask lead from a line's number to the word of its element's bar.
+/// Clauses see the list of states.
 #[derive(Debug, Drop)]
 pub(crate) struct Bars {
     count: usize,
@@ -76,7 +76,7 @@ impl Bars {
         if self.get(element) == VERTICAL {
             if is_east_or_west {
                 self.turn(element);
-                number ^ 3 * BLOCK
+                number ^ (3 * BLOCK)
             } else {
                 number
             }
@@ -101,7 +101,8 @@ impl Bars {
         (into / BLOCK % LINES) as u32
     }
 
-    /// The same from the number of the line across from the output line to that of the line by which it came.
+    /// The same by numbers: from that of the line across from the output line it answers that of the line by which the
+    /// signal came.
     #[tactic(auto, using(crate::proofs::CrossLemmas::crossings_back))]
     pub(crate) fn cross_back_at(&mut self, number: usize) -> usize
         requires { (line_of number).element < length self.old }
@@ -120,7 +121,7 @@ impl Bars {
             number
         } else {
             self.turn(element);
-            number ^ 3 * BLOCK
+            number ^ (3 * BLOCK)
         }
     }
 
@@ -135,7 +136,7 @@ impl Bars {
         })
     }
 
-    // So many bars along west and east.
+    // So many bars along west and east. A block has 64 words, one for 16 elements.
     fn horizontal(alloc: Global, count: usize) -> Result<Bars, NoMemory>
         ensures { IfOk result (λ b. b ≡ replicate count 0) }
     {

@@ -7,10 +7,10 @@ ghost use Rattle.bn_packed.specs.Ends.{nth_line, opposite, narrow_end, wide_end,
 use bn_net::{Line, NoMemory};
 use std::alloc::Global;
 
-/// The number of lines of an element, in and out.
+/// The number of an element's input lines, and of its output lines.
 pub(crate) const LINES: usize = 4;
 
-/// The number of elements in a block of lines' numbers.
+/// The number of elements in a block, by which lines are numbered.
 pub(crate) const BLOCK: usize = 1_024;
 
 /// The greatest number of elements whose lines have numbers of 32 bits, with one number left for
@@ -23,7 +23,7 @@ const LOOSE: u32 = 4_294_967_295;
 /// What stands for no wire among numbers of 64 bits.
 const WIDE_LOOSE: u64 = 18_446_744_073_709_551_615;
 
-/// The greatest number of a line where as many elements are as a number of 32 bits can count.
+/// The greatest number of a line whose element has a number of 32 bits.
 const WIDE_GREATEST: u64 = 17_179_869_183;
 
 /// A number that tells to which line another one leads, or that there is no wire.
@@ -183,7 +183,7 @@ pub(crate) fn opposite(line: Line) -> Line
     }
 }
 
-/// What is kept of the line with this number.
+/// What is kept for the line with this number.
 pub(crate) fn cell_at<C: Cell>(cells: &[C], number: usize) -> C
     requires { number < length cells.now }
     ensures { slice_get (map C.tells cells.now) number ≡ Some (C.tells result) }

@@ -1,4 +1,4 @@
-//! For each line of the elements the line to which it leads, in one array.
+//! For each input line of the elements another one, in one array.
 
 ghost use Rattle.std.specs.Prelude.{◌≡◌, ◌+◌, ◌*◌, ◌≤◌, length, map, Some, IfOk, slice_get, slice_set, replicate, None};
 

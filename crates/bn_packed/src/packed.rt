@@ -25,7 +25,7 @@ use std::alloc::Global;
 use std::marker::Model;
 
 /// A net of rotary elements with a configuration of it, packed: one bit a bar, and one number of 32
-/// bits an output line and an input line, in nets of fewer than 2 to the power 30 elements (in larger
+/// bits for each output line and one for each input line, in nets of fewer than 2 to the power 30 elements (in larger
 /// ones one of 64 bits). The lines are numbered in blocks of 1,024 elements, so that lines of one name
 /// lie side by side. Elements and lines are counted from 0. Clauses see the net and the configuration.
 #[derive(Debug, Drop)]
@@ -67,8 +67,8 @@ impl Packed {
         })
     }
 
-    /// Packs so many elements with the wires of this list, in this configuration. No net is made beside it, and neither
-    /// the states nor the list stands beside what is made of it whole.
+    /// Packs so many elements with the wires of this list, in this configuration. No net is made beside it;
+    /// the states go as soon as the bars are packed, and the list as soon as it is known where each line leads.
     pub fn from_wires(
         alloc: Global,
         count: u32,
@@ -91,7 +91,7 @@ impl Packed {
         let bars = Bars::of(alloc, states.as_slice())?;
         drop(states);
         let wires = Wires::from_wires(alloc, count, wires)?;
-        // What all wires keep.
+        // (for the prover: the contract of this call tells what the type keeps. So below.)
         let _elements = wires.len();
         Ok(Packed {
             wires,
@@ -220,7 +220,6 @@ impl Packed {
         ensures told { Hears (W.told watch.old)
             (places_along Direction.Forward (rotary_circuit self.old.net) e self.old.config) (W.told watch.new) }
     {
-        // (for the prover: the contract of this call tells what the type keeps. So below.)
         let _elements = self.wires.len();
         let before = self.signal.steps;
         let count = e.min(CLOCK - before);

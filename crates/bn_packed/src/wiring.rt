@@ -16,8 +16,8 @@ use std::alloc::Global;
 use std::marker::Model;
 
 /// The wires of a net of rotary elements: for each input line the one to which the signal comes next where it crosses
-/// the element straight, and the one from which it came so. So the number of a line is the same behind an element that
-/// was crossed straight. Clauses see the net.
+/// the element straight, and the one from which it came so. So a signal that crosses an element straight keeps its
+/// number. Clauses see the net.
 #[derive(Debug, Drop)]
 pub(crate) struct Wiring<C: Cell> {
     ahead: Ends<C>,
