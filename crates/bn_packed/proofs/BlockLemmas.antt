@@ -24,6 +24,10 @@ number_again n = omega arith
 pub line_again : (l : Line) → l.line < 4 → line_of (number_of l) ≡ l
 line_again l low = same_lines (line_of (number_of l)) l (omega arith) (omega arith)
 
+-- of a line element by element
+pub nth_again : (l : Line) (i n : ℕ) → l ≡ nth_line i → n ≡ number_of l → line_of n ≡ nth_line i
+nth_again l i n is at = ap line_of (at ∙ ap number_of is) ∙ line_again (nth_line i) (omega arith)
+
 -- of so many elements
 pub number_low : (k : ℕ) (l : Line) → IsLineBelow k l → number_of l < numbers_for k
 number_low k l below = let e = below.element in let low = below.line in omega arith

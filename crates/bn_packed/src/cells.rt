@@ -1,6 +1,6 @@
 //! The line to which another one leads, as one number.
 
-ghost use Rattle.std.specs.Prelude.{◌≡◌, ◌/◌, ◌^◌, ◌<◌, length, map, Some, IfSome, slice_get};
+ghost use Rattle.std.specs.Prelude.{◌≡◌, ◌/◌, ◌^◌, ◌<◌, length, map, Some, slice_get};
 ghost use Rattle.bn_packed.specs.Numbers.{line_of, number_of};
 ghost use Rattle.bn_packed.specs.Ends.{nth_line, opposite, narrow_end, wide_end, IsLineBelow};
 
@@ -38,10 +38,10 @@ pub(crate) trait Cell: Copy {
     /// The number of elements whose lines it can tell.
     ghost limit: { ℕ };
 
-    /// The number that tells this end.
-    fn pack(end: Option<Line>) -> Self
-        requires { IfSome end (IsLineBelow limit) }
-        ensures { tells result ≡ end };
+    /// What tells the line with this number.
+    fn of(number: usize) -> Self
+        requires { IsLineBelow limit (line_of number) }
+        ensures { tells result ≡ Some (line_of number) };
 
     /// The end that it tells.
     fn end(self) -> Option<Line>
@@ -68,11 +68,8 @@ impl Cell for u32 {
 
     ghost limit = { 1073741823 };
 
-    fn pack(end: Option<Line>) -> u32 {
-        match end {
-            Some(line) => line_number(line) as u32,
-            None => LOOSE,
-        }
+    fn of(number: usize) -> u32 {
+        number as u32
     }
 
     fn end(self) -> Option<Line> {
@@ -104,11 +101,8 @@ impl Cell for u64 {
 
     ghost limit = { 4294967296 };
 
-    fn pack(end: Option<Line>) -> u64 {
-        match end {
-            Some(line) => line_number(line) as u64,
-            None => WIDE_LOOSE,
-        }
+    fn of(number: usize) -> u64 {
+        number as u64
     }
 
     fn end(self) -> Option<Line> {

@@ -28,6 +28,7 @@ impl<C: Cell> Model for Ends<C> {
 }
 
 impl<C: Cell> Ends<C> {
+    ghost use Rattle.bn_packed.specs.Numbers.{line_of};
     ghost use Rattle.bn_packed.specs.Ends.{EndList, IsLineBelow, AreTargets, AreReversed, ends_in, numbers_for};
 
     /// Loose ends alone, for the lines of so many elements.
@@ -48,8 +49,7 @@ impl<C: Cell> Ends<C> {
         ensures elements { self.new.elements ≡ self.old.elements }
         ensures ends { self.new.ends ≡ slice_set self.old.ends (4 * line.element + line.line) (Some end) }
     {
-        let cells = &mut self.cells;
-        cells[line_number(line)] = C::pack(Some(end));
+        self.set_at(line_number(line), line_number(end));
     }
 
     /// The same ends the other way round: from the lines to which these lead.
@@ -61,8 +61,9 @@ impl<C: Cell> Ends<C> {
         let mut ends = Ends::loose(alloc, self.elements)?;
         for place in 0..LINES * self.elements as usize {
             let line = nth_line(place);
-            if let Some(end) = self.get(line) {
-                ends.set(end, line);
+            let cell = self.cell(line);
+            if !cell.is_loose() {
+                ends.set_at(cell.number(), line_number(line));
             }
         }
         Ok(ends)
@@ -80,7 +81,7 @@ impl<C: Cell> Ends<C> {
         requires { IsLineBelow self.now.elements line }
         ensures { slice_get self.now.ends (4 * line.element + line.line) ≡ Some result }
     {
-        cell_at(self.cells.as_slice(), line_number(line)).end()
+        self.cell(line).end()
     }
 
     /// The ends by the lines' numbers.
@@ -103,5 +104,25 @@ impl<C: Cell> Ends<C> {
             elements: self.elements,
             cells,
         })
+    }
+
+    // What tells to which line this one leads.
+    fn cell(&self, line: Line) -> C
+        requires { IsLineBelow self.now.elements line }
+        ensures { slice_get self.now.ends (4 * line.element + line.line) ≡ Some (C.tells result) }
+    {
+        cell_at(self.cells.as_slice(), line_number(line))
+    }
+
+    // Writes that the line with the number `number` leads to that with the number `end`.
+    fn set_at(&mut self, number: usize, end: usize)
+        requires there { IsLineBelow self.old.elements (line_of number) }
+        requires below { IsLineBelow self.old.elements (line_of end) }
+        ensures elements { self.new.elements ≡ self.old.elements }
+        ensures ends { self.new.ends
+            ≡ slice_set self.old.ends (4 * (line_of number).element + (line_of number).line) (Some (line_of end)) }
+    {
+        let cells = &mut self.cells;
+        cells[number] = C::of(end);
     }
 }
