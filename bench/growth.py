@@ -12,8 +12,8 @@ Each size has a line: the elements; millions of steps a second forward on a ring
 seconds of `step 0` on their texts, in version 2; the elements of a board and the seconds of its `compile`. The boards
 are those of examples/least.csv and the empty word, with a longer and longer history. Seconds are of the processor, the
 best of --runs; of steps those of `step 0` are taken off. Lines with # tell what it was measured beside, and the sizes
-of a core's caches by lscpu. The plot marks where the array that a step forward reads fills them, with 16 bytes an
-element.
+of a core's caches by lscpu. The plot marks where what a ring's steps forward read fills them, 4 bytes an element: of the
+16 for its four lines those of the north line, which lie side by side for 1,024 elements.
 """
 import argparse
 import csv
@@ -31,7 +31,7 @@ LEAST = os.path.join(TOP, "examples", "least.csv")
 # Its board on the empty word has so many elements beside its history's cells, and so many for each of them.
 LEAST_BASE, LEAST_CELL = 1042, 90
 HEADS = ["elements", "steps in order", "steps shuffled", "reading in order", "reading shuffled", "board", "compile"]
-BYTES_AN_ELEMENT = 16
+BYTES_AN_ELEMENT = 4
 # Steps are timed by ten times as many until they take so long.
 LEAST_SECONDS, FIRST_STEPS, MOST_STEPS = 0.1, 10_000_000, 1_000_000_000
 BLUE, RED, GREY = "#2c6da3", "#c0392b", "#555"
@@ -128,7 +128,7 @@ def size_told(size):
 
 
 def draw_panel(axes, title, series, sizes):
-    """One panel: its series over the elements, and a mark for each cache."""
+    """One panel: its series over the elements, and a mark for each cache that they come to fill."""
     for label, places, values, colour, style in series:
         axes.plot(places, values, style, color=colour, linewidth=1.6, markersize=4, markerfacecolor="white",
                   label=label)
@@ -138,8 +138,11 @@ def draw_panel(axes, title, series, sizes):
     axes.set_xticks([10 ** power for power in range(3, 7)], [f"{10 ** power:,}" for power in range(3, 7)])
     axes.grid(axis="y", color="#e4e4e4", linewidth=0.8)
     axes.set_axisbelow(True)
+    most = max(max(places) for _, places, *_ in series)
     for name, size in sizes:
         place = size / BYTES_AN_ELEMENT
+        if place > most:
+            continue
         axes.axvline(place, color="#888", linewidth=0.9, linestyle=(0, (2, 3)))
         axes.annotate(f"{name}\n{size_told(size)}", (place, 1), xycoords=("data", "axes fraction"), xytext=(0, 2),
                       textcoords="offset points", ha="center", va="bottom", fontsize=7.5, color="#666")
