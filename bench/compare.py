@@ -6,7 +6,7 @@ nothing and is no part of rt ci.
     bench/compare.py --program 'node bin/hithwelor' --elements 10000 --steps 20000000
                                                       by any command line, on smaller circuits and shorter runs
     bench/compare.py --count --elements 100000        instructions too, which is slow without perf's counters
-    bench/compare.py --only texts                     or --only steps
+    bench/compare.py --only texts                     or --only steps, or --only boards
 
 Both C programs are compiled by gcc and by clang, -O2, where they are installed. The texts are rings in order and
 shuffled and the board of an increment: in version 1 of as many elements as --elements says, in version 2 of four times
@@ -17,8 +17,11 @@ of a turn. The peak of memory is what the process had itself, least of all runs;
 
 Of steps, the program's seconds are those of `step E` or `back E` less those of `step 0` in the same turn. The C loop is
 compiled in two forms: a line has its own number, element by element, or lines are numbered in blocks, as in the
-program. Of texts a ratio above 1 means that the program is slower, of steps that it is faster. The tables at the end
-are in Markdown, as they stand in docs/BENCHMARKS.md.
+program. Of texts a ratio above 1 means that the program is slower, of steps that it is faster.
+
+Of boards no C stands beside: `compile` is told beside `run` of the same board with no steps, which makes the board and
+doesn't write its text, so that the difference is what writing takes; and the seconds of three commands as they are. The
+tables at the end are in Markdown, as they stand in docs/BENCHMARKS.md.
 """
 import argparse
 import filecmp
@@ -33,6 +36,7 @@ import tempfile
 
 sys.dont_write_bytecode = True
 from bench import RING
+from run import INSIDE, increments
 import measuring
 
 # On a shuffled ring that is too great for the caches a step waits for memory, and a twentieth takes as long.
@@ -50,7 +54,7 @@ def options_of():
     parser.add_argument("--steps", type=int, default=400_000_000, metavar="N", help="of one run (400,000,000)")
     parser.add_argument("--count", action="store_true", help="count instructions too, by perf or by valgrind")
     measuring.add_texts(parser)
-    parser.add_argument("--only", choices=("texts", "steps"), help="one of both parts alone")
+    parser.add_argument("--only", choices=("texts", "steps", "boards"), help="one of the parts alone")
     return parser.parse_args()
 
 
@@ -222,15 +226,37 @@ def step_tables(options, program, folder):
     return f"{told}\n\n{step_counts(program, folder)}" if options.count else told
 
 
+def board_tables(options, program, folder):
+    """What `compile` takes beside what writing its text takes, and the seconds of commands on boards, in Markdown."""
+    table = measuring.write(os.path.join(folder, "increment"), increments(1))
+    words = measuring.board_words(options.elements)
+    whole, opened = [], []
+    for _ in range(options.runs):
+        whole.append(measuring.run_once([*program, "compile", *words], table).processor)
+        opened.append(measuring.run_once([*program, "run", *words, "0"], table, wanted=INSIDE).processor)
+    writing = [one - other for one, other in zip(whole, opened)]
+    elements = measuring.BOARD_BASE + measuring.BOARD_CELL * int(words[3])
+    row = [f"{elements:,}", *(f"{statistics.median(series):.3f}" for series in (whole, opened)), ratio(whole, writing)]
+    told = measuring.table(["Elements", "`compile`, s", "`run` of no steps, s", "`compile` by the difference"], [row])
+    widest = measuring.board_words(4 * options.elements)
+    commands = {"generate 4": ["generate", "4"], "run =1011 0 5 11 5": ["run", "=1011", "0", "5", "11", "5"],
+                " ".join(["compile", *widest]): ["compile", *widest]}
+    found = in_turn({name: [*program, *command] for name, command in commands.items()}, table, options.runs)
+    rows = []
+    for name, series in found.items():
+        seconds = sorted(run.processor for run in series)
+        rows.append([f"`{name}`", *(f"{part:.4f}" for part in (statistics.median(seconds), seconds[0], seconds[-1]))])
+    return told + "\n\n" + measuring.table(["Seconds", "Median", "Least", "Greatest"], rows)
+
+
 def main():
     options = options_of()
     program, load = measuring.program_of(options), os.getloadavg()[0]
     tables = []
     with tempfile.TemporaryDirectory() as folder:
-        if options.only != "steps":
-            tables.append(text_tables(options, program, folder))
-        if options.only != "texts":
-            tables.append(step_tables(options, program, folder))
+        for part, tables_of in (("texts", text_tables), ("steps", step_tables), ("boards", board_tables)):
+            if options.only in (None, part):
+                tables.append(tables_of(options, program, folder))
     print(f"\n{measuring.circumstances(load)}; the medians of {options.runs} runs in turn.")
     for told in tables:
         print(f"\n{told}")
