@@ -235,8 +235,9 @@ def board_tables(options, program, folder):
         whole.append(measuring.run_once([*program, "compile", *words], table).processor)
         opened.append(measuring.run_once([*program, "run", *words, "0"], table, wanted=INSIDE).processor)
     writing = [one - other for one, other in zip(whole, opened)]
+    beside = ratio(whole, writing) if min(writing) > 0 else "too few elements to tell"
     elements = measuring.BOARD_BASE + measuring.BOARD_CELL * int(words[3])
-    row = [f"{elements:,}", *(f"{statistics.median(series):.3f}" for series in (whole, opened)), ratio(whole, writing)]
+    row = [f"{elements:,}", *(f"{statistics.median(series):.3f}" for series in (whole, opened)), beside]
     told = measuring.table(["Elements", "`compile`, s", "`run` of no steps, s", "`compile` by the difference"], [row])
     widest = measuring.board_words(4 * options.elements)
     commands = {"generate 4": ["generate", "4"], "run =1011 0 5 11 5": ["run", "=1011", "0", "5", "11", "5"],

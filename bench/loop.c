@@ -20,12 +20,14 @@
 #ifdef BLOCKS
 enum { SPAN = 1024, STRAIGHT = 0, UPRIGHT = 3 * SPAN, LEVEL = SPAN, UPRIGHT_BACK = SPAN, LEVEL_BACK = 3 * SPAN };
 #define NUMBER(element, line) (((element) / SPAN * 4 + (line)) * SPAN + (element) % SPAN)
+/* an output line goes by the number of the input line across from it */
 #define ACROSS (2 * SPAN)
 #define WORD(number) (((number) & ~(3u * SPAN)) >> 6)
 #define BIT(number) ((number) & 63)
 #else
 enum { SPAN = 1, STRAIGHT = 2, UPRIGHT = 1, LEVEL = 3, UPRIGHT_BACK = 3, LEVEL_BACK = 1 };
 #define NUMBER(element, line) (4 * (element) + (line))
+/* an output line goes by a number of its own */
 #define ACROSS 0
 #define WORD(number) ((number) >> 8)
 #define BIT(number) ((number) >> 2 & 63)
