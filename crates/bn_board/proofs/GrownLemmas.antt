@@ -12,14 +12,14 @@ use Rattle.bn_element.specs.Rotary.{rotary}
 use Rattle.bn_circuits.specs.Circuits.{line_at}
 use Rattle.bn_net.specs.RotaryNets.{rotary_circuit, IsNetOf}
 use Rattle.bn_net.proofs.RotaryNetLemmas.{rotary-tables}
-use Rattle.bn_net.specs.Wirings.{AreWiresOf, AreFitting}
-use Rattle.bn_net.proofs.WiringsLemmas.{IsWire, more_wire, same_wires, apart-wire}
+use Rattle.bn_net.specs.Wirings.{AreWiresOf}
+use Rattle.bn_net.proofs.WiringsLemmas.{IsWire, more_wire, same_wires}
 use Rattle.bn_element.specs.declared.rotary.Rotary.{Rotary}
 use Rattle.bn_net.specs.Parts.{Parts}
 use Rattle.bn_realise.specs.Banks.{bank_input_line, bank_output_line}
 use Rattle.bn_board.specs.Boards.{AreModules, IsBoard, IsBoardWire, own, between, base, size}
 use Rattle.bn_board.proofs.ModuleLemmas.{wired_output, wired_input, output_once, input_once, output_table}
-use Rattle.bn_board.proofs.ListedLemmas.{IsOwnBelow, IsBetweenOf, leads-IsSource, no_from, no_to, within}
+use Rattle.bn_board.proofs.ListedLemmas.{IsOwnBelow, IsBetweenOf, leads-IsSource, no_from, no_to}
 
 module _ (n : Circuit) (modules : AreModules n) where
   -- the wires between banks that come before output line o of module e
@@ -162,11 +162,7 @@ module _ (n : Circuit) (modules : AreModules n) where
       back from to (own m t has wire) = inl (record { at_module = m; table = t; low = slice_get_within n.tables m t has; has = has; wire = wire })
       back from to (between out into t wired has leaves ends) = inr (record { out = out; into = into; table = t; earlier = inl (slice_get_within n.tables out.element t has); wired = wired; has = has; leaves = leaves; ends = ends })
 
-  -- they fit so many elements
-  pub board-fitting : (ws : List Wire) → AreWiresOf (IsBoardWire n) ws → AreFitting (size n.tables) ws
-  board-fitting ws are = record { fits = λ i w h. let lines = within n modules w.from w.to (are.sound w.from w.to (apart-wire ws i w are.apart h)) in (lines.from_element, lines.from_line, lines.to_element, lines.to_line) }
-
-  -- and a net of them is the board
+  -- a net of them is the board
   pub net-IsBoard : (net : Parts Rotary) (ws : List Wire) → AreWiresOf (IsBoardWire n) ws → IsNetOf net (size n.tables) ws → IsCircuit (rotary_circuit net) → IsBoard n (rotary_circuit net)
   net-IsBoard net ws are is circuit = record {
     circuit = circuit;

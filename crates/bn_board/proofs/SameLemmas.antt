@@ -1,5 +1,5 @@
 -- Two boards of one machine, word and limits are alike.
-use Rattle.std.specs.Prelude.{◌≡◌, ℕ, ◌+◌, List, [], ◌∷◌, length, replicate, Option, Some, None, slice_get, refl}
+use Rattle.std.specs.Prelude.{◌≡◌, ℕ, ◌+◌, List, [], ◌∷◌, length, replicate, Option, Some, slice_get, refl}
 use Rattle.std.specs.Ordering.{nat_cmp}
 use Rattle.std.specs.Cmp.Lexicographic.{slice_cmp}
 use Rattle.std.specs.Cmp.{nat_cmp_is}
@@ -7,9 +7,8 @@ use Rattle.std.specs.declared.cmp.Ordering.TheVariants.{Less, Equal}
 use Rattle.std.proofs.Common.{zero, suc, arith, sym, ap, subst, ◌∙◌, inl, inr}
 use Rattle.std.proofs.lemmas.Bool.Decides.{leb_tells}
 use Rattle.bn_element.specs.Tables.{Table}
-use Rattle.bn_circuits.specs.Circuits.{Circuit, target, source, IsOneToOne}
+use Rattle.bn_circuits.specs.Circuits.{Circuit, target}
 use Rattle.bn_circuits.specs.declared.line.Line.{Line}
-use Rattle.bn_circuits.specs.declared.line.Wire.{Wire}
 use Rattle.bn_element.specs.Rotary.{rotary}
 use Rattle.bn_machine.specs.Outcome.{Limits}
 use Rattle.bn_quad.specs.Quadruples.{Quadruples}

@@ -5,6 +5,7 @@ pub mod MomentLemmas
 pub mod LocationLemmas
 pub mod CellLemmas
 pub mod WireLemmas
+pub mod DrawnLemmas
 pub mod KeptLemmas
 pub mod StartLemmas
 pub mod CopyLemmas

@@ -2,7 +2,7 @@
 use Rattle.std.specs.Prelude.{◌≡◌, ℕ, ◌+◌, ◌*◌, ◌<◌, ◌≤◌, ◌^◌, slice_index_or, List, [], ◌∷◌, ◌++◌, length, Some, None, slice_get, refl, ◌⊎◌}
 use Rattle.std.proofs.Common.{zero, suc, arith, sym, ap, subst, ◌∙◌, inl, inr, length-append}
 use Rattle.std.proofs.lemmas.Option.{slice_get_within, slice_get-map, get_or_from_slice_get}
-use Rattle.std.proofs.Math.Nat.{mul-le-mul_right, mul-le-mul_left}
+use Rattle.std.proofs.Math.Nat.{mul-le-mul_right}
 use Rattle.std.proofs.lemmas.List.{length-map}
 use Rattle.std.specs.Option.{option_map}
 use Rattle.bn_element.specs.Tables.{Table}
@@ -33,10 +33,6 @@ get_either (z ∷ xs) y (suc i) x has = elim (get_either xs y i x has) [
   | inl old ↦ inl old
   | inr new ↦ inr (ap (λ n. suc n) new.0, new.1)
 ]
-
--- the own wires of a bank are at most four for each of its elements
-pub bank_count : (n k : ℕ) → n * (4 * k + 3) ≤ 4 * (n * (k + 1))
-bank_count n k = let h : n * (4 * k + 3) ≤ n * (4 * k + 4) = mul-le-mul_left n (omega arith) in omega arith
 
 -- the next bank begins where this one ends
 pub base_next : (ts : List Table) (m : ℕ) (t : Table) → slice_get ts m ≡ Some t → base ts (m + 1) ≡ base ts m + size_of t
@@ -188,7 +184,7 @@ entered n most out to modules few is =
 
 module _ (net : Parts Module) (bases : List ℕ) (most : ℕ) (modules : AreModules (module_circuit net)) (few : size (module_circuit net).tables ≤ most)
     (are : AreBases (module_circuit net).tables bases) where
-  base_of : (m : ℕ) (x : Module) → slice_get net.elements m ≡ Some x → slice_index_or bases m 0 ≡ base (module_circuit net).tables m
+  pub base_of : (m : ℕ) (x : Module) → slice_get net.elements m ≡ Some x → slice_index_or bases m 0 ≡ base (module_circuit net).tables m
   base_of m x is =
       let low = slice_get_within net.elements m x is in
       let counted = tables_counted net in

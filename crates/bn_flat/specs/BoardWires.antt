@@ -1,10 +1,13 @@
--- The words in which the functions that list a board's wires are said.
+-- The words in which the functions that draw a board's wires are said.
 use Rattle.std.specs.Prelude.{◌≡◌, ℕ, ◌<◌, List, length, Some, slice_get, ◌⊎◌}
 use Rattle.bn_element.specs.Tables.{Table}
 use Rattle.bn_circuits.specs.Circuits.{Circuit, target}
 use Rattle.bn_circuits.specs.declared.line.Line.{Line}
 use Rattle.bn_circuits.specs.declared.line.Wire.{Wire}
 use Rattle.bn_net.specs.Parts.{Parts, circuit}
+use Rattle.bn_net.specs.Wirings.{AreWiresOf}
+use Rattle.bn_packed.specs.Drafts.{AreDrawn}
+use Rattle.bn_packed.specs.Ends.{EndList}
 use Rattle.bn_realise.specs.Banks.{IsBankWire, bank_input_line, bank_output_line}
 use Rattle.bn_board.specs.Boards.{base}
 use Rattle.bn_assembly.specs.Modules.{module_table}
@@ -42,3 +45,9 @@ pub record IsBetween (n : Circuit) (number line : ℕ) (to : Line) (w : Wire) : 
         from = bank_output_line (base n.tables number) t line;
         to = bank_input_line (base n.tables to.element) to.line;
       }
+
+-- a draft of so many elements has the wires of some list, which lead just where this relation holds
+pub record IsDrawn (Leads : Line → Line → Type 0) (count : ℕ) (draft : EndList) : Type 0 where
+  pub wires : List Wire
+  pub drawn : AreDrawn count wires draft
+  pub are : AreWiresOf Leads wires

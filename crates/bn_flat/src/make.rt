@@ -3,21 +3,20 @@
 ghost use Rattle.std.specs.Prelude.{◌≡◌, ◌≤◌, length, IfOk};
 ghost use Rattle.bn_net.specs.Order.{AreInOrder};
 ghost use Rattle.bn_net.specs.RotaryNets.{rotary_circuit};
-ghost use Rattle.bn_net.specs.Wirings.{AreWiresOf};
 ghost use Rattle.bn_board.specs.Boards.{AreModules, IsBoard, IsBoardWire, size};
 ghost use Rattle.bn_assembly.specs.Assembled.{network_of};
-ghost use Rattle.bn_flat.specs.BoardWires.{module_circuit};
+ghost use Rattle.bn_flat.specs.BoardWires.{IsDrawn, module_circuit};
 ghost use Rattle.bn_flat.specs.Flattened.{IsBoardKept, IsFlattened};
 ghost use Rattle.bn_flat.specs.Starts.{start_by};
 
 use crate::bars::start_bars;
 use crate::board::Board;
 use crate::numbers::layout_of;
-use crate::wiring::{bases, board_wires};
+use crate::wiring::{bases, board_draft};
 use bn_assembly::{Assembly, Module};
 use bn_element::WEST;
-use bn_net::{Config, Line, MOST_ELEMENTS, Net, NoMemory, Place, States, Wire};
-use bn_packed::Packed;
+use bn_net::{Config, Line, MOST_ELEMENTS, Net, NoMemory, Place, States};
+use bn_packed::{Draft, Packed};
 use std::alloc::Global;
 
 /// The board of a network: each module as its bank of columns of rotary elements, bank after bank in the order of the
@@ -47,7 +46,7 @@ fn packed_of(alloc: Global, assembly: &Assembly, count: u32) -> Result<Packed, N
     ensures elements { IfOk result (λ p. length p.net.elements ≡ count) }
     ensures order { IfOk result (λ p. AreInOrder p.net.wires) }
 {
-    let wires = board_list(alloc, assembly.net())?;
+    let draft = draft_of(alloc, count, assembly.net())?;
     let bars = start_bars(alloc, assembly.net(), assembly.config().states.as_slice())?;
     let config = Config {
         states: States::new(bars),
@@ -57,17 +56,18 @@ fn packed_of(alloc: Global, assembly: &Assembly, count: u32) -> Result<Packed, N
         },
         steps: 0,
     };
-    let packed = Packed::from_wires(alloc, count, wires, config)?;
+    let packed = Packed::from_draft(alloc, draft, config)?;
     Ok(packed)
 }
 
-// The wires of the board of this net of modules.
-fn board_list(alloc: Global, net: &Net<Module>) -> Result<Vec<Wire>, NoMemory>
+// A draft of so many elements with the wires of the board of this net of modules.
+fn draft_of(alloc: Global, count: u32, net: &Net<Module>) -> Result<Draft, NoMemory>
     requires modules { AreModules (module_circuit net.now) }
     requires few { size (module_circuit net.now).tables ≤ MOST_ELEMENTS }
-    ensures { IfOk result (λ v. AreWiresOf (IsBoardWire (module_circuit net.now)) v.items) }
+    requires count { count ≡ size (module_circuit net.now).tables }
+    ensures { IfOk result (IsDrawn (IsBoardWire (module_circuit net.now)) (size (module_circuit net.now).tables)) }
 {
     let bases = bases(alloc, net)?;
-    let wires = board_wires(alloc, net, bases.as_slice())?;
-    Ok(wires)
+    let draft = board_draft(alloc, count, net, bases.as_slice())?;
+    Ok(draft)
 }

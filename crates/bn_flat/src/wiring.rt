@@ -1,16 +1,16 @@
 //! The wires of a board.
 
-ghost use Rattle.std.specs.Prelude.{◌≡◌, ◌+◌, ◌*◌, ◌<◌, ◌≤◌, length, Some, slice_get, IfOk, OnOk};
-ghost use Rattle.bn_circuits.specs.Circuits.{IsOutputOf, IsInputOf, target};
-ghost use Rattle.bn_net.specs.Wirings.{AreWiresOf};
+ghost use Rattle.std.specs.Prelude.{◌≡◌, ◌+◌, ◌<◌, ◌≤◌, length, Some, IfOk, OnOk};
+ghost use Rattle.bn_circuits.specs.Circuits.{IsOutputOf, target};
 ghost use Rattle.bn_realise.specs.Banks.{bank_output_line, bank_input_line};
-ghost use Rattle.bn_board.specs.Boards.{AreModules, IsBoardWire, base, size, size_of};
+ghost use Rattle.bn_board.specs.Boards.{AreModules, IsBoardWire, size, size_of};
 ghost use Rattle.bn_assembly.specs.Modules.{module_table};
-ghost use Rattle.bn_flat.specs.BoardWires.{AreBases, IsOwnWire, IsBetween, IsWireBefore, module_circuit};
+ghost use Rattle.bn_flat.specs.BoardWires.{AreBases, IsDrawn, IsOwnWire, IsBetween, IsWireBefore, module_circuit};
 
 use bn_assembly::Module;
 use bn_element::{EAST, Element, WEST};
 use bn_net::{Line, MOST_ELEMENTS, Net, NoMemory, Wire};
+use bn_packed::Draft;
 use bn_realise::bank_wires;
 use std::alloc::Global;
 
@@ -39,46 +39,46 @@ pub(crate) fn size_of(bank: &Module) -> u32
     bank.states() * (bank.lines_in() + 1)
 }
 
-// The wires of the board of this net of modules, whose banks begin at these elements.
-pub(crate) fn board_wires(
+// A draft of so many elements with the wires of the board of this net of modules, whose banks begin at these elements.
+pub(crate) fn board_draft(
     alloc: Global,
+    count: u32,
     net: &Net<Module>,
     bases: &[u32],
-) -> Result<Vec<Wire>, NoMemory>
+) -> Result<Draft, NoMemory>
     requires modules { AreModules (module_circuit net.now) }
     requires few { size (module_circuit net.now).tables ≤ MOST_ELEMENTS }
     requires bases { AreBases (module_circuit net.now).tables bases.now }
-    ensures wires { IfOk result (λ v. AreWiresOf (IsBoardWire (module_circuit net.now)) v.items) }
-    ensures few { IfOk result (λ v. length v.items ≤ 5 * size (module_circuit net.now).tables) }
+    requires count { count ≡ size (module_circuit net.now).tables }
+    ensures { IfOk result (IsDrawn (IsBoardWire (module_circuit net.now)) (size (module_circuit net.now).tables)) }
 {
-    let mut wires = own_wires(alloc, net, bases)?;
+    let mut draft = own_wires(alloc, count, net, bases)?;
     for number in 0..net.len() {
-        push_leaving(&mut wires, net, bases, number)?;
+        draw_leaving(&mut draft, net, bases, number);
     }
-    Ok(wires)
+    Ok(draft)
 }
 
-// The own wires of all banks.
-#[tactic(auto, using(crate::proofs::WireLemmas::no_own, crate::proofs::WireLemmas::all_own))]
-fn own_wires(alloc: Global, net: &Net<Module>, bases: &[u32]) -> Result<Vec<Wire>, NoMemory>
+// A draft of so many elements with the own wires of all banks.
+fn own_wires(alloc: Global, count: u32, net: &Net<Module>, bases: &[u32]) -> Result<Draft, NoMemory>
     requires modules { AreModules (module_circuit net.now) }
     requires few { size (module_circuit net.now).tables ≤ MOST_ELEMENTS }
     requires bases { AreBases (module_circuit net.now).tables bases.now }
-    ensures wires { IfOk result (λ v. AreWiresOf (IsOwnWire (module_circuit net.now)
-        (length net.now.elements)) v.items) }
-    ensures few { IfOk result (λ v. length v.items ≤ 4 * size (module_circuit net.now).tables) }
+    requires count { count ≡ size (module_circuit net.now).tables }
+    ensures { IfOk result (IsDrawn (IsOwnWire (module_circuit net.now) (length net.now.elements))
+        (size (module_circuit net.now).tables)) }
 {
-    let mut wires = Vec::new(alloc);
+    let mut draft = Draft::new(alloc, count)?;
     for number in 0..net.len() {
-        push_bank(alloc, &mut wires, net, bases, number)?;
+        draw_bank(alloc, &mut draft, net, bases, number)?;
     }
-    Ok(wires)
+    Ok(draft)
 }
 
-// The own wires of a module's bank, after those of the earlier ones.
-fn push_bank(
+// Draws the own wires of a module's bank, after those of the earlier ones.
+fn draw_bank(
     alloc: Global,
-    wires: &mut Vec<Wire>,
+    draft: &mut Draft,
     net: &Net<Module>,
     bases: &[u32],
     number: u32,
@@ -87,64 +87,51 @@ fn push_bank(
     requires few { size (module_circuit net.now).tables ≤ MOST_ELEMENTS }
     requires bases { AreBases (module_circuit net.now).tables bases.now }
     requires within { number < length net.now.elements }
-    requires earlier { AreWiresOf (IsOwnWire (module_circuit net.now) number) wires.old.items }
-    ensures wires { OnOk result (AreWiresOf (IsOwnWire (module_circuit net.now) (number + 1)) wires.new.items) }
-    ensures few { OnOk result (length wires.new.items + 4 * base (module_circuit net.now).tables number
-        ≤ length wires.old.items + 4 * base (module_circuit net.now).tables (number + 1)) }
+    requires earlier { IsDrawn (IsOwnWire (module_circuit net.now) number) (size (module_circuit net.now).tables)
+        draft.old }
+    ensures { OnOk result (IsDrawn (IsOwnWire (module_circuit net.now) (number + 1))
+        (size (module_circuit net.now).tables) draft.new) }
 {
     let own = bank_wires(alloc, net.element(number), bases[number as usize])?;
-    wires.extend_from_slice(own.as_slice())?;
+    draft.add(own.as_slice());
     Ok(())
 }
 
-// The wires from a module to others, after those from earlier ones.
-fn push_leaving(
-    wires: &mut Vec<Wire>,
-    net: &Net<Module>,
-    bases: &[u32],
-    number: u32,
-) -> Result<(), NoMemory>
+// Draws the wires from a module to others, after those from earlier ones.
+fn draw_leaving(draft: &mut Draft, net: &Net<Module>, bases: &[u32], number: u32)
     requires modules { AreModules (module_circuit net.now) }
     requires few { size (module_circuit net.now).tables ≤ MOST_ELEMENTS }
     requires bases { AreBases (module_circuit net.now).tables bases.now }
     requires within { number < length net.now.elements }
-    requires earlier { AreWiresOf (IsWireBefore (module_circuit net.now) number 0) wires.old.items }
-    ensures wires { OnOk result (AreWiresOf (IsWireBefore (module_circuit net.now) (number + 1) 0) wires.new.items) }
-    ensures few { OnOk result (length wires.new.items + base (module_circuit net.now).tables number
-        ≤ length wires.old.items + base (module_circuit net.now).tables (number + 1)) }
+    requires earlier { IsDrawn (IsWireBefore (module_circuit net.now) number 0) (size (module_circuit net.now).tables)
+        draft.old }
+    ensures { IsDrawn (IsWireBefore (module_circuit net.now) (number + 1) 0) (size (module_circuit net.now).tables)
+        draft.new }
 {
     for line in 0..net.element(number).lines_out() {
-        push_between(wires, net, bases, number, line)?;
+        draw_between(draft, net, bases, number, line);
     }
-    Ok(())
 }
 
-// The wire from a module's output line to another module, if there is one.
-fn push_between(
-    wires: &mut Vec<Wire>,
-    net: &Net<Module>,
-    bases: &[u32],
-    number: u32,
-    line: u32,
-) -> Result<(), NoMemory>
+// Draws the wire from a module's output line to another module, if there is one.
+fn draw_between(draft: &mut Draft, net: &Net<Module>, bases: &[u32], number: u32, line: u32)
     requires modules { AreModules (module_circuit net.now) }
     requires few { size (module_circuit net.now).tables ≤ MOST_ELEMENTS }
     requires bases { AreBases (module_circuit net.now).tables bases.now }
     requires within { number < length net.now.elements }
     requires line { IsOutputOf (module_circuit net.now).tables (record { element = number; line = line }) }
-    requires earlier { AreWiresOf (IsWireBefore (module_circuit net.now) number line) wires.old.items }
-    ensures wires { OnOk result (AreWiresOf (IsWireBefore (module_circuit net.now) number (line + 1)) wires.new.items) }
-    ensures few { OnOk result (length wires.new.items ≤ length wires.old.items + 1) }
+    requires earlier { IsDrawn (IsWireBefore (module_circuit net.now) number line)
+        (size (module_circuit net.now).tables) draft.old }
+    ensures { IsDrawn (IsWireBefore (module_circuit net.now) number (line + 1)) (size (module_circuit net.now).tables)
+        draft.new }
 {
     let out = Line {
         element: number,
         line,
     };
-    let Some(into) = net.target(out) else {
-        return Ok(());
-    };
-    wires.push(between(net, bases, number, line, into))?;
-    Ok(())
+    if let Some(into) = net.target(out) {
+        draft.add(&[between(net, bases, number, line, into)]);
+    }
 }
 
 // The wire from a module's output line to this input line of another.

@@ -1,7 +1,9 @@
 pub mod AcrossLemmas
 pub mod BarLemmas
+pub mod BehindLemmas
 pub mod BlockLemmas
 pub mod CrossLemmas
+pub mod DraftLemmas
 pub mod EndLemmas
 pub mod NumberLemmas
 pub mod ListedLemmas

@@ -10,7 +10,7 @@ use Rattle.bn_lists.proofs.RunsLemmas.{passes_join}
 use Rattle.bn_circuits.specs.Circuits.{Circuit, IsCircuit, IsConfig, IsPlace, IsOutputOf, Goes, IsStuck, IsFirst, clock, go_of, back_of, states_of, place_after}
 use Rattle.bn_circuits.specs.Stepping.{line_before}
 use Rattle.bn_circuits.proofs.RunLemmas.{run_stops, back_stops, Reaches-run, Reaches-back}
-use Rattle.bn_circuits.proofs.StepLemmas.{same_config, go_arrives, next-IsConfig, previous-IsConfig}
+use Rattle.bn_circuits.proofs.StepLemmas.{same_config, next-IsConfig, previous-IsConfig}
 use Rattle.bn_circuits.specs.declared.line.Line.{Line}
 use Rattle.bn_circuits.specs.declared.place.Place.{Place}
 use Rattle.bn_circuits.specs.declared.place.Place.TheVariants.{Enter, Left}
@@ -82,12 +82,6 @@ module _ (net : Parts Rotary) (circuit : IsCircuit (rotary_circuit net)) where
       (at_place : place ≡ Enter e i) (cross : crossed bars e i ≡ Some (after, o)) where
     element_there : e < length net.elements
     element_there = (input_below net.elements (record { element = e; line = i }) (subst (IsPlace (rotary_circuit net)) at_place config.place)).element
-
-    -- the line by which the signal goes out is there
-    pub crossed-output : IsOutputOf (rotary_circuit net).tables (record { element = e; line = o })
-    crossed-output =
-        let move = move_of bars after e o (λ q. rotary.go q i) cross in
-        (go_arrives (rotary_circuit net) circuit e move.state i move.next o (go-rotary net.elements e move.state i element_there ∙ move.goes)).1
 
     pub crossed-Goes : (then : Place) (p : ℕ) → then ≡ place_after net.wires (record { element = e; line = o }) → p ≡ n + 1 → p ≤ clock
         → Goes (rotary_circuit net) (config_at bars place n) (config_at after then p)
@@ -190,10 +184,6 @@ module _ (net : Parts Rotary) (circuit : IsCircuit (rotary_circuit net)) where
         (subst (λ x. Hears old (x ∷ []) mid) is hears) walked
 
 -- ---- ends of runs
-
--- a signal that has left makes no step
-pub left-stuck : (k : Circuit) (c : Config) → ((e i : ℕ) → c.place ≡ Enter e i → ⊥) → IsStuck k c
-left-stuck k c left d goes = left goes.crosses.element goes.crosses.input goes.crosses.enters
 
 -- What a walk of as many steps as were asked for comes to, or of as many as the clock has room for, and what a watch has
 -- heard of it.

@@ -1,6 +1,6 @@
 -- The numbers of lines. They go in blocks of 1,024 elements: first come the north lines of a block's elements, then its
--- east, its south and its west lines. So lines of one name lie side by side, since a signal
--- often comes to lines of one name one after another.
+-- east, its south and its west lines. So lines of one name lie side by side, since a signal often comes to lines of one
+-- name one after another.
 use Rattle.std.specs.Prelude.{ℕ, ◌+◌, ◌*◌, ◌/◌, ◌%◌}
 use Rattle.bn_circuits.specs.declared.line.Line.{Line}
 

@@ -18,5 +18,5 @@ config_at bars place steps = record { states = bars; place = place; steps = step
 
 -- the net whose wires these are, in numbers of whatever size
 abbrev pub net_in : Wires → Parts Rotary
-net_in (Narrow net) = net
-net_in (Wide net) = net
+net_in (Narrow wiring) = wiring.net
+net_in (Wide wiring) = wiring.net

@@ -1,11 +1,11 @@
 //! The line to which another one leads, as one number.
 
-ghost use Rattle.std.specs.Prelude.{◌≡◌, ◌/◌, ◌^◌, ◌<◌, length, map, Some, slice_get};
+ghost use Rattle.std.specs.Prelude.{◌≡◌, ◌/◌, ◌^◌, ◌<◌, ◌≤◌, [], length, map, replicate, None, Some, slice_get};
+ghost use Rattle.std.specs.Prelude.{vec_capacity};
 ghost use Rattle.bn_packed.specs.Numbers.{line_of, number_of};
 ghost use Rattle.bn_packed.specs.Ends.{nth_line, opposite, narrow_end, wide_end, IsLineBelow};
 
-use bn_net::{Line, NoMemory};
-use std::alloc::Global;
+use bn_net::Line;
 
 /// The number of an element's input lines, and of its output lines.
 pub(crate) const LINES: usize = 4;
@@ -28,7 +28,8 @@ const WIDE_GREATEST: u64 = 17_179_869_183;
 
 /// A number that tells to which line another one leads, or that there is no wire.
 pub(crate) trait Cell: Copy {
-    ghost use Rattle.std.specs.Prelude.{ℕ, Option, IfOk, map, replicate, None, Some, is_none, false};
+    ghost use Rattle.std.specs.Prelude.{◌≤◌, ℕ, [], Option, map, replicate, None, Some, is_none, false};
+    ghost use Rattle.std.specs.Prelude.{vec_capacity};
     ghost use Rattle.bn_circuits.specs.declared.line.Line.{Line};
     ghost use Rattle.bn_packed.specs.Numbers.{line_of};
 
@@ -56,9 +57,11 @@ pub(crate) trait Cell: Copy {
         requires { is_none (tells self) ≡ false }
         ensures { tells self ≡ Some (line_of result) };
 
-    /// So many numbers that tell of no wire.
-    fn loose(alloc: Global, count: usize) -> Result<Vec<Self>, NoMemory>
-        ensures { IfOk result (λ v. map tells v.items ≡ replicate count None) };
+    /// So many numbers that tell of no wire, in this room, which is empty and great enough.
+    fn loose(room: Vec<Self>, count: usize) -> Vec<Self>
+        requires empty { room.items ≡ [] }
+        requires room { count ≤ vec_capacity room }
+        ensures { map tells result.items ≡ replicate count None };
 }
 
 impl Cell for u32 {
@@ -88,9 +91,15 @@ impl Cell for u32 {
     }
 
     #[tactic(auto, using(crate::proofs::LooseLemmas::loose_narrow))]
-    fn loose(alloc: Global, count: usize) -> Result<Vec<u32>, NoMemory> {
-        let cells = vec![in alloc; LOOSE; count]?;
-        Ok(cells)
+    fn loose(room: Vec<u32>, count: usize) -> Vec<u32>
+        requires empty { room.items ≡ [] }
+        requires room { count ≤ vec_capacity room }
+        ensures { map narrow_end result.items ≡ replicate count None }
+    {
+        let mut cells = room;
+        // There is room. (For the prover: this method's clauses are the trait's, once more.)
+        cells.resize(count, LOOSE).unwrap();
+        cells
     }
 }
 
@@ -121,9 +130,15 @@ impl Cell for u64 {
     }
 
     #[tactic(auto, using(crate::proofs::LooseLemmas::loose_wide))]
-    fn loose(alloc: Global, count: usize) -> Result<Vec<u64>, NoMemory> {
-        let cells = vec![in alloc; WIDE_LOOSE; count]?;
-        Ok(cells)
+    fn loose(room: Vec<u64>, count: usize) -> Vec<u64>
+        requires empty { room.items ≡ [] }
+        requires room { count ≤ vec_capacity room }
+        ensures { map wide_end result.items ≡ replicate count None }
+    {
+        let mut cells = room;
+        // There is room. (For the prover: this method's clauses are the trait's, once more.)
+        cells.resize(count, WIDE_LOOSE).unwrap();
+        cells
     }
 }
 

@@ -1,9 +1,11 @@
 //! For each input line of the elements another one, in one array.
 
-ghost use Rattle.std.specs.Prelude.{◌≡◌, ◌+◌, ◌*◌, ◌≤◌, length, map, Some, IfOk, slice_get, slice_set, replicate, None};
+ghost use Rattle.std.specs.Prelude.{◌≡◌, ◌+◌, ◌*◌, ◌≤◌, [], length, map, Some, IfOk, slice_get, slice_set};
+ghost use Rattle.std.specs.Prelude.{replicate, None, vec_capacity};
+ghost use Rattle.bn_packed.specs.Ends.{numbers_for};
 
-use crate::cells::{BLOCK, Cell, LINES, cell_at, line_number, nth_line};
-use bn_net::{Line, NoMemory};
+use crate::cells::{BLOCK, Cell, LINES, cell_at, line_number, nth_line, opposite};
+use bn_net::{Line, NoMemory, Wire};
 use std::alloc::Global;
 use std::marker::Model;
 
@@ -28,8 +30,31 @@ impl<C: Cell> Model for Ends<C> {
 }
 
 impl<C: Cell> Ends<C> {
+    ghost use Rattle.std.specs.Prelude.{◌++◌, List};
+    ghost use Rattle.bn_circuits.specs.declared.line.Wire.{Wire};
+    ghost use Rattle.bn_net.specs.Wirings.{AreApart, AreFitting};
+    ghost use Rattle.bn_packed.specs.Drafts.{AreDrawn};
     ghost use Rattle.bn_packed.specs.Numbers.{line_of};
     ghost use Rattle.bn_packed.specs.Ends.{EndList, IsLineBelow, AreTargets, AreReversed, ends_in, numbers_for};
+
+    /// The ends of no element, in no memory.
+    pub(crate) fn empty(alloc: Global) -> Ends<C>
+        ensures { result ≡ record { elements = 0; ends = [] } }
+    {
+        Ends {
+            elements: 0,
+            cells: Vec::new(alloc),
+        }
+    }
+
+    /// Empty room for the ends of so many elements.
+    pub(crate) fn room(alloc: Global, elements: u32) -> Result<Vec<C>, NoMemory>
+        ensures empty { IfOk result (λ v. v.items ≡ []) }
+        ensures room { IfOk result (λ v. numbers_for elements ≤ vec_capacity v) }
+    {
+        let room = Vec::with_capacity(alloc, numbers_for(elements))?;
+        Ok(room)
+    }
 
     /// Loose ends alone, for the lines of so many elements.
     pub(crate) fn loose(alloc: Global, elements: u32) -> Result<Ends<C>, NoMemory>
@@ -37,9 +62,32 @@ impl<C: Cell> Ends<C> {
         ensures elements { IfOk result (λ m. m.elements ≡ elements) }
         ensures ends { IfOk result (λ m. m.ends ≡ replicate (4 * elements) None) }
     {
-        let blocks = (elements as usize).div_ceil(BLOCK);
-        let cells = C::loose(alloc, LINES * BLOCK * blocks)?;
-        Ok(Ends { elements, cells })
+        Ok(Ends::loose_in(Ends::room(alloc, elements)?, elements))
+    }
+
+    /// The same in this room, which is empty and great enough. Takes no memory.
+    pub(crate) fn loose_in(room: Vec<C>, elements: u32) -> Ends<C>
+        requires few { elements ≤ C.limit }
+        requires empty { room.items ≡ [] }
+        requires room { numbers_for elements ≤ vec_capacity room }
+        ensures elements { result.elements ≡ elements }
+        ensures ends { result.ends ≡ replicate (4 * elements) None }
+    {
+        let cells = C::loose(room, numbers_for(elements));
+        Ends { elements, cells }
+    }
+
+    /// Writes where these wires lead, which go from and to lines of so many elements. Clauses have it that they stand
+    /// behind those of any list of which the ends were, if they stay apart from them.
+    pub(crate) fn lead(&mut self, wires: &[Wire])
+        requires fitting { AreFitting self.old.elements wires.now }
+        ensures elements { self.new.elements ≡ self.old.elements }
+        ensures drawn { (ws : List Wire) → AreDrawn self.old.elements ws self.old → AreApart (ws ++ wires.now)
+            → AreDrawn self.old.elements (ws ++ wires.now) self.new }
+    {
+        for wire in wires {
+            self.set(opposite(wire.from), wire.to);
+        }
     }
 
     /// Writes to which line this one leads.
@@ -52,13 +100,16 @@ impl<C: Cell> Ends<C> {
         self.set_at(line_number(line), line_number(end));
     }
 
-    /// The same ends the other way round: from the lines to which these lead.
-    pub(crate) fn inverse(&self, alloc: Global) -> Result<Ends<C>, NoMemory>
-        requires { AreTargets self.now }
-        ensures elements { IfOk result (λ m. m.elements ≡ self.now.elements) }
-        ensures ends { IfOk result (λ m. AreReversed self.now.ends (length self.now.ends) m.ends) }
+    /// The same ends the other way round, from the lines to which these lead, in this room, which is empty and great
+    /// enough. Takes no memory.
+    pub(crate) fn inverse_in(&self, room: Vec<C>) -> Ends<C>
+        requires targets { AreTargets self.now }
+        requires empty { room.items ≡ [] }
+        requires room { numbers_for self.now.elements ≤ vec_capacity room }
+        ensures elements { result.elements ≡ self.now.elements }
+        ensures ends { AreReversed self.now.ends (length self.now.ends) result.ends }
     {
-        let mut ends = Ends::loose(alloc, self.elements)?;
+        let mut ends = Ends::loose_in(room, self.elements);
         for place in 0..LINES * self.elements as usize {
             let line = nth_line(place);
             let cell = self.cell(line);
@@ -66,7 +117,7 @@ impl<C: Cell> Ends<C> {
                 ends.set_at(cell.number(), line_number(line));
             }
         }
-        Ok(ends)
+        ends
     }
 
     /// The number of elements.
@@ -125,4 +176,11 @@ impl<C: Cell> Ends<C> {
         let cells = &mut self.cells;
         cells[number] = C::of(end);
     }
+}
+
+// How many numbers of lines the blocks for so many elements have.
+fn numbers_for(elements: u32) -> usize
+    ensures { result ≡ numbers_for elements }
+{
+    LINES * BLOCK * (elements as usize).div_ceil(BLOCK)
 }

@@ -5,6 +5,7 @@
 mod bars;
 mod cells;
 mod direction;
+mod draft;
 mod ends;
 mod packed;
 mod signal;
@@ -15,5 +16,6 @@ mod wiring;
 
 pub use bn_net::NoMemory;
 pub use direction::Direction;
+pub use draft::Draft;
 pub use packed::Packed;
 pub use stop::Stop;

@@ -1,9 +1,10 @@
 //! Packed netlists.
 
-ghost use Rattle.std.specs.Prelude.{◌≡◌, ◌<◌, length, Some, IfOk, slice_get};
+ghost use Rattle.std.specs.Prelude.{◌≡◌, ◌<◌, List, length, Some, IfOk, slice_get};
 ghost use Rattle.std.specs.Bool.{OnTrue, OnFalse};
 ghost use Rattle.bn_circuits.specs.Circuits.{IsCircuit, IsConfig, IsOutputOf, Goes, IsStuck, IsFirst, target};
 ghost use Rattle.bn_circuits.specs.Stepping.{places};
+ghost use Rattle.bn_circuits.specs.declared.line.Wire.{Wire};
 ghost use Rattle.bn_net.specs.Watching.{Hears};
 ghost use Rattle.bn_net.specs.RotaryNets.{rotary_circuit};
 ghost use Rattle.bn_element.specs.declared.rotary.Rotary.{Rotary};
@@ -11,11 +12,13 @@ ghost use Rattle.bn_net.specs.Order.{AreInOrder};
 ghost use Rattle.bn_net.specs.Parts.{Parts};
 ghost use Rattle.bn_net.specs.RotaryNets.{IsNetOf};
 ghost use Rattle.bn_net.specs.Wirings.{AreApart, AreFitting};
+ghost use Rattle.bn_packed.specs.Drafts.{AreDrawn};
 ghost use Rattle.bn_packed.specs.Running.{IsLongestRun, places_along};
 ghost use Rattle.bn_packed.specs.Stopping.{IsStoppedRun};
 
 use crate::bars::Bars;
 use crate::direction::Direction;
+use crate::draft::Draft;
 use crate::signal::Signal;
 use crate::stop::Stop;
 use crate::wires::Wires;
@@ -24,10 +27,11 @@ use bn_net::{CLOCK, Config, Line, Net, NoMemory, Place, Quiet, States, Watch, Wi
 use std::alloc::Global;
 use std::marker::Model;
 
-/// A net of rotary elements with a configuration of it, packed: one bit a bar, and one number of 32
-/// bits for each output line and one for each input line, in nets of fewer than 2 to the power 30 elements (in larger
-/// ones one of 64 bits). The lines are numbered in blocks of 1,024 elements, so that lines of one name
-/// lie side by side. Elements and lines are counted from 0. Clauses see the net and the configuration.
+/// A net of rotary elements with a configuration of it, packed: one bit a bar, and for each line one number that tells
+/// where a signal goes on from it; once a signal has gone back, another one that tells where it came from, in room that
+/// is taken with the rest. They have 32 bits in nets of fewer than 2 to the power 30 elements, and 64 in larger ones.
+/// The lines are numbered in blocks of 1,024 elements, so that lines of one name lie side by side. Elements and lines
+/// are counted from 0. Clauses see the net and the configuration.
 #[derive(Debug, Drop)]
 pub struct Packed {
     wires: Wires,
@@ -92,6 +96,33 @@ impl Packed {
         drop(states);
         let wires = Wires::from_wires(alloc, count, wires)?;
         // (for the prover: the contract of this call tells what the type keeps. So below.)
+        let _elements = wires.len();
+        Ok(Packed {
+            wires,
+            bars,
+            signal: Signal { place, steps },
+        })
+    }
+
+    /// Packs the net of a draft, in this configuration. The states go as soon as the bars are packed.
+    pub fn from_draft(alloc: Global, draft: Draft, config: Config) -> Result<Packed, NoMemory>
+        requires drawn { (ws : List Wire) × AreDrawn draft.elements ws draft }
+        requires good { (ws : List Wire) (net : Parts Rotary) → AreDrawn draft.elements ws draft
+            → IsNetOf net draft.elements ws → IsConfig (rotary_circuit net) config }
+        ensures net { IfOk result (λ p. (ws : List Wire) → AreDrawn draft.elements ws draft
+            → IsNetOf p.net draft.elements ws) }
+        ensures circuit { IfOk result (λ p. IsCircuit (rotary_circuit p.net)) }
+        ensures order { IfOk result (λ p. AreInOrder p.net.wires) }
+        ensures config { IfOk result (λ p. p.config ≡ config) }
+    {
+        let Config {
+            states,
+            place,
+            steps,
+        } = config;
+        let bars = Bars::of(alloc, states.as_slice())?;
+        drop(states);
+        let wires = Wires::from_draft(alloc, draft)?;
         let _elements = wires.len();
         Ok(Packed {
             wires,

@@ -24,15 +24,15 @@ pub(crate) fn walk<C: Cell, W: Watch>(
     count: u64,
     watch: &mut W,
 ) -> Signal
-    requires good { IsConfig (rotary_circuit wiring.now) (config_at bars.old signal.place signal.steps) }
+    requires good { IsConfig (rotary_circuit wiring.now.net) (config_at bars.old signal.place signal.steps) }
     requires room { signal.steps + count ≤ clock }
     ensures forward { signal.steps ≤ result.steps }
     ensures limit { result.steps ≤ signal.steps + count }
-    ensures walked { HasWalked (rotary_circuit wiring.now)
+    ensures walked { HasWalked (rotary_circuit wiring.now.net)
         (config_at bars.old signal.place signal.steps) (config_at bars.new result.place result.steps)
         (result.steps - signal.steps) (W.told watch.old) (W.told watch.new) }
     ensures ended { result.steps < signal.steps + count
-        → IsStuck (rotary_circuit wiring.now) (config_at bars.new result.place result.steps) }
+        → IsStuck (rotary_circuit wiring.now.net) (config_at bars.new result.place result.steps) }
 {
     walk_until(wiring, bars, signal, count, &Nowhere, watch)
 }
@@ -47,21 +47,21 @@ pub(crate) fn walk_until<C: Cell, S: Stop, W: Watch>(
     stop: &S,
     watch: &mut W,
 ) -> Signal
-    requires good { IsConfig (rotary_circuit wiring.now) (config_at bars.old signal.place signal.steps) }
+    requires good { IsConfig (rotary_circuit wiring.now.net) (config_at bars.old signal.place signal.steps) }
     requires room { signal.steps + count ≤ clock }
     ensures forward { signal.steps ≤ result.steps }
     ensures limit { result.steps ≤ signal.steps + count }
-    ensures walked { HasWalked (rotary_circuit wiring.now)
+    ensures walked { HasWalked (rotary_circuit wiring.now.net)
         (config_at bars.old signal.place signal.steps) (config_at bars.new result.place result.steps)
         (result.steps - signal.steps) (W.told watch.old) (W.told watch.new) }
     ensures ended { result.steps < signal.steps + count
-        → IsStuck (rotary_circuit wiring.now) (config_at bars.new result.place result.steps)
+        → IsStuck (rotary_circuit wiring.now.net) (config_at bars.new result.place result.steps)
         ⊎ (stops_at (S.stops stop.now) result.place ≡ true) }
-    ensures between { PassesBy (rotary_circuit wiring.now) (S.stops stop.now) (result.steps - signal.steps)
+    ensures between { PassesBy (rotary_circuit wiring.now.net) (S.stops stop.now) (result.steps - signal.steps)
         (config_at bars.old signal.place signal.steps) (config_at bars.new result.place result.steps) }
     ensures moves { 0 < count
         → signal.steps < result.steps
-        ⊎ IsStuck (rotary_circuit wiring.now) (config_at bars.old signal.place signal.steps) }
+        ⊎ IsStuck (rotary_circuit wiring.now.net) (config_at bars.old signal.place signal.steps) }
 {
     // (for the prover: the contract of this call tells what the type keeps. So below.)
     let _elements = wiring.len();
@@ -99,7 +99,7 @@ pub(crate) fn walk_until<C: Cell, S: Stop, W: Watch>(
 }
 
 /// Takes at most `count` steps back, which have been counted, and tells the watch the place after
-/// each.
+/// each. The way back has to be made already.
 pub(crate) fn walk_back<C: Cell, W: Watch>(
     wiring: &Wiring<C>,
     bars: &mut Bars,
@@ -107,15 +107,16 @@ pub(crate) fn walk_back<C: Cell, W: Watch>(
     count: u64,
     watch: &mut W,
 ) -> Signal
-    requires good { IsConfig (rotary_circuit wiring.now) (config_at bars.old signal.place signal.steps) }
+    requires made { wiring.now.goes_back ≡ true }
+    requires good { IsConfig (rotary_circuit wiring.now.net) (config_at bars.old signal.place signal.steps) }
     requires counted { count ≤ signal.steps }
     ensures backward { result.steps ≤ signal.steps }
     ensures limit { signal.steps ≤ result.steps + count }
-    ensures walked { HasWalkedBack (rotary_circuit wiring.now)
+    ensures walked { HasWalkedBack (rotary_circuit wiring.now.net)
         (config_at bars.old signal.place signal.steps) (config_at bars.new result.place result.steps)
         (signal.steps - result.steps) (W.told watch.old) (W.told watch.new) }
     ensures ended { signal.steps < result.steps + count
-        → IsFirst (rotary_circuit wiring.now) (config_at bars.new result.place result.steps) }
+        → IsFirst (rotary_circuit wiring.now.net) (config_at bars.new result.place result.steps) }
 {
     let _elements = wiring.len();
     match signal.place {
@@ -146,15 +147,16 @@ fn walk_back_from<C: Cell, W: Watch>(
     count: u64,
     watch: &mut W,
 ) -> Signal
-    requires good { IsConfig (rotary_circuit wiring.now) (config_at bars.old (Enter to.element to.line) steps) }
+    requires made { wiring.now.goes_back ≡ true }
+    requires good { IsConfig (rotary_circuit wiring.now.net) (config_at bars.old (Enter to.element to.line) steps) }
     requires counted { count ≤ steps }
     ensures backward { result.steps ≤ steps }
     ensures limit { steps ≤ result.steps + count }
-    ensures walked { HasWalkedBack (rotary_circuit wiring.now)
+    ensures walked { HasWalkedBack (rotary_circuit wiring.now.net)
         (config_at bars.old (Enter to.element to.line) steps) (config_at bars.new result.place result.steps)
         (steps - result.steps) (W.told watch.old) (W.told watch.new) }
     ensures ended { steps < result.steps + count
-        → IsFirst (rotary_circuit wiring.now) (config_at bars.new result.place result.steps) }
+        → IsFirst (rotary_circuit wiring.now.net) (config_at bars.new result.place result.steps) }
 {
     let _elements = wiring.len();
     let behind = wiring.behind();

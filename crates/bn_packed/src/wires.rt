@@ -1,17 +1,20 @@
 //! The wires of a net in numbers of the size that its lines need.
 
-ghost use Rattle.std.specs.Prelude.{◌≡◌, ◌⊎◌, ◌+◌, ◌-◌, ◌<◌, ◌≤◌, true, length, IfOk};
+ghost use Rattle.std.specs.Prelude.{◌≡◌, ◌⊎◌, ◌+◌, ◌-◌, ◌<◌, ◌≤◌, true, List, length, IfOk};
 ghost use Rattle.bn_circuits.specs.Circuits.{IsCircuit, IsConfig, IsOutputOf, IsStuck, IsFirst, target, clock};
+ghost use Rattle.bn_circuits.specs.declared.line.Wire.{Wire};
 ghost use Rattle.bn_net.specs.Walking.{HasWalked, HasWalkedBack};
 ghost use Rattle.bn_net.specs.RotaryNets.{rotary_circuit};
 ghost use Rattle.bn_net.specs.Order.{AreInOrder};
 ghost use Rattle.bn_net.specs.RotaryNets.{IsNetOf};
 ghost use Rattle.bn_net.specs.Wirings.{AreApart, AreFitting};
+ghost use Rattle.bn_packed.specs.Drafts.{AreDrawn};
 ghost use Rattle.bn_packed.specs.PackedNets.{net_in, config_at};
 ghost use Rattle.bn_packed.specs.Stopping.{PassesBy, stops_at};
 
 use crate::bars::Bars;
 use crate::cells::NARROW;
+use crate::draft::Draft;
 use crate::signal::Signal;
 use crate::stop::Stop;
 use crate::walk::{walk, walk_back, walk_until};
@@ -51,6 +54,19 @@ impl Wires {
         } else {
             Ok(Wires::Wide(Wiring::from_wires(alloc, count, wires)?))
         }
+    }
+
+    /// The wires of this draft.
+    pub(crate) fn from_draft(alloc: Global, draft: Draft) -> Result<Wires, NoMemory>
+        requires { (ws : List Wire) × AreDrawn draft.elements ws draft }
+        ensures net { IfOk result (λ w. (ws : List Wire) → AreDrawn draft.elements ws draft
+            → IsNetOf (net_in w) draft.elements ws) }
+        ensures order { IfOk result (λ w. AreInOrder (net_in w).wires) }
+    {
+        // (for the prover: the contract of this call tells that the elements are few.)
+        let _count = draft.len();
+        let wiring = Wiring::from_ahead(alloc, draft.into_ends())?;
+        Ok(Wires::Narrow(wiring))
     }
 
     /// The number of elements. Its contract also tells what all wires keep.
@@ -145,25 +161,35 @@ impl Wires {
     /// Takes at most `count` steps back, which have been counted, and tells the watch the place after
     /// each.
     pub(crate) fn walk_back<W: Watch>(
-        &self,
+        &mut self,
         bars: &mut Bars,
         signal: Signal,
         count: u64,
         watch: &mut W,
     ) -> Signal
-        requires good { IsConfig (rotary_circuit (net_in self.now)) (config_at bars.old signal.place signal.steps) }
+        requires good { IsConfig (rotary_circuit (net_in self.old)) (config_at bars.old signal.place signal.steps) }
         requires counted { count ≤ signal.steps }
+        ensures same { net_in self.new ≡ net_in self.old }
         ensures backward { result.steps ≤ signal.steps }
         ensures limit { signal.steps ≤ result.steps + count }
-        ensures walked { HasWalkedBack (rotary_circuit (net_in self.now))
+        ensures walked { HasWalkedBack (rotary_circuit (net_in self.old))
             (config_at bars.old signal.place signal.steps) (config_at bars.new result.place result.steps)
             (signal.steps - result.steps) (W.told watch.old) (W.told watch.new) }
         ensures ended { signal.steps < result.steps + count
-            → IsFirst (rotary_circuit (net_in self.now)) (config_at bars.new result.place result.steps) }
+            → IsFirst (rotary_circuit (net_in self.old)) (config_at bars.new result.place result.steps) }
     {
+        if count == 0 {
+            return signal;
+        }
         match self {
-            Wires::Narrow(wiring) => walk_back(wiring, bars, signal, count, watch),
-            Wires::Wide(wiring) => walk_back(wiring, bars, signal, count, watch),
+            Wires::Narrow(wiring) => {
+                wiring.make_way_back();
+                walk_back(wiring, bars, signal, count, watch)
+            }
+            Wires::Wide(wiring) => {
+                wiring.make_way_back();
+                walk_back(wiring, bars, signal, count, watch)
+            }
         }
     }
 }

@@ -1,6 +1,6 @@
-//! The wires of a net of rotary elements, kept both ways.
+//! The wires of a net of rotary elements, kept both ways, or only ahead.
 
-ghost use Rattle.std.specs.Prelude.{◌≡◌, ◌≤◌, length, map, IfOk};
+ghost use Rattle.std.specs.Prelude.{◌≡◌, ◌≤◌, false, true, length, map, IfOk};
 ghost use Rattle.bn_circuits.specs.Circuits.{IsCircuit, IsOutputOf, target};
 ghost use Rattle.bn_net.specs.RotaryNets.{rotary_circuit};
 ghost use Rattle.bn_net.specs.Order.{AreInOrder};
@@ -17,30 +17,35 @@ use std::marker::Model;
 
 /// The wires of a net of rotary elements: for each input line the one to which the signal comes next where it crosses
 /// the element straight, and the one from which it came so. So a signal that crosses an element straight keeps its
-/// number. Clauses see the net.
+/// number. The way back is made of the way ahead when steps back are first made, but the room for it is taken at
+/// once, so that going back takes no memory. Clauses see the net, and whether the way back is made.
 #[derive(Debug, Drop)]
 pub(crate) struct Wiring<C: Cell> {
     ahead: Ends<C>,
     behind: Ends<C>,
+    // where `behind` will stand, as long as it isn't made
+    room: Option<Vec<C>>,
 }
 
 impl<C: Cell> Model for Wiring<C> {
-    ghost use Rattle.bn_element.specs.declared.rotary.Rotary.{Rotary};
-    ghost use Rattle.bn_net.specs.Parts.{Parts};
-    ghost use Rattle.bn_packed.specs.Ends.{net_of, targets_by, sources_by, IsWiring};
+    ghost use Rattle.std.specs.Prelude.{◌≡◌, ◌≤◌, [], MatchOption, is_none, vec_capacity};
+    ghost use Rattle.bn_packed.specs.Ways.{Ways};
+    ghost use Rattle.bn_packed.specs.Ends.{net_of, targets_by, sources_by, numbers_for, AreTargets, IsWiring};
 
-    ghost Value = { Parts Rotary };
+    ghost Value = { Ways };
 
-    ghost view = { λ w. net_of (targets_by w.ahead) };
+    ghost view = { λ w. record { net = net_of (targets_by w.ahead); goes_back = is_none w.room } };
 
-    ghost invariant = { λ w. IsWiring (targets_by w.ahead) (sources_by w.behind) };
+    ghost invariant = { λ w. AreTargets w.ahead
+        × MatchOption w.room (IsWiring (targets_by w.ahead) (sources_by w.behind))
+        (λ v. (v.items ≡ []) × (numbers_for w.ahead.elements ≤ vec_capacity v)) };
 }
 
 impl<C: Cell> Wiring<C> {
     /// The wires of this net.
     pub(crate) fn of(alloc: Global, net: &Net<Rotary>) -> Result<Wiring<C>, NoMemory>
         requires { length net.now.elements ≤ C.limit }
-        ensures { IfOk result (λ w. w ≡ net.now) }
+        ensures { IfOk result (λ w. w.net ≡ net.now) }
     {
         // What every net keeps: its wires are one to one, and in order.
         let _elements = net.len();
@@ -57,60 +62,81 @@ impl<C: Cell> Wiring<C> {
         requires few { count ≤ C.limit }
         requires apart { AreApart wires.items }
         requires fitting { AreFitting count wires.items }
-        ensures net { IfOk result (λ w. IsNetOf w count wires.items) }
-        ensures order { IfOk result (λ w. AreInOrder w.wires) }
+        ensures net { IfOk result (λ w. IsNetOf w.net count wires.items) }
+        ensures order { IfOk result (λ w. AreInOrder w.net.wires) }
     {
         let ahead = ahead_in(alloc, count, wires.as_slice())?;
         drop(wires);
         Wiring::from_ahead(alloc, ahead)
     }
 
-    // The wires by which lines lead on so.
-    fn from_ahead(alloc: Global, ahead: Ends<C>) -> Result<Wiring<C>, NoMemory>
+    /// The wires by which lines lead on so.
+    pub(crate) fn from_ahead(alloc: Global, ahead: Ends<C>) -> Result<Wiring<C>, NoMemory>
         requires { AreTargets ahead }
-        ensures { IfOk result (λ w. w ≡ net_of (targets_by ahead)) }
+        ensures { IfOk result (λ w. w ≡ record { net = net_of (targets_by ahead); goes_back = false }) }
     {
-        let behind = ahead.inverse(alloc)?;
-        Ok(Wiring { ahead, behind })
+        let room = Ends::room(alloc, ahead.elements())?;
+        Ok(Wiring {
+            ahead,
+            behind: Ends::empty(alloc),
+            room: Some(room),
+        })
     }
 
     /// The number of elements. Its contract also tells what all wirings keep.
     pub(crate) fn len(&self) -> u32
-        ensures number { result ≡ length self.now.elements }
-        ensures circuit { IsCircuit (rotary_circuit self.now) }
+        ensures number { result ≡ length self.now.net.elements }
+        ensures circuit { IsCircuit (rotary_circuit self.now.net) }
     {
         self.ahead.elements()
     }
 
     /// The input line to which the wire of this output line leads.
     pub(crate) fn target(&self, from: Line) -> Option<Line>
-        requires { IsOutputOf (rotary_circuit self.now).tables from }
-        ensures { result ≡ target self.now.wires from }
+        requires { IsOutputOf (rotary_circuit self.now.net).tables from }
+        ensures { result ≡ target self.now.net.wires from }
     {
         self.ahead.get(opposite(from))
     }
 
     /// Where the signal comes next from each input line where it goes straight, by the lines' numbers.
     pub(crate) fn ahead(&self) -> &[C]
-        ensures { HasEnds (ahead self.now.wires) (length self.now.elements) (map C.tells result.now) }
+        ensures { HasEnds (ahead self.now.net.wires) (length self.now.net.elements) (map C.tells result.now) }
     {
         self.ahead.as_slice()
     }
 
-    /// From where it came to each input line where it went straight, by the lines' numbers.
+    /// Makes the way back, if it isn't made yet. Takes no memory.
+    pub(crate) fn make_way_back(&mut self)
+        ensures net { self.new.net ≡ self.old.net }
+        ensures made { self.new.goes_back ≡ true }
+    {
+        if let Some(room) = self.room.take() {
+            self.behind = self.ahead.inverse_in(room);
+        }
+    }
+
+    /// From where it came to each input line where it went straight, by the lines' numbers, once the way back is made.
     pub(crate) fn behind(&self) -> &[C]
-        ensures { HasEnds (behind self.now.wires) (length self.now.elements) (map C.tells result.now) }
+        requires { self.now.goes_back ≡ true }
+        ensures { HasEnds (behind self.now.net.wires) (length self.now.net.elements) (map C.tells result.now) }
     {
         self.behind.as_slice()
     }
 
-    /// The same wires once more.
+    /// The same wires once more, with the way back, if it is made.
     pub(crate) fn copy(&self, alloc: Global) -> Result<Wiring<C>, NoMemory>
         ensures { IfOk result (λ w. w ≡ self.now) }
     {
         let ahead = self.ahead.copy(alloc)?;
-        let behind = self.behind.copy(alloc)?;
-        Ok(Wiring { ahead, behind })
+        if self.room.is_some() {
+            return Wiring::from_ahead(alloc, ahead);
+        }
+        Ok(Wiring {
+            ahead,
+            behind: self.behind.copy(alloc)?,
+            room: None,
+        })
     }
 }
 
@@ -137,8 +163,6 @@ fn ahead_in<C: Cell>(alloc: Global, count: u32, wires: &[Wire]) -> Result<Ends<C
     ensures { IfOk result (AreEndsOf (ahead wires.now) count) }
 {
     let mut ends = Ends::loose(alloc, count)?;
-    for wire in wires {
-        ends.set(opposite(wire.from), wire.to);
-    }
+    ends.lead(wires);
     Ok(ends)
 }

@@ -1,6 +1,7 @@
-use Rattle.std.proofs.Common.{◌≡◌, ◌<◌, ◌^◌, ◌∙◌, length, rules}
+use Rattle.std.proofs.Common.{◌≡◌, ◌<◌, ◌^◌, ◌∙◌, false, length, ap, rules}
 use Rattle.std.proofs.lemmas.Result.{IfOk-weaker}
 use Rattle.bn_circuits.specs.Circuits.{target}
+use Rattle.bn_packed.specs.Ways.{Ways}
 use Rattle.bn_packed.specs.Ends.{targets_by, net_of}
 use Rattle.bn_packed.proofs.AcrossLemmas.{ahead-AreTargets, targets_ahead}
 use Rattle.bn_packed.proofs.EndLemmas.{net_again}
@@ -18,7 +19,7 @@ from_ahead-requires g c =
 
 pub returns : goal.returns
 returns g c =
-    IfOk-weaker c.from_ahead.result (λ w. w ≡ net_of (targets_by c.in_ok-ahead_of.field-0)) (λ w. w ≡ c.args.net.now)
-    (λ w is. is ∙ net_again c.args.net.now (targets_by c.in_ok-ahead_of.field-0) c.len-elements.ensures.circuit c.len-elements.ensures.order
+    IfOk-weaker c.from_ahead.result (λ (w : Ways). w ≡ record { net = net_of (targets_by c.in_ok-ahead_of.field-0); goes_back = false }) (λ (w : Ways). w.net ≡ c.args.net.now)
+    (λ w equal. let is = ap (λ (v : Ways). v.net) equal in is ∙ net_again c.args.net.now (targets_by c.in_ok-ahead_of.field-0) c.len-elements.ensures.circuit c.len-elements.ensures.order
     (ahead-AreTargets (target c.args.net.now.wires) (length c.args.net.now.elements) c.in_ok-ahead_of.field-0 c.in_ok-ahead_of.ensures))
     c.from_ahead.ensures

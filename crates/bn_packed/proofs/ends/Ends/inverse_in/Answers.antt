@@ -6,15 +6,15 @@ use Rattle.bn_packed.proofs.EndLemmas.{line_below}
 use Rattle.bn_packed.proofs.ReversedLemmas.{by_line, loose_reversed, more_reversed}
 use Rattle.bn_packed.proofs.BlockLemmas.{nth_again}
 use Rattle.bn_packed.proofs.NumberLemmas.{none_read}
-use Rattle.bn_packed.proofs.ends.Ends.inverse.Goals.{then-not-is_loose, else-not-is_loose}
-use Rattle.bn_packed.proofs.ends.Ends.inverse.Goals as goal
+use Rattle.bn_packed.proofs.ends.Ends.inverse_in.Goals.{then-not-is_loose, else-not-is_loose}
+use Rattle.bn_packed.proofs.ends.Ends.inverse_in.Goals as goal
 
 pub set_at-requires-clause-there : goal.set_at-requires-clause-there
 set_at-requires-clause-there g c =
     let has = by_line c.args.self.now.ends c.loop-place.place c.nth_line-line.result _ c.nth_line-line.ensures
     (c.cell-cell.ensures ∙ ap Some c.number.ensures) in
     subst (λ n. IsLineBelow n (line_of c.number.result)) (sym c.loop-place.invariant.1)
-    (c.requires.inside c.loop-place.place (line_of c.number.result) has)
+    (c.requires.targets.inside c.loop-place.place (line_of c.number.result) has)
 
 pub set_at-requires-clause-below : goal.set_at-requires-clause-below
 set_at-requires-clause-below g c =
@@ -34,7 +34,7 @@ loop-place-preserved g c = elim c.if-not-is_loose.branch [
       (Some (nth_line c.loop-place.place)) =
       ap (λ (e : EndList). e.ends) w.ends-is ∙ w.set_at.ensures.ends
       ∙ ap (λ (l : Line). slice_set c.loop-place.ends.ends (4 * (line_of w.number.result).element + (line_of w.number.result).line) (Some l)) here in (
-        more_reversed c.args.self.now c.loop-place.place (line_of w.number.result) c.loop-place.ends.ends c.if-not-is_loose.ends.ends c.requires has written
+        more_reversed c.args.self.now c.loop-place.place (line_of w.number.result) c.loop-place.ends.ends c.if-not-is_loose.ends.ends c.requires.targets has written
             c.loop-place.invariant.0,
         ap (λ (e : EndList). e.elements) w.ends-is ∙ w.set_at.ensures.elements ∙ c.loop-place.invariant.1,
       )

@@ -1,6 +1,0 @@
-use Rattle.std.proofs.Common.{map}
-use Rattle.bn_packed.proofs.BlockLemmas.{ends_in-loose}
-use Rattle.bn_packed.proofs.ends.Ends.loose.Goals as goal
-
-pub returns-clause-ends : goal.returns-clause-ends
-returns-clause-ends g c = ends_in-loose (map g.C.Cell.tells c.in_ok-cells.cells.items) _ c.args.elements c.in_ok-cells.ensures

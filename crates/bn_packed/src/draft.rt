@@ -1,0 +1,64 @@
+//! Wires of a net that are put in some at a time, before the net is packed.
+
+ghost use Rattle.std.specs.Prelude.{◌≡◌, ◌<◌, ◌^◌, [], ◌++◌, List, IfOk};
+ghost use Rattle.bn_circuits.specs.declared.line.Wire.{Wire};
+ghost use Rattle.bn_net.specs.Wirings.{AreApart, AreFitting};
+ghost use Rattle.bn_packed.specs.Drafts.{AreDrawn};
+
+use crate::ends::Ends;
+use bn_net::{NoMemory, Wire};
+use std::alloc::Global;
+use std::marker::Model;
+
+/// Wires of a net of rotary elements, put in some at a time, in the form in which they are packed: so no list of all of
+/// them need stand in memory. Elements and lines are counted from 0. Clauses see the number of elements, and where lines
+/// lead so far.
+#[derive(Debug, Drop)]
+pub struct Draft {
+    ends: Ends<u32>,
+}
+
+impl Model for Draft {
+    ghost use Rattle.bn_packed.specs.Ends.{EndList};
+
+    ghost Value = { EndList };
+
+    ghost view = { λ d. d.ends };
+}
+
+impl Draft {
+    /// A draft of so many elements, fewer than 2 to the power 30, with no wire.
+    pub fn new(alloc: Global, count: u32) -> Result<Draft, NoMemory>
+        requires { count < 2 ^ 30 }
+        ensures { IfOk result (AreDrawn count []) }
+    {
+        Ok(Draft {
+            ends: Ends::loose(alloc, count)?,
+        })
+    }
+
+    /// Puts in these wires, each between lines of the draft's elements, behind those put in before. The draft then has
+    /// all of them, as long as no two leave one line or lead to one. Takes no memory.
+    pub fn add(&mut self, wires: &[Wire])
+        requires fitting { AreFitting self.old.elements wires.now }
+        ensures elements { self.new.elements ≡ self.old.elements }
+        ensures drawn { (ws : List Wire) → AreDrawn self.old.elements ws self.old → AreApart (ws ++ wires.now)
+            → AreDrawn self.old.elements (ws ++ wires.now) self.new }
+    {
+        self.ends.lead(wires);
+    }
+
+    /// The number of elements.
+    pub fn len(&self) -> u32
+        ensures { result ≡ self.now.elements }
+    {
+        self.ends.elements()
+    }
+
+    /// The ends, of which it is packed.
+    pub(crate) fn into_ends(self) -> Ends<u32>
+        ensures { result ≡ self }
+    {
+        self.ends
+    }
+}
