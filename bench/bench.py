@@ -126,8 +126,10 @@ def main():
               f" peak {memory / RING:.0f} bytes an element")
         longer, _, there = timed(program, ["step", str(count)], text)
         print(f"ring of {RING} {name}, step: {count / (longer - seconds) / 1e6:.0f} million steps a second")
+        # the first step back makes the way back
+        seconds, _, _ = timed(program, ["back", "1"], there)
         longer, _, back = timed(program, ["back", str(count)], there)
-        print(f"ring of {RING} {name}, back: {count / (longer - seconds) / 1e6:.0f} million steps a second")
+        print(f"ring of {RING} {name}, back: {(count - 1) / (longer - seconds) / 1e6:.0f} million steps a second")
         assert back == text
 
 

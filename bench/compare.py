@@ -15,9 +15,10 @@ that other work on the machine slows all of them, and what they write goes nowhe
 and system, the medians of --runs runs. A ratio is that of two medians; behind it stand the least and the greatest one
 of a turn. The peak of memory is what the process had itself, least of all runs; none below some 15 MB can be seen.
 
-Of steps, the program's seconds are those of `step E` or `back E` less those of `step 0` in the same turn. The C loop is
-compiled in two forms: a line has its own number, element by element, or lines are numbered in blocks, as in the
-program. Of texts a ratio above 1 means that the program is slower, of steps that it is faster.
+Of steps, the program's seconds are those of `step E` less those of `step 0` in the same turn, and those of `back E`
+less those of `back 1`, since the way back is made before the first step back. The C loop is compiled in two forms: a
+line has its own number, element by element, or lines are numbered in blocks, as in the program. Of texts a ratio above
+1 means that the program is slower, of steps that it is faster.
 
 Of boards no C stands beside: `compile` is told beside `run` of the same board with no steps, which makes the board and
 doesn't write its text, so that the difference is what writing takes; and the seconds of three commands as they are. The
@@ -44,6 +45,8 @@ SHUFFLED_SHARE, GREAT = 20, RING // 4
 # Less time than this says nothing.
 LEAST_SECONDS = 0.02
 COUNTED_STEPS = 1_000_000
+# With so many steps all is made that a run of more needs: the first step back makes the way back.
+LEAST_STEPS = {"step": 0, "back": 1}
 
 
 def options_of():
@@ -161,12 +164,13 @@ def loop_speeds(loop, order, count, steps):
 
 def program_speeds(program, source, moved, steps):
     """Millions of steps a second of the program, both ways: from one text on, and from what `step` made of it back."""
-    base = measuring.run_once([*program, "step", "0"], source).processor
-    there = measuring.run_once([*program, "step", str(steps)], source).processor - base
-    again = measuring.run_once([*program, "back", str(steps)], moved).processor - base
-    if min(there, again) < LEAST_SECONDS:
-        sys.exit(f"{steps} steps are too few to be timed: say more by --steps")
-    return [steps / there / 1e6, steps / again / 1e6]
+    speeds = []
+    for word, text in (("step", source), ("back", moved)):
+        few, many = (measuring.run_once([*program, word, str(n)], text).processor for n in (LEAST_STEPS[word], steps))
+        if many - few < LEAST_SECONDS:
+            sys.exit(f"{steps} steps are too few to be timed: say more by --steps")
+        speeds.append((steps - LEAST_STEPS[word]) / (many - few) / 1e6)
+    return speeds
 
 
 def step_rows(options, program, folder, name, count, is_shuffled):
@@ -197,14 +201,15 @@ def step_rows(options, program, folder, name, count, is_shuffled):
 
 
 def step_counts(program, folder):
-    """The instructions of a step on one element, in Markdown: what runs of no steps take is taken off."""
+    """The instructions of a step on one element, in Markdown: what runs of the fewest steps take is taken off."""
     source = measuring.write_ring(os.path.join(folder, "text"), 1, False, 1)
     order, moved = measuring.write(os.path.join(folder, "order"), bytes(4)), os.path.join(folder, "moved")
     measuring.run_once([*program, "step", str(COUNTED_STEPS)], source, moved)
 
     def counted(command, word, given):
-        steps, none = (instructions([*command, word, str(n)], given, folder) for n in (COUNTED_STEPS, 0))
-        return (steps - none) / COUNTED_STEPS
+        least = LEAST_STEPS.get(word, 0)
+        many, few = (instructions([*command, word, str(n)], given, folder) for n in (COUNTED_STEPS, least))
+        return (many - few) / (COUNTED_STEPS - least)
     row = ["one element", f"{counted(program, 'step', source):.1f}", f"{counted(program, 'back', moved):.1f}"]
     loops = loops_in(folder)
     row += [f"{counted([loop], '1', order) / 2:.1f}" for loop in loops.values()]

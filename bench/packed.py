@@ -133,13 +133,15 @@ def c_figures(loop, order, count):
 
 
 def program_figures(program, text, count):
-    """Millions of steps a second of the program, forward and backward: what `step 0` takes is taken off."""
+    """Millions of steps a second of the program, forward and backward: what `step 0` and `back 1`, whose step makes the
+    way back, take is taken off."""
     _, base, _, same = launched(program, ["step", "0"], text)
     assert same == text
     _, longer, _, there = launched(program, ["step", str(count)], text)
+    _, first, _, _ = launched(program, ["back", "1"], there)
     _, again, _, back = launched(program, ["back", str(count)], there)
     assert back == text
-    return count / (longer - base) / 1e6, count / (again - base) / 1e6
+    return count / (longer - base) / 1e6, (count - 1) / (again - first) / 1e6
 
 
 def main():
