@@ -28,9 +28,9 @@ import measuring
 
 # With what the names begin of the functions that serve one part alone.
 PARTS = {
-    "reading": ("bn_netlist::read", "bn_netlist::front", "bn_netlist::pieces", "bn_netlist_lines::bytes",
-                "bn_netlist_lines::draft", "bn_netlist_lines::entries", "bn_netlist_lines::finish",
-                "bn_netlist_lines::forms", "bn_netlist_lines::stage", "bn_netlist_lines::take_line"),
+    "reading": ("bn_netlist::read", "bn_netlist::front", "bn_netlist::pieces", "bn_netlist::bytes",
+                "bn_netlist::draft", "bn_netlist::entries", "bn_netlist::finish",
+                "bn_netlist::forms", "bn_netlist::stage", "bn_netlist::take_line"),
     "packing": ("bn_packed::bars::Bars::of", "bn_packed::ends", "bn_packed::packed::Packed::from_wires",
                 "bn_packed::wires::Wires::from_wires", "bn_packed::wiring"),
     "writing": ("bn_netlist::write", "bn_reply_circuits::stream::give_config"),

@@ -15,7 +15,7 @@ def text_of(*path):
 
 
 def proved_program():
-    """The path of the proved program, where it stands and is as new as its sources; else None."""
+    """The path of the proved program, where it stands and was built of the sources that stand; else None."""
     found = subprocess.run([os.path.join(TOP, "tools", "program")], stdout=subprocess.PIPE, text=True)
     return found.stdout.strip() or None if found.returncode == 0 else None
 

@@ -13,7 +13,9 @@ from hithwelor.answers import Node
 
 COMMAND = os.path.join(TOP, "bin", "hithwelor")
 
-PAGE = os.path.join(TOP, "page", "hithwelor.html")
+# The page as it is committed, and the same with a hook behind it, which check/page makes and most of it looks at.
+SHIPPED = os.path.join(TOP, "page", "hithwelor.html")
+PAGE = os.path.join(TOP, "embed", "out", "checked.html")
 PATIENCE = 60
 # A run is shown, and nothing is waited for.
 RUNS = "typeof bench === 'object' && Boolean(bench.current.run) && !document.getElementById('busy').textContent.includes('…')"

@@ -5,6 +5,7 @@ import json
 import os
 import random
 import re
+import subprocess
 import urllib.parse
 
 from counting import TOP, text_of
@@ -198,7 +199,10 @@ def check_moved(page, count):
     count.hold("Go" not in page.ask("bench.state.places"), "that a state was dragged isn't taken back")
     start = page.ask("(it => [it.left + it.width / 2, it.top + it.height / 2])(document.querySelector('#diagram [data-state=Go] rect').getBoundingClientRect())")
     drag(page, start, start)
-    count.hold(page.ask("bench.state.breaks.map(it => it.state)") == ["Go"], "a click on a state doesn't set a breakpoint")
+    said = page.ask("document.getElementById('lens')?.innerText ?? ''")
+    count.hold("State Go" in said and not page.ask("bench.state.breaks.length"), f"a click on a state tells {said[:60]!r}")
+    page.ask("document.getElementById('lensstop').click(); 0")
+    count.hold(page.ask("bench.state.breaks.map(it => it.state)") == ["Go"], "the lens of a state doesn't stop there")
 
 
 def many_states(number):
@@ -336,12 +340,9 @@ def check_names_kept(page, program, count):
     page.visit(f"file://{PAGE}#m=least")
     set_value(page, "table", SUM)
     settle(page, 400)
-    fault = page.ask("document.getElementById('verdict').textContent")
-    page.ask("[...document.querySelectorAll('#verdict button')].find(it => it.textContent === 'Turn it so').click(); 0")
-    settle(page)
-    count.hold("q_0" in fault and text_shown(page) == SUM, f"names: it says {fault[:80]!r}, and the editor has {text_shown(page)!r}")
-    page.ask("[...document.querySelectorAll('#verdict button')].find(it => it.textContent.startsWith('It starts')).click(); 0")
-    settle(page)
+    said, told = page.ask("[document.getElementById('verdict').textContent, document.querySelector('#verdict .note').title]")
+    count.hold(said.startswith("Read as ") and "names spelled" in told and text_shown(page) == SUM,
+               f"names: it says {said[:80]!r}, and the editor has {text_shown(page)!r}")
     set_value(page, "word", "1011")
     settle(page, 400)
     spelled = SUM.replace("q_", "q-")
@@ -433,6 +434,16 @@ def check_opened(page, program, count):
     finals = [name for name, body in re.findall(r'<state id="\d+" name="([^"]*)">(.*?)</state>', text, flags=re.S) if "<final/>" in body]
     accept, table, given = page.ask("[bench.state.accept, bench.current.machine.table, bench.current.machine.given]")
     count.hold(accept == finals and finals and program.answer(["standard"], given) == (0, table), f"of JFLAP {accept} accept, and final are {finals}")
+    for kind, name in (("turingmachine.io", "download.yaml"), ("morphett", "comments.txt"), ("bbchallenge", "line-04.txt"), ("jflap", "same-names-8.jff")):
+        page.call("DOM.setFileInputFiles", nodeId=node, files=[os.path.join(TOP, "tests", "machines", kind, name)])
+        settle(page, 500)
+        table, given = page.ask("[bench.current.machine.table, bench.current.machine.given]")
+        ran = subprocess.run([os.path.join(TOP, "tools", "import"), os.path.join(TOP, "tests", "machines", kind, name)], stdout=subprocess.PIPE, text=True)
+        count.hold(given == ran.stdout and program.answer(["standard"], given) == (0, table), f"{name} is opened as {given!r}, and tools/import prints {ran.stdout!r}")
+    page.call("DOM.setFileInputFiles", nodeId=node, files=[os.path.join(TOP, "tests", "machines", "jflap", "two-tapes.jff")])
+    settle(page, 500)
+    said, now = page.ask("[document.getElementById('toast').textContent, bench.current.machine.given]")
+    count.hold("the machine has 2 tapes" in said and now == given, f"a machine of two tapes: {said!r}")
 
 
 def check_editor(page, program, seed, count):

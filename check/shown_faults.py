@@ -1,5 +1,6 @@
 """What the page says where an answer is cut off: a fault in the module, one of the worker itself, no memory, a run that is
-stopped, a browser that is too old; and that it goes on. Faults are put into the worker before the page begins.
+stopped, a browser that is too old; and that it goes on. Faults are put into the worker before the page begins, and an
+answer that never comes into the workers that are begun after a stop.
 """
 import json
 import os
@@ -11,25 +12,35 @@ from shown import PAGE
 from shown_editor import set_value, settle
 from shown_places import INCREMENT
 
-# The worker answers otherwise where its words and its input are of a pattern: it traps, has no memory, or breaks itself.
-BROKEN = """const Whole = Blob;
-Blob = function (parts, how) {
+# The module answers otherwise where its words and its input are of a pattern: it traps, has no memory, breaks its worker, or
+# never answers.
+# What stands before the worker's script knows no name of that script, but the module's one call.
+BROKEN = """const Whole = window.Blob;
+window.Blob = function (parts, how) {
   if (how?.type !== "text/javascript") return new Whole(parts, how);
-  return new Whole([...parts, %s], how);
+  return new Whole([%s, ...parts], how);
 };"""
-IN_WORKER = """
-const keptCall = Workbench.prototype.call, said = new TextDecoder(), rules = %s;
-Workbench.prototype.call = function (words, input, room) {
-  const asked = said.decode(words).split("\\0").join(" ") + "|" + said.decode(input.slice(0, 600));
-  const [, kind] = rules.find(([pattern]) => new RegExp(pattern).test(asked)) ?? [];
-  if (kind === "trap") throw new WebAssembly.RuntimeError("unreachable");
-  if (kind === "memory") return {status: 9, text: new Uint8Array(), length: 0};
-  if (kind === "worker") {
-    setTimeout(() => { throw new Error("the worker is broken"); });
-    throw {toString() { throw new Error("nothing is posted"); }};
-  }
-  return keptCall.call(this, words, input, room);
-};"""
+IN_WORKER = """{
+const Instance = WebAssembly.Instance, decoder = new TextDecoder(), rules = %s;
+WebAssembly.Instance = function (module, imports) {
+  const {exports} = new Instance(module, imports);
+  const said = (at, count) => decoder.decode(new Uint8Array(exports.memory.buffer, Number(at), Number(count)));
+  const hithwelor_answer = (list, words, given, input, ...others) => {
+    const asked = said(list, words).split("\\0").join(" ") + "|" + said(given, Math.min(600, Number(input)));
+    const [, kind] = rules.find(([pattern]) => new RegExp(pattern).test(asked)) ?? [];
+    if (kind === "trap") throw new WebAssembly.RuntimeError("unreachable");
+    if (kind === "memory") return 9;
+    if (kind === "worker") {
+      setTimeout(() => { throw new Error("the worker is broken"); });
+      throw {toString() { throw new Error("nothing is posted"); }};
+    }
+    while (kind === "endless") continue;
+    return exports.hithwelor_answer(list, words, given, input, ...others);
+  };
+  return {exports: {...exports, hithwelor_answer}};
+};
+}
+"""
 TOO_OLD = "const Old = Blob; Blob = function (parts, how) { return new Old(['self.WebAssembly = undefined;\\n', ...parts], how); };"
 # By which words a call of a run is known, where its word is 101 and a state's name is Adding.
 CALLS = {"check": "^check[^]*Adding", "machine": "^machine =101 ", "run": "^run =101 auto", "bennett": "^bennett[^]*Adding",
@@ -54,6 +65,14 @@ def goes_on(page, program, name, count):
     count.hold(outcome.startswith(f"{steps} steps → ") and not stale, f"behind {name} the page says {outcome!r}, and it takes {steps} steps")
 
 
+def comes_to(page, expression, words):
+    """A text of the page, once it begins with these words; on a busy machine that takes its time."""
+    until = time.monotonic() + 20
+    while not (said := page.ask(expression)).startswith(words) and time.monotonic() < until:
+        time.sleep(0.1)
+    return said
+
+
 def check_cut(page, program, count):
     """Each call behind a run is cut off by a trap, by a lack of memory, and by the worker."""
     adding = INCREMENT.replace("Add,", "Adding,").replace(",Add\n", ",Adding\n")
@@ -64,7 +83,7 @@ def check_cut(page, program, count):
             set_value(page, "table", adding)
             set_value(page, "word", "101")
             settle(page, 700)
-            said = page.ask("document.getElementById('verdict').textContent")
+            said = comes_to(page, "document.getElementById('verdict').textContent", words)
             buttons = page.ask("[...document.querySelectorAll('#verdict button')].map(it => it.textContent)")
             count.hold(said.startswith(words) and "Try it again" in buttons, f"where {call} is cut off ({kind}) the page says {said[:120]!r}, {buttons}")
             goes_on(page, program, f"{kind} in {call}", count)
@@ -77,8 +96,7 @@ def check_cut_elsewhere(page, program, count):
     script = broken(page, ("^session[^]*step 16384\n", "memory"), ("^realise", "trap"), ("^machine =111 100\\|", "memory"))
     page.visit(f"file://{PAGE}#m=least")
     page.ask("bench.goTo(20000); 0")
-    settle(page, 600)
-    said = page.ask("document.getElementById('busy').textContent")
+    said = comes_to(page, "document.getElementById('busy').textContent", "There was no memory")
     count.hold(said.startswith("There was no memory"), f"where no step can be fetched the page says {said!r}")
     page.ask("bench.goTo(100); 0")
     settle(page, 300)
@@ -89,32 +107,39 @@ def check_cut_elsewhere(page, program, count):
     settle(page, 700)
     set_value(page, "m-text", "1,1,2,2\n2,2,1,1\n")
     settle(page, 500)
-    said = page.ask("document.getElementById('m-fault').textContent")
+    said = comes_to(page, "document.getElementById('m-fault').textContent", "This answer was cut off")
     count.hold(said.startswith("This answer was cut off"), f"where the workshop is cut off it says {said!r}")
     page.ask("document.getElementById('workshop').close(); bench.beginTask(6); document.getElementById('taskcheck').click(); 0")
-    settle(page, 600)
-    said = page.ask("document.getElementById('tasksaid').textContent")
+    said = comes_to(page, "document.getElementById('tasksaid').textContent", "Not judged")
     count.hold(said.startswith("Not judged. There was no memory"), f"an exercise that can't be judged says {said!r}")
     page.ask("document.getElementById('taskend').click(); 0")
     page.call("Page.removeScriptToEvaluateOnNewDocument", identifier=script)
 
 
-def check_stopped(page, program, count):
-    """A run that takes long is stopped by its button, which comes by itself; what was shown stays, and the page goes on."""
+# A word of which the run is never answered, so that the wait for it is as long on any machine.
+WAITED_FOR = "1" * 24
+
+
+def check_stopped(page, program, count, browser=""):
+    """A run that takes long is stopped by its button, which comes by itself; what was shown stays, and the page goes on.
+    By what both browsers have: the workers that are here are ended by the button, and those behind it break."""
     page.visit(f"file://{PAGE}#m=least")
+    source = BROKEN % json.dumps(IN_WORKER % json.dumps([[f"^run ={WAITED_FOR} auto", "endless"]]))
+    page.ask(f"(() => {{ document.getElementById('stop').click(); {source} return 0; }})()")
     # So that the whole run of a long word is waited for.
-    page.ask("bench.longRuns.above = Infinity; 0")
+    page.ask("(bench.longRuns.above = Infinity, 0)")
     set_value(page, "table", INCREMENT)
-    set_value(page, "word", "1" * 120)
-    until = time.monotonic() + 20
-    while not page.ask("!document.getElementById('stop').hidden") and time.monotonic() < until:
+    set_value(page, "word", WAITED_FOR)
+    until = time.monotonic() + 40
+    while not (came := page.ask("!document.getElementById('stop').hidden")) and time.monotonic() < until:
         time.sleep(0.05)
-    came = page.ask("!document.getElementById('stop').hidden")
-    page.ask("document.getElementById('stop').click(); 0")
-    time.sleep(0.2)
-    said, stale, busy = page.ask("[document.getElementById('toast')?.textContent ?? '', document.body.classList.contains('stale'), document.getElementById('busy').textContent]")
-    count.hold(came and said.startswith("Stopped.") and stale and busy.startswith("still shown"), f"stopped: the button came: {came}; it says {said!r}, {busy!r}")
-    goes_on(page, program, "a stop", count)
+    early = page.ask("document.getElementById('toast')?.textContent ?? ''")
+    page.ask("(document.getElementById('stop').click(), 0)")
+    said = comes_to(page, "document.getElementById('toast')?.textContent ?? ''", "Stopped. Make the word shorter")
+    stale, busy = page.ask("[document.body.classList.contains('stale'), document.getElementById('busy').textContent]")
+    is_told = came and said.startswith("Stopped. Make the word shorter") and stale and busy.startswith("still shown")
+    count.hold(is_told, f"{browser}stopped: the button came: {came}; it says {said!r} behind {early!r}, {busy!r}")
+    goes_on(page, program, f"{browser}a stop", count)
 
 
 def check_old(page, count):

@@ -1,10 +1,14 @@
-"""The page in Firefox: answers byte for byte, drawn places of some machines, a way there and back, and its layout."""
+"""The page in Firefox: answers byte for byte, drawn places of some machines, a way there and back, a run that is stopped, and
+its layout."""
 import json
 import os
 import time
 
 from shown import PAGE, PATIENCE
+from shown_faults import check_stopped
 from shown_layout import LAID
+from shown_learn import PICTURES, SEEN
+from shown_pasted import machines
 from shown_places import FIXED, look_at
 
 from firefox import Firefox, firefox_at_hand
@@ -32,6 +36,31 @@ class ShownFirefox(Firefox):
         return self.ask("window.seenFaults ?? []")
 
 
+def check_new(page, count):
+    """A textbook's machines as they are pasted, and each step of the lesson."""
+    said = "document.getElementById('verdict').textContent"
+    for name, it in machines().items():
+        for notation in ("latex", "lines"):
+            page.visit(f"file://{PAGE}#m=least")
+            page.ask(f"(it => {{ it.value = {json.dumps(it['texts'][notation])}; it.dispatchEvent(new Event('input')); }})(document.getElementById('table')), 0")
+            count.hold(holds(page, f"{said}.startsWith('Read as ')"), f"Firefox: {name}, {notation}: it says {page.ask(said)[:90]!r}")
+    for step, picture in PICTURES.items():
+        page.visit(f"file://{PAGE}#m=increment&w=1011&learn={step}")
+        count.hold(holds(page, SEEN % picture), f"Firefox: the lesson's {step} isn't seen")
+        e = page.ask("bench.state.e")
+        page.ask("document.getElementById('learnforth').click(), 0")
+        count.hold(holds(page, f"bench.state.e !== {e}"), f"Firefox: the lesson's {step} isn't gone on with")
+
+
+def holds(page, expression):
+    until = time.monotonic() + 20
+    while not page.ask(expression):
+        if time.monotonic() > until:
+            return False
+        time.sleep(0.05)
+    return True
+
+
 def check_firefox(program, answers, draw, places, pictures, count):
     """All of it, or a word that no Firefox is installed."""
     path = firefox_at_hand()
@@ -50,6 +79,8 @@ def check_firefox(program, answers, draw, places, pictures, count):
         e = page.wait("(async () => { const {goTo, state, step} = bench; state.layer = 'quadruple'; goTo(0); "
                       "for (let k = 0; k < 5; k++) await step(1); for (let k = 0; k < 5; k++) await step(-1); return state.e; })()")
         count.hold(e == 0, f"Firefox: five quadruples there and back lead to step {e}")
+        check_stopped(page, program, count, "Firefox, ")
+        check_new(page, count)
         for width, height in ((1300, 900), (520, 900)):
             page.resize(width, height)
             page.visit(f"file://{PAGE}#m=increment&e=700000")

@@ -15,7 +15,7 @@ SCENES_LAID = [
     ("retracing", "#m=increment&e=1700000", "document.getElementById('tab-table').click()"),
     ("its end", "#m=palindrome&w=abba&e=99999999", ""),
     ("a cell", "#m=increment&e=900000", "document.querySelector('#three [data-cell]').dispatchEvent(new MouseEvent('click', {bubbles: true}))"),
-    ("a fault", "#m=increment", "const it = document.getElementById('table'); it.value = 'state;read;write;move;next\\nq_0; 1; 1; R; q_0\\n'; "
+    ("a fault", "#m=increment", "const it = document.getElementById('table'); it.value = 'S,_,_,+,A\\nA,1,x y,?,q_0\\n'; "
                                 "it.dispatchEvent(new Event('input'))"),
     ("in standard form", "#m=complement&ac=[\"Halt\"]", ""), ("thirty states", link(t=many_states(30), w="01"), ""),
     ("a diagram", "#m=increment", "document.getElementById('larger').click(); "

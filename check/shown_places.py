@@ -31,8 +31,8 @@ SEEN = """(() => {
     return cell ? Number(cell.dataset.cell) : null;
   });
   return {heads, bars: bars.map(it => it[1] === "h" ? "H" : "V").join(""), where: text("where"), what: text("what"),
-          elements: all("#bank .element").map(it => Number(it.dataset.element)),
-          now: all("#bank .element.now").map(it => Number(it.dataset.element)),
+          elements: all("#bank>svg .element").map(it => Number(it.dataset.element)),
+          now: all("#bank>svg .element.now").map(it => Number(it.dataset.element)),
           stage: all("#stages .now").map(it => it.dataset.stage).join(" "),
           counted: document.querySelector("#layers [data-layer=element] span").textContent};
 })()"""

@@ -29,10 +29,10 @@ def check_hints(page, _, count):
     page.ask("localStorage.clear(); 0")
     page.visit(f"file://{PAGE}#m=least")
     seen = [hint(page)]
-    for name in ("hintnext", "hintnext", "hintend"):
+    for name in ("hintnext", "hintnext", "hintnext", "hintend"):
         page.ask(f"document.getElementById('{name}')?.click(); 0")
         seen.append(hint(page))
-    count.hold(seen == ["Hint 1 of 3", "Hint 2 of 3", "Hint 3 of 3", ""], f"at a first visit the hints are {seen}")
+    count.hold(seen == ["Hint 1 of 4", "Hint 2 of 4", "Hint 3 of 4", "Hint 4 of 4", ""], f"at a first visit the hints are {seen}")
     page.visit(f"file://{PAGE}#m=complement")
     count.hold(hint(page) == "", f"at the second visit there is {hint(page)!r}")
     page.ask("localStorage.clear(); 0")

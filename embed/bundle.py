@@ -1,111 +1,88 @@
-"""The page and the command, each as one file with the module inside.
-
-The page's modules share one scope: they are put one behind another in the order of their imports, without `import` and
-`export`, so no two of them may declare the same name. An import gives a name as it is, never another one for it.
-"""
+"""The page and the command, each as one file with the module inside: esbuild bundles their scripts and styles."""
 import base64
 import hashlib
-import json
 import os
-import re
+import shutil
+import subprocess
+import zlib
 
-SRC = os.path.join(os.path.dirname(os.path.dirname(os.path.abspath(__file__))), "page", "src")
-FIRST = "app.js"
-WORKERS = ["core.js", "places.js", "worker.js"]
-STYLES = ["style.css", "pictures.css", "dialogs.css", "print.css"]
+TOP = os.path.dirname(os.path.dirname(os.path.abspath(__file__)))
+OUT = os.path.join(TOP, "embed", "out")
 # What a browser may do with the page: run the one script that it has, and the module; draw. Nothing goes out.
-POLICY = ("default-src 'none'; script-src 'sha256-{script}' 'wasm-unsafe-eval'; worker-src blob:; style-src 'unsafe-inline'; "
-          "img-src data: blob:; base-uri 'none'; form-action 'none'")
+POLICY = ("default-src 'none'; script-src 'sha256-{script}' 'wasm-unsafe-eval'; worker-src blob:; "
+          "style-src 'unsafe-inline'; img-src data: blob:; base-uri 'none'; form-action 'none'")
+# Modules are strict by themselves, what esbuild makes of them isn't.
+STRICT = '"use strict";'
+COMMAND_HEAD = ("#!/usr/bin/env node\n"
+                "// Made by embed/build of js/core.mjs, js/command.mjs and js/hithwelor.wasm: change those.\n" + STRICT)
+COMMAND_END = "if (require.main === module) process.exitCode = module.exports.main();"
 
 
 class Bundle(Exception):
     """Why the files can't be made one."""
 
 
-def text_of(name):
-    with open(os.path.join(SRC, name), encoding="utf-8") as file:
+def versions():
+    """What decides the bytes beside the sources, with its version."""
+    if not shutil.which("esbuild"):
+        raise Bundle("esbuild isn't installed; Debian's package esbuild has it")
+    told = subprocess.run(["esbuild", "--version"], stdout=subprocess.PIPE, text=True, check=True).stdout
+    return [f"esbuild {told.strip()}", f"zlib {zlib.ZLIB_RUNTIME_VERSION}"]
+
+
+def pack_module():
+    """The module once more, deflated: as base64 it has 220 kB in place of 704 kB."""
+    with open(os.path.join(TOP, "js", "hithwelor.wasm"), "rb") as file:
+        packed = zlib.compress(file.read(), 9)
+    os.makedirs(OUT, exist_ok=True)
+    with open(os.path.join(OUT, "hithwelor.wasm.z"), "wb") as file:
+        file.write(packed)
+
+
+def esbuild(entry, made, head, *more):
+    """The bundle of an entry. Both are given by their paths from the top, which are in it: so its bytes are the same
+    wherever it is made. Whatever esbuild says, warnings too, is a fault."""
+    words = ["esbuild", entry, "--bundle", "--target=es2022", "--charset=utf8", "--loader:.wasm=binary",
+             "--loader:.z=binary", "--loader:.txt=text", "--log-level=warning", "--log-limit=0", f"--banner:js={head}",
+             # What no module takes stays: the page for the checks is then the same script with more behind it.
+             "--tree-shaking=false", f"--outfile=embed/out/{made}", *more]
+    ran = subprocess.run(words, cwd=TOP, stdout=subprocess.PIPE, stderr=subprocess.STDOUT, text=True)
+    if ran.returncode or ran.stdout:
+        raise Bundle(ran.stdout.strip())
+    return text_of("embed", "out", made)
+
+
+def text_of(*path):
+    with open(os.path.join(TOP, *path), encoding="utf-8") as file:
         return file.read()
 
 
-IMPORT = re.compile(r'^import \{([^}]*)\} from "\./([\w.-]+\.js)";\n', flags=re.M)
-DECLARED = re.compile(r"^(?:async )?(?:function\*?|class) (\w+)", flags=re.M)
-BOUND = re.compile(r"^(?:const|let) (.*)", flags=re.M)
-
-
-def declared(text):
-    """The names that a module declares at its top level, one declaration a statement."""
-    names = DECLARED.findall(text)
-    for line in BOUND.findall(text):
-        names += re.findall(r"(?:^|, )(\w+) = ", cut_brackets(line)) or re.findall(r"^(\w+)", line)
-    return names
-
-
-def cut_brackets(line):
-    """A line without what stands in brackets and quotes."""
-    line = re.sub(r'"[^"]*"|`[^`]*`', "", line)
-    while True:
-        shorter = re.sub(r"\([^()]*\)|\[[^\[\]]*\]|\{[^{}]*\}", "", line)
-        if shorter == line:
-            return re.sub(r"[(\[{].*", "", line)
-        line = shorter
-
-
-def one_scope():
-    """The page's modules as one text."""
-    texts, order, owner = {}, [], {}
-
-    def visit(name):
-        if name in texts:
-            return
-        texts[name] = text_of(name)
-        for _, other in IMPORT.findall(texts[name]):
-            visit(other)
-        order.append(name)
-    visit(FIRST)
-    pieces = []
-    for name in order:
-        for names, other in IMPORT.findall(texts[name]):
-            exported = set(re.findall(r"^export (?:async )?(?:function\*?|class|const|let) (\w+)", texts[other], flags=re.M))
-            for line in re.findall(r"^export (?:const|let) (.*)", texts[other], flags=re.M):
-                exported |= set(re.findall(r"(?:^|, )(\w+) = ", cut_brackets(line)))
-            for it in (word.strip() for word in names.split(",")):
-                if it and it not in exported:
-                    raise Bundle(f"{name} takes {it} of {other}, which hasn't it")
-        text = IMPORT.sub("", texts[name])
-        text = re.sub(r"^export (?=async|function|class|const|let)", "", text, flags=re.M)
-        if re.search(r"^(?:import|export)\b", text, flags=re.M):
-            raise Bundle(f"{name} has an import or an export of another form")
-        for it in declared(text):
-            if owner.setdefault(it, name) != name:
-                raise Bundle(f"{it} is declared in {owner[it]} and in {name}")
-        pieces.append(f"// ---- {name}\n\n{text}")
-    return "\n".join(pieces)
-
-
-def plain(text):
-    """A script without the line that asks for strict mode, which stands at the head of the whole."""
-    return text.replace('"use strict";\n', "", 1)
-
-
-def page_text(module):
+def page_text(entry="page/src/entry.js", made="page"):
     """The page: one file of HTML with its style, its script, the worker's script and the module."""
-    worker = '"use strict";\n' + "".join(plain(text_of(name)) for name in WORKERS)
-    script = ('"use strict";\n' + f"const WORKER = {json.dumps(worker)};\n" + one_scope()
-              + f'\nconst MODULE = "{base64.b64encode(module).decode()}";\nstart();\n')
-    script = script.replace("</", "<\\/")
-    digest = base64.b64encode(hashlib.sha256(script.encode()).digest()).decode()
-    policy = f'<meta http-equiv="Content-Security-Policy" content="{POLICY.format(script=digest)}">'
-    style = "".join(text_of(name) for name in STYLES)
-    page = text_of("index.html")
-    for place, made in (("<!-- STYLE -->", f"{policy}\n<style>\n{style}</style>"), ("<!-- STILL -->", text_of("still.svg").strip()),
-                        ("<!-- SCRIPT -->", f"<script>{script}</script>")):
-        if page.count(place) != 1:
-            raise Bundle(f"index.html has the place {place} {page.count(place)} times")
-        page = page.replace(place, made)
+    pack_module()
+    esbuild("page/src/worker.js", "worker.txt", STRICT, "--format=iife")
+    script = esbuild(entry, f"{made}.js", STRICT, "--format=iife")
+    if any(it in script.lower() for it in ("</script", "<!--")):
+        raise Bundle("the script has text that ends a script")
+    policy = POLICY.format(script=base64.b64encode(hashlib.sha256(script.encode()).digest()).decode())
+    style = text_of("embed", "out", f"{made}.css")
+    head = f'<meta http-equiv="Content-Security-Policy" content="{policy}">\n<style>\n{style}</style>'
+    page = text_of("page", "src", "index.html")
+    still = text_of("page", "src", "still.svg").strip()
+    for place, made in (("STYLE", head), ("STILL", still), ("SCRIPT", f"<script>{script}</script>")):
+        before, found, behind = page.partition(f"<!-- {place} -->")
+        if not found:
+            raise Bundle(f"index.html has no place {place}")
+        page = before + made + behind
     return page
 
 
-def command_text(module):
+def checked_text():
+    """The same page with a hook for check/page behind it."""
+    return page_text("page/test/checked.js", "checked")
+
+
+def command_text():
     """The command: one script of node with the module."""
-    return ("#!/usr/bin/env node\n// Made by embed/build of page/src/core.js, page/src/command.js and the module: change those.\n"
-            + text_of("core.js") + f'\nconst MODULE = "{base64.b64encode(module).decode()}";\n\n' + text_of("command.js"))
+    return esbuild("embed/single.mjs", "command.cjs", COMMAND_HEAD, "--format=cjs", "--platform=node",
+                   f"--footer:js={COMMAND_END}")

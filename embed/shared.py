@@ -4,7 +4,7 @@ import shutil
 import subprocess
 import tempfile
 
-from sources import CRATE, TOP, crates_below
+from sources import CRATE, TOP
 
 STATIC = os.path.join(TOP, "crates", CRATE, "out", f"lib{CRATE}.a")
 SHARED = os.path.join(TOP, "embed", "out", "libhithwelor.so")
@@ -24,15 +24,8 @@ def toolchain():
 
 
 def is_current():
-    """Whether the static library stands and is as new as the code that it is made of."""
-    if not os.path.exists(STATIC):
-        return False
-    made = os.path.getmtime(STATIC)
-    for crate in [*crates_below(), CRATE]:
-        for folder, _, names in os.walk(os.path.join(TOP, "crates", crate, "src")):
-            if any(os.path.getmtime(os.path.join(folder, name)) > made for name in names):
-                return False
-    return True
+    """Whether the static library stands, and was built of the code that stands."""
+    return subprocess.run([os.path.join(TOP, "tools", "program"), CRATE], stdout=subprocess.DEVNULL).returncode == 0
 
 
 def link(kit, path, *words, exports=(EXPORT,)):

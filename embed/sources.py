@@ -7,11 +7,14 @@ TOP = os.path.dirname(os.path.dirname(os.path.abspath(__file__)))
 CRATE = "bn_embed"
 RECORD = "page/sources.sha256"
 # What the page and the command are made of besides the crates and the toolchain.
-PARTS = ["embed/build", "embed/bundle.py", "embed/heap.c", "embed/narrow.py", "page/src"]
-MADE = ["page/hithwelor.html", "bin/hithwelor"]
+PARTS = ["embed/build", "embed/bundle.py", "embed/heap.c", "embed/narrow.py", "embed/single.mjs", "js/command.mjs",
+         "js/core.mjs", "page/src"]
+MADE = ["page/hithwelor.html", "bin/hithwelor", "js/hithwelor.wasm"]
+# How the name of a source ends. What an editor leaves beside it is none.
+ENDINGS = (".rt", ".antt", ".js", ".mjs", ".css", ".html", ".svg")
 HEAD = """\
-# What page/hithwelor.html and bin/hithwelor were built from, and what was built, by SHA-256. embed/build writes this
-# list; check/page compares it with the files. A folder's digest is that of its files with their names.
+# What page/hithwelor.html and bin/hithwelor were built from, and what was built, by SHA-256: a line a file, in the form of
+# sha256sum. embed/build writes this list; check/page compares it with the files, and ./try before the module answers.
 """
 
 
@@ -38,42 +41,64 @@ def crates_below():
     return [it for it in all_uses if it in found]
 
 
+def files_of(path):
+    """The path of a file, or those of a folder's sources. A source that is new counts from when it stands here: one that
+    is listed has to name it, and so has changed."""
+    if os.path.isfile(os.path.join(TOP, path)):
+        return [path]
+    found = []
+    for folder, _, names in os.walk(os.path.join(TOP, path)):
+        found += [os.path.relpath(os.path.join(folder, name), TOP) for name in names
+                  if name.endswith(ENDINGS) and not name.startswith((".", "#"))]
+    return sorted(found)
+
+
 def digest(path):
-    """The digest of a file, or of a folder's files with their names."""
-    full = os.path.join(TOP, path)
-    if os.path.isfile(full):
-        with open(full, "rb") as file:
+    """The digest of a file; None where there is none."""
+    try:
+        with open(os.path.join(TOP, path), "rb") as file:
             return hashlib.sha256(file.read()).hexdigest()
-    whole = hashlib.sha256()
-    for folder, folders, names in os.walk(full):
-        folders.sort()
-        for name in sorted(names):
-            inside = os.path.join(folder, name)
-            with open(inside, "rb") as file:
-                whole.update(f"{os.path.relpath(inside, full)}\0{hashlib.sha256(file.read()).hexdigest()}\n".encode())
-    return whole.hexdigest()
+    except OSError:
+        return None
+
+
+def lines_of(paths):
+    """A line a file."""
+    return [f"{digest(file)}  {file}" for path in paths for file in files_of(path)]
 
 
 def digest_of(module):
     return hashlib.sha256(module).hexdigest()
 
 
-def record(toolchain, module):
-    """The text of the list, for a toolchain's line and the bytes of the module."""
-    lines = [f"toolchain {toolchain}", f"{digest_of(module)}  the module"]
-    lines += [f"{digest(path)}  {path}" for path in sources() + MADE]
+def record(toolchain, versions, module):
+    """The text of the list, for a toolchain's line, those of what bundles, and the bytes of the module."""
+    lines = [f"toolchain {toolchain}", *versions, f"{digest_of(module)}  the module"]
+    lines += lines_of(sources() + MADE)
     return HEAD + "".join(f"{line}\n" for line in lines)
 
 
-def record_again(module):
-    """The text of the list for pages of the module that it names already: what that module was built from stays as it is
-    told, whatever stands in the crates by now. None where it names another module."""
+def listed_lines():
+    """The lines of the list."""
     with open(os.path.join(TOP, RECORD), encoding="utf-8") as file:
-        told = [line.rstrip("\n") for line in file if not line.startswith("#")]
-    kept = [line for line in told if line.partition("  ")[2] not in PARTS + MADE]
-    if f"{digest_of(module)}  the module" not in kept:
-        return None
-    return HEAD + "".join(f"{line}\n" for line in kept + [f"{digest(path)}  {path}" for path in PARTS + MADE])
+        return [line.rstrip("\n") for line in file if not line.startswith("#")]
+
+
+def names_module(module):
+    """Whether the list names this module."""
+    return f"{digest_of(module)}  the module" in listed_lines()
+
+
+def record_again():
+    """The text of the list for pages of the module that it names already: what that module was built from stays as it is
+    told, whatever stands in the crates by now."""
+    kept = [line for line in listed_lines() if not any(is_of(line.partition("  ")[2], part) for part in PARTS + MADE)]
+    return HEAD + "".join(f"{line}\n" for line in kept + lines_of(PARTS + MADE))
+
+
+def is_of(path, part):
+    """Whether this is the path of a part, or below it."""
+    return path == part or path.startswith(f"{part}/")
 
 
 def sources():
@@ -82,9 +107,8 @@ def sources():
 
 
 def changed():
-    """What the list has otherwise than the files: paths, and those that it lacks."""
-    with open(os.path.join(TOP, RECORD), encoding="utf-8") as file:
-        told = dict(line.rstrip("\n").split("  ")[::-1] for line in file if "  " in line and not line.startswith("#"))
-    told.pop("the module", None)
-    wanted = {path: digest(path) for path in sources() + MADE}
-    return sorted(path for path in {*told, *wanted} if told.get(path) != wanted.get(path))
+    """The paths that the list has otherwise than the files, and those of crates and parts that it lacks."""
+    listed = dict(line.split("  ")[::-1] for line in listed_lines() if "  " in line)
+    listed.pop("the module", None)
+    lacking = [part for part in sources() + MADE if not any(is_of(path, part) for path in listed)]
+    return sorted([path for path in listed if listed[path] != digest(path)] + lacking)

@@ -5,15 +5,17 @@
 manual=${manual-$top/docs/workbench.1}
 help_page=${help_page-$top/docs/HELP.md}
 
-# The forms of the words, and what each command does. check/forms compares them with the program's own table.
+# The forms of the words, and what each command does. tests/test_forms.py compares them with the program's own table.
 forms=(
     "step E|a configuration text, at most E element steps on"
     "back E|the same, back"
     "check|is the machine of this table in standard form?"
     "machine =W n|its own run from the word W, of at most n steps"
+    "trace =W n|each moment of that run, a line a moment"
     "standard|a machine that starts on the first letter, in standard form"
     "bennett|Bennett's reversible machine of this machine"
     "reversible|are the quadruples of this table deterministic, and reversible?"
+    "inverse|the machine of quadruples that takes the steps of this one back"
     "realise Q I|the circuit of a table of moves, in state Q, the signal at line I"
     "compile =W l1 r1 n r3|the circuit of a machine and a word in a window"
     "run =W l1 r1 n r3 [E]|its run, to its exit or of at most E element steps"
@@ -79,7 +81,9 @@ is_one_letter_off() {
 # What the first word should have been, where it is no command: sets `fault`.
 find_fault_of_command() {
     local word=$1 form
-    if [[ -e $word ]]; then
+    if [[ -d $word ]]; then
+        fault="$word is a folder: name a command first, and give it a file by < FILE"
+    elif [[ -e $word ]]; then
         fault="$word is a file: name a command first, and give it the file by < $word"
     elif [[ $word = sweep || $word = plot ]]; then
         fault="$word is a word of the Python package, python3 -m hithwelor $word, and no command"
@@ -124,6 +128,24 @@ find_fault_of_word() {
     fi
 }
 
+# What is wrong with a word behind a command that names a file or a folder, or is spelled as a file's name: sets `fault`,
+# or leaves it empty.
+find_fault_of_file() {
+    local command=$1 word=$2
+    fault=
+    [[ $word != =* && ! $word =~ ^[+-]?[0-9]+$ ]] || return
+    if [[ -d $word ]]; then
+        fault="$word is a folder: $command reads a file, by < FILE"
+        reads_input "$command" || fault="$word is a folder, and $command reads none"
+    elif [[ -e $word ]]; then
+        fault="$word is a file: write < $word"
+        reads_input "$command" || fault="$word is a file, and $command reads none"
+    elif [[ $word = */* || $word =~ \.[A-Za-z][A-Za-z0-9]*$ ]]; then
+        fault="there is no file $word here; one that is there is given by < FILE"
+        reads_input "$command" || fault="$word is no word of $command, which reads no file either"
+    fi
+}
+
 # What is wrong with words that have no form, in one line: sets `fault`.
 find_fault() {
     local form letters fewest shown='' word i
@@ -136,11 +158,8 @@ find_fault() {
         return
     fi
     for word in "${@:2}"; do
-        if [[ $word != =* && ! $word =~ ^[0-9]+$ && -e $word ]]; then
-            fault="$word is a file: write < $word"
-            reads_input "$1" || fault="$word is a file, and $1 reads none"
-            return
-        fi
+        find_fault_of_file "$1" "$word"
+        [ -z "$fault" ] || return
     done
     for form in "${forms[@]}"; do
         form=${form%%|*}
@@ -185,6 +204,14 @@ tell_refusal() {
     5) what="the word has a letter that the table hasn't" where="\`word:\` and \`size:\`"
         [ "$command" = realise ] && what="the machine has no such state or line" ;;
     6) what="the input, the word or what would be made of them is larger than there is room for" where="\`word:\` and \`size:\`" ;;
+    7)
+        say "the input can't be read (status 7): it is a folder, or closed; give a file by < FILE, or a pipe"
+        return 0
+        ;;
+    8)
+        say "the output wasn't taken whole (status 8): it is closed, or its device is full"
+        return 0
+        ;;
     *) return 0 ;;
     esac
     say "refused$refusal, status $status: $what. See $where in $help_page"

@@ -1,6 +1,7 @@
 #!/usr/bin/env bash
 # The installed command `hithwelor`: the proved program, or the same code as a module of node, with the words that
 # ./workbench says beside it. Standard output and the exit status are the program's own, but for --help and --version.
+# shellcheck disable=SC2034 # tools/built.sh and tools/front.sh read what is set here
 set -u
 top=$(readlink -f "${BASH_SOURCE[0]}")
 top=${top%/bin/*}
@@ -13,10 +14,14 @@ help_page=$top/share/doc/hithwelor/docs/HELP.md
 
 # Runs the program, or the module, with the words given.
 run() {
+    local version
     if [ -x "$library/hithwelor" ]; then
         "$library/hithwelor" "$@"
-    else
+    elif version=$(node --version 2>/dev/null) && [[ $version =~ ^v([0-9]+)\. ]] && ((BASH_REMATCH[1] >= 18)); then
         node "$library/hithwelor.js" "$@"
+    else
+        say "what is installed here is run by node 18 or later, and ${version:-none} is on the path"
+        exit 1
     fi
 }
 

@@ -90,7 +90,7 @@ def name_of(path):
 
 
 def program_behind(path):
-    """The program itself in place of the script ./workbench, where it is proved and as new as its sources: a picture of
+    """The program itself in place of the script ./workbench, where it is proved and that of the sources that stand: a picture of
     many frames then waits for one look at the sources, and not for one a frame."""
     if path != WORKBENCH:
         return path

@@ -1,9 +1,9 @@
 // What is seen, in words: for each panel what it shows, and what stands in it at this step. All of it is looked up in
 // the program's answers.
 import {controlSaid} from "./control.js";
+import {frame} from "./frame.js";
 import {byId, current, dialog, escaped, nameOf, state} from "./state.js";
 import {symbolWord} from "./table.js";
-import {frame} from "./view.js";
 import {bankName, countWords, endWords, exitWords, number, ruleAt, TAPES} from "./words.js";
 
 const PANELS = {
@@ -12,7 +12,7 @@ const PANELS = {
       "right, − is left, 0 is stay, _ is the blank.",
     "Below it stands what the program says of the table; then the word on the tape; then the machine by itself, " +
       "which forgets as it goes; and its states as a picture. The rule at work is marked in the table and in the " +
-        "picture. A click on a state stops there.",
+        "picture. A click on a state tells of it.",
     "In large the picture can be changed, and the table with it: ⤢ opens it. Answers says which states accept and " +
       "which reject, and tries many words. Where a line has two numbers, the second is its rule's, in the colour of " +
         "the history, which shows it.",
@@ -27,14 +27,14 @@ const PANELS = {
   ]},
   circuit: {title: "The circuit", words: [
     "The whole machine as one circuit of rotary elements with one signal. Above is the map: the control, and a " +
-      "module for each cell of each tape. The red one has the signal. A colour is a tape's everywhere.",
+      "module for each cell of each tape. The one with a pink frame has the signal. A colour is a tape's everywhere.",
     "Below is that module as its bank of elements: boxes with a bar. The column on amber is the module's state. " +
-      "Along a bar the signal goes straight on; across it, it turns right and turns the bar. The red line is its way.",
+      "Along a bar the signal goes straight on; across it, it turns right and turns the bar. The pink line is its way. A click on an element tells what it is.",
   ]},
   time: {title: "The time line", words: [
     "The whole run as one picture. Time goes to the right; each band is a tape and each row in it a cell. The hill " +
       "is the history: it grows, stands while the output is copied, and is taken back.",
-    "The red line is now. + and − make the part that is seen smaller and larger, the wheel too; the strip below shows " +
+    "The pink line is now. + and − make the part that is seen smaller and larger, the wheel too; the strip below shows " +
       "the whole with that part in a frame, which can be drawn along. Of a long run as many moments are drawn as have " +
         "room. A dot is a place where a breakpoint holds.",
     "The second strip has the moves of the quadruple at work, as wide as they cost. The four buttons say what a step " +
@@ -43,7 +43,7 @@ const PANELS = {
 };
 const PAGES_ABOUT = {
   elements: ["Any circuit, element by element. Type moves, and the program makes a bank of them; or a configuration " +
-    "text.", "The red ring is the signal; the red line is the wire that it is on, the broken ones are its way. An " +
+    "text.", "The pink ring is the signal; the pink line is the wire that it is on, the broken ones are its way. An " +
       "element that has just turned is tinted; a column on amber is marked."],
   mirror: ["At the left a circuit, at the right its mirror: each wire turned round, east and west exchanged.",
     "The mirror is made of the circuit as it stands. Each step of the mirror takes back one of the circuit's, and " +

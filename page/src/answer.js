@@ -7,24 +7,29 @@ export const STATUS = {done: 0, usage: 2, text: 3, machine: 4, word: 5, size: 6,
 // Each lane has a worker of its own: for what is waited for, for what is waited for at the same time, for what is fetched
 // ahead, and for what takes long, so that a step doesn't queue behind them.
 export const LANES = {now: 0, beside: 1, ahead: 2, long: 3};
+/** @type {{words: string, status: number, bytes: number, ms: number, program: number}[]} */
 export const log = [];
 const STOPPED = "stopped";
 const MOST_LOGGED = 400;
 const decoder = new TextDecoder();
+// A lane's worker, which is begun with the first call, and the calls that wait for it by their numbers.
+/** @typedef {{worker: Worker, waiting: Map<number, (it: any) => void>, count: number, call: (message: any) => Promise<any>,
+ *   ready: Promise<void>}} Bench */
+/** @type {(Bench | null)[]} */
 const benches = [null, null, null, null];
+// What the page was bundled with: the module's bytes, which are unpacked meanwhile, and the worker's text.
+const given = /** @type {{module: Promise<ArrayBuffer>, worker: string}} */ ({});
+/** @type {Promise<WebAssembly.Module> | null} */
 let compiledModule = null;
 
-function bytesOf(base64) {
-  const binary = atob(base64), bytes = new Uint8Array(binary.length);
-  for (let k = 0; k < binary.length; k++) bytes[k] = binary.charCodeAt(k);
-  return bytes;
-}
+/** @param {{module: Promise<ArrayBuffer>, worker: string}} it */
+export function provide(it) { Object.assign(given, it); }
 // The module is compiled once, and all workers have it.
-const moduleOf = () => compiledModule ??= WebAssembly.compile(bytesOf(MODULE));
+const moduleOf = () => compiledModule ??= Promise.resolve(given.module).then(it => WebAssembly.compile(it));
 
 // The compiled module is handed to a worker, or its bytes, where a browser hands over no compiled ones.
 async function givenModule(bench) {
-  const bytes = () => bench.call({kind: "module", bytes: bytesOf(MODULE)});
+  const bytes = async () => bench.call({kind: "module", bytes: await given.module});
   try {
     const it = await bench.call({kind: "module", module: await moduleOf()});
     return it.kind === "unread" ? bytes() : it;
@@ -35,8 +40,8 @@ async function givenModule(bench) {
 }
 
 function beginBench(lane) {
-  const source = new Blob([WORKER], {type: "text/javascript"});
-  const bench = {waiting: new Map(), count: 0, worker: new Worker(URL.createObjectURL(source))};
+  const source = new Blob([given.worker], {type: "text/javascript"});
+  const bench = /** @type {Bench} */ ({waiting: new Map(), count: 0, worker: new Worker(URL.createObjectURL(source))});
   bench.call = message => new Promise(done => {
     bench.waiting.set(++bench.count, done);
     bench.worker.postMessage({...message, number: bench.count});
@@ -74,6 +79,7 @@ export function stopLane(lane) { endLane(lane, STOPPED); }
 export function stopAll() { benches.forEach((_, lane) => stopLane(lane)); }
 
 // Whether an answer was cut off, and isn't the program's; what is said of it.
+/** @type {(reply: Reply) => boolean} */
 export const isCutOff = reply => Boolean(reply.words);
 function cutWords(status, text) {
   if (status === STATUS.noMemory) return "There was no memory for this answer. A shorter word, or a smaller window, needs less.";
@@ -92,12 +98,15 @@ async function callLane(lane, words, input, more = {}) {
   if (cut) busy(cut);
   return {...it, status, text, words: cut};
 }
+/** @type {(words: any[], input?: string, how?: {lane?: number}) => Promise<Reply>} */
 export async function answer(words, input = "", {lane = LANES.now} = {}) {
   const reply = await callLane(lane, words, input);
   return {status: reply.status, text: reply.text, words: reply.words};
 }
 // The places of the signal that a script is answered with, read in the worker: at most so many, where the banks begin
 // at these elements and have so many rows.
+/** @typedef {{count: number, bases: Int32Array, rows: Int32Array}} Reading */
+/** @type {(words: any[], input: string, reading: Reading, how?: {lane?: number}) => Promise<PlacesReply>} */
 export async function answerPlaces(words, input, reading, {lane = LANES.now} = {}) {
   return callLane(lane, words, input, {reading});
 }

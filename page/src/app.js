@@ -1,34 +1,46 @@
 // The page: what was typed becomes a machine, that a run, and the run is shown at one step of one time.
-import {answer, log} from "./answer.js";
+import {keepAddress} from "./address.js";
 import {chips} from "./breaks.js";
-import {controlLabel, controlStates} from "./control.js";
 import {editorText} from "./editor.js";
 import {EXAMPLES} from "./examples.js";
-import {PICTURES, takeHands, TEXTS} from "./hands.js";
+import {renderFilm, saySpan} from "./film.js";
+import {takeHands} from "./hands.js";
+import {closeLearn, isFirstVisit, openLearn, renderLearn, takeLearn} from "./learn/learn.js";
 import {readLink} from "./links.js";
-import {takeMachine, typed} from "./machine.js";
-import {comesTo} from "./marks.js";
-import {limits} from "./moments.js";
-import {composed} from "./picture.js";
-import {frames, goTo, pause, play, RANGES, showButtons, step, timings} from "./play.js";
-import {beginTask} from "./sheet.js";
+import {asPasted, takeMachine, typed} from "./machine.js";
+import {showMarks} from "./marks.js";
+import {breaksChanged, marksChanged, redraw, spanChanged} from "./notices.js";
+import {showButtons} from "./play.js";
+import {beginTask, endTask, taskAtHand} from "./sheet.js";
 import {byId, current, escaped, state} from "./state.js";
-import {placeName} from "./texts.js";
-import {zoomTime} from "./span.js";
 import {render} from "./view.js";
-import {longRuns} from "./window.js";
-import {inTurn} from "./turns.js";
-import {lineOf} from "./words.js";
-import {openWorkshop, pageOf} from "./workshop.js";
 
 export function start() {
   byId("tooold").remove();
   document.body.classList.add("empty");
   const options = EXAMPLES.map(it => `<option value="${it.key}">${escaped(it.title)}</option>`);
   byId("examples").innerHTML = options.join("") + '<option value="" hidden>Your own</option>';
+  redraw.to(render);
+  redraw.to(renderLearn);
+  redraw.to(keepAddress);
+  document.addEventListener("judged", keepAddress);
+  breaksChanged.to(showMarks);
+  marksChanged.to(saySpan);
+  spanChanged.to(renderFilm);
   takeHands();
-  addEventListener("hashchange", begin);
+  takeLearn();
+  addEventListener("hashchange", () => {
+    closeAll();
+    begin();
+  });
   begin();
+}
+
+// Closes what an address opened: another one was gone to, or gone back to.
+function closeAll() {
+  for (const it of document.querySelectorAll("dialog")) it.close();
+  if (taskAtHand() !== null) endTask();
+  closeLearn();
 }
 
 // Begins with what the link asks for, or with the first example.
@@ -36,13 +48,15 @@ function begin() {
   const link = readLink(location.hash);
   chips();
   showButtons();
-  const task = Number(new URLSearchParams(location.hash.slice(1)).get("x"));
+  const asked = new URLSearchParams(location.hash.slice(1)), task = Number(asked.get("x")), lesson = asked.get("learn");
+  if (lesson !== null) openLearn(lesson || undefined);
+  else if (!location.hash && !current.run && isFirstVisit()) openLearn();
   if (task) {
     beginTask(task);
     if (current.run || state.text) return;
   }
   if (!link) {
-    takeMachine(EXAMPLES[0]);
+    if (lesson === null || !current.run) takeMachine(EXAMPLES[0]);
     return;
   }
   Object.assign(state, link);
@@ -50,11 +64,6 @@ function begin() {
   byId("about").textContent = EXAMPLES.find(it => it.key === link.example)?.about ?? "A machine from a link.";
   byId("word").value = state.word;
   editorText();
+  if (!link.asTyped) asPasted();
   typed(0, link.e);
 }
-
-// For the checks, and for the curious.
-window.bench = {
-  answer, beginTask, comesTo, composed, controlLabel, controlStates, current, frames, goTo, inTurn, limits, lineOf, log, openWorkshop, pageOf, pause, PICTURES, placeName, play, render, state,
-  longRuns, RANGES, step, TEXTS, timings, zoomTime,
-};

@@ -2,13 +2,16 @@
 import {bankPicture, overviewPicture, TOP, WIDE} from "./bank_picture.js";
 import {mapPicture} from "./map_picture.js";
 import {controlSaid} from "./control.js";
+import {redraw} from "./notices.js";
 import {forgetSizes, heightOf, put, widthOf} from "./sizes.js";
 import {byId, current, escaped, nameOf, state} from "./state.js";
-import {render} from "./view.js";
 import {bankName, exitWords, lineOf, number} from "./words.js";
 
+// How wide the second part is, at least, and the room before its column.
+const LEAST_SLICE = 64, SLICE_LEFT = 6;
 const NAMES_WIDTH = 58, LEAST_PITCH = 14.5, MOST_TRAIL = 600, MAP_HEIGHT = 118;
 // The part of the bank that is seen: its first column and row, and how many.
+/** @type {{view: Seen | null}} */
 export const seen = {view: null};
 
 export function renderBank(f) {
@@ -28,10 +31,20 @@ export function renderBank(f) {
   const view = viewOf(f), width = widthOf("bankbox"), place = f.at.place;
   if (view.needsMap) {
     const height = Math.min(58, Math.max(34, bank.rows * 1.6));
-    put("overview", overviewPicture(run, {bank, bars, place, hasLeft, trail, width, height, seen: view}));
+    put("overview", overviewPicture(run, {bank, bars, place, trail, width, height, seen: view}));
   }
   const {pitch, wide, x, y} = view, height = heightOf("bankbox");
-  put("bank", bankPicture(run, {bank, bars, place, hasLeft, trail, width, height, pitch, wide, x, y, left: NAMES_WIDTH}));
+  const slice = sliceOf(run, {bank, bars, place, hasLeft, trail, height, pitch, wide, y}, view);
+  put("bank", bankPicture(run, {bank, bars, place, hasLeft, trail, width, height, pitch, wide, x, y, left: NAMES_WIDTH}) + slice);
+}
+// A second part of the bank, with the marked column, where that is out of sight: at the side to which it is. The signal keeps
+// farther from the edges than it is wide.
+function sliceOf(run, how, {x, columns}) {
+  const {bank, pitch, wide} = how, marked = run.markedColumn(bank, current.run === run ? state.e : 0);
+  if (marked === null || marked < 0 || marked >= x - .2 && marked <= x + columns - .8) return "";
+  const isLeft = marked < x, width = Math.round(Math.max(LEAST_SLICE, pitch * wide * 1.5)), share = (width - SLICE_LEFT) / (pitch * wide);
+  const picture = bankPicture(run, {...how, width, x: marked + .5 - share / 2, left: SLICE_LEFT, clip: "sliced"});
+  return `<div class="slice" style="${isLeft ? `left:${NAMES_WIDTH - 8}px` : "right:0"}" title="the marked column, ${marked + 1} of ${bank.columns}">${picture}</div>`;
 }
 
 const sayControl = ({short, full}) => short ? `<span title="${escaped(full)}"><b>Control</b> ${escaped(short)}</span>` : "";
@@ -77,15 +90,16 @@ function viewOf({bank, at}) {
     : followed(bank, at.place, pitch, columns, rows);
   x = Math.max(0, Math.min(bank.columns - columns, x));
   y = Math.max(0, Math.min(bank.rows + 1 - rows, y));
-  seen.view = {bank: bank.number, pitch, wide, x, y, columns, rows, needsMap};
+  const view = {bank: bank.number, pitch, wide, x, y, columns, rows, needsMap};
+  seen.view = view;
   if (state.zoom) Object.assign(state.zoom, {x, y, bank: bank.number});
-  return seen.view;
+  return view;
 }
 // The window moves only where the signal would leave its inner part, so that the picture stays calm.
 function followed(bank, place, pitch, columns, rows) {
   const element = (place >> 2) - bank.base, c = Math.floor(element / (bank.rows + 1)), r = element % (bank.rows + 1);
-  const isSame = seen.view?.bank === bank.number && seen.view.pitch === pitch;
-  const kept = isSame ? seen.view : {x: c - columns / 2, y: r - rows / 2};
+  const {view} = seen, isSame = view !== null && view.bank === bank.number && view.pitch === pitch;
+  const kept = isSame ? view : {x: c - columns / 2, y: r - rows / 2};
   const edge = Math.min(2.2, columns / 4);
   let {x, y} = kept;
   if (c - x < edge) x = c - Math.min(columns * .6, columns - edge);
@@ -101,24 +115,24 @@ export function zoomBy(factor) {
   if (!seen.view) return;
   const {pitch, bank, x, y, columns, rows} = seen.view, made = Math.max(4, Math.min(64, pitch * factor)), share = 1 - pitch / made;
   state.zoom = {pitch: made, bank, follows: state.zoom?.follows ?? true, x: x + columns / 2 * share, y: y + rows / 2 * share};
-  render(false);
+  redraw(false);
 }
 // The bank is dragged from where it was seen by so many pixels.
 export function dragBy(view, dx, dy) {
   state.zoom = {pitch: view.pitch, bank: view.bank, follows: false, x: view.x - dx / (view.pitch * view.wide), y: view.y - dy / view.pitch};
-  render(false);
+  redraw(false);
 }
 // The part of the bank that is seen, by so many thirds of it to the right and down.
 export function moveBy(right, down) {
   if (!seen.view) return;
   const {pitch, bank, x, y, columns, rows} = seen.view;
   state.zoom = {pitch, bank, follows: false, x: x + right * columns / 3, y: y + down * rows / 3};
-  render(false);
+  redraw(false);
 }
 // The part of the bank around a place of the whole in little, which is a share of its width and height.
 export function lookAt(bank, across, down) {
   if (!seen.view) return;
   const {pitch, columns, rows} = seen.view;
   state.zoom = {pitch, bank: bank.number, follows: false, x: across * bank.columns - columns / 2, y: down * (bank.rows + 1) - rows / 2};
-  render(false);
+  redraw(false);
 }

@@ -14,8 +14,18 @@ const TRAIL = [[6, .11, 1], [24, .09, .7], [90, .07, .42], [Infinity, .05, .22]]
 
 // Where things stand: `pitch` is the distance of two rows; the part that is seen begins at the column and row x, y.
 class Grid {
+  /** @param {import("./run.js").Run} run @param {Record<string, any>} how */
   constructor(run, {bank, width, height, pitch, x, y, wide, left}) {
-    Object.assign(this, {run, bank, width, height, left, P: pitch, X: pitch * wide, h: pitch * .37, a: pitch * .15, rows: bank.rows});
+    this.run = run;
+    this.bank = bank;
+    this.rows = bank.rows;
+    this.width = width;
+    this.height = height;
+    this.left = left;
+    this.P = pitch;
+    this.X = pitch * wide;
+    this.h = pitch * .37;
+    this.a = pitch * .15;
     this.X0 = left + this.X / 2 - x * this.X;
     this.Y0 = TOP + pitch / 2 - y * pitch;
     this.first = [Math.max(0, Math.floor(x)), Math.max(0, Math.floor(y))];
@@ -62,13 +72,14 @@ class Grid {
   }
 }
 
-export function bankPicture(run, {bars, place, hasLeft, trail, ...how}) {
+export function bankPicture(run, {bars, place, hasLeft, trail, clip: name = "seen", ...how}) {
   const grid = new Grid(run, {wide: WIDE, ...how}), {bank, width, height, left, P} = grid;
   const {ground, wires, stubs, boxes, standing} = columnsPicture(grid, bars, place, hasLeft), edge = left - P * .32;
-  const clip = `<defs><clipPath id="seen"><rect x="${edge}" y="${TOP - 4}" width="${width - edge}" height="${height}"/></clipPath></defs>`;
+  const clip = `<defs><clipPath id="${name}"><rect x="${edge}" y="${TOP - 4}" width="${width - edge}" height="${height}"/></clipPath></defs>`;
   const bodies = `${ground}<path class="stub" d="${stubs}"/><path class="wire" d="${wires}"/>${boxes}`
     + `<path class="bar" stroke-width="${n1(Math.max(1.4, P * .1))}" d="${standing}"/>${wayPicture(grid, trail, hasLeft)}${signalPicture(grid, place, hasLeft)}`;
-  return svg(width, height, `${clip}<g clip-path="url(#seen)">${bodies}</g>${labelsPicture(grid, bars, place)}`, "bank",
+  const back = name === "seen" ? "" : `<rect class="box" width="${width}" height="${height}"/>`;
+  return svg(width, height, `${back}${clip}<g clip-path="url(#${name})">${bodies}</g>${labelsPicture(grid, bars, name === "seen" ? place : null, name !== "seen")}`, "bank",
              `role="img" aria-label="the bank of ${escaped(bankName(bank))}"`);
 }
 
@@ -131,8 +142,9 @@ function columnLabel(run, bank, column) {
 }
 const longestLabel = run => run.longestLabel ??= Math.max(...controlStates(run).map(it => controlLabel(it).length), 3);
 // Above each column its state; beside each row the name of its line.
-function labelsPicture(grid, bars, place) {
+function labelsPicture(grid, bars, place, isSlice) {
   const {run, bank, rows, width, height, left, P} = grid;
+  /** @type {(words: string[], isNow: boolean, anchor: string, x: number, y: number) => string} */
   const label = ([text, title], isNow, anchor, x, y) => `<text class="small mono${isNow ? "" : " quiet"}" ${isNow ? 'font-weight="700"' : ""} text-anchor="${anchor}" x="${n1(x)}" y="${n1(y)}">`
     + `${title ? `<title>${escaped(title)}</title>` : ""}${escaped(text)}</text>`;
   // Names of the control's states stand on two lines in turn, and as many as have room.
@@ -142,11 +154,12 @@ function labelsPicture(grid, bars, place) {
   for (let c = grid.first[0]; c <= grid.last[0]; c++) if (bars?.[c * (rows + 1) + rows] === 1) marked = c;
   for (let c = grid.first[0]; c <= grid.last[0]; c++) {
     const x = grid.cx(c), isNow = c === marked, isOut = c % every !== 0 || every > 1 && Math.abs(c - marked) < 2 * every;
-    if (x > left - P * .2 && x < width && (isNow || !isOut)) body += label(columnLabel(run, bank, c), isNow, "middle", x, high(c));
+    if (x > left - P * .2 && x < width && (isNow || !isOut && !isSlice)) body += label(columnLabel(run, bank, c), isNow, "middle", x, high(c));
   }
-  for (let r = grid.first[1]; r <= Math.min(grid.last[1], rows - 1); r++) {
+  for (let r = grid.first[1]; r <= Math.min(grid.last[1], rows - 1) && !isSlice; r++) {
     const y = grid.cy(r), isNow = place === 4 * (bank.base + r) + WEST;
-    if (y > TOP && y < height - 6) body += label([lineOf(run, bank, r).name], isNow, "end", left - P * .32 - 3, y + 3);
+    const line = lineOf(run, bank, r);
+    if (y > TOP && y < height - 6) body += label([line.name, `row ${r + 1}: ${line.words}`], isNow, "end", left - P * .32 - 3, y + 3);
   }
   return body;
 }

@@ -19,7 +19,8 @@ export function betweenAt(run, {e, moment, bank, at}) {
     const now = cellNow(run, it, e), tape = moment.tapes[it.tape - 1];
     return now && {tape: it.tape, cell: it.cell, ...now, was: tape.symbols[it.cell - tape.first], hadHead: tape.head === it.cell};
   });
-  return found.filter(it => it && (it.symbol !== it.was || it.hasHead !== it.hadHead)).sort((a, b) => a.tape - b.tape || a.cell - b.cell);
+  const isOther = it => it && (it.symbol !== it.was || it.hasHead !== it.hadHead) ? [it] : [];
+  return found.flatMap(isOther).sort((a, b) => a.tape - b.tape || a.cell - b.cell);
 }
 
 export function betweenWords(list) {

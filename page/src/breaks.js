@@ -1,8 +1,6 @@
 // Breakpoints: on states of the machine, on cells of the tapes and on elements of the circuit.
-import {goTo, pause} from "./play.js";
-import {busy, byId, current, escaped, minus, nameOf, state, toast} from "./state.js";
-import {showMarks} from "./marks.js";
-import {render} from "./view.js";
+import {breaksChanged, redraw} from "./notices.js";
+import {breaksOf, byId, current, escaped, minus, nameOf, state, toast} from "./state.js";
 import {number, TAPES} from "./words.js";
 
 function breakWords(it) {
@@ -17,21 +15,21 @@ export function toggleBreak(it) {
   if (at >= 0) state.breaks.splice(at, 1);
   else state.breaks.push(it);
   chips();
-  render(false);
+  redraw(false);
 }
 export function dropBreak(at) {
   state.breaks.splice(at, 1);
   chips();
-  render(false);
+  redraw(false);
 }
 
 // The breakpoints as they are listed, and their marks on the film.
 export function chips() {
   const listed = state.breaks.map((it, k) => `<span>${escaped(breakWords(it))}<button data-drop="${k}" aria-label="take away">×</button></span>`);
-  byId("chips").innerHTML = listed.join("") || '<span class="hint">click a state or a cell</span>';
+  byId("chips").innerHTML = listed.join("") || '<span class="hint">none yet</span>';
   byId("breakback").disabled = byId("breakon").disabled = !state.breaks.length;
   byId("breaks").classList.toggle("some", state.breaks.length > 0);
-  showMarks();
+  breaksChanged();
 }
 export function holdsAt(it, q) {
   const {run} = current, moment = run.moments[q];
@@ -41,9 +39,12 @@ export function holdsAt(it, q) {
 
 // Where the signal comes next to an element at which a play stops: asked of the program as the play begins, and undefined
 // until it has answered.
+/** @typedef {{step: number, it: Break | null}} Ahead */
+/** @type {{key: string | null, found: Ahead | null | undefined, run?: import("./run.js").Run}} */
 const ahead = {key: null, found: null};
+/** @type {(direction: number) => Ahead | null | undefined} */
 export function elementAhead(direction) {
-  const elements = state.breaks.filter(it => it.kind === "element"), {run} = current;
+  const elements = breaksOf("element"), {run} = current;
   if (!elements.length || !direction) return null;
   const key = JSON.stringify([direction, elements]), isBehind = ahead.found && direction * (ahead.found.step - state.e) <= 0;
   if (ahead.run === run && ahead.key === key && !isBehind) return ahead.found;
@@ -55,10 +56,12 @@ export function elementAhead(direction) {
 }
 
 // The first breakpoint between two steps, the one that is come to included, and its step.
+/** @type {(from: number, to: number) => Ahead | null} */
 export function stopBetween(from, to) {
   if (!state.breaks.length || from === to) return null;
   const {run} = current, direction = to > from ? 1 : -1, low = Math.min(from, to), high = Math.max(from, to);
   const isWithin = step => direction > 0 ? step > low && step <= high : step >= low && step < high;
+  /** @type {Ahead | null} */
   let best = null;
   const take = (step, it) => {
     if (isWithin(step) && (best === null || direction * (step - best.step) < 0)) best = {step, it};
@@ -71,17 +74,3 @@ export function stopBetween(from, to) {
   return best;
 }
 export function hit(it) { toast(`Stopped: ${breakWords(it)}`); }
-
-// On, or back, to the next breakpoint.
-export async function runBreak(direction) {
-  if (!current.run || !state.breaks.length) return;
-  pause();
-  const {run} = current, way = direction > 0 ? "running on" : "running back";
-  busy(`${way} …`);
-  const {step: e, hit: it} = await run.runTo(state.e, direction, state.breaks, q => busy(`${way}: quadruple ${number(q)} of ${number(run.count - 1)} …`));
-  busy("");
-  if (run !== current.run) return;
-  goTo(e);
-  if (it) hit(it);
-  else toast(direction > 0 ? "No breakpoint on the way: the end." : "No breakpoint on the way back: the start.");
-}

@@ -1,9 +1,9 @@
 // What is said of a cell that was picked: what it holds, and when it was first changed. Of a long run that is asked of the
 // program, moment by moment, when it is wanted.
 import {sameBreak, toggleBreak} from "./breaks.js";
+import {redraw} from "./notices.js";
 import {goTo, pause} from "./play.js";
 import {busy, byId, current, escaped, minus, state, toast} from "./state.js";
-import {render} from "./view.js";
 import {number, TAPES} from "./words.js";
 
 // The first change that was found of a cell, by its run and its name: a moment, or null where there is none.
@@ -27,14 +27,17 @@ export function renderCell() {
   box.kept = key;
   const name = nameOfCell(it), said = first === undefined ? "" : changeWords(run, first);
   box.innerHTML = `<span><b>${name}</b>: ${now === "_" ? "blank" : escaped(now)}. ${said}</span>`;
-  const add = (text, act) => box.append(Object.assign(document.createElement("button"), {textContent: text, onclick: act}));
+  const add = (text, act) => {
+    const made = Object.assign(document.createElement("button"), {textContent: text, onclick: act});
+    box.append(made);
+    return made;
+  };
   if (first !== null) add(first === undefined ? "When was it first changed?" : "Go there", () => goToFirst(it));
   add(isBreak ? "Take the breakpoint away" : "Break where it changes", () => toggleBreak({kind: "cell", ...it}));
   add("×", () => {
     state.cell = null;
-    render(false);
-  });
-  box.lastChild.setAttribute("aria-label", "close");
+    redraw(false);
+  }).setAttribute("aria-label", "close");
 }
 // What is said of the moment at which a cell was first changed, once what the tapes show there is known.
 function changeWords(run, first) {
@@ -61,5 +64,5 @@ export async function goToFirst(it) {
   }
   if (first === null) toast(`The ${nameOfCell(it)} is never changed.`);
   else goTo(run.starts[first]);
-  render(false);
+  redraw(false);
 }

@@ -71,7 +71,8 @@ function banksOf(it, columns) {
     }
   }
   const banks = [], placed = new Set();
-  for (const column of [...columns].sort((a, b) => fed.has(a.bottom) - fed.has(b.bottom) || a.bottom - b.bottom)) {
+  const isFed = column => Number(fed.has(column.bottom));
+  for (const column of [...columns].sort((a, b) => isFed(a) - isFed(b) || a.bottom - b.bottom)) {
     if (placed.has(column.bottom)) continue;
     const chain = [column], seen = new Set([column.bottom]);
     for (;;) {
@@ -129,7 +130,7 @@ export function planOf(it) {
   };
   const nearest = (upright, first, second) => {
     const least = Math.min(first, second), greatest = Math.max(first, second);
-    let best = null, cheapest = Infinity;
+    let best = 0, cheapest = Infinity;
     const from = Math.max(0, Math.floor(least / 2) - 1), to = Math.min(last[upright ? 0 : 1], Math.floor(greatest / 2) + 2);
     for (let channel = from; channel <= to; channel++) {
       const at = 2 * channel, taken = (load.get(channelKey(upright, channel)) ?? 0) / 3;
@@ -160,6 +161,7 @@ export function planOf(it) {
     tracks[number].push([it.least, it.greatest]);
     it.track = number;
   }
+  /** @type {(count: number, upright: boolean) => [number[], number[], number]} */
   const axis = (count, upright) => {
     const channels = [], boxes = [];
     let at = 0;
@@ -200,11 +202,20 @@ export function planOf(it) {
 
 // ---- the picture
 
+// The letters of an element's sides, where it is the only one: its lines are named by them.
+const MOST_LETTERED = 1;
+function sideLetters(x, y) {
+  const half = BOX / 2, at = {n: [half - 5, -half - 5], e: [half + 8, half - 3], s: [5 - half, half + 13], w: [-half - 8, 11 - half]};
+  return Object.entries(at).map(([side, [dx, dy]]) => `<text class="letter" text-anchor="middle" x="${x + dx}" y="${y + dy}">${side}</text>`).join("");
+}
+
+/** @type {(point: number[], side: string, size?: number) => string} */
 function arrowTip([x, y], side, size = 5) {
   const [dx, dy] = STEP[side], base = [x + dx * 1.6 * size, y + dy * 1.6 * size];
   return `M${x},${y} L${base[0] - dy * size * .7},${base[1] + dx * size * .7} L${base[0] + dy * size * .7},${base[1] - dx * size * .7} z`;
 }
 // The SVG text of a configuration on its plan.
+/** @param {any} it @param {any} plan @param {Set<string>} past @param {number | null} turned */
 export function circuitSvg(it, plan, past = new Set(), turned = null) {
   let body = "";
   for (const bank of plan.banks) for (const column of bank.columns) {
@@ -214,7 +225,8 @@ export function circuitSvg(it, plan, past = new Set(), turned = null) {
     body += `<rect class="span${it.bars[column.bottom] === "H" ? " marked" : ""}" x="${left}" y="${top}" width="${right - left}" height="${bottom - top}" rx="6"/>`;
   }
   const now = it.hasLeft ? it.place : plan.routes.find(route => same(route.into, it.place))?.out;
-  for (const route of [...plan.routes].sort((a, b) => Boolean(same(a.out, now)) - Boolean(same(b.out, now)))) {
+  const isNow = route => same(route.out, now) ? 1 : 0;
+  for (const route of [...plan.routes].sort((a, b) => isNow(a) - isNow(b))) {
     const path = "M" + route.points.map(point => point.join()).join(" L");
     const kind = same(route.out, now) ? "now" : past.has(lineName(route.out)) ? "past" : "";
     body += `<g class="${kind}"><title>${lineName(route.out)} leads to ${lineName(route.into)}</title><path class="halo" d="${path}"/>`
@@ -233,7 +245,7 @@ export function circuitSvg(it, plan, past = new Set(), turned = null) {
     body += `<g class="${element === turned ? "turned" : ""}"><title>element ${element}</title>`
       + `<rect class="box" x="${left}" y="${top}" width="${BOX}" height="${BOX}" rx="5"/>`
       + `<line class="bar" x1="${-reach}" x2="${reach}" transform="translate(${x} ${y})${turn}"/>`
-      + `<text x="${left + 3}" y="${top + 12}">${element}</text></g>`;
+      + `<text x="${left + 3}" y="${top + 12}">${element}</text>${it.bars.length <= MOST_LETTERED ? sideLetters(x, y) : ""}</g>`;
   });
   const [x, y] = plan.port(it.place, it.hasLeft ? "out" : "in"), [dx, dy] = STEP[it.place.side];
   body += `<g transform="translate(${x + dx * 9} ${y + dy * 9})"><circle class="ring" r="9"/><circle class="signal" r="5.5"/></g>`;

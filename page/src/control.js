@@ -31,14 +31,22 @@ function orderOf(run, it) {
   return [kind, run.names.indexOf(it.state), it.kind === "reads" ? it.symbols.length : -it.tape, ...numbers];
 }
 // The tapes that a state's quadruples have read before, and those that are still to be written.
-const readBefore = (run, {state, tape}) => [1, 2, 3].filter(other => other < tape && run.quadruples.find(row => row[0] === state)[other] !== "/");
-const writtenBelow = (run, {state, tape}) => [3, 2, 1].filter(other => other < tape && run.quadruples.find(row => row[7] === state)[other] !== "/");
+const rowOf = (run, place, state) => run.quadruples.find(row => row[place] === state) ?? [];
+const readBefore = (run, {state, tape}) => [1, 2, 3].filter(other => other < tape && rowOf(run, 0, state)[other] !== "/");
+const writtenBelow = (run, {state, tape}) => [3, 2, 1].filter(other => other < tape && rowOf(run, 7, state)[other] !== "/");
+// The states that no quadruple leaves, but for the final one: in them the control asks the work tape, and nothing goes on.
+function statesNotLeft({quadruples, names}) {
+  const left = new Set(quadruples.map(row => row[0])), final = quadruples.at(-1)?.[7];
+  return names.filter(it => it !== final && !left.has(it));
+}
 
 // The states of the control in their order, or none where their number isn't that of its columns.
 export function controlStates(run) {
   if (run.controlNames) return run.controlNames;
   const found = new Map([{kind: "begin"}, {kind: "end"}].map(it => [JSON.stringify(it), it]));
-  run.quadruples.forEach((row, k) => { for (const it of waitsOf(row, k + 1)) found.set(JSON.stringify(it), it); });
+  const add = it => found.set(JSON.stringify(it), it);
+  run.quadruples.forEach((row, k) => waitsOf(row, k + 1).forEach(add));
+  for (const state of statesNotLeft(run)) add({kind: "reads", state, tape: 1, symbols: []});
   const placed = [...found.values()].map(it => ({it, order: orderOf(run, it)})).sort((a, b) => byNumbers(a.order, b.order));
   run.controlNames = placed.length === run.banks[0].columns ? placed.map(({it}) => it) : [];
   return run.controlNames;

@@ -4,12 +4,12 @@ import {toggleBreak} from "./breaks.js";
 import {diagramPicture} from "./diagram_picture.js";
 import {moveByKey, takeDrag} from "./drag.js";
 import {nextRule, withLetter, withNewRule, withState} from "./edits.js";
+import {frame} from "./frame.js";
 import {changed} from "./machine.js";
 import {hasPast, keepPast, takeBack} from "./past.js";
 import {fillRules, rulesWritten} from "./rules.js";
-import {byId, current, editorLine, escaped, nameOf, state} from "./state.js";
+import {breaksOf, byId, current, editorLine, escaped, nameOf, partOf, state} from "./state.js";
 import {rulesOf, spell} from "./table.js";
-import {frame} from "./view.js";
 import {markOf, kindOf, setKind} from "./verdicts.js";
 import {ruleAt} from "./words.js";
 
@@ -28,8 +28,9 @@ const DRAWING = `<div class="e-head"><h2>State diagram</h2><p id="d-said" role="
     <div class="e-right"><div id="d-picture" class="e-picture"></div>
     <p class="e-place">Choose a state by a click or the Tab key and Enter; drag it, or move it by the arrow keys. A click on a label goes to its rule.</p></div></div>`;
 
-const drawing = {box: null, chosen: null};
-const part = id => drawing.box.querySelector("#" + id);
+// The box is there once the diagram was opened.
+const drawing = /** @type {{box: HTMLDialogElement, chosen: string | null}} */ ({chosen: null});
+const part = id => partOf(drawing.box, id);
 const shownName = name => state.names[name] ?? name;
 const typedRules = () => rulesWritten(state.text);
 const typedStates = () => [...new Set(typedRules().flatMap(it => [it.state, it.next]))];
@@ -60,7 +61,7 @@ function makeDrawing() {
   part("d-kind").onchange = () => { keepPast(); setKind(shownName(drawing.chosen), part("d-kind").value); changed(); draw(); };
   const picture = part("d-picture");
   takeDrag(picture, {nameAt: shownName, draw, click: it => { choose(it); focusState(it); }});
-  picture.addEventListener("click", event => goToRule(event.target.closest("[data-rule]")));
+  picture.addEventListener("click", event => goToRule(event.target?.closest("[data-rule]")));
   picture.addEventListener("keydown", onStateKey);
   addEventListener("resize", () => { if (box.open) draw(); });
   document.addEventListener("judged", () => { if (box.open) fillDrawing(); });
@@ -91,7 +92,7 @@ function runningName(name) {
 
 function fillDrawing() {
   const states = typedStates(), letters = [...new Set(typedRules().flatMap(it => [it.read, it.write]))];
-  if (!states.includes(drawing.chosen)) drawing.chosen = null;
+  if (drawing.chosen !== null && !states.includes(drawing.chosen)) drawing.chosen = null;
   const {chosen} = drawing, option = (it, words = it) => `<option value="${escaped(it)}">${escaped(words)}</option>`;
   part("d-state").innerHTML = option("", "all states") + states.map(it => option(it, shownName(it))).join("");
   part("d-state").value = chosen ?? "";
@@ -114,7 +115,7 @@ function fillDrawing() {
 function draw() {
   const {chosen} = drawing, room = part("d-picture"), rules = typedRules(), running = current.run && !document.body.classList.contains("stale");
   const line = running ? editorLine(ruleAt(current.run, frame().q, nameOf).rule) : null, at = rules.findIndex(it => it.line === line);
-  const stops = new Set(state.breaks.filter(it => it.kind === "state").map(it => nameOf(it.state)));
+  const stops = new Set(breaksOf("state").map(it => nameOf(it.state)));
   const isMarked = it => stops.has(shownName(it));
   room.innerHTML = diagramPicture(rules, {
     width: Math.max(280, room.clientWidth - 4), height: Math.max(240, room.clientHeight - 4), now: rules[at]?.state, rule: at + 1,

@@ -3,21 +3,38 @@
 import {escaped} from "./state.js";
 import {n1, svg} from "./svg.js";
 
-const MOST_STATES = 14, IN_TWO_ROWS = 8, IN_ROWS = 12, SMALL_WIDTH = 480, MOST_NAME = 9, LINE = 11.5, MOST_LABELS = 3, LETTER = 6.4, MOST_ROW = 230;
+const MOST_STATES = 14, IN_TWO_ROWS = 8, GAP = 8, LEAST_NAME = 2, SMALL_WIDTH = 480, MOST_NAME = 9, LINE = 11.5, MOST_LABELS = 3, LETTER = 6.4, MOST_ROW = 230;
 const MOVES = {"+": "R", "-": "L", "0": "N"};
+
+// How many rows so many states stand in, and how many are side by side where they stand in a grid.
+const rowsOf = count => count <= 2 ? 1 : count <= IN_TWO_ROWS ? 2 : 3;
+const gridOf = (count, width, height) => Math.max(2, Math.round(Math.sqrt(count * width / height * .62)));
 
 // How the diagram is laid out: which states, how large, where each stands.
 class Layout {
+  /** @param {Rule[]} rules @param {Record<string, any>} how */
   constructor(rules, {width, height, now, name, chosen, places = {}, most = MOST_STATES}) {
     const states = [...new Set(rules.flatMap(it => [it.state, it.next]))], middle = chosen ?? now ?? states[0];
-    Object.assign(this, {rules, width, height, name, shown: states.length > most ? near(rules, states, middle, most) : states, places: new Map()});
+    this.rules = rules;
+    this.width = width;
+    this.height = height;
+    this.name = name;
+    /** @type {string[]} */
+    this.shown = states.length > most ? near(rules, states, middle, most) : states;
+    // Where each of them stands, and to which side its loop goes.
+    /** @type {Map<string, number[]>} */
+    this.places = new Map();
     const count = this.shown.length;
     this.isSmall = count > IN_TWO_ROWS && width < SMALL_WIDTH;
     this.R = this.isSmall ? 14 : count > MOST_STATES ? 16 : 19;
     this.isDense = this.isSmall || height < 130 || count > MOST_STATES;
     this.loops = new Set(rules.filter(it => it.state === it.next).map(it => it.state));
     this.top = this.R * .72 + (this.shown.some(it => this.loops.has(it)) ? (this.isDense ? 16 : 31) : 14);
-    const own = k => count <= IN_ROWS ? this.inRows(k) : count <= MOST_STATES ? this.onEllipse(k) : this.inGrid(k);
+    // So many stand side by side, and so long is a name at most that no box lies over the next one.
+    this.across = count <= MOST_STATES ? Math.ceil(count / rowsOf(count)) : gridOf(count, width - (this.isSmall ? 40 : 56), height);
+    const letters = Math.floor((width / (this.across + (count > MOST_STATES ? .5 : 0)) - GAP - 14) / (2 * this.letter()));
+    this.mostName = Math.max(LEAST_NAME, Math.min(MOST_NAME, letters));
+    const own = k => count <= MOST_STATES ? this.inRows(k) : this.inGrid(k);
     this.shown.forEach((it, k) => this.places.set(it, this.placed(it, places[name(it)]) ?? own(k)));
   }
   // Where a state was put, within the picture.
@@ -29,12 +46,19 @@ class Layout {
   }
   // Half the width of a state's box.
   half(state) {
-    return Math.max(this.R, Math.min(MOST_NAME, this.name(state).length) * (this.isSmall ? 3.1 : 3.6) + 7);
+    return Math.max(this.R, Math.min(this.mostName, this.name(state).length) * this.letter() + 7);
   }
-  // Up to eight states stand in two rows, there and back; up to twelve in three. The last number is the side of a loop.
+  // Half the width of a letter.
+  letter() { return this.isSmall ? 3.1 : 3.6; }
+  // How far the first box of a row stands from the edge: within the picture, and not farther than it has to.
+  inset(least) {
+    const wide = Math.max(...this.shown.map(it => this.half(it))) + 3, free = (this.width - 2 * wide * this.across) / 2 + wide;
+    return Math.max(wide, Math.min(least, free));
+  }
+  // Up to eight states stand in two rows, there and back; more in three. The last number is the side of a loop.
   inRows(k) {
-    const count = this.shown.length, rows = count <= 2 ? 1 : count <= IN_TWO_ROWS ? 2 : 3, across = Math.ceil(count / rows);
-    const row = Math.floor(k / across), inRow = Math.min(across, count - row * across), inset = this.isDense ? 32 : 40;
+    const count = this.shown.length, {across} = this, rows = rowsOf(count);
+    const row = Math.floor(k / across), inRow = Math.min(across, count - row * across), inset = this.inset(this.isDense ? 32 : 40);
     const number = row % 2 ? inRow - 1 - (k - row * across) : k - row * across, room = this.width - 2 * inset;
     const x = inRow === 1 ? this.width / 2 : inset + room * (inRow < across ? (number + .5) / inRow : number / (inRow - 1));
     const high = Math.min(this.height - 2 * this.top, MOST_ROW * (rows - 1)), y = (this.height - high) / 2 + (rows === 1 ? 0 : high * row / (rows - 1));
@@ -42,15 +66,11 @@ class Layout {
   }
   // Many states stand in a grid, there and back; every other row is set off, so that edges don't go along one line.
   inGrid(k) {
-    const {width, height} = this, count = this.shown.length, inset = this.isSmall ? 40 : 56;
-    const across = Math.max(2, Math.round(Math.sqrt(count * (width - inset) / height * .62))), rows = Math.ceil(count / across);
+    const {width, height, across} = this, count = this.shown.length, inset = this.inset(this.isSmall ? 40 : 56);
+    const rows = Math.ceil(count / across);
     const row = Math.floor(k / across), number = row % 2 ? across - 1 - (k - row * across) : k - row * across;
     const room = width - 2 * inset, gap = room / (across - .5), x = inset + gap * (number + (row % 2 ? .5 : 0));
     return [x, this.top + (height - 2 * this.top) * (rows > 1 ? row / (rows - 1) : .5), row < rows / 2 ? -Math.PI / 2 : Math.PI / 2];
-  }
-  onEllipse(k) {
-    const angle = Math.PI * (1 + 2 * k / this.shown.length), {width, height, R} = this;
-    return [width / 2 + (width / 2 - R - 28) * Math.cos(angle), height / 2 + Math.max(30, height / 2 - this.top) * Math.sin(angle), angle];
   }
   // The edges with their labels; rules between the same two states are one edge.
   edges() {
@@ -80,7 +100,7 @@ function near(rules, states, middle, most) {
 export function diagramPicture(rules, how) {
   const layout = new Layout(rules, how), edges = layout.edges(), isNow = edge => edge.labels.some(it => it.rule === how.rule);
   let lines = "", labels = "";
-  for (const edge of [...edges.values()].sort((a, b) => isNow(a) - isNow(b))) {
+  for (const edge of [...edges.values()].sort((a, b) => Number(isNow(a)) - Number(isNow(b)))) {
     const drawn = edge.from === edge.to ? loopOf(layout, edge, isNow(edge)) : arcOf(layout, edge, isNow(edge), edges.has(edge.to + "\n" + edge.from));
     const isFar = how.chosen && layout.isDense && edge.from !== how.chosen && edge.to !== how.chosen && !isNow(edge);
     lines += isFar ? `<g class="far">${drawn.line}</g>` : drawn.line;
@@ -160,16 +180,17 @@ function labelsOf(layout, edge, {x, y, anchor, isOne}, {rule, chosen}, isNowEdge
     return `<text class="label${isNow ? " now" : ""}" data-rule="${(isOne ? shown[0] : shown[k]).rule}" style="text-anchor:${anchor}" x="${n1(x)}" y="${n1(at)}">${escaped(text)}${more}</text>`;
   }).join("");
 }
-function nodeOf(layout, state, {now, stops, chosen, isOpen, mark = () => ""}) {
-  const {R, name, isDense} = layout, [x, y] = layout.places.get(state), half = layout.half(state), text = name(state), isNow = state === now;
-  const isFinal = !layout.rules.some(it => it.state === state), short = text.length > MOST_NAME ? text.slice(0, MOST_NAME - 1) + "…" : text;
+/** @param {Layout} layout @param {string} state @param {Record<string, any>} how */
+function nodeOf(layout, state, {now, stops, chosen, isOpen, mark = _ => ""}) {
+  const {R, name, isDense} = layout, [x, y] = layout.places.get(state) ?? [0, 0], half = layout.half(state), text = name(state), isNow = state === now;
+  const isFinal = !layout.rules.some(it => it.state === state), short = text.length > layout.mostName ? text.slice(0, layout.mostName - 1) + "…" : text;
   const box = (inset, more) => `x="${n1(x - half + inset)}" y="${n1(y - R * .72 + inset)}" width="${n1(2 * (half - inset))}" height="${n1(R * 1.44 - 2 * inset)}" rx="${n1(R * .72 - inset)}"${more}`;
   const sign = mark(text), answers = {"✓": ", accepts", "✗": ", rejects"}[sign] ?? "", halts = isFinal ? ", where it halts" : "";
   const heard = isOpen ? ` tabindex="0" role="button" aria-pressed="${state === chosen}" aria-label="state ${escaped(text)}${halts}${answers}"` : "";
-  const does = isOpen ? "choose it; drag it, or move it by arrow keys" : "click for a breakpoint; drag it";
+  const does = isOpen ? "choose it; drag it, or move it by arrow keys" : "a click tells of it; drag it";
   return `<g data-state="${escaped(state)}"${heard}><title>${escaped(text)}${halts}${answers}: ${does}</title>`
     + `<rect class="state${isNow ? " now" : ""}${stops.has(state) ? " stop" : ""}${state === chosen ? " chosen" : ""}" ${box(0, "")}/>`
     + (isFinal ? `<rect class="state" ${box(3, ' style="fill:none"')}/>` : "")
-    + `<text text-anchor="middle" ${isDense ? 'style="font-size:10.5px"' : ""} x="${n1(x)}" y="${n1(y + 4)}" ${isNow ? 'font-weight="700"' : ""}>${escaped(short)}</text>`
+    + `<text text-anchor="middle" ${isDense ? 'style="font-size:11px"' : ""} x="${n1(x)}" y="${n1(y + 4)}" ${isNow ? 'font-weight="700"' : ""}>${escaped(short)}</text>`
     + (sign ? `<text class="sign ${sign === "✓" ? "accepts" : "rejects"}" text-anchor="middle" x="${n1(x + half - 1)}" y="${n1(y - R * .72 + 4)}">${sign}</text>` : "") + "</g>";
 }

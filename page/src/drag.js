@@ -25,10 +25,10 @@ export function takeDrag(box, {nameAt, draw, click}) {
     putAt(nameAt(held.state), (event.clientX - picture.left) / picture.width, (event.clientY - picture.top) / picture.height);
     draw();
   });
-  box.addEventListener("pointerup", () => {
+  box.addEventListener("pointerup", event => {
     const it = held;
     held = null;
-    if (it && !it.isMoved) click(it.state);
+    if (it && !it.isMoved) click(it.state, [event.clientX, event.clientY]);
   });
   box.addEventListener("pointercancel", () => { held = null; });
 }

@@ -1,11 +1,16 @@
 // The table as it is typed, with the number of each line's rule beside it.
-import {byId, current, state} from "./state.js";
+import {byId, current, isTooLong, state} from "./state.js";
 
 const LINE_HEIGHT = 18, TOP_PADDING = 6;
+// How much of a text that is too long to edit is shown.
+const SHOWN_OF_LONG = 4000;
 const marked = {faults: new Set(), now: null};
 
+// Of a text that is too long to edit the beginning is shown, which can be read alone: to lay out all of it takes long.
 export function editorText() {
-  byId("table").value = state.text;
+  const isLong = isTooLong(), box = byId("table");
+  box.value = isLong ? `${state.text.slice(0, SHOWN_OF_LONG)}\n…` : state.text;
+  box.readOnly = isLong;
   renderLines();
 }
 export function markFaults(lines) {
@@ -16,6 +21,10 @@ export function markFaults(lines) {
 // The gutter. In front of a line stands its number, by which a fault names it. Where the rules are numbered otherwise, as
 // with `standard`, the number of its rule stands behind that, in the colour of the history, which shows it.
 export function renderLines() {
+  if (isTooLong()) {
+    byId("lines").innerHTML = "";
+    return;
+  }
   const count = Math.max(1, state.text.replace(/\n$/, "").split("\n").length);
   const numbers = Array.from({length: count}, (_, k) => ruleNumber(k + 1));
   const hasTwo = !marked.faults.size && numbers.some((it, k) => it !== null && it !== k + 1);

@@ -1,6 +1,7 @@
 // Any circuit, element by element: a configuration text, or a table of moves of which the program makes a bank.
 import {STATUS} from "./answer.js";
 import {circuitFault, CIRCUITS, circuitText, isConfiguration} from "./circuits.js";
+import {partOf} from "./state.js";
 import {Stepper} from "./stepper.js";
 import {inTurn} from "./turns.js";
 
@@ -22,8 +23,9 @@ const DESK_PAGE = `<div class="e-left">
     <button id="e-back">◂ Step back</button><button id="e-forth">Step ▸</button>
     <button id="e-play" class="main">Play</button><span id="e-place" class="e-place" role="status"></span></div></div>`;
 
-const desk = {stepper: null, playing: null, box: null};
-const deskPart = id => desk.box.querySelector("#" + id);
+// The box and the circuit are there once the page was opened.
+const desk = /** @type {{stepper: Stepper, playing: number, box: HTMLElement}} */ ({playing: 0});
+const deskPart = id => partOf(desk.box, id);
 
 async function takeCircuit() {
   stopDesk();
@@ -36,7 +38,7 @@ async function takeCircuit() {
 }
 function stopDesk() {
   clearTimeout(desk.playing);
-  desk.playing = null;
+  desk.playing = 0;
   if (desk.box) deskPart("e-play").textContent = "Play";
 }
 function playDesk() {
@@ -78,7 +80,7 @@ export const elementsPage = {
     desk.box = box;
     box.innerHTML = DESK_PAGE;
     desk.stepper = new Stepper(deskPart("e-picture"), deskPart("e-place"));
-    let later = null;
+    let later = 0;
     deskPart("e-examples").onchange = () => chooseCircuit(Number(deskPart("e-examples").value));
     for (const id of ["e-text", "e-state", "e-line"]) {
       deskPart(id).oninput = () => { clearTimeout(later); later = setTimeout(() => inTurn(takeCircuit), DESK_REST); };

@@ -1,7 +1,7 @@
 // Two machines, the second of which takes the first one back: Bennett's machine of the first leaves its input beside
 // the output; the machine that `erase` makes of both leaves the output alone.
 import {answer, STATUS} from "./answer.js";
-import {escaped} from "./state.js";
+import {escaped, partOf} from "./state.js";
 import {faultOf} from "./table.js";
 import {exampleTable} from "./task_tools.js";
 import {readRun} from "./texts.js";
@@ -26,8 +26,9 @@ const ERASE_PAGE = `<div class="e-left">
     <h3 id="x-count"></h3><div id="x-table" class="x-table" tabindex="0" role="group"
     aria-label="the quadruples of the erasing machine"></div></div>`;
 
-const eraser = {box: null, input: "", word: ""};
-const eraserPart = id => eraser.box.querySelector("#" + id);
+const eraser = /** @type {{box: HTMLElement, input: string, word: string, first: string}} */ (
+  {input: "", word: "", first: ""});
+const eraserPart = id => partOf(eraser.box, id);
 
 function eraseFault({status, text, words: cut}, first, second) {
   if (cut) return cut;

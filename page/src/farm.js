@@ -3,7 +3,7 @@
 import {answer, STATUS} from "./answer.js";
 import {circuitFault} from "./circuits.js";
 import {Stepper} from "./stepper.js";
-import {escaped} from "./state.js";
+import {escaped, partOf} from "./state.js";
 import {inTurn} from "./turns.js";
 
 const FARM_REST = 300, MOST_EVENTS = 1000;
@@ -30,8 +30,11 @@ const FARM_PAGE = `<div class="e-left">
     <p id="f-said" class="e-said" role="status"></p></div>`;
 
 // The boards that the schedule begins with, its lines, how many events of it are made, and the first boards of all.
-const farm = {box: null, boards: [], lines: [], at: 0, first: null, steppers: [], text: null, input: null};
-const farmPart = id => farm.box.querySelector("#" + id);
+/** @typedef {{line: string, sign: string, board: string, count: number}} Line */
+/** @type {{box: HTMLElement | null, boards: string[], lines: Line[], at: number, first: string | null, steppers: Stepper[],
+ *   text: string, input: string}} */
+const farm = {box: null, boards: [], lines: [], at: 0, first: null, steppers: [], text: "", input: ""};
+const farmPart = id => partOf(farm.box ?? document.body, id);
 const ended = text => text === "" || text.endsWith("\n") ? text : text + "\n";
 const totalOf = lines => lines.reduce((sum, it) => sum + it.count, 0);
 
@@ -67,7 +70,7 @@ async function takeFarm() {
 // The boards after so many events, as `farm` answers them.
 async function showFarm() {
   farm.input = farmText(farm.boards, frontOf(farm.lines, farm.at));
-  const reply = await answer(["farm"], farm.input), parts = reply.text.split("%\n"), undoing = parts.pop();
+  const reply = await answer(["farm"], farm.input), parts = reply.text.split("%\n"), undoing = parts.pop() ?? "";
   if (reply.status !== STATUS.done) return;
   farm.text = reply.text;
   farm.steppers.forEach((it, k) => it.show(parts[k]));
@@ -104,7 +107,7 @@ function nextLine() {
 }
 // The answer is a farm again: its boards, under the schedule that undoes.
 async function turnRound() {
-  const parts = farm.text.split("%\n"), lines = readSchedule(parts.pop());
+  const parts = farm.text.split("%\n"), lines = readSchedule(parts.pop() ?? "");
   Object.assign(farm, {boards: parts, lines, at: 0});
   await showFarm();
 }
@@ -115,7 +118,7 @@ export const farmPage = {
     farm.box = box;
     box.innerHTML = FARM_PAGE;
     farm.steppers = [0, 1].map(k => new Stepper(farmPart(`f-room${k}`), farmPart(`f-place${k}`)));
-    let later = null;
+    let later = 0;
     [...BOARDS, SCHEDULE].forEach((text, k) => {
       const field = farmPart(["f-0", "f-1", "f-schedule"][k]);
       field.value = text;

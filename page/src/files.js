@@ -1,58 +1,41 @@
-// A file that is opened: a table, a machine of JFLAP (.jff), or one of turingmachine.io (.yaml, the usual subset).
-// It only turns spellings; whether the table is one, the program says. The final states of JFLAP accept.
-import {turned} from "./table.js";
+// A file that is opened: a table, or a machine of turingmachine.io, JFLAP, Morphett's simulator or bbchallenge, which
+// becomes one. It only turns spellings; whether the table is one, the program says.
+import {isTable, kindOf, readMachine, tableOf} from "./formats.js";
 
-const JFLAP_MOVES = {R: "+", L: "-", S: "0"};
-function ofJflap(text) {
-  const it = new DOMParser().parseFromString(text, "application/xml");
-  if (it.querySelector("parsererror") || it.querySelector("type")?.textContent !== "turing") throw new Error("This isn't a one-tape Turing machine of JFLAP.");
-  const names = new Map(), finals = [];
-  let initial = null;
-  for (const state of it.querySelectorAll("state, block")) {
-    names.set(state.id, state.getAttribute("name") || `q${state.id}`);
-    if (state.querySelector("initial")) initial = state.id;
-    if (state.querySelector("final")) finals.push(state.id);
-  }
-  const rows = [...it.querySelectorAll("transition")].map(rule => {
-    const get = tag => rule.querySelector(tag)?.textContent.trim() ?? "";
-    return {from: get("from"), to: get("to"), read: get("read") || "_", write: get("write") || "_", shift: JFLAP_MOVES[get("move")] ?? "0"};
-  });
-  const order = rows.sort((a, b) => (b.from === initial) - (a.from === initial) || finals.includes(a.to) - finals.includes(b.to));
-  const table = order.map(row => [names.get(row.from), row.read, row.write, row.shift, names.get(row.to)].join(",")).join("\n");
-  return {table, accept: finals.map(id => names.get(id))};
+// The states that accept, of a machine of another program: JFLAP's final ones, and of the others those whose names say
+// so; and those that reject.
+const accepts = (machine, name) => machine.program === "JFLAP" || /accept|^yes$/i.test(name);
+const rejects = (machine, name) => machine.program !== "JFLAP" && /reject|^no$/i.test(name);
+
+// The table with the states' names as the file has them, where a table's line can have them, and for each other
+// spelling its name.
+function withOwnNames(table, names) {
+  const fits = name => name !== "" && name.trim() === name && !/[,"\r\n]/.test(name);
+  const kept = [...names].filter(([name, made]) => name !== made && fits(name));
+  const own = new Map(kept.map(([name, made]) => [made, name]));
+  const text = table.split("\n").map(line => {
+    const fields = line.split(",");
+    for (const place of [0, 4]) if (own.has(fields[place])) fields[place] = own.get(fields[place]);
+    return fields.join(",");
+  }).join("\n");
+  return {text, names: Object.fromEntries(own)};
 }
-function ofYaml(text) {
-  let blank = " ", start = null, state = null, inTable = false;
-  const rows = [], bare = it => it.trim().replace(/^['"](.*)['"]$/, "$1");
-  for (const raw of text.split("\n")) {
-    const line = raw.replace(/(^|\s)#.*$/, "");
-    if (!line.trim()) continue;
-    const top = /^([A-Za-z][A-Za-z ]*):\s*(.*)$/.exec(line);
-    if (top) {
-      if (top[1] === "blank") blank = bare(top[2]);
-      if (top[1] === "start state") start = bare(top[2]);
-      inTable = top[1] === "table";
-      continue;
-    }
-    if (!inTable) continue;
-    const found = /^(\s+)(.+?):\s*(.*)$/.exec(line), depth = /^\s*/.exec(line)[0].length;
-    if (!found) continue;
-    if (depth <= 2) { state = bare(found[2]); continue; }
-    const reads = (found[2].trim().startsWith("[") ? found[2].trim().slice(1, -1).split(",") : [found[2]]).map(bare);
-    const act = found[3].trim(), parts = Object.fromEntries((/^\{(.*)\}$/.exec(act)?.[1] ?? act).split(",").map(it => { const [key, ...rest] = it.split(":"); return [bare(key), bare(rest.join(":"))]; }));
-    for (const read of reads) {
-      const shift = "R" in parts ? "R" : "L", next = parts[shift] || state;
-      rows.push([state, read === blank ? "_" : read, "write" in parts ? (parts.write === blank ? "_" : parts.write) : read === blank ? "_" : read, JFLAP_MOVES[shift], next]);
-    }
-  }
-  if (!rows.length) throw new Error("No table of turingmachine.io was found in it.");
-  const leaves = new Set(rows.map(row => row[0]));
-  rows.sort((a, b) => (b[0] === start) - (a[0] === start) || !leaves.has(a[4]) - !leaves.has(b[4]));
-  return {table: rows.map(row => row.join(",")).join("\n"), accept: []};
-}
+
+// What is opened of a file. Where several states halt, the table's last rule leads to the first of those that accept,
+// or to the first; in the others the machine is stuck. A text that is of none of the four is taken as a table, unless
+// its name says what it should be; so are lines of five words none of which is a state that halts in Morphett's
+// simulator.
 export function openFile(name, text) {
-  const kind = /\.jff$/i.test(name) ? "of JFLAP" : /\.ya?ml$/i.test(name) ? "of turingmachine.io" : null;
-  if (!kind) return {table: text, about: `From ${name}.`};
-  const {table, accept} = kind === "of JFLAP" ? ofJflap(text) : ofYaml(text), made = turned(table);
-  return {table: made.text, names: made.names, accept, letter: true, about: `From ${name}, a machine ${kind}. It starts on the first letter of its word.`};
+  const kind = kindOf(text), isOther = kind === null || kind === "morphett" && !/(^|\s)halt/im.test(text);
+  if (!/\.(jff|ya?ml)$/i.test(name) && (isTable(text) || isOther)) return {table: text, about: `From ${name}.`};
+  const machine = readMachine(text, name), {halting} = machine;
+  const several = halting.length > 1 && !machine.haltsAlike;
+  const chosen = several ? halting.find(it => accepts(machine, it)) ?? halting[0] : null;
+  const made = tableOf(machine, name, chosen), {text: table, names} = withOwnNames(made.table, made.names);
+  const spelling = it => made.names.get(it) ?? it, told = it => names[spelling(it)] ?? spelling(it);
+  const stuck = chosen === null ? [] : halting.filter(it => it !== chosen);
+  const about = [`From ${name}, a machine of ${machine.program}.`, "It starts on the first letter of its word.",
+                 ...(stuck.length ? [`It halts in ${chosen}; in ${stuck.join(", ")} it is stuck.`] : [])].join(" ");
+  const those = which => [...new Set(halting.filter(it => which(machine, it)).map(told))];
+  return {table, names, accept: those(accepts), reject: those(rejects), letter: true, about};
 }

@@ -4,15 +4,16 @@ import {LANES} from "./answer.js";
 import {marksWords, showMarks} from "./marks.js";
 import {listed, resetMoves} from "./moves.js";
 import {bandsOf, filmPicture} from "./film_picture.js";
+import {redraw} from "./notices.js";
 import {speedWords} from "./play.js";
 import {heightOf, isPhone, put, widthOf} from "./sizes.js";
 import {followTime, renderWhole, spanOf, spanWords} from "./span.js";
 import {byId, current, state} from "./state.js";
-import {render} from "./view.js";
-import {countWords, endWords, number} from "./words.js";
+import {counterWords} from "./words.js";
 
 const LEAST_NAME = 60, MOST_WHOLE = 4000, MOST_COLUMNS = 720, LEAST_COLUMNS = 48, FILM_SYMBOLS = 2e6, FIRST_PASS = 8;
 // How many moments stand between two that are drawn, and whether they are being asked for.
+/** @type {{stride: number, stages: {stage: Stage, from: number, to: number}[], asking: Promise<void> | null}} */
 const film = {stride: 1, stages: [], asking: null};
 
 export function resetFilm() {
@@ -24,7 +25,7 @@ export async function followRun(run) {
   const came = () => {
     if (run !== current.run) return;
     renderFilm();
-    if (!state.playing) render(false);
+    if (!state.playing) redraw(false);
   };
   if (!run.isWhole) await run.moreUntil(() => run !== current.run, came);
   return run.isWhole;
@@ -91,24 +92,14 @@ export function renderTime(f) {
   it.setAttribute("aria-valuemin", 0);
   it.setAttribute("aria-valuemax", Number.isFinite(run.end) ? run.end : run.starts.at(-1));
   it.setAttribute("aria-valuenow", f.e);
-  it.setAttribute("aria-valuetext", `${f.moment.stage}, quadruple ${f.q} of ${run.count - 1}`);
-  const values = counters(f);
+  it.setAttribute("aria-valuetext", run.isKnown(f.e) ? `${f.moment.stage}, quadruple ${f.q} of ${run.count - 1}`
+    : `element step ${f.e}, which the program runs to`);
+  const values = counterWords(current, f, listed, isPhone());
   for (const button of byId("layers").children) {
     button.setAttribute("aria-pressed", button.dataset.layer === state.layer);
-    const span = button.querySelector("span");
-    if (span.textContent !== values[button.dataset.layer]) span.textContent = values[button.dataset.layer];
+    const span = button.querySelector("span"), value = values[button.dataset.layer ?? ""];
+    if (span && span.textContent !== value) span.textContent = value;
   }
   byId("speedtext").textContent = speedWords();
   byId("speed").setAttribute("aria-valuetext", speedWords());
-}
-function counters({e, q, moment}) {
-  const {run, found} = current, {moves} = listed;
-  const steps = found.own.outcome === "running" ? "…" : number(found.own.steps);
-  const isWhole = moves && !moves.list.isPart && moves.to > moves.from;
-  return {
-    machine: {compute: `${moment.step ?? "…"} of ${steps}`, copy: "copying"}[moment.stage] ?? `back at ${moment.step ?? "…"}`,
-    quadruple: `${number(q)} of ${countWords(run)}`,
-    module: isWhole ? `${listed.at + 1} of ${moves.list.length}` : "·",
-    element: isPhone() ? number(e) : `${number(e)} of ${endWords(run)}`,
-  };
 }

@@ -2,38 +2,43 @@
 import {openAbout} from "./about.js";
 import {stopAll} from "./answer.js";
 import {dragBy, lookAt, moveBy, seen, zoomBy} from "./bank.js";
-import {dropBreak, runBreak, toggleBreak} from "./breaks.js";
+import {dropBreak} from "./breaks.js";
 import {goToFirst} from "./cell.js";
 import {openDiagram} from "./diagram.js";
 import {openHelp, openWindow} from "./dialogs.js";
 import {takeDrag} from "./drag.js";
-import {renderLines} from "./editor.js";
+import {editorText, renderLines} from "./editor.js";
 import {EXAMPLES} from "./examples.js";
 import {openFile} from "./files.js";
 import {renderFilm} from "./film.js";
+import {frame} from "./frame.js";
 import {endHints, placeHint} from "./hints.js";
+import {takeLecture} from "./lecture.js";
+import {closeLens, isLensOpen, openLens} from "./lens.js";
 import {linkOf} from "./links.js";
-import {changed, OWN_WORDS, showOutcome, stale, takeMachine, typed} from "./machine.js";
+import {asPasted, changed, OWN_WORDS, showOutcome, stale, takeMachine, typed} from "./machine.js";
 import {listed} from "./moves.js";
+import {redraw} from "./notices.js";
 import {keepPast, takeBack} from "./past.js";
 import {exportPicture} from "./picture.js";
 import {chooseMiddle} from "./quadruples.js";
 import {openSaidOf} from "./said.js";
 import {openTasks, taskAtHand} from "./sheet.js";
-import {chooseLayer, goTo, goToEnd, pause, play, speedWords, step} from "./play.js";
+import {chooseLayer, goTo, goToEnd, goToKnown, pause, play, runBreak, speedWords, step} from "./play.js";
 import {centreTime, moveTime, spanOf, wholeCount, wholeTime, zoomTime} from "./span.js";
 import {forgetSizes} from "./sizes.js";
 import {openStops} from "./stops.js";
-import {busy, byId, current, LAYERS, nameOf, state, toast} from "./state.js";
+import {busy, byId, current, isTooLong, LAYERS, nameOf, state, toast} from "./state.js";
 import {takeTabs} from "./tabs.js";
 import {openVerdicts} from "./verdicts.js";
-import {frame, render} from "./view.js";
 import {openWorkshop} from "./workshop.js";
 import {endWords, number} from "./words.js";
 
 // What a picture of the whole is made of.
 export const PICTURES = ["own", "diagram", "three", "map", "overview", "bank", "filmpic"];
 export const TEXTS = "#own p,#stages b,#stages span,#rule .head,#rule .more,#three b,#three .tape>div>span,#size,#where,#what,#filmnames span,#stagenames span";
+// What comes as a whole, and not letter by letter: so many letters at least.
+const PASTES = new Set(["insertFromPaste", "insertFromDrop", "insertFromYank"]), LEAST_PASTED = 8, TYPING_REST = 300;
 const LEAST_DRAG = 4, TIME_FACTOR = 2, WHEEL_FACTOR = 1.25, THIRD = 1 / 3;
 
 const on = (id, kind, act, how) => byId(id).addEventListener(kind, act, how);
@@ -56,7 +61,7 @@ export function takeHands() {
       placeHint();
       if (!current.run) return;
       renderFilm();
-      render(false);
+      redraw(false);
     }, 80);
   });
 }
@@ -64,26 +69,43 @@ export function takeHands() {
 // ---- the machine
 
 function onMachine() {
-  on("table", "input", () => {
+  on("table", "input", event => {
+    const {inputType, data} = /** @type {InputEvent} */ (event), more = byId("table").value.length - state.text.length;
+    const isWhole = PASTES.has(inputType) || Math.max(data?.length ?? 0, more) >= LEAST_PASTED;
     keepPast(true);
     Object.assign(state, {text: byId("table").value, example: ""});
+    if (isWhole) asPasted();
     byId("examples").value = "";
     if (taskAtHand() === null) byId("about").textContent = OWN_WORDS;
-    renderLines();
-    typed();
+    if (isTooLong()) editorText();
+    else renderLines();
+    typed(isWhole ? 0 : TYPING_REST);
   });
+  on("table", "paste", event => takeLong(event, event.clipboardData?.getData("text")));
+  on("table", "drop", event => takeLong(event, event.dataTransfer?.getData("text")));
   on("table", "scroll", () => { byId("lines").scrollTop = byId("table").scrollTop; });
   on("word", "input", () => { keepPast(true); state.word = byId("word").value.trim(); typed(); });
   on("examples", "change", () => takeMachine(EXAMPLES.find(it => it.key === byId("examples").value)));
   on("file", "change", takeFile);
-  takeDrag(byId("diagram"), {nameAt: nameOf, draw: () => render(false), click: it => toggleBreak({kind: "state", state: it})});
+  takeDrag(byId("diagram"), {nameAt: nameOf, draw: () => redraw(false), click: (it, place) => openLens({kind: "state", state: it}, place)});
   byId("larger").onclick = () => { pause(); openDiagram(); };
   byId("undo").onclick = () => takeChange(-1);
   byId("redo").onclick = () => takeChange(1);
   byId("verdicts").onclick = () => {
     pause();
-    openVerdicts({kept: keepPast, told: () => { if (current.run) { showOutcome(); render(false); } }});
+    openVerdicts({kept: keepPast, told: () => { if (current.run) { showOutcome(); redraw(false); } }});
   };
+}
+// A text that is pasted and too long to edit never comes into the editor; nor does what stands there only to be read become part
+// of another.
+function takeLong(event, text) {
+  const box = byId("table"), {selectionStart: from, selectionEnd: to} = box;
+  if (!text || !box.readOnly && !isTooLong(text)) return;
+  event.preventDefault();
+  keepPast();
+  Object.assign(state, {text: box.readOnly ? text : state.text.slice(0, from) + text + state.text.slice(to), example: ""});
+  asPasted();
+  changed(0);
 }
 // The last change of the machine, taken back or made again.
 function takeChange(direction) {
@@ -216,7 +238,7 @@ function onPictures() {
     const cell = {tape: Number(it.dataset.tape), cell: Number(it.dataset.cell)};
     const isSame = state.cell?.tape === cell.tape && state.cell.cell === cell.cell;
     state.cell = isSame ? null : cell;
-    render(false);
+    redraw(false);
   });
   on("three", "keydown", onCells);
   on("moves", "click", event => {
@@ -230,16 +252,16 @@ function onPictures() {
 function onCells(event) {
   const {key} = event, {run} = current;
   if (!run || event.ctrlKey || event.metaKey || event.altKey || event.shiftKey) return;
-  const tapes = run.moments[0].tapes, it = state.cell ?? {tape: 1, cell: tapes[0].first - 1};
+  const tapes = run.tapesAt(0), it = state.cell ?? {tape: 1, cell: tapes[0].first - 1};
   const moves = {ArrowLeft: [0, -1], ArrowRight: [0, 1], ArrowUp: [-1, 0], ArrowDown: [1, 0]}[key];
   if (moves) {
     const tape = Math.max(1, Math.min(3, it.tape + moves[0])), {first, symbols} = tapes[tape - 1];
     state.cell = {tape, cell: Math.max(first, Math.min(first + symbols.length - 1, it.cell + moves[1]))};
-    render(false);
+    redraw(false);
   } else if (key === "Enter" && state.cell) goToFirst(state.cell);
   else if (key === "Escape" && state.cell) {
     state.cell = null;
-    render(false);
+    redraw(false);
   } else return;
   event.preventDefault();
   event.stopPropagation();
@@ -259,8 +281,9 @@ function onBank() {
   on("bank", "pointerup", event => {
     const isClick = drag && !drag.isMoved;
     drag = null;
-    const it = isClick && document.elementFromPoint(event.clientX, event.clientY)?.closest("[data-element]");
-    if (it) toggleBreak({kind: "element", element: Number(it.dataset.element)});
+    // The signal and its way lie over the elements.
+    const it = isClick && document.elementsFromPoint(event.clientX, event.clientY).map(one => one.closest("[data-element]")).find(Boolean);
+    if (it) openLens({kind: "element", element: Number(it.dataset.element)}, [event.clientX, event.clientY]);
   });
   on("bank", "wheel", event => {
     event.preventDefault();
@@ -289,7 +312,7 @@ function onBank() {
 
 function fitBank() {
   state.zoom = null;
-  render(false);
+  redraw(false);
 }
 
 // ---- the head of the page, and keys
@@ -298,7 +321,7 @@ function fitBank() {
 function onPanels() {
   takeTabs(byId("middle"), it => {
     chooseMiddle(it.dataset.middle);
-    if (current.run) render(false);
+    if (current.run) redraw(false);
   });
   for (const it of document.querySelectorAll("[data-about]")) it.onclick = () => { pause(); openAbout(it.dataset.about); };
   for (const it of document.querySelectorAll("[data-said]")) it.onclick = () => { pause(); openSaidOf(it.dataset.said); };
@@ -307,6 +330,11 @@ function onPanels() {
 function onHeader() {
   byId("size").onclick = openWindow;
   byId("help").onclick = openHelp;
+  byId("skip").onclick = () => byId("play").focus();
+  takeLecture();
+  document.addEventListener("pointerdown", event => {
+    if (isLensOpen() && !event.target?.closest("#lens,[data-element],#diagram [data-state]")) closeLens();
+  });
   byId("tasks").onclick = openTasks;
   byId("openworkshop").onclick = () => { pause(); openWorkshop(); };
   // A run that isn't there yet is given up; of one that is shown, what is asked for beside it.
@@ -317,6 +345,7 @@ function onHeader() {
     stopAll();
     busy("");
     if (isMaking) stale(true);
+    else goToKnown();
     toast(isMaking ? "Stopped. Make the word shorter, or choose the window by hand." : "Stopped. A step or a click asks again.");
   };
   byId("share").onclick = async () => {
@@ -345,7 +374,7 @@ function onKey(event) {
     " ": () => togglePlay(-1), ArrowRight: () => runBreak(1), ArrowLeft: () => runBreak(-1), ArrowUp: () => layer(-1), ArrowDown: () => layer(1),
   }[key] : {
     " ": () => state.playing ? pause() : play(1), ArrowRight: () => step(1), ArrowLeft: () => step(-1),
-    Home: () => byId("first").click(), End: () => byId("last").click(), Escape: endHints,
+    Home: () => byId("first").click(), End: () => byId("last").click(), Escape: () => isLensOpen() ? closeLens() : endHints(),
   }[key]);
   if (!act) return;
   event.preventDefault();

@@ -1,13 +1,14 @@
 // Three short hints at a first visit, each at its place. That they were seen is kept in the browser; where nothing can
 // be kept, none is shown.
-import {byId} from "./state.js";
+import {byId, state} from "./state.js";
 
 const KEPT_AS = "hithwelor hints", HINT_GAP = 10;
 const HINTS = [
-  {at: "#layers", words: "Play it, and take it back: space, → and ←. Here you choose what a step is."},
-  {at: "#map", words: "The same step in the circuit. A click on a state, a cell or an element stops there; ? says " +
-    "what is seen."},
-  {at: ".editor", words: "Type a machine here, or take one of the examples. What the program says of it stands below."},
+  {at: "#stages", words: "A step that forgets what was there costs heat, and can't be taken back. This machine forgets nothing: it keeps a " +
+    "history, copies its output, and takes every step back."},
+  {at: "#play", words: "Play it, and play it back: space and shift space. → and ← make one step; beside them you choose what a step is."},
+  {at: ".editor", words: "Paste or type a machine of your own here, in a book's notation too. What the program says of it stands below."},
+  {at: "#map", words: "The same step in the circuit. A click on a state, a cell or an element tells what it is; ? says what is seen."},
 ];
 let shownHint = -1;
 
@@ -25,7 +26,7 @@ function keepSeen() {
 }
 
 export function beginHints() {
-  if (shownHint < 0 && !wereSeen()) showHint(0);
+  if (shownHint < 0 && state.lesson === null && !wereSeen()) showHint(0);
 }
 export function endHints() {
   if (!byId("hint")) return;
@@ -45,7 +46,7 @@ function showHint(k) {
   box.innerHTML = `<p>${HINTS[k].words}</p><p class="row"><span class="quiet">${k + 1} of ${HINTS.length}</span>
     <button id="hintend">${isLast ? "Close" : "No more"}</button>
     ${isLast ? "" : '<button id="hintnext" class="main">Next</button>'}</p>`;
-  document.querySelector("header").after(box);
+  document.querySelector("header")?.after(box);
   byId("hintend").onclick = endHints;
   if (!isLast) byId("hintnext").onclick = () => {
     showHint(k + 1);
@@ -58,6 +59,7 @@ export function placeHint() {
   const box = byId("hint");
   if (!box) return;
   const it = document.querySelector(HINTS[shownHint].at);
+  if (!it) return;
   const place = it.getBoundingClientRect();
   if (place.top < 0 || place.bottom > innerHeight) it.scrollIntoView({block: "center"});
   const target = it.getBoundingClientRect(), {width, height} = box.getBoundingClientRect();

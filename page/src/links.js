@@ -7,11 +7,16 @@ const IN_LINK = [["n", "names"], ["ac", "accept"], ["rj", "reject"], ["ws", "tri
 
 export function linkOf() {
   const it = new URLSearchParams({t: state.text, w: state.word, e: String(state.e), l: state.layer});
+  // An example that stands as it is keeps its name.
+  const example = EXAMPLES.find(other => other.key === state.example);
+  if (example && example.table === state.text && Boolean(example.letter) === state.asStandard) it.set("m", example.key);
   if (state.asStandard) it.set("s", "1");
+  if (state.asTyped) it.set("u", "1");
   if (state.window) it.set("win", state.window.join(" "));
   for (const [key, name] of IN_LINK) {
     if (Object.keys(state[name]).length) it.set(key, JSON.stringify(state[name]));
   }
+  if (state.lesson !== null) it.set("learn", state.lesson);
   return "#" + it.toString();
 }
 function keptIn(it) {
@@ -31,10 +36,11 @@ export function readLink(hash) {
   const it = new URLSearchParams(hash.slice(1));
   if (!it.has("t") && !it.has("m")) return null;
   const example = EXAMPLES.find(other => other.key === it.get("m"));
+  const layer = it.get("l") ?? "";
   const window = it.get("win")?.split(" ").map(Number) ?? null;
   return {
     text: it.get("t") ?? example?.table ?? "", word: it.get("w") ?? example?.word ?? "", e: Number(it.get("e")) || 0,
-    layer: LAYERS.includes(it.get("l")) ? it.get("l") : "quadruple", asStandard: it.has("s") || Boolean(example?.letter),
+    layer: LAYERS.includes(layer) ? layer : "quadruple", asStandard: it.has("s") || Boolean(example?.letter), asTyped: it.has("u"),
     ...keptIn(it), window: window?.length === 4 && window.every(Number.isInteger) ? window : null, example: example?.key ?? "",
   };
 }

@@ -6,20 +6,28 @@ import {editorText, markFaults} from "./editor.js";
 import {EXAMPLES} from "./examples.js";
 import {followRun, renderFilm, resetFilm} from "./film.js";
 import {beginHints} from "./hints.js";
+import {redraw} from "./notices.js";
 import {keepPast} from "./past.js";
 import {fetchFrame, pause} from "./play.js";
+import {readingsOf} from "./reading.js";
 import {Run} from "./run.js";
-import {busy, byId, current, dialog, escaped, nameOf, state, toast} from "./state.js";
+import {busy, byId, current, dialog, escaped, isTooLong, nameOf, state, toast} from "./state.js";
 import {put} from "./sizes.js";
-import {blankCandidates, faultOf, freeNames, rulesOf, spelled, statesOf, turned} from "./table.js";
+import {blankCandidates, faultOf, freeNames, lettersOf, refusalWords, rulesOf, spelled, statesOf, turned} from "./table.js";
+import {matchOf} from "./texts.js";
 import {answerWords, judgedBy} from "./verdicts.js";
-import {render} from "./view.js";
 import {findRun, Refused, widen} from "./window.js";
 import {number} from "./words.js";
 
-const MOST_BLANKS = 4;
+const MOST_BLANKS = 4, SOUGHT_AFTER = 200;
+// What of a reading is said at once: the rest is in sight where it is asked for.
+const TOLD_AT_ONCE = /the blank$|halts|stuck| to [!-~]$/;
 export const OWN_WORDS = "Your own machine, run by the program.";
 let waiting = null;
+// The text that came as a whole, and is to be read in whatever notation it is; and the one that was made of it, with what stood
+// there before.
+/** @type {{text: string | null, made: {text: string, reading: Reading, before: Partial<Typed>} | null}} */
+const pasted = {text: null, made: null};
 
 // Something was typed: it is looked at when the typing rests. A step may be given at which the run is shown.
 export function typed(delay = 300, keep = 0) {
@@ -31,15 +39,23 @@ export function typed(delay = 300, keep = 0) {
   }), delay);
 }
 
+// What stands there came as a whole: it is read in any notation, once.
+export function asPasted() {
+  state.asTyped = false;
+  pasted.text = state.text;
+}
+
 // Takes an example, or a machine like one.
 export function takeMachine(example, e = 0) {
   pause();
   if (state.text) keepPast();
   Object.assign(state, {text: example.table, word: example.word, names: example.names ?? {}, asStandard: Boolean(example.letter),
                         accept: example.accept ?? [], reject: example.reject ?? [], tried: [], places: {},
-                        blank: null, window: example.window ?? null, breaks: [], e: 0, example: example.key ?? ""});
+                        blank: null, window: example.window ?? null, breaks: [], e: 0, example: example.key ?? "",
+                        asTyped: Boolean(example.asTyped)});
+  if (!state.asTyped) asPasted();
   byId("about").textContent = example.about;
-  byId("examples").value = state.example;
+  byId("examples").value = state.example ?? "";
   byId("word").value = state.word;
   editorText();
   chips();
@@ -50,17 +66,20 @@ export function takeMachine(example, e = 0) {
 async function rebuild(keep = 0) {
   const edition = ++state.editions, isOld = () => edition !== state.editions;
   state.isMaking = true;
+  sought(true);
   busy("asking the program …");
-  state.names = freeNames(state.text, state.names);
-  const given = spelled(state.text, state.names), judged = await judge(state.text, given, isOld);
+  state.names = isTooLong() ? {} : freeNames(state.text, state.names);
+  const judged = await judge(state.text, isTooLong() ? state.text : spelled(state.text, state.names), isOld);
   if (isOld()) return;
+  if (judged.reading) takeReading(judged.reading, Boolean(judged.isStandard));
+  const given = judged.given ?? (isTooLong() ? state.text : spelled(state.text, state.names));
   if (judged.fault) {
     showFault(judged);
     stale(true);
     busy("");
     return;
   }
-  const userRules = rulesOf(given), {table, isStandard} = judged;
+  const userRules = rulesOf(given), {table = given, isStandard = false} = judged;
   current.machine = {table, given, isStandard, rules: rulesOf(table), userRules, userStates: statesOf(userRules)};
   showVerdict(judged);
   byId("word").classList.remove("fault");
@@ -78,14 +97,51 @@ async function rebuild(keep = 0) {
 // The machine was changed otherwise than by typing: the text stands in the editor, and is looked at.
 export function changed(keep = state.e) {
   if (byId("sheet").hidden) byId("about").textContent = EXAMPLES.find(it => it.key === state.example)?.about ?? OWN_WORDS;
-  byId("examples").value = state.example;
+  byId("examples").value = state.example ?? "";
   byId("word").value = state.word;
   editorText();
   typed(0, keep);
 }
 
+// The table that a text was read as stands in its place.
+function takeReading(reading, isStandard) {
+  const {text, names, accept, reject, word, asStandard} = state, letters = new Set(lettersOf(rulesOf(reading.text)));
+  const states = new Set(rulesOf(reading.text).flatMap(it => [it.state, it.next])), isSaid = [...accept, ...reject].some(it => states.has(it));
+  const fits = it => [...it].every(letter => letter !== "_" && letters.has(letter));
+  keepPast();
+  Object.assign(state, {text: reading.text, names: reading.names, asStandard: isStandard,
+                        word: reading.word !== null && fits(reading.word) && !fits(word) ? reading.word : fits(word) ? word : ""});
+  if (!isSaid) Object.assign(state, {accept: reading.accept, reject: reading.reject});
+  Object.assign(pasted, {text: null, made: {text: state.text, reading, before: {text, names, accept, reject, asStandard}}});
+  byId("word").value = state.word;
+  editorText();
+}
+// What was read stands there again as it was, and is taken for a table.
+function undoReading() {
+  if (!pasted.made) return;
+  keepPast();
+  Object.assign(state, pasted.made.before, {asTyped: true});
+  changed();
+}
+// What a text that came as a whole is read as: the first reading that is a machine as the program takes it.
+/** @type {(text: string, isOld: () => boolean) => Promise<Partial<Judged> | null>} */
+async function readAs(text, isOld) {
+  const {readings, fault} = readingsOf(text, state.names);
+  for (const reading of readings) {
+    const given = spelled(reading.text, reading.names), checked = await answer(["check"], given);
+    if (isOld()) return null;
+    if (checked.status === STATUS.done) return {reading, given, table: given, isStandard: false, good: checked.text};
+    const standard = await answer(["standard"], given);
+    if (isOld()) return null;
+    if (standard.status === STATUS.done) return {reading, given, table: standard.text, isStandard: true};
+  }
+  return fault ? {fault} : null;
+}
+
+const tooLongWords = text => `With its ${number(text.length)} characters it is too long to edit here; its beginning is shown.`;
 // What the program says of a table, as it was typed and as it is given to it: the table that runs, or the fault and what
 // the page offers.
+/** @type {(text: string, given: string, isOld: () => boolean) => Promise<Partial<Judged>>} */
 async function judge(text, given, isOld) {
   const checked = await answer(["check"], given);
   if (isOld() || checked.status === STATUS.done) {
@@ -95,12 +151,16 @@ async function judge(text, given, isOld) {
   const standard = await answer(["standard"], given);
   const cut = [checked, standard].find(isCutOff);
   if (cut) return {fault: cut.words, again: true};
+  if (isTooLong()) return {fault: faultOf(checked.text, text).text, also: tooLongWords(text), isLong: true};
   const fault = faultOf(checked.text, text), turn = turned(text, state.blank ?? null, state.names), offers = {};
+  const read = pasted.text === text && !(state.asStandard && standard.status === STATUS.done && !turn.said.length) ? await readAs(text, isOld) : null;
+  if (read || isOld()) return read ?? {fault: ""};
   if (turn.said.length && (await answer(["check"], spelled(turn.text, turn.names))).status !== STATUS.text) offers.turn = turn;
   if (!offers.turn && standard.status === STATUS.done) {
     if (state.asStandard) return {table: standard.text, isStandard: true};
     offers.standard = true;
   }
+  if (!offers.turn && !offers.standard && (await readAs(text, isOld))?.reading) offers.read = true;
   if (!offers.turn && fault.standard) {
     const other = standard.status === STATUS.machine ? faultOf(standard.text, text) : fault;
     if (other.text !== fault.text) offers.also = `Nor can it start on its first letter. ${other.text}`;
@@ -112,14 +172,16 @@ async function judge(text, given, isOld) {
 // The run in the window that is chosen, or in the one that the program finds.
 async function makeRun(table, isOld) {
   busy("looking for a window …");
-  const found = await findRun(table, state.word, state.window);
+  // What is typed meanwhile is another run's.
+  const {word, window} = state, found = await findRun(table, word, window);
   if (!isOld()) busy("its circuit, and its moments …");
-  return {run: await new Run(table, state.word, found).open(), found};
+  return {run: await new Run(table, word, found).open(), found};
 }
 
 function showRun({run, found}, keep) {
   Object.assign(current, {run, found});
   state.isMaking = false;
+  sought(false);
   state.breaks = state.breaks.filter(it => it.kind !== "state" || run.states.includes(it.state));
   stale(false);
   busy("");
@@ -128,7 +190,7 @@ function showRun({run, found}, keep) {
   showOutcome();
   chips();
   renderFilm();
-  render();
+  redraw();
   requestAnimationFrame(() => { if (!performance.getEntriesByName("shown").length) performance.mark("shown"); });
   fetchFrame(1);
   followRun(run).then(isWhole => { if (isWhole && run === current.run && !Number.isFinite(run.end)) openWider(run); }).catch(console.error);
@@ -142,8 +204,17 @@ async function openWider(run) {
   typed(0);
 }
 
+// While a run is sought that takes longer than a moment, what is shown of the last one has no colours, as where it is stale: its text is as easy to read.
+let soughtAfter = 0;
+function sought(isOn) {
+  clearTimeout(soughtAfter);
+  if (isOn) soughtAfter = setTimeout(() => document.body.classList.add("sought"), SOUGHT_AFTER);
+  else document.body.classList.remove("sought");
+}
+
 // Whether what is shown is of an earlier table.
 export function stale(it) {
+  sought(false);
   document.body.classList.toggle("stale", it && Boolean(current.run));
   document.body.classList.toggle("empty", !current.run);
   if (!current.run) {
@@ -173,7 +244,8 @@ function turnTo(turn) {
   editorText();
   typed(0);
 }
-function showFault({fault, also, lines = [], turn, standard, blanks = [], again = false}) {
+/** @param {Partial<Judged>} judged */
+function showFault({fault, also, lines = [], turn, standard, blanks = [], again = false, read = false, isLong = false}) {
   const box = byId("verdict");
   box.innerHTML = `<span class="fault">${escaped(fault)}</span>`;
   if (also) box.innerHTML += `<p class="note">${escaped(also)}</p>`;
@@ -188,31 +260,46 @@ function showFault({fault, also, lines = [], turn, standard, blanks = [], again 
   for (const it of blanks.slice(0, MOST_BLANKS)) {
     addButton(`${it} is the blank`, "", () => { state.blank = it; turnTo(turned(state.text, it, state.names)); });
   }
+  if (read) addButton("Read it so", "main", () => { asPasted(); typed(0); }).title = "it is a notation that the page reads";
+  if (isLong) addButton("Clear", "", () => { keepPast(); state.text = ""; changed(0); });
   if (again) addButton("Try it again", "main", () => typed(0, state.e));
   markFaults(lines);
   tellJudged();
 }
 // Whoever shows the table elsewhere hears that the program has judged it.
 function tellJudged() { document.dispatchEvent(new Event("judged")); }
-function showVerdict({good, isStandard}) {
-  const {machine} = current, count = machine.rules.length, box = byId("verdict");
-  if (isStandard) {
+/** @param {Partial<Judged>} judged */
+function showVerdict({good = "", isStandard}) {
+  const {machine} = current, count = machine.rules.length, box = byId("verdict"), made = pasted.made?.text === state.text ? pasted.made : null;
+  if (made && (isStandard || made.text !== made.before.text)) {
+    const {what, said} = made.reading, standard = isStandard ? [`standard form adds ${count - machine.userRules.length} rules`] : [];
+    const told = [...said.filter(it => TOLD_AT_ONCE.test(it)), ...standard].join("; ");
+    box.innerHTML = `<span class="note" title="${escaped([...said, ...standard].join("; "))}">Read as ${escaped(what || "a table")}${told ? `: ${escaped(told)}` : ""}</span> `;
+    addButton("undo", "link", undoReading).title = "what was pasted stands there again";
+    addButton("See", "link", () => showReading(made.reading, isStandard));
+  } else if (isStandard) {
     box.innerHTML = `<span class="note">Brought into standard form, ${count - machine.userRules.length} rules added. `
       + `Beside each line's number stands its <b class="ruleno">rule's</b>.</span> `;
     addButton("See", "link", showStandard);
     addButton("As typed", "link", () => { keepPast(); state.asStandard = false; typed(0); });
   } else {
-    const [, states, symbols, rules] = /states (\d+) symbols (\d+) quintuples (\d+)/.exec(good);
+    const [, states, symbols, rules] = matchOf(/states (\d+) symbols (\d+) quintuples (\d+)/, good);
     box.innerHTML = `<span class="note" title="${symbols} symbols with the blank">In standard form: ${states} states, ${rules} rules</span>`;
   }
   markFaults([]);
   tellJudged();
 }
+// What was turned of what was pasted, and the table that runs.
+function showReading({what, said}, isStandard) {
+  const turned = [...said, ...(isStandard ? ["it starts on its first letter, so it was brought into standard form"] : [])];
+  dialog(`<h2>Read as ${escaped(what || "a table")}</h2><ul>${turned.map(it => `<li>${escaped(it)}</li>`).join("")}</ul>
+    <p class="quiet">The table that runs${isStandard ? ", as <code>standard</code> printed it, with your names" : ""}:</p><pre class="listing">${listing()}</pre>`);
+}
+const listing = () => current.machine.rules.map((it, k) =>
+  `${String(k + 1).padStart(3)}  ${escaped(nameOf(it.state))}, ${it.read}, ${it.write}, ${it.shift}, ${escaped(nameOf(it.next))}`).join("\n");
 function showStandard() {
-  const lines = current.machine.rules.map((it, k) =>
-    `${String(k + 1).padStart(3)}  ${escaped(nameOf(it.state))}, ${it.read}, ${it.write}, ${it.shift}, ${escaped(nameOf(it.next))}`);
   dialog('<h2>The same machine in standard form</h2><p class="quiet">What <code>standard</code> printed, with your names. Rule 1 '
-    + `steps onto the word; the last ones go back over it.</p><pre class="listing">${lines.join("\n")}</pre>`);
+    + `steps onto the word; the last ones go back over it.</p><pre class="listing">${listing()}</pre>`);
 }
 function showRefusal({reply, message}) {
   if (isCutOff(reply)) {
@@ -222,10 +309,7 @@ function showRefusal({reply, message}) {
     busy("");
     return;
   }
-  const place = /^word: (\d+)/.exec(reply.text), size = /^size: (.*)/.exec(reply.text);
-  const letters = new Set(current.machine.rules.flatMap(it => [it.read, it.write]).filter(it => it !== "_"));
-  const words = place ? `Letter ${place[1]}, “${state.word[place[1] - 1]}”, isn't in the table. Its letters: ${[...letters].join(" ") || "none"}.`
-    : size ? `Too large: ${size[1]}. A circuit has at most 4,194,304 elements.` : message;
+  const words = refusalWords(reply.text, state.word, current.machine.rules) ?? message;
   byId("word").classList.add("fault");
   byId("outcome").innerHTML = `<span class="fault">${escaped(words)}</span>`;
   stale(true);

@@ -2,14 +2,17 @@
 // signal comes to an element is asked of the program, some of it, for the part of the time line that is seen.
 import {LANES, STATUS} from "./answer.js";
 import {holdsAt} from "./breaks.js";
-import {saySpan} from "./film.js";
+import {marksChanged} from "./notices.js";
 import {spanOf} from "./span.js";
-import {byId, current, state} from "./state.js";
+import {breaksOf, byId, current, state} from "./state.js";
+import {matchOf} from "./texts.js";
 import {number} from "./words.js";
 
 const MOST_MARKS = 400, MOST_COMES = 200, MARK_PARTS = 32, MARKS_REST = 180;
 // What was asked of the elements: for which part, and the steps by their numbers.
-const marks = {run: null, key: null, comes: new Map(), later: null, isMore: false};
+/** @type {{run: import("./run.js").Run | null, key: string | null, comes: Map<number, {steps: number[], isMore: boolean}>,
+ *   later: ReturnType<typeof setTimeout> | undefined, isMore: boolean}} */
+const marks = {run: null, key: null, comes: new Map(), later: undefined, isMore: false};
 
 // Where the signal comes to an element between two steps, the second one included: at most so many steps, and whether
 // there are more of them. The way is gone in parts, so that it ends soon behind the second step.
@@ -18,15 +21,15 @@ export async function comesTo(run, element, from, to, most = MOST_COMES) {
   const script = `break e element ${element}\nstep ${from}\n` + `go ${part}\n`.repeat(most + MARK_PARTS + 1);
   const reply = await run.session(script, {lane: LANES.long});
   if (reply.status !== STATUS.done) return null;
-  const found = [];
+  const comes = [];
   let at = from;
   for (const line of reply.text.split("\n").slice(2, -1)) {
-    const [, where, steps, label] = /^(at|left) \S+ steps (\d+)( break e)?$/.exec(line), hasLeft = where === "left";
+    const [, where, steps, label] = matchOf(/^(at|left) \S+ steps (\d+)( break e)?$/, line), hasLeft = where === "left";
     at = hasLeft ? Infinity : Number(steps);
-    if (label && Number(steps) <= to) found.push(Number(steps));
+    if (label && Number(steps) <= to) comes.push(Number(steps));
     if (at > to || hasLeft) break;
   }
-  return {steps: found.slice(0, most), isMore: found.length > most || at < to};
+  return {steps: comes.slice(0, most), isMore: comes.length > most || at < to};
 }
 
 export function showMarks() {
@@ -37,7 +40,7 @@ export function showMarks() {
   marks.isMore = seen.length > MOST_MARKS;
   byId("breakmarks").innerHTML = places.join("");
   askElements(run);
-  saySpan();
+  marksChanged();
 }
 function marksSeen(run, from, to) {
   const others = state.breaks.filter(it => it.kind !== "element"), found = [];
@@ -49,7 +52,7 @@ function marksSeen(run, from, to) {
   }
   return found.filter(it => it.time >= from && it.time <= to);
 }
-const elementsWanted = () => state.breaks.filter(it => it.kind === "element");
+const elementsWanted = () => breaksOf("element");
 
 // Asks for the marks of the part that is seen, once it has come to rest.
 function askElements(run) {
@@ -62,9 +65,9 @@ function askElements(run) {
   if (!wanted.length) return;
   marks.later = setTimeout(async () => {
     for (const {element} of wanted) {
-      const found = await comesTo(run, element, Math.max(0, first - 1), last);
+      const comes = await comesTo(run, element, Math.max(0, first - 1), last);
       if (marks.key !== key) return;
-      if (found) marks.comes.set(element, found);
+      if (comes) marks.comes.set(element, comes);
     }
     showMarks();
   }, MARKS_REST);

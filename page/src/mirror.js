@@ -3,6 +3,7 @@
 import {answer, STATUS} from "./answer.js";
 import {readConfiguration} from "./circuit.js";
 import {circuitFault, CIRCUITS, circuitText} from "./circuits.js";
+import {partOf} from "./state.js";
 import {Stepper} from "./stepper.js";
 import {inTurn} from "./turns.js";
 
@@ -26,8 +27,9 @@ const GLASS_PAGE = `<div class="e-left">
       <p id="m-mplace" class="e-place"></p></figure>
     <p id="m-said" class="e-said" role="status"></p></div>`;
 
-const glass = {box: null, circuit: null, mirror: null, made: null};
-const glassPart = id => glass.box.querySelector("#" + id);
+// The box and both circuits are there once the page was opened.
+const glass = /** @type {{box: HTMLElement, circuit: Stepper, mirror: Stepper, made: string | null}} */ ({made: null});
+const glassPart = id => partOf(glass.box, id);
 
 async function takeGlass() {
   const reply = await circuitText(glassPart("m-text").value);
@@ -38,7 +40,7 @@ async function takeGlass() {
 }
 // The mirror of the circuit as it stands now.
 async function makeMirror() {
-  const reply = await answer(["mirror"], glass.circuit.text);
+  const reply = await answer(["mirror"], glass.circuit.text ?? "");
   if (reply.status !== STATUS.done) return;
   glass.made = reply.text;
   glass.mirror.take(reply.text);
@@ -55,7 +57,7 @@ const stepMirror = direction => inTurn(async () => {
 // What the mirror has undone: its bars beside those of the circuit so many steps back, as `back` gives it.
 async function compare() {
   const made = glass.mirror.steps(), left = glass.circuit.steps() - made, bars = glass.mirror.bars();
-  const before = await answer(["back", String(made)], glass.circuit.text);
+  const before = await answer(["back", String(made)], glass.circuit.text ?? "");
   const isEqual = readConfiguration(before.text).bars.join("") === bars;
   const atStart = left ? "." : ": at its start. All is undone.";
   const count = made === 1 ? "one step" : `${made} steps`;
@@ -68,7 +70,7 @@ async function compare() {
 
 export function chooseGlass(text) {
   const k = CIRCUITS.findIndex(it => it.text === text);
-  glassPart("m-examples").value = k < 0 ? FIRST_GLASS : k;
+  glassPart("m-examples").value = String(k < 0 ? FIRST_GLASS : k);
   glassPart("m-text").value = text;
   return inTurn(takeGlass);
 }

@@ -2,7 +2,8 @@
 // tells with a breakpoint at each state, some at a time. What the tapes show at one of them (`view`) comes with it where a
 // run is short; of a long one it is fetched where it is wanted, and kept while there is room.
 import {LANES, STATUS} from "./answer.js";
-import {GREATEST, readPlace, readView} from "./texts.js";
+import {rulesOf, statesOf} from "./table.js";
+import {GREATEST, matchOf, readPlace, readView} from "./texts.js";
 
 // How many moments are asked for at first, how many at most; up to how many element steps a run is asked for at once;
 // and how long a piece may take, at the least.
@@ -18,16 +19,58 @@ export const limits = {
   chunk: LEAST_CHUNK, far: FAR_STEP,
 };
 
-const digitsOf = name => Number(/\d+/.exec(name)[0]);
+const digitsOf = name => Number(matchOf(/\d+/, name)[0]);
 
 export class Moments {
+  // The moments that are known, the element steps at which they begin, and where the layers above the circuit stop.
+  /** @type {Moment[]} */ moments = [];
+  /** @type {number[]} */ starts = [];
+  /** @type {{quadruple: number[], machine: number[]}} */ stops = {quadruple: [], machine: []};
+  // Whether all are known; how many there are, where that is known before; the last element step, as far as it is known.
+  isWhole = false;
+  /** @type {number | null} */ total = null;
+  end = Infinity;
+  // By which line the signal leaves, and with which moment the copying begins.
+  /** @type {{place: number} | null} */ leaves = null;
+  /** @type {number | null} */ copyAt = null;
+  // Those whose tapes are kept, those that may not be let go, the one that was looked at, and how many cells the tapes have.
+  /** @type {Set<number>} */ kept = new Set();
+  /** @type {Set<number>} */ pinned = new Set();
+  at = 0;
+  cells = 0;
+  // How many are asked for at once, with their tapes where the run is small, and how many views make a block.
+  many = FIRST_MOMENTS;
+  isSmall = false;
+  block = LEAST_BLOCK;
+  setBreaks = "";
+  script = "";
+  /** @type {string[]} */ names = [];
+  /** @type {Promise<boolean> | null} */ asking = null;
+  /** @type {{q: number, promise: Promise<boolean>} | null} */ viewing = null;
+  /** @type {Promise<any> | null} */ coming = null;
+  // The answer that was cut off.
+  /** @type {Reply} */ cut = {status: -1, text: "", words: ""};
+
+  // A table, its window, how the machine runs by itself, and what `run` said of it.
+  /** @param {{table: string, window: Window4, own: Own, outcome: Outcome, isOpen: boolean}} run */
+  constructor({table, window, own, outcome, isOpen}) {
+    this.table = table;
+    this.window = window;
+    this.own = own;
+    this.outcome = outcome;
+    this.isOpen = isOpen;
+    this.rules = rulesOf(table);
+    this.states = statesOf(this.rules);
+  }
+  // What a run gives them.
+  /** @type {(script: string) => string} */ inputOf(script) { throw new Error(script); }
+  /** @type {(script: string, how?: {lane?: number}) => Promise<Reply>} */
+  async session(script, how) { throw new Error(script + how); }
+
   beginMoments() {
-    const [l1, r1, n, r3] = this.window;
-    Object.assign(this, {
-      moments: [], starts: [], stops: {quadruple: [], machine: []}, isWhole: false, leaves: null, copyAt: null, asking: null,
-      kept: new Set(), pinned: new Set(), at: 0, cells: l1 + r1 + n + r3 + 3,
-      total: this.outcome.exit === "end" ? this.outcome.quadruples + 1 : null,
-    });
+    const [l1, r1, n, r3] = this.window, {exit, quadruples} = this.outcome;
+    this.cells = l1 + r1 + n + r3 + 3;
+    this.total = exit === "end" && quadruples !== null ? quadruples + 1 : null;
     const most = this.total ?? 4 * n + 4 * r3 + 12;
     this.isSmall = most * this.cells <= limits.small;
     this.many = this.end <= limits.quick ? most : limits.first;
@@ -59,7 +102,7 @@ export class Moments {
   takeMoments(lines) {
     const wide = this.isSmall ? 8 : 1;
     for (let at = this.names.length + 1; at + wide < lines.length && !this.isWhole; at += wide) {
-      const [, where, line, steps, label] = /^(at|left) (\S+) steps (\d+)(?: break s(\d+))?$/.exec(lines[at]);
+      const [, where, line, steps, label] = matchOf(/^(at|left) (\S+) steps (\d+)(?: break s(\d+))?$/, lines[at]);
       const place = readPlace(line), hasLeft = where === "left";
       if (label === undefined) this.leaves = {place};
       else this.addMoment({...this.kindOf(this.names[label]), steps: Number(steps), place, hasLeft, tapes: null, step: null});
@@ -72,8 +115,9 @@ export class Moments {
   }
   // The end of a long run: its last moment, where the signal has left by the control's line to the outside.
   closeRun() {
-    const {steps, hasLeft} = this.moments.at(-1);
-    if (!hasLeft) return;
+    const last = this.moments.at(-1);
+    if (!last?.hasLeft) return;
+    const {steps} = last;
     this.end = steps;
     Object.assign(this.outcome, {exit: "end", steps, quadruples: this.moments.length - 1, output: this.own.output});
   }
@@ -87,14 +131,15 @@ export class Moments {
   }
   // What the name of a state of Bennett's machine says: docs/FORMATS.md, Bennett's table.
   kindOf(name) {
-    if (name.startsWith("B")) return {name, stage: "copy", state: this.rules.at(-1).next, rule: null};
+    if (name.startsWith("B")) return {name, stage: "copy", state: this.rules.at(-1)?.next ?? null, rule: null};
     const stage = name.startsWith("A") ? "compute" : "retrace", isRule = name.endsWith("'");
     return {name, stage, state: isRule ? null : this.states[digitsOf(name) - 1], rule: isRule ? digitsOf(name) : null};
   }
-  isKnown(e) { return this.isWhole || this.starts.at(-1) > e; }
+  isKnown(e) { return this.isWhole || (this.starts.at(-1) ?? 0) > e; }
   // The moments up to a step, up to one of them, or all; false where the asking was stopped.
   async momentsTo(e) { return this.moreUntil(() => this.isKnown(e)); }
   async momentsUpTo(q) { return this.moreUntil(() => this.moments.length > q); }
+  /** @type {(isDone: () => boolean, told?: () => void) => Promise<boolean>} */
   async moreUntil(isDone, told = () => {}) {
     while (!this.isWhole && !isDone()) {
       if (!(await this.more())) return false;
@@ -131,10 +176,11 @@ export class Moments {
   }
   // The parts of the time line that are of one stage, as far as it is known.
   stageParts() {
+    /** @type {{stage: Stage, from: number, to: number}[]} */
     const parts = [];
     for (let q = 0; q < this.moments.length; q++) {
-      const {stage} = this.moments[q];
-      if (parts.at(-1)?.stage === stage) parts.at(-1).to = q + 1;
+      const {stage} = this.moments[q], last = parts.at(-1);
+      if (last?.stage === stage) last.to = q + 1;
       else parts.push({stage, from: q, to: q + 1});
     }
     return parts;
@@ -170,11 +216,10 @@ export class Moments {
     this.at = q;
     if (this.hasViews(q)) return true;
     // Who wants the same meanwhile waits for the same answer.
-    if (this.viewing?.q !== q) {
-      const it = {q, promise: this.askNear(q, direction, how).finally(() => { if (this.viewing === it) this.viewing = null; })};
-      this.viewing = it;
-    }
-    return this.viewing.promise;
+    if (this.viewing && this.viewing.q === q) return this.viewing.promise;
+    const it = {q, promise: this.askNear(q, direction, how).finally(() => { if (this.viewing === it) this.viewing = null; })};
+    this.viewing = it;
+    return it.promise;
   }
   askNear(q, direction, how) {
     const from = direction < 0 ? q - this.block : q - 2, to = direction > 0 ? q + this.block : q + 2;
@@ -206,7 +251,13 @@ export class Moments {
 
   // ---- cells of the tapes at the moments
 
-  cellAt(q, tape, cell) { const it = this.moments[q].tapes[tape - 1]; return it.symbols[cell - it.first]; }
+  cellAt(q, tape, cell) { const it = this.tapesAt(q)[tape - 1]; return it.symbols[cell - it.first]; }
+  // What the tapes show at a moment of which that is known.
+  tapesAt(q) {
+    const {tapes} = this.moments[q];
+    if (!tapes) throw new Error(`moment ${q} has no tapes yet`);
+    return tapes;
+  }
   // Whether a cell is otherwise than at the moment before; false where that isn't known.
   isChange(q, tape, cell) {
     return q > 0 && this.hasView(q) && this.hasView(q - 1) && this.cellAt(q, tape, cell) !== this.cellAt(q - 1, tape, cell);
@@ -224,6 +275,8 @@ export class Moments {
   }
   // The same with what isn't known asked of the program, from a moment on: the moment, null where there is none, and
   // undefined where the asking was stopped. `told` hears where it is.
+  /** @typedef {(q: number) => void} Told */
+  /** @type {(tape: number, cell: number, from: number, direction: number, told?: Told) => Promise<number | null | undefined>} */
   async findChange(tape, cell, from, direction, told = () => {}) {
     for (let q = from; q > 0; q += direction) {
       if (!(await this.momentsUpTo(q))) return undefined;

@@ -5,6 +5,7 @@ import {byId, current, escaped, state} from "./state.js";
 import {lineOf, number, shortBank} from "./words.js";
 
 // The moves that are listed: from and to which step, the list, and the place of the one at work.
+/** @type {{moves: {from: number, to: number, list: Moves} | null, at: number | null, key: string | null}} */
 export const listed = {moves: null, at: -1, key: null};
 
 const MOST_ROWS = 160, ROWS_ON = 40, MOST_PIECES_OF_STRIP = 300;
@@ -16,7 +17,8 @@ export function resetMoves() {
 export function renderMoves(f) {
   const {run} = current, from = run.starts[f.q], to = run.starts[f.q + 1] ?? run.end;
   const list = run.movesBetween(from, Math.max(to, from + 1));
-  listed.moves = {from, to, list};
+  const moves = {from, to, list};
+  listed.moves = moves;
   if (to <= from) {
     put("moves", `<h3><span>The run is over</span><span class="quiet">${number(run.end)} element steps</span></h3>`);
     put("strip", "");
@@ -26,8 +28,8 @@ export function renderMoves(f) {
   const key = `${f.q} ${list.length} ${list.isPart} ${state.playing && !list.length} ${first}`;
   if (listed.key !== key) {
     Object.assign(listed, {key, at: null});
-    put("moves", tableOf(listed.moves, first));
-    put("strip", stripOf(listed.moves));
+    put("moves", tableOf(moves, first));
+    put("strip", stripOf(moves));
   }
   if (listed.at !== at) mark(at, first);
   const now = byId("strip").querySelector("b");
@@ -80,5 +82,5 @@ function mark(at, first) {
     const inner = row.getBoundingClientRect(), outer = box.getBoundingClientRect();
     if (inner.top < outer.top + 24 || inner.bottom > outer.bottom - 4) box.scrollTop += inner.top - outer.top - outer.height * .45;
   }
-  if (listed.moves.list.length <= MOST_PIECES_OF_STRIP) strip.forEach((it, k) => it.classList.toggle("now", k === at));
+  if (strip.length <= MOST_PIECES_OF_STRIP) strip.forEach((it, k) => it.classList.toggle("now", k === at));
 }

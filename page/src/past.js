@@ -1,9 +1,10 @@
 // What was changed of the machine, to be taken back and made again: its text with the names in it, the word, what accepts
 // and rejects, and where the states of the diagram stand.
-import {byId, state} from "./state.js";
+import {byId, isTooLong, state} from "./state.js";
 
 const IN_PAST = ["text", "names", "accept", "reject", "places", "word", "asStandard", "blank", "window", "example"];
 const MOST_KEPT_BACK = 200, TYPING = 900;
+/** @type {{behind: Partial<Typed>[], ahead: Partial<Typed>[], typed: number}} */
 const past = {behind: [], ahead: [], typed: -TYPING};
 
 const copyOf = () => structuredClone(Object.fromEntries(IN_PAST.map(key => [key, state[key]])));
@@ -12,7 +13,7 @@ const copyOf = () => structuredClone(Object.fromEntries(IN_PAST.map(key => [key,
 export function keepPast(isTyping = false) {
   const now = performance.now(), goesOn = isTyping && now - past.typed < TYPING;
   past.typed = isTyping ? now : -TYPING;
-  if (goesOn) return;
+  if (goesOn || isTooLong()) return;
   past.behind.push(copyOf());
   if (past.behind.length > MOST_KEPT_BACK) past.behind.shift();
   past.ahead = [];

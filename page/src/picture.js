@@ -6,7 +6,7 @@ const KEPT_STYLES = ["fill", "stroke", "stroke-width", "stroke-dasharray", "stro
 const plainColour = colour => {
   const found = /^color\(srgb ([\d.]+) ([\d.]+) ([\d.]+)(?: \/ ([\d.]+))?\)$/.exec(colour);
   if (!found) return colour;
-  const rgb = found.slice(1, 4).map(it => Math.round(255 * it)).join(",");
+  const rgb = found.slice(1, 4).map(it => Math.round(255 * Number(it))).join(",");
   return found[4] === undefined ? `rgb(${rgb})` : `rgba(${rgb},${found[4]})`;
 };
 function withStyles(node) {
@@ -25,7 +25,7 @@ function withStyles(node) {
 }
 // Each picture and each line of text stands where it stands on the screen, without the buttons.
 export function composed(title, ids, texts) {
-  const ground = plainColour(getComputedStyle(document.querySelector(".panel")).backgroundColor);
+  const ground = plainColour(getComputedStyle(document.querySelector(".panel") ?? document.body).backgroundColor);
   const ink = plainColour(getComputedStyle(document.body).color);
   const pictures = ids.flatMap(id => [...document.querySelectorAll(`#${id} svg`)]).map(placedPicture);
   const parts = [...pictures, ...[...document.querySelectorAll(texts)].map(placedText)].filter(it => it);

@@ -1,11 +1,10 @@
 // For the worker: reads the places that a script of lines `step 1` was answered with, so that the page doesn't stand
 // still for it. A place is the number 4E + side of a line E.L. It judges nothing: the text is the program's own.
-"use strict";
 const POINT = 46, LINE_END = 10, LEFT = 108;
 const SIDE_OF = {110: 0, 101: 1, 115: 2, 119: 3};
 
 // At most so many places, and whether the signal has left at the last one.
-function readPlaces(text, count) {
+export function readPlaces(text, count) {
   const places = new Int32Array(count);
   let at = 0, found = 0, hasLeft = false;
   while (at < text.length && found < count) {
@@ -22,7 +21,7 @@ function readPlaces(text, count) {
 
 // Where among the places a move begins: the signal is about to enter the first column of a bank by one of its lines.
 // Banks are given by their first elements and by how many rows they have.
-function boundsOf({places, hasLeft}, {bases, rows}) {
+export function boundsOf({places, hasLeft}, {bases, rows}) {
   const found = [], last = places.length - (hasLeft ? 1 : 0);
   for (let k = 0; k < last; k++) {
     if ((places[k] & 3) !== 3) continue;

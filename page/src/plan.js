@@ -3,6 +3,7 @@
 import {answer, STATUS} from "./answer.js";
 import {readConfiguration} from "./circuit.js";
 import {circuitFault, CIRCUITS, circuitText} from "./circuits.js";
+import {partOf} from "./state.js";
 import {SIDES} from "./texts.js";
 import {inTurn} from "./turns.js";
 import {number} from "./words.js";
@@ -21,9 +22,10 @@ const PLAN_PAGE = `<div class="e-left">
   aria-label="the floor plan"></div>
     <p id="l-said" class="e-said" role="status"></p></div>`;
 
-const planner = {box: null, text: null, answer: null};
-const plannerPart = id => planner.box.querySelector("#" + id);
+const planner = /** @type {{box: HTMLElement, text: string | null, answer: any}} */ ({text: null, answer: null});
+const plannerPart = id => partOf(planner.box, id);
 // What `plan` said: numbers by their names, and the wires.
+/** @type {(text: string) => Record<string, any>} */
 export function readPlan(text) {
   const lines = text.split("\n").filter(Boolean).map(line => line.split(" "));
   const numbers = Object.fromEntries(lines.filter(it => it[0] !== "wire").map(([name, value]) =>

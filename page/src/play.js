@@ -2,16 +2,17 @@
 // then it is drawn again; nothing is computed as a step.
 import {elementAhead, hit, stopBetween} from "./breaks.js";
 import {LANES} from "./answer.js";
+import {frame} from "./frame.js";
+import {redraw} from "./notices.js";
 import {isPhone} from "./sizes.js";
-import {busy, byId, current, state} from "./state.js";
-import {frame, render} from "./view.js";
+import {busy, byId, current, state, toast} from "./state.js";
 import {number} from "./words.js";
 
 // Steps a second on each layer, the least and the most.
 export const RANGES = {machine: [.4, 25], quadruple: [.5, 60], module: [.7, 120], element: [1, 6000]};
 const MOST_PIECES = 24, MOST_FRAMES = 4000, MOST_GAP = 100, SLOW = 6, LONG_WORK = 500;
 // Where less motion is asked for, a picture stands so long while it plays.
-const CALM_GAP = 400, isCalm = matchMedia("(prefers-reduced-motion: reduce)");
+const CALM_GAP = 400, isCalm = () => matchMedia("(prefers-reduced-motion: reduce)").matches;
 const PLAY = '<svg viewBox="0 0 16 16" aria-hidden="true"><path d="M4 2.500 12.500 8 4 13.500z"/></svg>';
 const PLAY_BACK = '<svg viewBox="0 0 16 16" aria-hidden="true"><path d="M12 2.500 3.500 8l8.500 5.500z"/></svg>';
 const PAUSE = '<svg viewBox="0 0 16 16" aria-hidden="true"><path d="M5 3v10M11 3v10" stroke-width="3"/></svg>';
@@ -43,9 +44,9 @@ async function fetchAll() {
     wanted = null;
     await withWords(it, it.run.ready(it.e, it.direction));
     if (it.run !== current.run) continue;
-    render(false);
+    redraw(false);
     if (!state.playing) await fetchQuadruple(it.run);
-    render(false);
+    redraw(false);
   }
 }
 // Says what is fetched, where that takes long.
@@ -54,9 +55,12 @@ async function withWords({run, e}, work) {
   const later = setTimeout(() => {
     if (isOpen && !state.playing && run === current.run) busy(`the circuit runs to element step ${number(e)} …`);
   }, LONG_WORK);
-  await work;
-  clearTimeout(later);
-  if (byId("busy").textContent.startsWith("the circuit runs to")) busy("");
+  try {
+    await work;
+  } finally {
+    clearTimeout(later);
+    if (byId("busy").textContent?.startsWith("the circuit runs to")) busy("");
+  }
 }
 // The pieces of the quadruple that is shown, so that its moves can be listed.
 async function fetchQuadruple(run) {
@@ -68,13 +72,13 @@ async function fetchQuadruple(run) {
 export function goTo(e, {direction = 0, isLive = true} = {}) {
   if (!current.run) return;
   state.e = Math.max(0, Math.min(current.run.end, e));
-  render(isLive && !state.playing);
+  redraw(isLive && !state.playing);
   fetchFrame(direction);
 }
 export async function step(direction) {
-  if (!current.run) return;
+  if (!current.run || guard.refuses(direction)) return;
   pause();
-  const {run} = current, began = performance.now(), e = await run.nextStop(state.layer, state.e, direction);
+  const {run} = current, began = performance.now(), e = Math.min(guard.most(), await run.nextStop(state.layer, state.e, direction));
   if (run.isKnown(e)) await run.viewsNear(run.momentIndex(e), direction);
   if (run !== current.run) return;
   goTo(e, {direction});
@@ -93,22 +97,30 @@ export async function goToEnd() {
   }
   if (run === current.run && Number.isFinite(run.end)) goTo(run.end);
 }
+// Where a step was gone to that isn't known, and is given up: to the last moment that is known.
+export function goToKnown() {
+  const {run} = current;
+  if (run && !run.isKnown(state.e)) goTo(run.starts.at(-1) ?? 0);
+}
 export function chooseLayer(layer) {
   state.layer = layer;
   pace.owed = 0;
-  render(false);
+  redraw(false);
   fetchFrame();
 }
 
 // ---- playing
+
+// What the lesson asks of time: whether a direction is refused, and beyond which element step nothing goes on.
+export const guard = {refuses: /** @type {(direction: number) => boolean} */ (_ => false), most: () => Infinity};
 
 // When the last frame was, and what share of a step is owed since.
 const pace = {then: 0, owed: 0};
 
 export function play(direction) {
   const {run} = current;
-  if (!run) return;
-  if (direction > 0 && state.e >= run.end) state.e = 0;
+  if (!run || guard.refuses(direction)) return;
+  if (direction > 0 && state.e >= Math.min(run.end, guard.most())) state.e = 0;
   if (direction < 0 && state.e <= 0 && Number.isFinite(run.end)) state.e = run.end;
   state.playing = direction;
   elementAhead(direction);
@@ -121,7 +133,7 @@ export function pause() {
   state.playing = 0;
   showButtons();
   if (!current.run) return;
-  render();
+  redraw();
   fetchFrame();
 }
 export function showButtons() {
@@ -133,11 +145,12 @@ export function showButtons() {
 function tick(now) {
   const {run} = current, direction = state.playing;
   if (!direction || !run) return;
-  if (isCalm.matches && now - pace.then < CALM_GAP) {
+  const calm = isCalm();
+  if (calm && now - pace.then < CALM_GAP) {
     requestAnimationFrame(tick);
     return;
   }
-  const spent = Math.min(isCalm.matches ? 2 * CALM_GAP : MOST_GAP, now - pace.then), rate = speed(), began = performance.now();
+  const spent = Math.min(calm ? 2 * CALM_GAP : MOST_GAP, now - pace.then), rate = speed(), began = performance.now();
   pace.then = now;
   pace.owed += spent / 1000 * rate;
   let {e, isWaiting} = state.layer === "element" ? elementsOn(run, direction) : stopsOn(run, direction);
@@ -146,15 +159,16 @@ function tick(now) {
     e = stop.step;
     hit(stop.it);
   }
+  e = Math.min(e, guard.most());
   const isMoved = e !== state.e;
   state.e = e;
-  if (isMoved) render(false);
+  if (isMoved) redraw(false);
   frames.push({ms: performance.now() - began, gap: spent, isWaiting, at: now});
   if (frames.length > MOST_FRAMES) frames.shift();
   const isSlow = state.layer === "element" || state.layer === "module" || rate <= SLOW;
   if (isSlow && (isMoved || isWaiting)) fetchFrame(direction);
   else if (isMoved || isWaiting) fetchViews(run, direction);
-  if (stop || (direction > 0 ? e >= run.end : e <= 0)) pause();
+  if (stop || (direction > 0 ? e >= Math.min(run.end, guard.most()) : e <= 0)) pause();
   else requestAnimationFrame(tick);
 }
 // The views of moments that the play comes to soon: from the first one on that isn't there.
@@ -197,4 +211,20 @@ function stopBehind(run, e, direction) {
   }
   const next = run.stopNear(state.layer, e, direction);
   return next ?? (direction > 0 && !run.isWhole ? null : e);
+}
+
+// ---- to a breakpoint
+
+// On, or back, to the next breakpoint.
+export async function runBreak(direction) {
+  if (!current.run || !state.breaks.length) return;
+  pause();
+  const {run} = current, way = direction > 0 ? "running on" : "running back";
+  busy(`${way} …`);
+  const {step: e, hit: it} = await run.runTo(state.e, direction, state.breaks, q => busy(`${way}: quadruple ${number(q)} of ${number(run.count - 1)} …`));
+  busy("");
+  if (run !== current.run) return;
+  goTo(e);
+  if (it) hit(it);
+  else toast(direction > 0 ? "No breakpoint on the way: the end." : "No breakpoint on the way back: the start.");
 }

@@ -3,7 +3,7 @@
 // follows from the places that were answered, since an element's bar lies along the line by which the signal last came in.
 import {answer, answerPlaces, LANES, STATUS} from "./answer.js";
 import {limits, Moments} from "./moments.js";
-import {rulesOf, statesOf, lettersOf} from "./table.js";
+import {lettersOf} from "./table.js";
 import {GREATEST, readBars, readCircuit, readPlace, readRun} from "./texts.js";
 import {whole} from "./window.js";
 
@@ -14,12 +14,27 @@ const MOST_AHEAD = 4;
 const PLAIN_COUNT = 14000, PLAIN_STEPS = 4e6;
 
 export class Run extends Moments {
+  // The pieces of the signal's way by their numbers, and the bars where a piece begins.
+  /** @type {Map<number, Asked>} */ chunks = new Map();
+  /** @type {Map<number, Uint8Array>} */ barsAt = new Map();
+  // How many places a piece has; Bennett's table, row by row, field by field.
+  piece = 0;
+  /** @type {string[][]} */ quadruples = [];
+  // The modules in the order of their elements; their first elements and how many rows they have, to look them up.
+  /** @type {Bank[]} */ banks = [];
+  bases = new Int32Array();
+  rowCounts = new Int32Array();
+  /** @type {number[]} */ tapeBanks = [];
+  /** @type {number[]} */ symbols = [];
+  compiled = "";
+  /** @type {Circuit} */ circuit = {count: 0, bars: new Uint8Array(), targets: new Int32Array(), sources: new Int32Array()};
+  /** @type {{start: Uint8Array, last: number, bars: Uint8Array} | null} */ now = null;
+  /** @type {Promise<void> | null} */ going = null;
   // A table, a word, and what `findRun` found of them.
+  /** @param {string} table @param {string} word @param {Found} found */
   constructor(table, word, {window, text, own, isOpen = false}) {
-    super();
-    Object.assign(this, {table, word, window, own, isOpen, outcome: readRun(text), chunks: new Map(), barsAt: new Map()});
-    this.rules = rulesOf(table);
-    this.states = statesOf(this.rules);
+    super({table, window, own, isOpen, outcome: readRun(text)});
+    this.word = word;
     this.letters = lettersOf(this.rules);
     this.words = ["=" + word, ...window.map(String)];
   }
@@ -94,23 +109,26 @@ export class Run extends Moments {
   // ---- the places of the signal, in pieces
 
   chunkNumber(e) { return Math.floor(Math.min(e, Math.max(0, this.end - 1)) / this.piece); }
-  loaded(c) { const it = this.chunks.get(c); return it && it.places ? it : null; }
+  /** @type {(c: number) => Piece | null} */
+  loaded(c) { const it = this.chunks.get(c); return it?.places ? /** @type {Piece} */ (it) : null; }
   hasPiece(c) { return c >= 0 && c * this.piece < Math.max(1, this.end); }
+  /** @type {(c: number, how?: {lane?: number}) => Promise<Piece | null>} */
   async chunk(c, how = {}) {
     if (!this.hasPiece(c)) return null;
-    const there = this.chunks.get(c);
-    return there ? there.places ? there : there.promise : this.fetchChunks(c, 1, how)[0].promise;
+    const there = this.loaded(c), asked = this.chunks.get(c);
+    return there ?? (asked ? asked.promise : this.fetchChunks(c, 1, how)[0].promise);
   }
   // So many pieces from one on by one call, since the way to the first costs as much for all as for one.
   fetchChunks(first, many, how) {
-    const entries = Array.from({length: many}, (_, k) => ({c: first + k})), reply = this.fetchPlaces(first, many, how);
+    const entries = Array.from({length: many}, (_, k) => (/** @type {Asked} */ ({c: first + k})));
+    const reply = this.fetchPlaces(first, many, how);
     for (const it of entries) {
       this.chunks.set(it.c, it);
       it.promise = reply.then(found => {
         if (!found) { this.chunks.delete(it.c); return null; }
-        Object.assign(it, this.pieceOf(found, it.c, first));
+        const piece = Object.assign(it, this.pieceOf(found, it.c, first));
         this.forget(it.c);
-        return it;
+        return piece;
       });
     }
     return entries;
@@ -151,14 +169,15 @@ export class Run extends Moments {
   }
   // The bars where a piece begins: handed on from a neighbour that is there, else asked of the program.
   async bars(c, how) {
-    if (this.barsAt.has(c)) return this.barsAt.get(c);
+    const known = this.barsAt.get(c), left = this.barsAt.get(c - 1), right = this.barsAt.get(c + 1);
+    if (known) return known;
     const before = this.loaded(c - 1), here = this.loaded(c);
     let bars;
-    if (before && this.barsAt.has(c - 1)) {
-      bars = this.barsAt.get(c - 1).slice();
+    if (before && left) {
+      bars = left.slice();
       for (let k = 0; k < before.places.length - 1; k++) bars[before.places[k] >> 2] = before.places[k] & 1;
-    } else if (here && this.barsAt.has(c + 1)) {
-      bars = this.barsAt.get(c + 1).slice();
+    } else if (here && right) {
+      bars = right.slice();
       const last = here.places.length - 2;
       for (let k = last; k >= 0; k--) bars[here.places[k] >> 2] = this.barBefore(here.places[k], here.places[k + 1], here.hasLeft && k === last);
     } else {
@@ -215,16 +234,16 @@ export class Run extends Moments {
   barsNow(e) {
     const c = this.chunkNumber(e), it = this.loaded(c), start = this.barsAt.get(c);
     if (!it || !start) return null;
-    const last = Math.min(e - it.from, it.places.length - 1), isOn = this.now?.start === start && this.now.last <= last;
-    if (!isOn) {
-      const bars = this.now?.bars ?? new Uint8Array(this.outcome.elements);
+    const last = Math.min(e - it.from, it.places.length - 1);
+    let {now} = this;
+    if (!now || now.start !== start || now.last > last) {
+      const bars = now?.bars ?? new Uint8Array(this.outcome.elements);
       bars.set(start);
-      this.now = {start, last: 0, bars};
+      now = this.now = {start, last: 0, bars};
     }
-    const {bars} = this.now;
-    for (let k = this.now.last; k < last; k++) bars[it.places[k] >> 2] = it.places[k] & 1;
-    this.now.last = last;
-    return bars;
+    for (let k = now.last; k < last; k++) now.bars[it.places[k] >> 2] = it.places[k] & 1;
+    now.last = last;
+    return now.bars;
   }
   // The bars of one bank at step e, or null where they aren't there yet.
   bankBars(bank, e) {
@@ -267,6 +286,7 @@ export class Run extends Moments {
   }
   // The moves that are known between two steps, the first one's beginning at or behind the first step.
   movesBetween(from, to) {
+    /** @type {Moves} */
     const found = [];
     for (let c = this.chunkNumber(from); c <= this.chunkNumber(to); c++) {
       const it = this.loaded(c);
@@ -323,7 +343,8 @@ export class Run extends Moments {
     }
     for (const it of breaks) if (it.kind === "cell") {
       await this.momentsTo(e);
-      const q = await this.findChange(it.tape, it.cell, this.changeFrom(e, direction), direction, told), step = this.starts[q] ?? null;
+      const q = await this.findChange(it.tape, it.cell, this.changeFrom(e, direction), direction, told);
+      const step = this.starts[q ?? -1] ?? null;
       if (step !== null && (best === null || direction * (step - best) < 0)) { best = step; hit = it; }
     }
     return {step: best ?? (direction < 0 ? 0 : Number.isFinite(this.end) ? this.end : e), hit};

@@ -7,6 +7,7 @@ import {TASKS} from "./tasks.js";
 import {inTurn} from "./turns.js";
 import {openWorkshop, pageOf, workshopBox} from "./workshop.js";
 
+/** @type {{task: Task | null, choice: number}} */
 const sheet = {task: null, choice: 0};
 
 export function openTasks() {
@@ -25,18 +26,20 @@ export function openTasks() {
 }
 
 export function beginTask(number) {
+  /** @type {Task | undefined} */
   const task = TASKS.find(it => it.number === number);
   if (!task) return;
   Object.assign(sheet, {task, choice: 0});
-  fillSheet();
-  placeTask();
+  fillSheet(task);
+  placeTask(task);
 }
 // Lays out the machine or the circuit of the exercise, and puts the sheet beside it.
-function placeTask() {
-  const {task} = sheet, box = byId("sheet"), machine = task.choices?.[sheet.choice].machine ?? task.machine;
+/** @param {Task} task */
+function placeTask(task) {
+  const box = byId("sheet"), machine = task.choices?.[sheet.choice].machine ?? task.machine;
   if (task.page) {
     openWorkshop(task.page);
-    workshopBox().querySelector("#e-sheet").append(box);
+    workshopBox()?.querySelector("#e-sheet")?.append(box);
     pageOf(task.page).take?.(task.text, task.start);
   } else {
     workshopBox()?.close();
@@ -44,11 +47,11 @@ function placeTask() {
     if (machine) layMachine(machine);
   }
   box.hidden = false;
-  box.querySelector("h2").focus();
+  box.querySelector("h2")?.focus();
 }
 function layMachine(machine) {
   const example = EXAMPLES.find(it => it.key === machine.key);
-  takeMachine({about: "The machine of the exercise.", ...example, ...machine, letter: false}, machine.e ?? 0);
+  takeMachine({about: "The machine of the exercise.", ...example, ...machine, letter: false, asTyped: true}, machine.e ?? 0);
 }
 export function endTask() {
   byId("sheet").hidden = true;
@@ -56,8 +59,9 @@ export function endTask() {
   sheet.task = null;
 }
 
-function fillSheet() {
-  const {task} = sheet, box = byId("sheet"), last = TASKS.length;
+/** @param {Task} task */
+function fillSheet(task) {
+  const box = byId("sheet"), last = TASKS.length;
   box.innerHTML = `<div class="row top"><h2 tabindex="-1">Exercise ${task.number} · ${escaped(task.title)}</h2><span
       class="mini">
     <button id="taskback" aria-label="the exercise before" ${task.number === 1 ? "disabled" : ""}>◂</button>
@@ -77,7 +81,7 @@ function addChoices(choices) {
   const list = document.createElement("select");
   list.id = "taskchoice";
   list.setAttribute("aria-label", "which table");
-  list.append(...choices.map((it, k) => new Option(it.title, k)));
+  list.append(...choices.map((it, k) => new Option(it.title, String(k))));
   list.onchange = () => {
     sheet.choice = Number(list.value);
     layMachine(choices[sheet.choice].machine);
@@ -85,8 +89,10 @@ function addChoices(choices) {
   };
   byId("taskfields").append(list);
 }
+/** @param {Field} field */
 function addField({key, label, size, rows, value = ""}) {
-  const line = document.createElement("label"), field = document.createElement(rows ? "textarea" : "input");
+  const line = document.createElement("label");
+  const field = /** @type {any} */ (document.createElement(rows ? "textarea" : "input"));
   Object.assign(field, {id: `task-${key}`, value, spellcheck: false, autocomplete: "off"});
   if (rows) field.rows = rows;
   else field.size = size;

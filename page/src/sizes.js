@@ -1,6 +1,6 @@
 // Boxes of the page: what stands in them, changed only where it changes, and how large they are.
+import {redraw} from "./notices.js";
 import {byId, current, state} from "./state.js";
-import {render} from "./view.js";
 
 export function put(id, html) {
   const it = byId(id);
@@ -12,15 +12,17 @@ export function put(id, html) {
 export const isPhone = () => innerWidth <= 760;
 // Sizes are measured once and kept until one changes: to measure in the middle of drawing costs a layout each time.
 const sizes = new Map();
-const watch = new ResizeObserver(entries => {
+// Made at first use, so that whoever draws nothing needs no browser.
+let watch = null;
+const watcher = () => watch ??= new ResizeObserver(entries => {
   for (const it of entries) sizes.delete(it.target.id);
-  if (current.run && !state.playing) requestAnimationFrame(() => render(false));
+  if (current.run && !state.playing) requestAnimationFrame(() => redraw(false));
 });
 function sizeOf(id) {
   if (!sizes.has(id)) {
     const it = byId(id);
     sizes.set(id, [it.clientWidth, it.clientHeight]);
-    watch.observe(it);
+    watcher().observe(it);
   }
   return sizes.get(id);
 }

@@ -1,8 +1,7 @@
 // The part of the time line that is seen: all of it, or a window, which is made larger and smaller, moved, and follows
 // the step that is shown. It is counted in moments.
-import {renderFilm} from "./film.js";
+import {redraw, spanChanged} from "./notices.js";
 import {byId, current, state} from "./state.js";
-import {render} from "./view.js";
 import {number} from "./words.js";
 
 const LEAST_SPAN = 1, EDGE = .08;
@@ -16,10 +15,11 @@ function setSpan(from, to) {
   if (!current.run) return;
   const count = wholeCount(), wide = Math.min(count, Math.max(LEAST_SPAN, to - from)), begin = Math.max(0, Math.min(count - wide, from));
   state.span = wide >= count ? null : {from: begin, to: begin + wide};
-  renderFilm();
-  render(false);
+  spanChanged();
+  redraw(false);
 }
 // Larger or smaller around a share of the window; without one around the step that is shown, where it is seen.
+/** @param {number} factor @param {number | null} share */
 export function zoomTime(factor, share = null) {
   if (!current.run) return;
   const {from, to} = spanOf(), now = (current.run.timeOf(state.e) - from) / (to - from), at = share ?? (now >= 0 && now <= 1 ? now : .5);
@@ -47,7 +47,7 @@ export function followTime(time, e) {
   const begin = time - wide * (isNear ? (isOn ? EDGE : 1 - EDGE) : .5), room = wholeCount() - wide;
   const placed = Math.max(0, Math.min(room, begin));
   state.span = {from: placed, to: placed + wide};
-  renderFilm();
+  spanChanged();
 }
 
 // The whole in little, with the window marked in it.

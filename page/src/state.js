@@ -2,21 +2,37 @@
 // `text` is the table as it was typed, `names` how the program knows the names in it that it can't read. `accept` and
 // `reject` have names of states as they were typed, `places` where the diagram's states were put, as shares of its size.
 export const LAYERS = ["machine", "quadruple", "module", "element"];
+/** @type {Typed} */
 export const state = {
   text: "", names: {}, asStandard: false, blank: null, word: "", window: null, example: null,
   accept: [], reject: [], tried: [], places: {},
   e: 0, layer: "quadruple", playing: 0, speed: 40, breaks: [], cell: null, zoom: null, span: null, editions: 0,
-  middle: "moves",
+  middle: "moves", asTyped: false, lesson: null,
 };
-// `run` has the answers of one run; `found` what the machine does by itself, and the window; `machine` the table that runs.
-export const current = {run: null, found: null, machine: null};
+// A table of 4,000 rules, which is the most, has at most so many characters. What is longer has its verdict, and nothing that
+// goes through it line by line while it is typed: no numbers beside it, nothing turned, nothing kept to be taken back.
+export const MOST_EDITED = 400000;
+export const isTooLong = (text = state.text) => text.length > MOST_EDITED;
 
-export const byId = id => document.getElementById(id);
+// The breakpoints of one kind.
+/** @template {Break["kind"]} K @param {K} kind @returns {Extract<Break, {kind: K}>[]} */
+export function breaksOf(kind) { return /** @type {any[]} */ (state.breaks.filter(it => it.kind === kind)); }
+
+// `run` has the answers of one run; `found` what the machine does by itself, and the window; `machine` the table that runs.
+// They are there once a run is shown; who may come before asks for it.
+export const current = /** @type {{run: import("./run.js").Run, found: Found, machine: Machine}} */ ({});
+
+/** @type {(id: string) => Box} */
+export const byId = id => /** @type {Box} */ (document.getElementById(id));
+// A part of a box, by its name.
+/** @type {(box: HTMLElement, id: string) => Box} */
+export const partOf = (box, id) => /** @type {Box} */ (box.querySelector("#" + id));
 export const escaped = it => String(it).replace(/[&<>"]/g, c => ({"&": "&amp;", "<": "&lt;", ">": "&gt;", '"': "&quot;"})[c]);
 export const minus = it => String(it).replace("-", "−");
 
 const STOP_AFTER = 1200, TIME_AFTER = 2;
-const work = {since: null, ticking: null};
+/** @type {{since: number | null, ticking: ReturnType<typeof setInterval> | undefined}} */
+const work = {since: null, ticking: undefined};
 // Says what is waited for; where that takes long, for how long by now, and a button offers to stop it.
 export function busy(words) {
   const isOn = words.endsWith("…"), now = performance.now();
@@ -25,7 +41,7 @@ export function busy(words) {
   if (isOn) work.ticking ??= setInterval(tellTime, 200);
   else {
     clearInterval(work.ticking);
-    work.ticking = null;
+    work.ticking = undefined;
   }
   tellTime();
 }

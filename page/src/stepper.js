@@ -10,9 +10,15 @@ import {number} from "./words.js";
 const MOST_DRAWN = 400, MOST_PAST = 40, MOST_SHARE = 2.2;
 
 export class Stepper {
+  /** @type {string | null} */ text = null;
+  /** @type {any} */ plan = null;
+  /** @type {string[]} */ past = [];
+  /** @type {number | null} */ turned = null;
   // The element for the picture, and the one for what is seen in words.
+  /** @param {HTMLElement} room @param {HTMLElement} words */
   constructor(room, words) {
-    Object.assign(this, {room, words, text: null, plan: null, past: [], turned: null});
+    this.room = room;
+    this.words = words;
   }
   // Takes a configuration text that the program has answered.
   take(text) {
@@ -36,7 +42,9 @@ export class Stepper {
       return;
     }
     room.innerHTML = circuitSvg(it, this.plan, new Set(this.past), this.turned);
-    const svg = room.firstChild, wide = svg.getAttribute("width"), high = svg.getAttribute("height");
+    const svg = room.firstElementChild;
+    if (!svg) return;
+    const [wide, high] = ["width", "height"].map(it => Number(svg.getAttribute(it)));
     const share = Math.min(MOST_SHARE, room.clientWidth / wide, (room.clientHeight - 4) / high);
     svg.setAttribute("width", wide * share);
     svg.setAttribute("height", high * share);

@@ -1,10 +1,10 @@
 // Breakpoints and cells by name, for those who don't point: a state, a cell or an element is chosen from lists and
 // numbers, as a click in the pictures chooses it.
 import {toggleBreak} from "./breaks.js";
+import {redraw} from "./notices.js";
 import {byId, current, dialog, escaped, nameOf, state} from "./state.js";
-import {render} from "./view.js";
 
-const CHOICES = `<h2>Stop at</h2><p class="quiet">The same by a click on a state, a cell or an element.</p>
+const CHOICES = `<h2>Stop at</h2><p class="quiet">A click on a state, a cell or an element tells of it, and can stop there too.</p>
   <p class="row"><label for="stopstate">state</label> <select id="stopstate"></select><button id="addstate">Stop
   there</button></p>
   <p class="row"><label for="stoptape">tape</label> <select id="stoptape"><option value="1">work</option><option
@@ -22,13 +22,13 @@ export function openStops() {
   dialog(CHOICES);
   byId("stopstate").innerHTML =
     run.states.map((it, k) => `<option value="${k}">${escaped(nameOf(it))}</option>`).join("");
-  byId("stopelement").max = run.circuit.count - 1;
+  byId("stopelement").max = String(run.circuit.count - 1);
   byId("addstate").onclick = () => addStop({kind: "state", state: run.states[Number(byId("stopstate").value)]});
   byId("addcell").onclick = () => withCell(it => addStop({kind: "cell", ...it}));
   byId("seecell").onclick = () => withCell(it => {
     state.cell = it;
     byId("dialog").close();
-    render(false);
+    redraw(false);
     byId("cellbox").querySelector("button")?.focus();
   });
   byId("addelement").onclick = () => {
@@ -39,7 +39,7 @@ export function openStops() {
 }
 function withCell(act) {
   const tape = Number(byId("stoptape").value), cell = Number(byId("stopcell").value),
-    {first, symbols} = current.run.moments[0].tapes[tape - 1];
+    {first, symbols} = current.run.tapesAt(0)[tape - 1];
   const last = first + symbols.length - 1;
   if (Number.isInteger(cell) && cell >= first && cell <= last) act({tape, cell});
   else byId("stopsaid").textContent = `This tape has the cells from ${first} to ${last}.`;

@@ -2,7 +2,26 @@
 
 const nonblank = text => text.split(/\r\n|\r|\n/).map((line, number) => ({line, number: number + 1})).filter(it => it.line.trim() !== "");
 
+const LINE = /\r\n|\r|\n/g;
+// The records of a text by their numbers, from 1: each line that isn't blank, with its own number.
+/** @type {(text: string) => (record: number) => {line: string, number: number} | null} */
+function recordsOf(text) {
+  return record => {
+    let number = 0, from = 0, left = record;
+    for (;;) {
+      LINE.lastIndex = from;
+      const end = LINE.exec(text), line = text.slice(from, end?.index ?? text.length);
+      number++;
+      if (line.trim() !== "" && --left === 0) return {line, number};
+      if (!end) return null;
+      from = LINE.lastIndex;
+    }
+  };
+}
+const countOf = text => (text.match(/[^\r\n]*\S[^\r\n]*/g) ?? []).length;
+
 // The records of a table that the program has read, with the text line of each.
+/** @type {(text: string) => Rule[]} */
 export function rulesOf(text) {
   return nonblank(text).map(({line, number}) => {
     const [state, read, write, shift, next] = line.split(",").map(it => it.replace(/^"(.*)"$/, "$1"));
@@ -10,11 +29,16 @@ export function rulesOf(text) {
   });
 }
 // The states by first appearance.
+/** @type {(rules: Rule[]) => string[]} */
 export function statesOf(rules) {
   const found = new Map();
   for (const rule of rules) for (const name of [rule.state, rule.next]) if (!found.has(name)) found.set(name, found.size + 1);
   return [...found.keys()];
 }
+// The state in which a table's machine halts: the last rule leads there.
+/** @type {(rules: Rule[]) => string} */
+export const finalOf = rules => rules[rules.length - 1].next;
+/** @type {(rules: Rule[]) => string[]} */
 export function lettersOf(rules) {
   const found = new Set(["_"]);
   for (const rule of rules) { found.add(rule.read); found.add(rule.write); }
@@ -23,24 +47,42 @@ export function lettersOf(rules) {
 
 const SHIFTS = {R: "+", r: "+", ">": "+", "→": "+", right: "+", L: "-", l: "-", "<": "-", "←": "-", left: "-", N: "0", n: "0", S: "0", s: "0",
                 "↓": "0", "=": "0", stay: "0", none: "0", "−": "-", "–": "-", "+1": "+", "-1": "-"};
-const BLANKS = ["B", "b", "□", "␣", "#", "▢", "Δ", "ε", " "];
+// Signs that stand for the blank, the surest first: a small b does only where there is no a.
+const BLANKS = ["□", "␣", "▢", "⊔", "⎵", "␢", "blank", "Blank", "Δ", "B", "ε", "λ", "Λ", "∅", "⊥", "#", " ", "b"];
+const isBlankOf = letters => it => letters.has(it) && !(it === "b" && letters.has("a"));
+// What begins a comment behind a rule, and what stands between the fields of a rule in any of the forms that are turned.
+const COMMENT = /\s+(?:\/\/|#|%|;)|\/\//g, BETWEEN = /\s*(?:->|→|⇒|=>|[,;|\t()=:{}])\s*|\s+/;
+// A rule without the comment behind it: where a comment may begin, five fields have to stand before.
+function withoutComment(line) {
+  for (const {index} of line.matchAll(COMMENT)) {
+    const front = line.slice(0, index), fields = front.split(BETWEEN).filter(it => it !== "").length;
+    if (Math.max(fields, front.split(",").length, front.split(";").length) >= 5) return front.trimEnd();
+  }
+  return line;
+}
 const isName = name => /^[A-Za-z0-9'.-]{1,32}$/.test(name);
 
 // What would be turned so that the program can read the table: the new text, what was done, in words, and the names that
 // it can't read. These stay in the text; `known` has those that are spelled already.
 // `blank` is a letter that is to be read as the blank, or null to guess.
+/** @param {string} text @param {string | null} blank @param {Record<string, string>} known */
 export function turned(text, blank = null, known = {}) {
   const said = [], names = {...known};
   let rows = nonblank(text).map(({line}) => line);
   const commented = rows.filter(line => /^\s*(#|\/\/|%|;)/.test(line) && line.split(/[,;\t]/).length < 5);
   if (commented.length) { rows = rows.filter(line => !commented.includes(line)); said.push(`${commented.length === 1 ? "a comment line" : `${commented.length} comment lines`} dropped`); }
+  const ended = rows.map(withoutComment), behind = ended.filter((it, k) => it !== rows[k]).length;
+  if (behind) { rows = ended; said.push(behind === 1 ? "a comment behind a rule dropped" : `${behind} comments behind rules dropped`); }
   if (!rows.length) return {text, said: [], names};
   // Brackets around a whole rule, or the function's name before it: (q0,1,0,R,q1), d(q0,1) = (q1,0,R).
   const bare = rows.map(line => line.replace(/^\s*(?:δ|delta|d)?\s*[({]/, "").replace(/[)}]\s*[,;.]?\s*$/, ""));
   if (bare.every((line, k) => line !== rows[k])) { rows = bare; said.push("brackets taken away"); }
   const rate = pattern => rows.filter(line => line.split(pattern).filter(it => it !== "").length >= 5).length;
+  /** @type {[RegExp, string][]} */
+  const others = [[/;/, "semicolons"], [/\t+/, "tabs"], [/\|/, "bars"],
+    [/\s*(?:->|→|⇒|=>|:|=)\s*|[\s,;()]+/, "arrows and spaces"], [/\s+/, "spaces"]];
   let split = /,/, how = null;
-  if (rate(/,/) < rows.length) for (const [pattern, words] of [[/;/, "semicolons"], [/\t+/, "tabs"], [/\|/, "bars"], [/\s*(?:->|→|⇒|=>|:|=)\s*|[\s,;()]+/, "arrows and spaces"], [/\s+/, "spaces"]])
+  if (rate(/,/) < rows.length) for (const [pattern, words] of others)
     if (rate(pattern) > rate(split)) { split = pattern; how = words; }
   if (how) said.push(`${how} to commas`);
   let fields = rows.map(line => {
@@ -67,7 +109,7 @@ export function turned(text, blank = null, known = {}) {
   for (const row of fields) if (row.length === 5 && row[3] in SHIFTS) { row[3] = SHIFTS[row[3]]; shifts++; }
   if (shifts) said.push(`R, L, N to +, −, 0 (${shifts} ${shifts === 1 ? "line" : "lines"})`);
   const letters = new Set(fields.flatMap(row => row.length === 5 ? [row[1], row[2]] : []));
-  const guessed = blank ?? (letters.has("_") ? null : letters.has("") ? "" : BLANKS.find(it => letters.has(it)) ?? null);
+  const guessed = blank ?? (letters.has("_") ? null : letters.has("") ? "" : BLANKS.find(isBlankOf(letters)) ?? null);
   if (guessed !== null && letters.has(guessed) && guessed !== "_") {
     for (const row of fields) for (const place of [1, 2]) if (row[place] === guessed) row[place] = "_";
     said.push(`${guessed.trim() === "" ? "an empty symbol" : guessed} to _, the blank`);
@@ -112,24 +154,25 @@ const unquoted = field => field?.replace(/\r$/, "").replace(/^"(.*)"$/, "$1");
 export function blankCandidates(text) {
   const rules = rulesOf(text).filter(it => it.next !== undefined);
   const letters = new Set(rules.flatMap(it => [it.read, it.write]));
-  return letters.has("_") ? [] : [...letters].filter(it => it.length <= 1);
+  return letters.has("_") ? [] : [...letters].filter(it => [...it].length <= 1);
 }
 
 const quoted = it => `“${it}”`;
 // A refusal of a table, in words, with the text lines that it is about.
 export function faultOf(answer, text) {
-  const rows = nonblank(text), line = record => rows[record - 1]?.number ?? null;
-  const fields = record => (rows[record - 1]?.line ?? "").split(",");
+  // Of a long text few lines are wanted, and it isn't taken apart for them.
+  const at = recordsOf(text), line = record => /** @type {number} */ (at(record)?.number ?? null);
+  const fields = record => (at(record)?.line ?? "").split(","), last = () => countOf(text);
   let found = /^text: record (\d+) (fields|too many|field (\d) (\S+))/.exec(answer);
   if (found) {
-    const record = Number(found[1]), at = line(record), place = Number(found[3] ?? 0), given = fields(record)[place - 1] ?? "";
+    const record = Number(found[1]), number = line(record), place = Number(found[3] ?? 0), given = fields(record)[place - 1] ?? "";
     const words = {
       fields: `five fields are wanted (state, read, write, move, next); this line has ${fields(record).length}.`,
       name: `${quoted(given)} can't name a state. A name has letters, digits, ', . or -, 32 at most.`,
-      symbol: given.length > 1 ? `${quoted(given)} is no symbol: one character is wanted. Is this a header?` : `${quoted(given)} can't be a symbol.`,
+      symbol: [...given].length > 1 ? `${quoted(given)} is no symbol: one character is wanted. Is this a header?` : `${quoted(given)} can't be a symbol.`,
       shift: `${quoted(given)} is no move: + is right, - is left, 0 is stay.`,
     }[found[4] ?? found[2]] ?? "the table is too long: 4,000 rules at most.";
-    return {lines: [at], text: `Line ${at}: ${words}`};
+    return {lines: [number], text: `Line ${number}: ${words}`};
   }
   if (/^text: empty/.test(answer)) return {lines: [], text: "The table is empty. Type a rule a line: state, read, write, move, next."};
   found = /^machine: S1 (\d+) (\d+)/.exec(answer);
@@ -140,17 +183,28 @@ export function faultOf(answer, text) {
   if (/^machine: S2/.test(answer)) return {lines: [line(1)], standard: true, text: `Line ${line(1)}: standard form begins on the blank before the word: read _, write _, go right.`};
   found = /^machine: S3 (\d+)/.exec(answer);
   if (found) return {lines: [line(Number(found[1]))], standard: true, text: `Line ${line(Number(found[1]))}: the start state ${fields(1)[0]} comes back here. In standard form it stands in the first rule alone.`};
-  if (/^machine: S4/.test(answer)) return {lines: [line(rows.length)], standard: true, text: `Line ${line(rows.length)}: standard form ends on the blank before the output: read _, write _, stay.`};
+  if (/^machine: S4/.test(answer)) return {lines: [line(last())], standard: true, text: `Line ${line(last())}: standard form ends on the blank before the output: read _, write _, stay.`};
   found = /^machine: S5 (\d+)/.exec(answer);
-  if (found) return {lines: [line(Number(found[1]))], standard: true, text: `Line ${line(Number(found[1]))}: the final state ${fields(rows.length)[4]} occurs here too. In standard form it stands in the last rule alone.`};
+  if (found) return {lines: [line(Number(found[1]))], standard: true, text: `Line ${line(Number(found[1]))}: the final state ${fields(last())[4]} occurs here too. In standard form it stands in the last rule alone.`};
   found = /^machine: halting (\d+)/.exec(answer);
   if (found) {
-    const at = line(Number(found[1])), final = fields(rows.length)[4];
-    return {lines: [at], text: `Line ${at} leaves ${final}, where the last line halts. Put the line that halts last.`};
+    const number = line(Number(found[1])), final = fields(last())[4];
+    return {lines: [number], text: `Line ${number} leaves ${final}, where the last line halts. Put the line that halts last.`};
   }
   found = /^size: quintuples (\d+)/.exec(answer);
   if (found) return {lines: [], text: `In standard form it would have ${found[1]} rules, more than 4,000.`};
   return {lines: [], text: `The program says: ${answer.trim()}`};
+}
+
+// A refusal of a word or of its circuit, in words; null where it says something else. Letters are counted from 1.
+/** @type {(answer: string, word: string, rules: Rule[]) => string | null} */
+export function refusalWords(answer, word, rules) {
+  const place = /^word: (\d+)/.exec(answer), size = /^size: (.*)/.exec(answer);
+  if (size) return `Too large: ${size[1].replace(/\d+/g, it => Number(it).toLocaleString("en"))}. A circuit has at most 4,194,304 elements.`;
+  if (!place) return null;
+  // A letter outside the first plane of Unicode is two units of a text.
+  const letter = [...word][Number(place[1]) - 1], known = lettersOf(rules).slice(1).join(" ") || "none";
+  return `Letter ${place[1]}, “${letter}”, isn't in the table. Its letters: ${known}.`;
 }
 
 export const SHIFT_WORDS = {"+": "go right", "-": "go left", "0": "stay"};

@@ -1,10 +1,12 @@
 // A tape: its cells, the head, what was just written, the cells that are picked, and those that are otherwise by now.
 import {escaped, minus} from "./state.js";
-import {n1, svg} from "./svg.js";
+import {svg} from "./svg.js";
 import {symbolWord} from "./table.js";
 import {heardOf, TAPES} from "./words.js";
 
 const TAPE_LEFT = 12, TAPE_TOP = 12;
+// The largest of the page's sizes of type that stands well in a cell.
+const symbolSize = size => [20, 17, 14, 12].find(it => it <= size * .52) ?? 11;
 
 // The part of a tape that has room: all of it, or that around its head.
 export function shownPart(tape, most) {
@@ -16,6 +18,8 @@ export function shownPart(tape, most) {
 
 // `before` is the same tape one moment before, so that what was just written is tinted; `now` has the cells that have
 // changed since the moment that is shown.
+/** @param {Tape} tape
+ * @param {{width: number, size?: number, before?: Tape | null, picked?: number[], now?: any[], isNumbered?: boolean}} how */
 export function tapePicture(tape, {width, size = 34, before = null, picked = [], now = [], isNumbered = true}) {
   const longest = Math.max(...tape.symbols.map(it => it.length)), wide = Math.max(size, 9 * longest + 10);
   const part = shownPart(tape, Math.max(3, Math.floor((width - 2 * TAPE_LEFT) / wide))), isShown = k => k >= part.from && k < part.to;
@@ -58,6 +62,6 @@ function cellPicture({tape, cell, symbol, isNew, x, wide, size, isNumbered}) {
   const isBlank = symbol === "_", kind = isNew ? "new" : isBlank ? "" : "full";
   const below = `<text class="quiet small" text-anchor="middle" x="${x + wide / 2}" y="${TAPE_TOP + size + 12}">${minus(cell)}</text>`;
   return `<g data-tape="${tape}" data-cell="${cell}"><rect class="cell ${kind}" x="${x}" y="${TAPE_TOP}" width="${wide}" height="${size}"/>`
-    + `<text class="symbol ${isBlank ? "blank" : ""}" style="font-size:${n1(size * .47)}px" x="${x + wide / 2}" y="${TAPE_TOP + size * .66}">`
+    + `<text class="symbol ${isBlank ? "blank" : ""}" style="font-size:${symbolSize(size)}px" x="${x + wide / 2}" y="${TAPE_TOP + size * .66}">`
     + `${isBlank ? "·" : escaped(symbol)}</text>${isNumbered ? below : ""}</g>`;
 }

@@ -16,7 +16,7 @@ export const rowsOf = text => text.split("\n").map(it => it.trim()).filter(Boole
 export const barsOf = text => rowsOf(text).filter(it => it.startsWith("e ")).map(it => it.split(" ")[2]);
 // Where the signal is, as a configuration text says it: 0.e
 export const placeOf = text => rowsOf(text)[5]?.split(" ")[1];
-export const exampleTable = key => EXAMPLES.find(it => it.key === key).table;
+export const exampleTable = key => EXAMPLES.find(it => it.key === key)?.table ?? "";
 // An answer of a check: whether it is right, the words for both cases, and what the program said.
 export const judged = (isRight, right, wrong, told = "") => ({isRight: Boolean(isRight), words: isRight ? right : wrong,
   told});

@@ -41,7 +41,7 @@ async function checkColumn(values) {
   const texts = await moveOfBank(), bars = texts.map(barsOfBank), turned = new Set();
   for (let k = 1; k < bars.length; k++) bars[k].forEach((bar, element) =>
     { if (bar !== bars[k - 1][element]) turned.add(element); });
-  const ended = [...turned].filter(element => bars[0][element] === bars.at(-1)[element]),
+  const ended = [...turned].filter(element => bars[0][element] === bars.at(-1)?.[element]),
     list = it => [...it].sort((a, b) => a - b).join(" ");
   const isRight = isNumber(values.steps, texts.length - 1) && isSame(values.turned, list(turned))
     && isSame(values.ended, list(ended));
@@ -78,7 +78,7 @@ async function waysOfReading() {
 }
 async function checkReading(values) {
   const ways = await waysOfReading(), cells = ways.length - 1, costs = ways.slice(1).map((it, k) => it.step - ways[k].step);
-  const isRight = isNumber(values.cells, cells) && isNumber(values.steps, ways.at(-1).step);
+  const isRight = isNumber(values.cells, cells) && isNumber(values.steps, ways.at(-1)?.step);
   return judged(isRight, `Right: ${costs.join(", ")} steps behind 6,540.`,
                 "Not yet. The command passes a cell without the head, is answered by the one with it, and the answer " +
                   "passes again.", isRight ? ways.map(it => `${it.step} ${it.module}`).join("\n") : "");

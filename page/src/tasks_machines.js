@@ -3,7 +3,7 @@
 import {answer, STATUS} from "./answer.js";
 import {state} from "./state.js";
 import {ask, isNumber, isSame, judged, numberIn, plain, rowsOf, exampleTable} from "./task_tools.js";
-import {readRun, readTape} from "./texts.js";
+import {matchOf, readRun, readTape} from "./texts.js";
 
 const FORGETS = "P,0,/,/,1,0,0,R\nP,1,/,/,1,0,0,R\n",
   SUM = "q0,1,1,+,q0\nq0,0,1,+,q1\nq1,1,1,+,q1\nq1,_,_,-,q2\nq2,1,_,-,q3\n";
@@ -58,12 +58,12 @@ async function checkCounts(values) {
     ask(["run", "=111", "auto"], exampleTable("increment")),
                                                          ask(["machine", "=", "100"], exampleTable("least")),
                                                            ask(["run", "=", "auto"], exampleTable("least"))]);
-  const isFirst = isNumber(values.steps, numberIn("halted", own)), letters = readRun(leastRun).output.length;
+  const isFirst = isNumber(values.steps, numberIn("halted", own)), letters = readRun(leastRun).output?.length ?? 0;
   const isSecond = isNumber(values.i, numberIn("halted", least)) && isNumber(values.letters, letters);
   const counts = await countsOfSome(), can = counts.includes(15) ? "yes" : "no";
   const wrong = [[isFirst, "1"], [isSecond, "2"], [isSame(values.can, can), "3"]].filter(([it]) => !it).map(it =>
     it[1]);
-  const told = `${[ran, leastRun].map(it => /quadruple steps \d+/.exec(it)[0]).join("\n")}\n${counts.length} other runs: ${counts.join(" ")}`;
+  const told = `${[ran, leastRun].map(it => matchOf(/quadruple steps \d+/, it)[0]).join("\n")}\n${counts.length} other runs: ${counts.join(" ")}`;
   return judged(!wrong.length, "Right. The least machine is the one of 13 steps. Of no run that the program made are there 15: 15 − 5 is no multiple of 4.",
     `Not yet: part ${wrong.join(", part ")}.`, wrong.length ? "" : told);
 }
@@ -71,7 +71,7 @@ async function checkCounts(values) {
 async function countsOfSome() {
   const runs = [...WALKS.map(table => [table, ""]), ...["", "0", "1"].map(word => [exampleTable("increment"), word])];
   const counts = await Promise.all(runs.map(async ([table, word]) => readRun(await ask(["run", "=" + word, "auto"], table)).quadruples));
-  return [...new Set(counts)].sort((a, b) => a - b);
+  return [...new Set(counts.map(it => it ?? 0))].sort((a, b) => a - b);
 }
 async function checkElements(values) {
   const run = async window => numberIn("elements", await ask(["run", "=", ...window], exampleTable("least")));
@@ -107,9 +107,9 @@ async function checkBook(values) {
   const standard = await ask(["standard"], SUM), check = await ask(["check"], standard),
     ran = await ask(["machine", "=11011", "100"], standard);
   const stays = await ask(["standard"], SUM.replace("q2,1,_,-,q3", "q2,1,_,0,q3")),
-    output = /output =(.*)/.exec(await ask(["machine", "=11011", "100"], stays))[1];
+    output = matchOf(/output =(.*)/, await ask(["machine", "=11011", "100"], stays))[1];
   const isOutput = isSame(values.output, output) || output === "" && isSame(values.output, "none");
-  const isRight = isNumber(values.rules, Number(/quintuples (\d+)/.exec(check)[1]))
+  const isRight = isNumber(values.rules, Number(matchOf(/quintuples (\d+)/, check)[1]))
     && isNumber(values.steps, numberIn("halted", ran)) && isOutput;
   return judged(isRight, "Right. A head that halts behind its word has nothing at its right.",
     "Not yet. Turn the table, let it start on the first letter, and run it.");
@@ -124,7 +124,7 @@ async function checkView(values) {
   const isRight = isSame(values.output, wordOn(output)) && isSame(values.rules, [6, 7, 8].map(symbol).join(" "))
     && isNumber(values.next, Number(last)) && isSame(values.then, wordOn(later));
   return judged(isRight, "Right. What is left is to take eight steps back.",
-    "Not yet. The history tells which quintuples were used, and its last number is taken back next.", view.join("\n"));
+    "Not yet. The history tells which rules were used, and its last number is taken back next.", view.join("\n"));
 }
 async function checkFault(values) {
   const rule = Number(plain(values.rule)), row = plain(values.row).replace(/ /g, ","), rules = rowsOf(HOMING);
@@ -177,7 +177,7 @@ export const MACHINE_TASKS = [
      ["can", "3: 15?", 4]].map(([key, label, size]) => ({key, label, size})), check: checkCounts},
   {number: 10, title: "Count the elements", machine: {key: "least", word: "", window: [0, 2, 2, 1]},
    ask: ["A bank of n columns of k rows has n(k + 1) elements. A cell for z symbols has 2z columns and 2z + 8 rows; " +
-     "tape 2 has the blank and a symbol for each quintuple.",
+     "tape 2 has the blank and a symbol for each rule.",
          "1. The least machine's control has 54 columns and 15 rows: how many elements has its board in the window 0 " +
            "2 2 1? 2. How many more for each further cell of the history? 3. The greatest n for which 0 2 n 1 isn't " +
              "refused? 4. The control of Add one has 174 columns and 27 rows: its board in the window 1 4 10 5?"],
@@ -191,22 +191,22 @@ export const MACHINE_TASKS = [
      ({key, label, size})), check: checkLeastWindow},
   {number: 13, title: "A table from a textbook", machine: {key: "sum", word: "11011"},
    ask: ["A textbook adds two numbers in unary so. Let the page turn the table, and let it start on the first " +
-     "letter. How many quintuples does it have in standard form, and how many steps does it take on 11011?",
+     "letter. How many rules does it have in standard form, and how many steps does it take on 11011?",
          "In the last line, let the head stay where it is. What is the output now? Leave the field empty for none."],
-   fields: [["rules", "quintuples", 3], ["steps", "steps", 4], ["output", "output then", 6]].map(([key, label, size]) =>
+   fields: [["rules", "rules", 3], ["steps", "steps", 4], ["output", "output then", 6]].map(([key, label, size]) =>
      ({key, label, size})), check: checkBook},
   {number: 14, title: "Read a view", machine: {key: "increment", word: "1011", window: [0, 5, 11, 5], e: 2000000},
    ask: ["The machine Add one on 1011, after two million element steps. What has been computed by now, and what is " +
-     "still to be done? Which output stands on tape 3? By which quintuples were steps 6, 7 and 8 made?",
-         "Which quintuple's step is taken back next, and what word stands on tape 1 then?"],
+     "still to be done? Which output stands on tape 3? By which rules were steps 6, 7 and 8 made?",
+         "Which rule's step is taken back next, and what word stands on tape 1 then?"],
    fields: [["output", "output", 6], ["rules", "steps 6 7 8", 6], ["next", "next", 3],
      ["then", "tape 1 then", 6]].map(([key, label, size]) => ({key, label, size})), check: checkView},
   {number: 15, title: "Find a fault from behind", machine: {table: HOMING, word: "1011"},
    ask: ["This machine should add one, and makes 0100 of 1011. Go to the end of the computing; click the cell with " +
      "the wrong digit, break where it changes, and run back.",
-         "At which step was it written, by which quintuple, and what should that quintuple be? Why is no second run " +
+         "At which step was it written, by which rule, and what should that rule be? Why is no second run " +
            "needed?"],
-   fields: [["step", "step", 3], ["rule", "quintuple", 3], ["row", "it should be", 15]].map(([key, label, size]) =>
+   fields: [["step", "step", 3], ["rule", "rule", 3], ["row", "it should be", 15]].map(([key, label, size]) =>
      ({key, label, size})), check: checkFault},
   {number: 17, title: "The longest run", machine: {key: "increment", word: "01111"},
    ask: [`Among the words of ${LONGEST} letters, on which does Add one take longest? `

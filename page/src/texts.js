@@ -2,29 +2,43 @@
 export const SIDES = "nesw";
 export const GREATEST = "4611686018427387904";
 
+// What a pattern finds in a text of the program's that has it; a text of another form is a fault.
+/** @type {(pattern: RegExp, text: string) => RegExpExecArray} */
+export function matchOf(pattern, text) {
+  const it = pattern.exec(text);
+  if (!it) throw new Error(`The page can't read what the program said: ${text.slice(0, 80)}`);
+  return it;
+}
+
+/** @type {(line: string) => Tape} */
 export function readTape(line) {
-  const [, tape, first, head, symbols] = /^tape (\d) from (-?\d+) head (-?\d+|\?):(.*)$/.exec(line);
+  const [, tape, first, head, symbols] = matchOf(/^tape (\d) from (-?\d+) head (-?\d+|\?):(.*)$/, line);
   return {tape: Number(tape), first: Number(first), head: head === "?" ? null : Number(head), symbols: symbols.trim().split(" ")};
 }
 
 // The seven lines of a view.
+/** @type {(lines: string[], at?: number) => View} */
 export function readView(lines, at = 0) {
-  const element = /^element (left )?(?:at )?(\S+) steps (\d+)$/.exec(lines[at]);
-  const machine = /^machine (\S+) (?:state (\S+)|quintuple (\d+)) step (\S+)$/.exec(lines[at + 6]);
+  const element = matchOf(/^element (left )?(?:at )?(\S+) steps (\d+)$/, lines[at]);
+  const machine = matchOf(/^machine (\S+) (?:state (\S+)|quintuple (\d+)) step (\S+)$/, lines[at + 6]);
   return {
     hasLeft: Boolean(element[1]), place: readPlace(element[2]), steps: Number(element[3]), module: lines[at + 1],
     name: lines[at + 2].slice("quadruple ".length), tapes: [3, 4, 5].map(k => readTape(lines[at + k])),
-    stage: machine[1], state: machine[2] ?? null, rule: machine[3] ? Number(machine[3]) : null, step: Number(machine[4]),
+    stage: /** @type {Stage} */ (machine[1]), state: machine[2] ?? null, rule: machine[3] ? Number(machine[3]) : null,
+    step: Number(machine[4]),
   };
 }
 
 // A line E.L as one number, 4E + its side.
+/** @type {(word: string) => number} */
 export const readPlace = word => 4 * parseInt(word) + SIDES.indexOf(word.slice(-1));
 export const placeName = place => `${place >> 2}.${SIDES[place & 3]}`;
 
+/** @type {(text: string) => Outcome} */
 export function readRun(text) {
-  const lines = text.split("\n").slice(0, -1), it = {elements: null, exit: null, steps: null, quadruples: null, output: null, tapes: []};
-  for (const line of lines) {
+  /** @type {Outcome} */
+  const it = {elements: 0, exit: null, steps: 0, quadruples: null, output: null, tapes: []};
+  for (const line of text.split("\n").slice(0, -1)) {
     const [word, ...rest] = line.split(" ");
     if (word === "elements") it.elements = Number(rest[0]);
     else if (word === "exit") it.exit = rest.join(" ");
@@ -39,6 +53,7 @@ export function readRun(text) {
 // Of a configuration text of either version: its bars (1 lies, 0 stands), for each output line the input to which it
 // leads, or -1, and for each input line the output from which it is fed. In version 2 a column is one entry, and its own
 // wires and upright bars aren't written.
+/** @type {(text: string) => Circuit} */
 export function readCircuit(text) {
   const lines = text.split("\n"), count = Number(lines[1].split(" ")[1]);
   const bars = new Uint8Array(count), targets = new Int32Array(4 * count).fill(-1), sources = new Int32Array(4 * count).fill(-1);
@@ -75,6 +90,7 @@ export function readCircuit(text) {
 }
 
 // The bars of a configuration text alone, of either version.
+/** @type {(text: string, count: number) => Uint8Array} */
 export function readBars(text, count) {
   const bars = new Uint8Array(count);
   let at = 0, element = 0;

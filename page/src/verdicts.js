@@ -2,7 +2,7 @@
 // words are answered with. Where it comes to rest the program says: `machine` halts in the last rule's state, or is stuck.
 import {isCutOff, STATUS} from "./answer.js";
 import {byId, current, dialog, escaped, nameOf, state, toast} from "./state.js";
-import {symbolWord} from "./table.js";
+import {finalOf, symbolWord} from "./table.js";
 import {ownRun} from "./window.js";
 import {number} from "./words.js";
 
@@ -21,12 +21,12 @@ export function setKind(name, kind) {
 // Where a run of the machine by itself came to rest, as its states were typed; nothing where it runs on.
 function restOf(own) {
   if (own.outcome === "running") return null;
-  return nameOf(own.outcome === "stuck" ? own.state : current.machine.rules.at(-1).next);
+  return nameOf(own.outcome === "stuck" ? own.state : finalOf(current.machine.rules));
 }
 // The same where standard form has added a state to halt in: it stands for the state in which the typed machine halts.
 function typedRest(own) {
   const {machine} = current, rest = restOf(own), isHalted = own.outcome === "halted";
-  const last = machine.userRules.at(-1).next;
+  const last = finalOf(machine.userRules);
   return isHalted && machine.isStandard ? state.names[last] ?? last : rest;
 }
 export function judgedBy(own) {
@@ -44,7 +44,7 @@ export const markOf = name => ({accept: "✓", reject: "✗"})[kindOf(name)] ?? 
 
 // The states of the table as they were typed, those first in which it can come to rest.
 function restStates() {
-  const {userRules, userStates} = current.machine, final = userRules.at(-1).next;
+  const {userRules, userStates} = current.machine, final = finalOf(userRules);
   const isLeft = it => userRules.some(rule => rule.state === it);
   const shown = it => state.names[it] ?? it;
   const firsts = [final, ...userStates.filter(it => it !== final && !isLeft(it))];
@@ -78,7 +78,7 @@ async function tryWords(told) {
   const words = byId("v-words").value.split("\n").map(it => it.trim()), {table} = current.machine, box = byId("v-table");
   state.tried = words.slice(0, MOST_WORDS);
   box.innerHTML = `<table>${TRIED_HEAD}<tbody></tbody></table>`;
-  const body = box.querySelector("tbody"), counts = {accept: 0, reject: 0};
+  const body = box.querySelector("tbody") ?? box, counts = {accept: 0, reject: 0};
   told();
   for (const word of state.tried) {
     const row = await triedWord(table, word);
@@ -91,7 +91,8 @@ async function tryWords(told) {
   byId("v-said").textContent = `${number(count)} ${count === 1 ? "word" : "words"}: ${counts.accept} accepted, ${counts.reject} rejected.${many}`;
 }
 async function triedWord(table, word) {
-  const own = await ownRun(table, word).catch(fault => ({fault}));
+  /** @type {Own & {fault?: any}} */
+  const own = await ownRun(table, word).catch(fault => /** @type {any} */ ({fault}));
   if (own.fault) {
     const {reply} = own.fault;
     if (!reply) throw own.fault;

@@ -4,11 +4,13 @@ import {betweenAt, betweenWords} from "./between.js";
 import {renderCell} from "./cell.js";
 import {markLine} from "./editor.js";
 import {renderTime} from "./film.js";
+import {frame} from "./frame.js";
 import {renderMoves} from "./moves.js";
 import {renderQuadruples} from "./quadruples.js";
 import {diagramPicture} from "./diagram_picture.js";
+import {isLecture} from "./lecture.js";
 import {heightOf, isPhone, put, widthOf} from "./sizes.js";
-import {byId, current, editorLine, escaped, nameOf, state} from "./state.js";
+import {breaksOf, byId, current, editorLine, escaped, nameOf, state} from "./state.js";
 import {tapePicture} from "./tape_picture.js";
 import {markOf} from "./verdicts.js";
 import {bankName, ruleAt, spoken, TAPES} from "./words.js";
@@ -17,15 +19,8 @@ const TAPE_NOTES = ["its own tape", "the rules used", "the copy"];
 const LEAST_DIAGRAM = 104;
 const REST = 350;
 
-// What the answers say of the step that is shown.
-export function frame() {
-  const {run} = current, e = state.e, q = run.momentIndex(e), at = run.placeAt(e);
-  const bank = at ? run.bankOf(at.place >> 2) : null, row = at && !at.hasLeft ? run.entryOf(at.place) : -1;
-  return {e, q, moment: run.moments[q], at, bank, row, move: run.moveAt(e)};
-}
-
 export function render(isLive = !state.playing) {
-  if (!current.run) return;
+  if (!current.run || state.lesson !== null) return;
   const f = frame(), {stage} = f.moment, isLate = !current.run.isKnown(f.e) || !current.run.hasViews(f.q);
   // What the tapes show isn't there yet: all stays as it was, but for the place on the time line.
   document.body.classList.toggle("late", isLate);
@@ -40,7 +35,7 @@ export function render(isLive = !state.playing) {
     it.setAttribute("aria-current", it.dataset.stage === stage ? "step" : "false");
   }
   const tag = rule.rule ? `<span class="tagno">rule ${rule.rule}${rule.isBack ? ", undone" : ""}</span> ` : "";
-  const between = betweenAt(current.run, f), aside = between.length ? ` <span class="aside">${escaped(betweenWords(between))}</span>` : "";
+  const between = betweenAt(current.run, f), told = betweenWords(between), aside = between.length ? ` <span class="aside" title="${escaped(told)}">${escaped(told)}</span>` : "";
   put("rule", `<p class="head">${tag}${escaped(rule.head)}</p><p class="more">${escaped(rule.more)}${aside}</p>`);
   renderTapes(f, between);
   renderCell();
@@ -55,6 +50,7 @@ export function render(isLive = !state.playing) {
 
 // As large as the height allows, and small enough that the longest tape is seen whole, where that can be.
 function cellSize(room, longest) {
+  if (isLecture()) return Math.max(30, Math.min(68, Math.floor((heightOf("tapes") - 250) / 3) - 30, Math.floor((room - 110) / longest)));
   const fits = Math.floor((room - (isPhone() ? 26 : 110)) / longest);
   const most = isPhone() ? 30 : Math.min(44, Math.floor((heightOf("tapes") - 430) / 3));
   return fits >= 28 ? Math.max(28, Math.min(most, fits)) : Math.max(30, Math.min(most, 32));
@@ -64,8 +60,8 @@ function renderTapes({q, moment}, between) {
   const size = cellSize(room, Math.max(...moment.tapes.map(it => it.symbols.length)));
   put("three", moment.tapes.map((tape, k) => {
     const title = TAPES[k + 1][0].toUpperCase() + TAPES[k + 1].slice(1);
-    const picked = state.breaks.filter(it => it.kind === "cell" && it.tape === k + 1).map(it => it.cell);
-    if (state.cell?.tape === k + 1) picked.push(state.cell.cell);
+    const picked = breaksOf("cell").filter(it => it.tape === k + 1).map(it => it.cell);
+    if (state.cell && state.cell.tape === k + 1) picked.push(state.cell.cell);
     const now = between.filter(it => it.tape === k + 1);
     return `<div class="tape"><div><b>${title}</b><span>${TAPE_NOTES[k]}</span></div>`
       + tapePicture(tape, {width, size, before: before?.tapes?.[k], picked, now}) + "</div>";
@@ -75,24 +71,25 @@ function renderTapes({q, moment}, between) {
 // The machine by itself: its tape and its state, which stay once it has halted; and its diagram.
 function renderItself({moment}, rule) {
   const {run} = current, isOver = moment.stage !== "compute";
-  const copying = run.moments.find(it => it.stage === "copy"), last = run.moments.findLast(it => it.stage === "compute");
+  const copying = run.moments.find(it => it.stage === "copy");
+  const last = run.moments.findLast(it => it.stage === "compute") ?? moment;
   const stateAt = it => it.state ?? run.rules[it.rule - 1].state;
   const ownState = isOver ? copying?.state ?? last.state : stateAt(moment), shown = isOver ? copying ?? last : moment;
   const words = isOver ? "<b>By itself</b> it has halted; it can't go back."
     : `<b>By itself</b>, step ${moment.step}: in <b>${escaped(nameOf(ownState))}</b>`;
   const tape = tapePicture({...(shown.tapes ?? moment.tapes)[0], tape: 1}, {width: widthOf("own"), size: 24, isNumbered: false});
   put("own", `<p>${words}</p><div class="${isOver ? "over" : ""}">${tape}</div>`);
-  const high = heightOf("diagram"), stops = new Set(state.breaks.filter(it => it.kind === "state").map(it => it.state));
+  const high = heightOf("diagram"), stops = new Set(breaksOf("state").map(it => it.state));
   byId("diagrambox").classList.toggle("low", high < LEAST_DIAGRAM);
   put("diagram", high < LEAST_DIAGRAM ? "" : diagramPicture(run.rules, {
-    width: widthOf("diagram"), height: Math.min(280, high - 2), now: moment.stage === "retrace" ? stateAt(moment) : ownState,
+    width: widthOf("diagram"), height: isLecture() ? high - 2 : Math.min(280, high - 2), now: moment.stage === "retrace" ? stateAt(moment) : ownState,
     rule: rule.rule, stage: moment.stage, stops, name: nameOf, places: state.places, mark: markOf,
   }));
 }
 
 let saying = null;
 // Speaks what is shown, once it has come to rest.
-function say(f) {
+export function say(f) {
   clearTimeout(saying);
   saying = setTimeout(() => {
     const where = f.bank ? ` The signal is in ${bankName(f.bank)}.` : "";

@@ -3,6 +3,7 @@
 // steps by itself, the whole run takes long: then the window is as wide as its steps and its output want, and how the
 // run goes on is asked for while it is looked at.
 import {answer, isCutOff, LANES, STATUS} from "./answer.js";
+import {matchOf} from "./texts.js";
 
 // How many steps a machine is run by itself, how many are shown of one that runs on, and above how many a run is long.
 const MOST_OWN_STEPS = 100000, SHOWN_STEPS = 40;
@@ -16,6 +17,7 @@ export class Refused extends Error {
 }
 
 // An answer that wasn't cut off.
+/** @type {(reply: Reply) => Reply} */
 export function whole(reply) {
   if (reply.status === -1 || isCutOff(reply)) throw new Refused(reply);
   return reply;
@@ -23,15 +25,17 @@ export function whole(reply) {
 
 // A window that is given, by a link or by hand, stays. For a machine that runs on there is none that has room: so many
 // of its steps are shown.
+/** @type {(table: string, word: string, given?: Window4 | null) => Promise<Found>} */
 export async function findRun(table, word, given = null) {
   const own = await ownRun(table, word), shown = [SHOWN_STEPS, Math.max(word.length, SHOWN_STEPS), SHOWN_STEPS, 1];
   const isOpen = !given && own.outcome === "halted" && own.steps > longRuns.above;
   const asked = given ?? (own.outcome === "running" ? shown : isOpen ? longWindow(table, word, own) : null);
   const words = ["run", "=" + word, ...(asked ?? ["auto"]), ...(isOpen ? ["0"] : [])], ran = await answer(words, table);
   if (![STATUS.done, STATUS.stuck, STATUS.window, STATUS.inside].includes(ran.status)) throw new Refused(ran);
-  const line = /^window (\d+) (\d+) (\d+) (\d+)$/m.exec(ran.text);
-  return {own, window: asked ?? line.slice(1).map(Number), text: ran.text, isFound: !asked, isOpen};
+  const window = asked ?? matchOf(/^window (\d+) (\d+) (\d+) (\d+)$/m, ran.text).slice(1).map(Number);
+  return {own, window, text: ran.text, isFound: !asked, isOpen};
 }
+/** @type {(table: string, word: string) => Promise<Own>} */
 export async function ownRun(table, word) {
   const ran = await answer(["machine", "=" + word, MOST_OWN_STEPS], table);
   if (![STATUS.done, STATUS.stuck, STATUS.inside].includes(ran.status)) throw new Refused(ran);

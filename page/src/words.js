@@ -11,6 +11,21 @@ export const endWords = run => Number.isFinite(run.end) ? number(run.end) : "…
 // How many quadruples it has, or has at least.
 export const countWords = run => run.total || run.isWhole ? number(run.count - 1) : `${number(run.count - 1)} …`;
 
+// The four counters at a step. Beyond the moments that are known only the element step is.
+/** @type {(shown: {run: import("./run.js").Run, found: Found}, f: Frame, listed: any, isShort: boolean) => Record<string, string>} */
+export function counterWords({run, found}, {e, q, moment}, {moves, at}, isShort) {
+  const steps = found.own.outcome === "running" ? "…" : number(found.own.steps);
+  const element = isShort ? number(e) : `${number(e)} of ${endWords(run)}`;
+  if (!run.isKnown(e)) return {machine: `… of ${steps}`, quadruple: `… of ${countWords(run)}`, module: "·", element};
+  const isWhole = !moves?.list.isPart && (moves?.to ?? 0) > (moves?.from ?? 0), step = moment.step ?? "…";
+  return {
+    machine: {compute: `${step} of ${steps}`, copy: "copying"}[moment.stage] ?? `back at ${step}`,
+    quadruple: `${number(q)} of ${countWords(run)}`,
+    module: isWhole ? `${(at ?? -1) + 1} of ${moves.list.length}` : "·",
+    element,
+  };
+}
+
 // The line by which the signal comes into a bank: its short name and what it means.
 export function lineOf(run, bank, row) {
   if (bank.kind === "cell") {

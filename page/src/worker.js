@@ -1,28 +1,32 @@
 // The page's worker: takes the module that it is given, compiled or as bytes, and answers one call after another.
-"use strict";
+import {Workbench} from "../../js/core.mjs";
+import {boundsOf, readPlaces} from "./places.js";
+
 let bench = null;
 const coder = new TextEncoder();
 
 // Where a compiled module can't be handed over, its bytes are asked for.
-onmessageerror = () => postMessage({kind: "unread"});
+const post = /** @type {(message: any, given?: any[]) => void} */ (postMessage);
+onmessageerror = () => post({kind: "unread"});
 onmessage = event => {
   const {kind, number} = event.data;
   const began = performance.now(), spent = () => performance.now() - began;
   try {
     if (kind === "module") {
       bench = new Workbench(event.data.module ?? new WebAssembly.Module(event.data.bytes));
-      postMessage({kind: "ready", number, ms: spent()});
+      post({kind: "ready", number, ms: spent()});
       return;
     }
     const {words, input, reading} = event.data;
     const {status, text} = bench.answer(coder.encode(words.join("\0")), coder.encode(input)), ms = spent();
     if (!reading || status !== 0) {
-      postMessage({kind: "answer", number, status, text, ms, memory: bench.memory()}, [text.buffer]);
+      post({kind: "answer", number, status, text, ms, memory: bench.memory()}, [text.buffer]);
       return;
     }
     const read = readPlaces(text, reading.count), bounds = boundsOf(read, reading);
-    postMessage({kind: "places", number, status, bytes: text.length, ...read, bounds, ms}, [read.places.buffer, bounds.buffer]);
+    const told = {kind: "places", number, status, bytes: text.length, ...read, bounds, ms};
+    post(told, [read.places.buffer, bounds.buffer]);
   } catch (fault) {
-    postMessage({kind: "fault", number, text: String(fault), ms: spent()});
+    post({kind: "fault", number, text: String(fault), ms: spent()});
   }
 };

@@ -7,12 +7,16 @@ import {farmPage} from "./farm.js";
 import {mirrorPage} from "./mirror.js";
 import {planPage} from "./plan.js";
 import {openSaid} from "./said.js";
+import {byId, partOf} from "./state.js";
 import {markTab, takeTabs} from "./tabs.js";
 
+/** @type {WorkshopPage[]} */
 const PAGES = [elementsPage, mirrorPage, farmPage, erasePage, planPage];
-const workshop = {box: null, page: null, made: new Set()};
-const pageBox = page => workshop.box.querySelector(`#page-${page.key}`);
-const pageTab = page => workshop.box.querySelector(`#tab-${page.key}`);
+// The box is there once the workshop was opened, and the page that is shown.
+const workshop = /** @type {{box: HTMLDialogElement, page: WorkshopPage, made: Set<WorkshopPage>}} */ ({made: new Set()});
+const part = id => partOf(workshop.box, id);
+const pageBox = page => part(`page-${page.key}`);
+const pageTab = page => part(`tab-${page.key}`);
 
 function makeWorkshop() {
   workshop.box = Object.assign(document.createElement("dialog"), {id: "workshop"});
@@ -29,17 +33,15 @@ function makeWorkshop() {
     <button id="e-close" class="plain" aria-label="close the workshop">×</button></div><div
     id="e-sheet"></div>${boxes.join("")}`;
   document.body.append(workshop.box);
-  takeTabs(workshop.box.querySelector("[role=tablist]"),
-    it => choosePage(PAGES.find(page => page.key === it.dataset.page)));
-  workshop.box.querySelector("#e-close").onclick = () => workshop.box.close();
-  workshop.box.querySelector("#e-texts").onclick = () => openSaid(workshop.page.title.toLowerCase(),
-    workshop.page.calls());
-  workshop.box.querySelector("#e-about-page").onclick = () => openAboutPage(workshop.page);
+  takeTabs(workshop.box.querySelector("[role=tablist]"), it => choosePage(pageOf(it.dataset.page)));
+  part("e-close").onclick = () => workshop.box.close();
+  part("e-texts").onclick = () => openSaid(workshop.page.title.toLowerCase(), workshop.page.calls());
+  part("e-about-page").onclick = () => openAboutPage(workshop.page);
   workshop.box.addEventListener("keydown", onWorkshopKey);
   workshop.box.addEventListener("close", () => {
     workshop.page.close();
-    const sheet = workshop.box.querySelector("#sheet");
-    if (sheet) document.getElementById("sheetplace").append(sheet);
+    const sheet = part("sheet");
+    if (sheet) byId("sheetplace").append(sheet);
   });
 }
 function onWorkshopKey(event) {
@@ -68,7 +70,9 @@ function choosePage(page) {
 export function openWorkshop(key = workshop.page?.key ?? PAGES[0].key) {
   if (!workshop.box) makeWorkshop();
   if (!workshop.box.open) workshop.box.showModal();
-  choosePage(PAGES.find(it => it.key === key));
+  choosePage(pageOf(key));
 }
+/** @type {() => HTMLDialogElement | undefined} */
 export const workshopBox = () => workshop.box;
-export const pageOf = key => PAGES.find(it => it.key === key);
+/** @type {(key: string) => WorkshopPage} */
+export const pageOf = key => PAGES.find(it => it.key === key) ?? PAGES[0];

@@ -1,10 +1,29 @@
-"""The workbench from Python: circuits of rotary elements, machines, and their runs, answered by the proved program.
+"""Hithwelor, a verified workbench for reversible computing, from Python.
 
 `answer` hands words and an input to the program, and gives its status and its text. `Machine`, and what its calls give, are
 small classes over it with the texts read and a picture in notebooks. Nothing is needed besides Python 3.
 """
+from __future__ import annotations
+
 from .answers import NoMemory, Unavailable, answer, way
 from .machine import Machine
-from .texts import Exit, Outcome, Refused, Run, Session, Tape, View
+from .texts import Exit, Outcome, Refused, Run, Session, Tape, View, Window
 
-__all__ = ["Exit", "Machine", "NoMemory", "Outcome", "Refused", "Run", "Session", "Tape", "Unavailable", "View", "answer", "way"]
+__all__ = ["Exit", "Machine", "NoMemory", "Outcome", "Refused", "Run", "Session", "Tape", "Unavailable", "View", "Window",
+           "answer", "version", "way"]
+
+
+def version() -> str:
+    """The version: in the repository, and in what tools/install made, the one that is told there; else the package's."""
+    import os
+    import re
+    from importlib import metadata
+
+    from .answers import HERE, TOP, first_that_stands
+    told = first_that_stands([os.path.join(TOP, "CHANGELOG.md"), os.path.join(TOP, "version")])
+    if told and HERE == os.path.join(TOP, "python", "hithwelor"):
+        with open(told, encoding="utf-8") as file:
+            found = re.search(r"^(?:## )?(\d+\.\d+\.\d+)", file.read(), flags=re.M)
+        if found:
+            return found[1]
+    return metadata.version("hithwelor")

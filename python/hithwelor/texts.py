@@ -2,27 +2,41 @@
 
 Each class keeps the program's own text as `text`; `_repr_html_` shows it in a notebook.
 """
+from __future__ import annotations
+
 import html
 import re
+from collections.abc import Iterable, Iterator, Sequence
 from dataclasses import dataclass, field
+from typing import ClassVar, overload
 
 STATUSES = {2: "usage", 3: "text", 4: "machine", 5: "word", 6: "size", 7: "read fault", 8: "write fault", 9: "no memory"}
+
+# A window of the three tapes: l1, r1, n, r3.
+Window = tuple[int, int, int, int]
 
 
 class Refused(ValueError):
     """The program refused the words or the input: `status` is its exit code, `text` the line that it printed."""
 
-    def __init__(self, status, text):
+    def __init__(self, status: int, text: str) -> None:
         self.status, self.text = status, text
         super().__init__(f"{text.strip()} (status {status}, {STATUSES.get(status, 'unknown')})")
 
 
-def checked(status, text, *statuses):
+def checked(status: int, text: bytes, *statuses: int) -> str:
     """The text of an answer with one of these statuses, as a str; else Refused."""
-    text = text.decode(errors="replace")
+    told = text.decode(errors="replace")
     if status not in statuses:
-        raise Refused(status, text)
-    return text
+        raise Refused(status, told)
+    return told
+
+
+def matched(found: re.Match[str] | None, line: str, what: str) -> re.Match[str]:
+    """What was found in a line, or a ValueError."""
+    if not found:
+        raise ValueError(f"{line!r} isn't the line of {what}")
+    return found
 
 
 @dataclass(frozen=True)
@@ -32,32 +46,30 @@ class Tape:
 
     number: int
     first: int
-    head: object
-    symbols: tuple
+    head: int | None
+    symbols: tuple[str, ...]
 
-    LINE = re.compile(r"tape ([123]) from (-?\d+) head (-?\d+|\?):((?: \S+)*)")
-    NAMES = {1: "work", 2: "history", 3: "output"}
+    LINE: ClassVar[re.Pattern[str]] = re.compile(r"tape ([123]) from (-?\d+) head (-?\d+|\?):((?: \S+)*)")
+    NAMES: ClassVar[dict[int, str]] = {1: "work", 2: "history", 3: "output"}
 
     @classmethod
-    def read(cls, line):
-        found = cls.LINE.fullmatch(line)
-        if not found:
-            raise ValueError(f"{line!r} isn't the line of a tape")
+    def read(cls, line: str) -> Tape:
+        found = matched(cls.LINE.fullmatch(line), line, "a tape")
         head = None if found[3] == "?" else int(found[3])
         return cls(int(found[1]), int(found[2]), head, tuple(found[4].split()))
 
     @property
-    def word(self):
+    def word(self) -> str:
         """The symbols without the blanks at both ends."""
         return "".join(self.symbols).strip("_") if all(len(it) == 1 for it in self.symbols) else " ".join(self.symbols).strip("_ ")
 
-    def __getitem__(self, position):
+    def __getitem__(self, position: int) -> str:
         """The symbol at a position; beyond the cells that are shown that is an IndexError."""
         if not self.first <= position < self.first + len(self.symbols):
             raise IndexError(f"tape {self.number} is shown from {self.first} to {self.first + len(self.symbols) - 1}")
         return self.symbols[position - self.first]
 
-    def _row(self):
+    def _row(self) -> str:
         cells = []
         for place, symbol in enumerate(self.symbols, self.first):
             style = "border:1px solid #999;padding:2px 7px;text-align:center;font-family:monospace"
@@ -66,11 +78,11 @@ class Tape:
             cells.append(f'<td style="{style}" title="cell {place}">{"&middot;" if symbol == "_" else html.escape(symbol)}</td>')
         return f'<tr><th style="text-align:left;padding-right:8px">{self.NAMES[self.number]}</th>{"".join(cells)}</tr>'
 
-    def _repr_html_(self):
+    def _repr_html_(self) -> str:
         return f'<table style="border-collapse:collapse">{self._row()}</table>'
 
 
-def tapes_html(tapes):
+def tapes_html(tapes: Iterable[Tape]) -> str:
     return "".join(f'<div style="margin:2px 0">{tape._repr_html_()}</div>' for tape in tapes)
 
 
@@ -81,13 +93,13 @@ class Outcome:
 
     kind: str
     steps: int
-    output: object = None
-    state: object = None
-    letter: object = None
+    output: str | None = None
+    state: str | None = None
+    letter: str | None = None
     text: str = field(default="", repr=False)
 
     @classmethod
-    def read(cls, text):
+    def read(cls, text: str) -> Outcome:
         words = text.split("\n")[0].split(" ")
         if words[0] == "stuck":
             return cls("stuck", int(words[3]), state=words[1], letter=words[2], text=text)
@@ -101,13 +113,13 @@ class Exit:
     `tape` and the `side`), or `inside`, where it hadn't left yet."""
 
     kind: str
-    state: object = None
-    letter: object = None
-    tape: object = None
-    side: object = None
+    state: str | None = None
+    letter: str | None = None
+    tape: int | None = None
+    side: str | None = None
 
     @classmethod
-    def read(cls, words):
+    def read(cls, words: str) -> Exit:
         kind, *rest = words.split(" ")
         if kind == "stuck":
             return cls(kind, state=rest[0], letter=rest[1])
@@ -121,34 +133,37 @@ class Run:
     """A run of a machine's circuit: its `window` (l1, r1, n, r3), the number of `elements`, the `exit`, the element `steps`,
     the `quadruple_steps` of Bennett's machine where they are told, the `tapes` and, at the end, the `output`."""
 
-    window: tuple
+    window: Window
     elements: int
     exit: Exit
     steps: int
-    quadruple_steps: object
-    tapes: tuple
-    output: object
+    quadruple_steps: int | None
+    tapes: tuple[Tape, ...]
+    output: str | None
     text: str = field(default="", repr=False)
 
     @classmethod
-    def read(cls, text, window=None):
-        told = {}
-        tapes = []
+    def read(cls, text: str, window: Window | None = None) -> Run:
+        told: dict[str, str] = {}
+        tapes: list[Tape] = []
         for line in text.splitlines():
             if line.startswith("tape "):
                 tapes.append(Tape.read(line))
             else:
                 name, _, rest = line.partition(" ")
-                told["output" if name == "output" else name] = rest
+                told[name] = rest
         if "window" in told:
-            window = tuple(map(int, told["window"].split(" ")))
+            left, right, history, output_room = map(int, told["window"].split(" "))
+            window = left, right, history, output_room
+        if window is None:
+            raise ValueError("a run tells its window, or it is given")
         quadruples = told.get("quadruple")
         output = told.get("output")
-        return cls(tuple(window), int(told["elements"]), Exit.read(told.get("exit", "inside")), int(told["steps"]),
+        return cls(window, int(told["elements"]), Exit.read(told.get("exit", "inside")), int(told["steps"]),
                    int(quadruples.removeprefix("steps ")) if quadruples else None, tuple(tapes),
                    None if output is None else output.removeprefix("="), text)
 
-    def _repr_html_(self):
+    def _repr_html_(self) -> str:
         told = self.text.split("\ntape ")[0].splitlines()
         output = "" if self.output is None else f"<p>output <b>{html.escape(self.output) or '(no letter)'}</b></p>"
         return f"<p>{' &middot; '.join(map(html.escape, told))}</p>{tapes_html(self.tapes)}{output}"
@@ -164,19 +179,19 @@ class View:
     steps: int
     module: str
     quadruple: str
-    tapes: tuple
+    tapes: tuple[Tape, ...]
     stage: str
     machine: str
     text: str = field(default="", repr=False)
 
     @classmethod
-    def read(cls, lines):
-        element = re.fullmatch(r"element (at|left) (\S+) steps (\d+)", lines[0])
+    def read(cls, lines: Sequence[str]) -> View:
+        element = matched(re.fullmatch(r"element (at|left) (\S+) steps (\d+)", lines[0]), lines[0], "an element")
         stage, _, machine = lines[6].removeprefix("machine ").partition(" ")
         return cls(element[2], element[1] == "left", int(element[3]), lines[1], lines[2].removeprefix("quadruple "),
                    tuple(map(Tape.read, lines[3:6])), stage, machine, "".join(f"{line}\n" for line in lines[:7]))
 
-    def _repr_html_(self):
+    def _repr_html_(self) -> str:
         told = [self.stage, f"{self.machine}", f"quadruple {self.quadruple}", f"{self.module}", f"element step {self.steps}"]
         return f"<p>{' &middot; '.join(map(html.escape, told))}</p>{tapes_html(self.tapes)}"
 
@@ -185,13 +200,13 @@ class View:
 class Session:
     """The answers to a script, one an entry: a View for `view`, else the line that was answered."""
 
-    answers: tuple
+    answers: tuple[View | str, ...]
     text: str = field(default="", repr=False)
 
     @classmethod
-    def read(cls, text):
-        lines, answers = text.splitlines(), []
-        at = 0
+    def read(cls, text: str) -> Session:
+        lines, at = text.splitlines(), 0
+        answers: list[View | str] = []
         while at < len(lines):
             if lines[at].startswith("element "):
                 answers.append(View.read(lines[at:at + 7]))
@@ -201,11 +216,19 @@ class Session:
                 at += 1
         return cls(tuple(answers), text)
 
-    def __len__(self):
+    def __len__(self) -> int:
         return len(self.answers)
 
-    def __getitem__(self, place):
+    def __iter__(self) -> Iterator[View | str]:
+        return iter(self.answers)
+
+    @overload
+    def __getitem__(self, place: int) -> View | str: ...
+    @overload
+    def __getitem__(self, place: slice) -> tuple[View | str, ...]: ...
+
+    def __getitem__(self, place: int | slice) -> View | str | tuple[View | str, ...]:
         return self.answers[place]
 
-    def _repr_html_(self):
+    def _repr_html_(self) -> str:
         return "".join(it._repr_html_() if isinstance(it, View) else f"<pre>{html.escape(it)}</pre>" for it in self.answers)

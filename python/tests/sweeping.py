@@ -12,6 +12,8 @@ import tempfile
 import time
 import unittest
 
+import pytest
+
 PACKAGES = os.path.dirname(os.path.dirname(os.path.abspath(__file__)))
 TOP = os.path.dirname(PACKAGES)
 sys.path.insert(0, PACKAGES)
@@ -79,6 +81,8 @@ def whole(length):
 
 
 class Sweeps(unittest.TestCase):
+    pytestmark = [pytest.mark.slow, pytest.mark.engine]
+
     def setUp(self):
         if not answering():
             self.skipTest("neither the shared library nor node is here")

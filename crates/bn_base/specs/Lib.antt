@@ -1,3 +1,5 @@
 pub mod Number
 pub mod Line
 pub mod LentLine
+pub mod Cuts
+pub mod CutLaws

@@ -1,144 +1,273 @@
--- A place has at most one named exit: columns, banks and lines are apart.
-use Rattle.std.specs.Prelude.{◌≡◌, ℕ, ◌+◌, ◌-◌, ◌*◌, ◌<◌, ◌≤◌, List, [], ◌∷◌, Option, Some, slice_get, slice_index, refl}
+-- The exits of a layout by the numbers of the line by which the signal left.
+use Rattle.std.specs.Prelude.{◌≡◌, ◌≢◌, ◌↔◌, ℕ, ◌+◌, ◌-◌, ◌*◌, ◌/◌, ◌%◌, ◌<◌, ◌≤◌, Bool, true, false, ◌==◌, ◌&&◌, List, [], ◌∷◌, length, Option, Some, None, slice_get, refl}
+use Rattle.std.specs.List.{slice_index_or}
 use Rattle.std.proofs.Common.{zero, suc, arith, sym, ap, subst, ◌∙◌}
-use Rattle.std.proofs.lemmas.Option.{same_Some, some_pair_parts}
 use Rattle.std.proofs.Math.Nat.{mul-le-mul_right}
+use Rattle.std.proofs.lemmas.Option.{same_Some, some_pair_parts, slice_get_within}
+use Rattle.std.proofs.lemmas.Bool.Decides.{nat_tests}
+use Rattle.std.proofs.lemmas.Nat.{same_from_place, div-add-mod'}
+use Rattle.bn_circuits.specs.declared.line.Line.{Line}
 use Rattle.bn_circuits.specs.declared.place.Place.{Place}
 use Rattle.bn_circuits.specs.declared.place.Place.TheVariants.{Enter, Left}
-use Rattle.bn_element.specs.Rotary.{east, west}
+use Rattle.bn_element.specs.Rotary.{west}
+use Rattle.bn_machine.specs.declared.quint.Side.{Side}
 use Rattle.bn_machine.specs.declared.quint.Side.TheVariants as side
 use Rattle.bn_realise.specs.Banks.{column_at}
-use Rattle.bn_realise.proofs.BankWiresLemmas.{column_once}
-use Rattle.bn_board.specs.declared.exit.Exit.{Exit}
-use Rattle.bn_board.specs.declared.exit.Exit.TheVariants as exit
 use Rattle.bn_network.specs.declared.cell_line.CellLine.TheVariants.{TakeRight, TakeLeft}
 use Rattle.bn_network.specs.Cells.{line_number, cell_line_count}
 use Rattle.bn_network.specs.Controls.{lines_before}
 use Rattle.bn_network.specs.Networks.{cells_in}
-use Rattle.bn_board.specs.Layouts.{Layout, symbol_count_at, lines_at, cell_element, cell_output, end_place, IsNamedExit, inside, ends, stuck, right, left}
-use Rattle.bn_board.specs.LayoutLaws.{ExitsAreOne}
-use Rattle.bn_board.proofs.PlaceLemmas.{output_in, output-within, cells_after, place_once}
-use Rattle.bn_board.proofs.LetterLemmas.{letters_by, some_letters, symbols_are}
+use Rattle.bn_board_spec.specs.declared.exit.Exit.{Exit}
+use Rattle.bn_board_spec.specs.declared.exit.Exit.TheVariants as exit
+use Rattle.bn_board_spec.specs.Layouts.{Layout, symbol_count_at, lines_at, cell_element, cell_output, end_place, IsNamedExit, inside, ends, stuck, right, left}
+use Rattle.bn_board_spec.proofs.PlaceLemmas.{output-within}
+use Rattle.bn_net.specs.declared.net.TheConstants.{MOST_ELEMENTS}
+use Rattle.bn_board.specs.Flattened.{IsLayoutKept}
+use Rattle.bn_board.proofs.LayoutLemmas.{control_within, cell_within}
 
 -- numbers of a place
-elements : (e f l m : ℕ) → Left e l ≡ Left f m → (e ≡ f) × (l ≡ m)
-elements e f l m h = (cc, cc)
+pub left_parts : (e f l m : ℕ) → Left e l ≡ Left f m → (e ≡ f) × (l ≡ m)
+left_parts e f l m h = (cc, cc)
 
-module _ (x y z : ℕ) where
-  -- three numbers of symbols
-  abbrev zs : List ℕ
-  zs = x ∷ y ∷ z ∷ []
+-- another line is at another place
+pub other_line : (one two : Line) (p : Place) → (one ≡ two → ⊥) → Left two.element two.line ≡ p → Left one.element one.line ≡ p → ⊥
+other_line one two p other second first =
+    let parts = left_parts _ _ _ _ (first ∙ sym second) in
+    let elements = parts.0 in
+    let lines = parts.1 in
+    other (λ i. record { element = elements i; line = lines i })
 
-  -- an answer's line is one of the control's, and it tells tape and letter
-  answer-within : (t c : ℕ) → c < letters_by zs t → lines_before zs (t - 1) + c < lines_before zs 3
-  answer-within zero c low = absurd (omega arith)
-  answer-within (suc zero) c low = omega arith
-  answer-within (suc (suc zero)) c low = omega arith
-  answer-within (suc (suc (suc zero))) c low = omega arith
-  answer-within (suc (suc (suc (suc t)))) c low = absurd (omega arith)
+-- one line is the other
+abbrev pub is_line : Line → Line → Bool
+is_line one two = one.element == two.element && one.line == two.line
 
--- each tape has a cell
-some_cells : (b : Layout) (t : ℕ) → 0 < t → t ≤ 3 → 0 < cells_in b.limits t
-some_cells b zero low high = absurd (omega arith)
-some_cells b (suc zero) low high = omega arith
-some_cells b (suc (suc zero)) low high = omega arith
-some_cells b (suc (suc (suc zero))) low high = omega arith
-some_cells b (suc (suc (suc (suc t)))) low high = absurd (omega arith)
+same_lines : (one two : Line) (r : Bool) → r ≡ is_line one two → r ≡ true → one ≡ two
+same_lines one two r is yes_is =
+    let elements : one.element ≡ two.element = grind (arith, nat_tests) in
+    let lines : one.line ≡ two.line = grind (arith, nat_tests) in
+    λ i. record { element = elements i; line = lines i }
 
-module _ (b : Layout) (x y z : ℕ) (symbols : b.symbols ≡ x ∷ y ∷ z ∷ []) (some : (t : ℕ) → 0 < t → t ≤ 3 → 0 < symbol_count_at b t) where
-  -- a letter's line is one of the control's
-  answer-low : (t c : ℕ) → c < symbol_count_at b t → lines_before b.symbols (t - 1) + c < lines_at b
-  answer-low t c low = subst (λ zs. lines_before zs (t - 1) + c < lines_before zs 3) (sym symbols) (answer-within x y z t c (by_tape t low))
+other_lines : (one two : Line) (r : Bool) → r ≡ is_line one two → r ≡ false → one ≡ two → ⊥
+other_lines one two r is no_is same =
+    let elements : one.element ≡ two.element = ap (λ x. x.element) same in
+    let lines : one.line ≡ two.line = ap (λ x. x.line) same in
+    grind (arith, nat_tests)
+
+same_place : (one two : Line) → one ≡ two → Left one.element one.line ≡ Left two.element two.line
+same_place one two same = ap (λ x. Left x.element x.line) same
+
+-- an answer's line is one of the control's
+answer_in : (zs : List ℕ) (t c : ℕ) → length zs ≡ 3 → c < slice_index_or zs t 0 → lines_before zs t + c < lines_before zs 3
+answer_in [] t c three low = absurd (omega arith)
+answer_in (x ∷ []) t c three low = absurd (omega arith)
+answer_in (x ∷ (y ∷ [])) t c three low = absurd (omega arith)
+answer_in (x ∷ (y ∷ (z ∷ []))) zero c three low = omega arith
+answer_in (x ∷ (y ∷ (z ∷ []))) (suc zero) c three low = omega arith
+answer_in (x ∷ (y ∷ (z ∷ []))) (suc (suc zero)) c three low = omega arith
+answer_in (x ∷ (y ∷ (z ∷ []))) (suc (suc (suc t))) c three low = absurd (omega arith)
+answer_in (x ∷ (y ∷ (z ∷ (w ∷ zs)))) t c three low = absurd (omega arith)
+
+-- The line is the west of an answer's row in the column of a state of the control that awaits a first read.
+-- The read is of this state of the machine, and the row is this symbol's.
+pub record IsStuckBy (b : Layout) (e l a c : ℕ) : Type 0 where
+  pub west_is : l ≡ west
+  pub tape : ℕ
+  pub awaits : slice_get b.awaited (e / (lines_at b + 1)) ≡ Some (Some (a, tape))
+  pub low : c < symbol_count_at b tape
+  pub row : e % (lines_at b + 1) ≡ lines_before b.symbols (tape - 1) + c
+
+module _ (b : Layout) (kept : IsLayoutKept b) where
+  pub end_within : (b.states - 1) * (lines_at b + 1) ≤ MOST_ELEMENTS
+  end_within =
+      let h : (b.states - 1) * (lines_at b + 1) ≤ b.states * (lines_at b + 1) = mul-le-mul_right (lines_at b + 1) (omega arith) in
+      let few = control_within b kept in
+      omega arith
+
+  pub output_few : (t p l : ℕ) → 1 ≤ t → t ≤ 3 → p < cells_in b.limits t → 1 ≤ symbol_count_at b t → l < cell_line_count (symbol_count_at b t)
+      → cell_element b t p + (2 * symbol_count_at b t - 1) * (cell_line_count (symbol_count_at b t) + 1) + l ≤ MOST_ELEMENTS
+  output_few t p l low high cell some line =
+      let one = cell_within b kept t p low high cell in
+      let two = output-within (symbol_count_at b t) l some line in
+      let few = kept.few_elements in
+      omega arith
+
+  answer_low : (t c : ℕ) → c < symbol_count_at b t → lines_before b.symbols (t - 1) + c < lines_at b
+  answer_low zero c low = absurd (omega arith)
+  answer_low (suc t) c low =
+      let h = answer_in b.symbols t c kept.tapes low in
+      let e : suc t - 1 ≡ t = omega arith in
+      rw e h
+
+  stuck_by : (p : Place) (x : Exit) → IsNamedExit b p x → (e l a c : ℕ) → p ≡ Left e l → x ≡ exit.Stuck a c → IsStuckBy b e l a c
+  stuck_by p x (inside m k is) e l a c at named = absurd (let h : exit.Inside ≡ exit.Stuck a c = named in cc)
+  stuck_by p x (ends is) e l a c at named = absurd (let h : exit.End ≡ exit.Stuck a c = named in cc)
+  stuck_by p x (right t low high is) e l a c at named = absurd (let h : exit.Window t side.Right ≡ exit.Stuck a c = named in cc)
+  stuck_by p x (left t low high is) e l a c at named = absurd (let h : exit.Window t side.Left ≡ exit.Stuck a c = named in cc)
+  stuck_by p x (stuck q d t s awaits low is) e l a c at named =
+      let parts = left_parts _ _ _ _ (sym at ∙ is) in
+      let states : d ≡ a = (let h : exit.Stuck d s ≡ exit.Stuck a c = named in cc) in
+      let symbols : s ≡ c = (let h : exit.Stuck d s ≡ exit.Stuck a c = named in cc) in
+      let within = answer_low t s low in
+      let whole = div-add-mod' e (lines_at b + 1) in
+      let both = same_from_place (e / (lines_at b + 1)) (e % (lines_at b + 1)) q (lines_before b.symbols (t - 1) + s) (lines_at b + 1) (omega arith)
+      (omega arith) (omega (arith, parts.0)) in
+      let awaits' : slice_get b.awaited (e / (lines_at b + 1)) ≡ Some (Some (a, t)) = subst (λ n. slice_get b.awaited n ≡ Some (Some (a, t))) (sym
+      both.0) (subst (λ n. slice_get b.awaited q ≡ Some (Some (n, t))) states awaits) in
+      record { west_is = parts.1; tape = t; awaits = awaits'; low = omega arith; row = omega (arith, both.1) }
+
+  pub stuck_is : (e l a c : ℕ) → IsNamedExit b (Left e l) (exit.Stuck a c) ↔ IsStuckBy b e l a c
+  stuck_is e l a c = (λ named. stuck_by _ _ named e l a c refl refl, λ by. back by)
     where
-      by_tape : (t : ℕ) → c < symbol_count_at b t → c < letters_by (x ∷ y ∷ z ∷ []) t
-      by_tape zero low = low
-      by_tape (suc t) low = subst (λ zs. c < slice_index zs t) symbols low
+      back : IsStuckBy b e l a c → IsNamedExit b (Left e l) (exit.Stuck a c)
+      back by =
+          let whole = div-add-mod' e (lines_at b + 1) in
+          let element : e ≡ column_at 0 (lines_at b) (e / (lines_at b + 1)) + (lines_before b.symbols (by.tape - 1) + c) = (let row = by.row in omega
+          arith) in
+          let line = by.west_is in
+          stuck (e / (lines_at b + 1)) a by.tape c by.awaits by.low (λ i. Left (element i) (line i))
 
-  -- a cell's output is none of the control's
-  beyond : (t p l : ℕ) → 0 < t → t ≤ 3 → p < cells_in b.limits t → l < cell_line_count (symbol_count_at b t) → 0 < l
-      → column_at 0 (lines_at b) (b.states - 1) ≡ column_at (cell_element b t p) (cell_line_count (symbol_count_at b t)) (2 * symbol_count_at b t - 1) + l → ⊥
-  beyond t p l first last here low over same =
-      let after = cells_after b t first in
-      let control : (b.states - 1) * (lines_at b + 1) ≤ b.states * (lines_at b + 1) = mul-le-mul_right (lines_at b + 1) (omega arith) in
-      absurd (omega arith)
+  none_by : (e l : ℕ) → ((a c : ℕ) → IsStuckBy b e l a c → ⊥) → (a c : ℕ) → (◌≡◌ {A = Option (ℕ × ℕ)} None (Some (a, c))) ↔ IsNamedExit b (Left e l)
+      (exit.Stuck a c)
+  none_by e l refuted a c = (
+    λ h. absurd (let g : ◌≡◌ {A = Option (ℕ × ℕ)} None (Some (a, c)) = h in cc),
+    λ named. absurd (refuted a c ((stuck_is e l a
+        c).0 named)),
+  )
 
-  -- two outputs of cells are one only where tape, cell and line are
-  output_once : (t u p q k l : ℕ) → 0 < t → t ≤ 3 → 0 < u → u ≤ 3 → p < cells_in b.limits t → q < cells_in b.limits u → k < cell_line_count (symbol_count_at b t)
-      → l < cell_line_count (symbol_count_at b u) → cell_output b t p k ≡ cell_output b u q l → (t ≡ u) × (p ≡ q)
-      × (output_in (symbol_count_at b t) k ≡ output_in (symbol_count_at b u) l)
-  output_once t u p q k l low high low' high' here there row row' same =
-      let numbers = elements _ _ _ _ same in
-      let place : cell_element b t p + output_in (symbol_count_at b t) k ≡ cell_element b u q + output_in (symbol_count_at b u) l = omega (arith, numbers.0) in
-      place_once b t u p q (output_in (symbol_count_at b t) k) (output_in (symbol_count_at b u) l) low low' here there (output-within (symbol_count_at b t) k (some t low high) row) (output-within (symbol_count_at b u) l (some u low' high') row') place
+  pub off_line : (e l : ℕ) → l ≢ west → (a c : ℕ) → (◌≡◌ {A = Option (ℕ × ℕ)} None (Some (a, c))) ↔ IsNamedExit b (Left e l) (exit.Stuck a c)
+  off_line e l other = none_by e l (λ a c by. other by.west_is)
 
-  -- the line to the right is one of a cell's
-  takes_right : (t : ℕ) → line_number (symbol_count_at b t) TakeRight < cell_line_count (symbol_count_at b t)
-  takes_right t = omega arith
+  -- by the number of lines
+  module _ (e l n : ℕ) (n_is : n ≡ lines_at b) where
+    pub off_states : b.states ≤ e / (n + 1) → (a c : ℕ) → (◌≡◌ {A = Option (ℕ × ℕ)} None (Some (a, c))) ↔ IsNamedExit b (Left e l) (exit.Stuck a c)
+    off_states high = none_by e l (λ a c by.
+        let within : e / (lines_at b + 1) < length b.awaited = slice_get_within b.awaited (e / (lines_at b + 1)) (Some (a, by.tape)) by.awaits in
+        let counted : length b.awaited ≡ b.states = kept.awaited_counted in
+        let over : b.states ≤ e / (lines_at b + 1) = subst (λ k. b.states ≤ e / (k + 1)) n_is high in
+        absurd (omega arith))
 
-  -- and so is the line to the left
-  takes_left : (t : ℕ) → line_number (symbol_count_at b t) TakeLeft < cell_line_count (symbol_count_at b t)
-  takes_left t = omega arith
+    pub off_awaited : slice_get b.awaited (e / (n + 1)) ≡ Some None → (a c : ℕ)
+        → (◌≡◌ {A = Option (ℕ × ℕ)} None (Some (a, c))) ↔ IsNamedExit b (Left e l) (exit.Stuck a c)
+    off_awaited none = none_by e l (λ a c by.
+        let here : slice_get b.awaited (e / (lines_at b + 1)) ≡ Some None = subst (λ k. slice_get b.awaited (e / (k + 1)) ≡ Some None) n_is none in
+        absurd (let h : ◌≡◌ {A = Option (Option (ℕ × ℕ))} (Some None) (Some (Some (a, by.tape))) = sym here ∙ by.awaits in cc))
 
-  -- the last cell is one
-  last_cell : (t : ℕ) → 0 < t → t ≤ 3 → cells_in b.limits t - 1 < cells_in b.limits t
-  last_cell t low high = let h = some_cells b t low high in omega arith
+    module _ (from t : ℕ) (awaits : slice_get b.awaited (e / (n + 1)) ≡ Some (Some (from, t))) where
+      awaits_here : slice_get b.awaited (e / (lines_at b + 1)) ≡ Some (Some (from, t))
+      awaits_here = subst (λ k. slice_get b.awaited (e / (k + 1)) ≡ Some (Some (from, t))) n_is awaits
 
-  -- the right end of one tape is no left end
-  sides : (t u : ℕ) → 0 < t → t ≤ 3 → 0 < u → u ≤ 3
-      → cell_output b t (cells_in b.limits t - 1) (line_number (symbol_count_at b t) TakeRight) ≡ cell_output b u 0 (line_number (symbol_count_at b u) TakeLeft) → ⊥
-  sides t u low high low' high' same =
-      let one = output_once t u (cells_in b.limits t - 1) 0 (line_number (symbol_count_at b t) TakeRight) (line_number (symbol_count_at b u) TakeLeft) low high low' high' (last_cell t low high) (some_cells b u low' high') (takes_right t) (takes_left u) same in
-      let at_t : output_in (symbol_count_at b t) (line_number (symbol_count_at b t) TakeRight) ≡ output_in (symbol_count_at b t) (line_number (symbol_count_at b t) TakeLeft) = subst (λ v. output_in (symbol_count_at b t) (line_number (symbol_count_at b t) TakeRight) ≡ output_in (symbol_count_at b v) (line_number (symbol_count_at b v) TakeLeft)) (sym one.0) one.2 in
-      absurd (omega (arith, at_t))
+      same_awaited : (a u : ℕ) → slice_get b.awaited (e / (lines_at b + 1)) ≡ Some (Some (a, u)) → (from ≡ a) × (t ≡ u)
+      same_awaited a u other =
+          let kept : ◌≡◌ {A = Option (Option (ℕ × ℕ))} (Some (Some (from, t))) (Some (Some (a, u))) = sym awaits_here ∙ other in
+          some_pair_parts from a t u (same_Some (Some (from, t)) (Some (a, u)) kept)
 
-  -- two loose lines of the control are one only where state and letter are
-  stuck_once : (q r a c t u : ℕ) (s v : ℕ) → slice_get b.awaited q ≡ Some (Some (a, t)) → slice_get b.awaited r ≡ Some (Some (c, u)) → s < symbol_count_at b t
-      → v < symbol_count_at b u
-      → column_at 0 (lines_at b) q + (lines_before b.symbols (t - 1) + s) ≡ column_at 0 (lines_at b) r + (lines_before b.symbols (u - 1) + v)
-      → exit.Stuck a s ≡ exit.Stuck c v
-  stuck_once q r a c t u s v first second low high same =
-      let one = column_once 0 (lines_at b) q r (lines_before b.symbols (t - 1) + s) (lines_before b.symbols (u - 1) + v) (let h = answer-low t s low in omega arith) (let h = answer-low u v high in omega arith) same in
-      let at_q : slice_get b.awaited q ≡ Some (Some (c, u)) = subst (λ n. slice_get b.awaited n ≡ Some (Some (c, u))) (sym one.0) second in
-      let kept : ◌≡◌ {A = Option (Option (ℕ × ℕ))} (Some (Some (a, t))) (Some (Some (c, u))) = sym first ∙ at_q in
-      let pairs = some_pair_parts a c t u (same_Some (Some (a, t)) (Some (c, u)) kept) in
-      let states : a ≡ c = pairs.0 in
-      let tapes : t ≡ u = pairs.1 in
-      let lines : lines_before b.symbols (t - 1) ≡ lines_before b.symbols (u - 1) = ap (λ n. lines_before b.symbols (n - 1)) tapes in
-      let letter : s ≡ v = omega (arith, one.1) in
-      λ i. exit.Stuck (states i) (letter i)
+      row_is : (a c : ℕ) → (by : IsStuckBy b e l a c) → (c < symbol_count_at b t) × (e % (n + 1) ≡ lines_before b.symbols (t - 1) + c)
+      row_is a c by =
+          let same = (same_awaited a by.tape by.awaits).1 in
+          subst (λ k. (c < symbol_count_at b t) × (e % (k + 1) ≡ lines_before b.symbols (t - 1) + c)) (sym n_is)
+          (subst (λ u. (c < symbol_count_at b u) × (e % (lines_at b + 1) ≡ lines_before b.symbols (u - 1) + c)) (sym same) (by.low, by.row))
 
-  -- the exits of this board
-  abbrev Named : Place → Exit → Type 0
-  Named = IsNamedExit b
+      pub off_letters : ((c : ℕ) → (None ≡ Some c) ↔ ((c < symbol_count_at b t) × (e % (n + 1) ≡ lines_before b.symbols (t - 1) + c)))
+          → (a c : ℕ) → (◌≡◌ {A = Option (ℕ × ℕ)} None (Some (a, c))) ↔ IsNamedExit b (Left e l) (exit.Stuck a c)
+      off_letters none = none_by e l (λ a c by. absurd (let h : ◌≡◌ {A = Option ℕ} None (Some c) = (none c).1 (row_is a c by) in cc))
 
-  -- two exits at one place
-  once : (place : Place) (e f : Exit) → Named place e → Named place f → e ≡ f
-  once place e f (inside m k is) (inside n j at) = refl
-  once place e f (inside m k is) (ends at) = absurd (let h : Enter m k ≡ end_place b = sym is ∙ at in cc)
-  once place e f (inside m k is) (stuck q a t c awaits low at) = absurd (let h : Enter m k ≡ Left _ west = sym is ∙ at in cc)
-  once place e f (inside m k is) (right t low high at) = absurd (let h : Enter m k ≡ Left _ east = sym is ∙ at in cc)
-  once place e f (inside m k is) (left t low high at) = absurd (let h : Enter m k ≡ Left _ east = sym is ∙ at in cc)
-  once place e f (ends is) (inside n j at) = absurd (let h : Enter n j ≡ end_place b = sym at ∙ is in cc)
-  once place e f (ends is) (ends at) = refl
-  once place e f (ends is) (stuck q a t c awaits low at) = absurd (let h = (elements _ _ _ _ (sym is ∙ at)).1 in omega arith)
-  once place e f (ends is) (right t low high at) = absurd (beyond t (cells_in b.limits t - 1) (line_number (symbol_count_at b t) TakeRight) low high (last_cell t low high) (takes_right t) (omega arith) (elements _ _ _ _ (sym is ∙ at)).0)
-  once place e f (ends is) (left t low high at) = absurd (beyond t 0 (line_number (symbol_count_at b t) TakeLeft) low high (some_cells b t low high) (takes_left t) (omega arith) (elements _ _ _ _ (sym is ∙ at)).0)
-  once place e f (stuck q a t c awaits low is) (inside n j at) = absurd (let h : Enter n j ≡ Left _ west = sym at ∙ is in cc)
-  once place e f (stuck q a t c awaits low is) (ends at) = absurd (let h = (elements _ _ _ _ (sym is ∙ at)).1 in omega arith)
-  once place e f (stuck q a t c awaits low is) (stuck r d u v waits high at) = stuck_once q r a d t u c v awaits waits low high (elements _ _ _ _ (sym is ∙ at)).0
-  once place e f (stuck q a t c awaits low is) (right u first last at) = absurd (let h = (elements _ _ _ _ (sym is ∙ at)).1 in omega arith)
-  once place e f (stuck q a t c awaits low is) (left u first last at) = absurd (let h = (elements _ _ _ _ (sym is ∙ at)).1 in omega arith)
-  once place e f (right t low high is) (inside n j at) = absurd (let h : Enter n j ≡ Left _ east = sym at ∙ is in cc)
-  once place e f (right t low high is) (ends at) = absurd (beyond t (cells_in b.limits t - 1) (line_number (symbol_count_at b t) TakeRight) low high (last_cell t low high) (takes_right t) (omega arith) (elements _ _ _ _ (sym at ∙ is)).0)
-  once place e f (right t low high is) (stuck r d u v waits first at) = absurd (let h = (elements _ _ _ _ (sym is ∙ at)).1 in omega arith)
-  once place e f (right t low high is) (right u first last at) = ap (λ n. exit.Window n side.Right) (output_once t u (cells_in b.limits t - 1) (cells_in b.limits u - 1) (line_number (symbol_count_at b t) TakeRight) (line_number (symbol_count_at b u) TakeRight) low high first last (last_cell t low high) (last_cell u first last) (takes_right t) (takes_right u) (sym is ∙ at)).0
-  once place e f (right t low high is) (left u first last at) = absurd (sides t u low high first last (sym is ∙ at))
-  once place e f (left t low high is) (inside n j at) = absurd (let h : Enter n j ≡ Left _ east = sym at ∙ is in cc)
-  once place e f (left t low high is) (ends at) = absurd (beyond t 0 (line_number (symbol_count_at b t) TakeLeft) low high (some_cells b t low high) (takes_left t) (omega arith) (elements _ _ _ _ (sym at ∙ is)).0)
-  once place e f (left t low high is) (stuck r d u v waits first at) = absurd (let h = (elements _ _ _ _ (sym is ∙ at)).1 in omega arith)
-  once place e f (left t low high is) (right u first last at) = absurd (sides u t first last low high (sym at ∙ is))
-  once place e f (left t low high is) (left u first last at) = ap (λ n. exit.Window n side.Left) (output_once t u 0 0 (line_number (symbol_count_at b t) TakeLeft) (line_number (symbol_count_at b u) TakeLeft) low high first last (some_cells b t low high) (some_cells b u first last) (takes_left t) (takes_left u) (sym is ∙ at)).0
+      pub by_letter : (s : ℕ) → l ≡ west → ((c : ℕ) → (Some s ≡ Some c) ↔ ((c < symbol_count_at b t) × (e % (n + 1) ≡ lines_before b.symbols (t - 1) + c)))
+          → (a c : ℕ) → (◌≡◌ {A = Option (ℕ × ℕ)} (Some (from, s)) (Some (a, c))) ↔ IsNamedExit b (Left e l) (exit.Stuck a c)
+      by_letter s is_west some a c = (
+        λ h. (
+            let parts = some_pair_parts from a s c h in
+            let here = (some c).0 (ap Some parts.1) in
+            let row : e % (lines_at b + 1) ≡ lines_before b.symbols (t - 1) + c = subst (λ k. e % (k + 1) ≡ lines_before b.symbols (t - 1) + c) n_is here.1 in
+            let awaits' : slice_get b.awaited (e / (lines_at b + 1)) ≡ Some (Some (a, t)) = subst (λ k. slice_get b.awaited (e / (lines_at b + 1)) ≡ Some
+            (Some (k, t))) parts.0 awaits_here in
+            (stuck_is e l a c).1 (record { west_is = is_west; tape = t; awaits = awaits'; low = here.0; row = row })),
+        λ named. (
+            let by = (stuck_is e l a c).0 named in
+            let states = (same_awaited a by.tape by.awaits).0 in
+            let symbols : s ≡ c = same_Some s c ((some c).1 (row_is a c by)) in
+            λ i. Some (states i, symbols i)),
+      )
 
--- by the machine's numbers of symbols
-pub exits-one : ExitsAreOne
-exits-one p word l f flat accepted place e x first second = once f.layout _ _ _ (symbols_are p word l f flat) (some_letters p word l f flat accepted) place e x first second
+module _ (b : Layout) where
+  window_by : (t : ℕ) (s : Side) (p : Place) (x : Exit) → IsNamedExit b p x → x ≡ exit.Window t s
+      → (p ≡ cell_output b t (cells_in b.limits t - 1) (line_number (symbol_count_at b t) TakeRight) → ⊥)
+      → (p ≡ cell_output b t 0 (line_number (symbol_count_at b t) TakeLeft) → ⊥) → ⊥
+  window_by t s p x (inside m k is) named one two = absurd (let h : exit.Inside ≡ exit.Window t s = named in cc)
+  window_by t s p x (ends is) named one two = absurd (let h : exit.End ≡ exit.Window t s = named in cc)
+  window_by t s p x (stuck q a u c awaits low is) named one two = absurd (let h : exit.Stuck a c ≡ exit.Window t s = named in cc)
+  window_by t s p x (right u low high is) named one two =
+      let tapes : u ≡ t = (let h : exit.Window u side.Right ≡ exit.Window t s = named in cc) in
+      one (subst (λ n. p ≡ cell_output b n (cells_in b.limits n - 1) (line_number (symbol_count_at b n) TakeRight)) tapes is)
+  window_by t s p x (left u low high is) named one two =
+      let tapes : u ≡ t = (let h : exit.Window u side.Left ≡ exit.Window t s = named in cc) in
+      two (subst (λ n. p ≡ cell_output b n 0 (line_number (symbol_count_at b n) TakeLeft)) tapes is)
+
+  -- the line is that of neither end
+  pub no_window : (t : ℕ) (p : Place) → (p ≡ cell_output b t (cells_in b.limits t - 1) (line_number (symbol_count_at b t) TakeRight) → ⊥)
+      → (p ≡ cell_output b t 0 (line_number (symbol_count_at b t) TakeLeft) → ⊥) → (s : Side) → IsNamedExit b p (exit.Window t s) → ⊥
+  no_window t p one two s named = window_by t s p _ named refl one two
+
+  -- the line of an end, by the numbers of cells and letters
+  module _ (t cells z : ℕ) (cells_are : cells ≡ cells_in b.limits t) (letters_are : z ≡ symbol_count_at b t) where
+    right_is : (r : Line) → Left r.element r.line ≡ cell_output b t (cells - 1) (z + 3)
+        → Left r.element r.line ≡ cell_output b t (cells_in b.limits t - 1) (line_number (symbol_count_at b t) TakeRight)
+    right_is r is = subst (λ n. Left r.element r.line ≡ cell_output b t (n - 1) (symbol_count_at b t + 3)) cells_are (subst (λ n. Left r.element r.line ≡
+        cell_output b t (cells - 1) (n + 3)) letters_are is)
+
+    left_is : (l : Line) → Left l.element l.line ≡ cell_output b t 0 (2 * z + 7) → Left l.element l.line ≡ cell_output b t 0 (line_number (symbol_count_at b
+        t) TakeLeft)
+    left_is l is = subst (λ n. Left l.element l.line ≡ cell_output b t 0 (2 * n + 7)) letters_are is
+
+    -- another line than those of both ends
+    pub off_ends : (line r l : Line) (one two : Bool) → one ≡ is_line line r → one ≡ false → two ≡ is_line line l → two ≡ false
+        → Left r.element r.line ≡ cell_output b t (cells - 1) (z + 3) → Left l.element l.line ≡ cell_output b t 0 (2 * z + 7)
+        → (s : Side) → IsNamedExit b (Left line.element line.line) (exit.Window t s) → ⊥
+    off_ends line r l one two one_is no_right two_is no_left r_is l_is =
+        no_window t (Left line.element line.line) (other_line line r _ (other_lines line r one one_is no_right) (right_is r r_is)) (other_line line l _
+        (other_lines line l two two_is no_left) (left_is l l_is))
+
+    pub at_right : (line r : Line) (one : Bool) → 1 ≤ t → t ≤ 3 → one ≡ is_line line r → one ≡ true
+        → Left r.element r.line ≡ cell_output b t (cells - 1) (z + 3) → IsNamedExit b (Left line.element line.line) (exit.Window t side.Right)
+    at_right line r one low high one_is same is = right t (omega arith) high (same_place line r (same_lines line r one one_is same) ∙ right_is r is)
+
+    pub at_left : (line l : Line) (one : Bool) → 1 ≤ t → t ≤ 3 → one ≡ is_line line l → one ≡ true
+        → Left l.element l.line ≡ cell_output b t 0 (2 * z + 7) → IsNamedExit b (Left line.element line.line) (exit.Window t side.Left)
+    at_left line l one low high one_is same is = left t (omega arith) high (same_place line l (same_lines line l one one_is same) ∙ left_is l is)
+
+  pub at_end : (line end : Line) (one : Bool) → one ≡ is_line line end → one ≡ true → Left end.element end.line ≡ end_place b
+      → IsNamedExit b (Left line.element line.line) exit.End
+  at_end line end one one_is same is = ends (same_place line end (same_lines line end one one_is same) ∙ is)
+
+  pub off_end : (line end : Line) (one : Bool) → one ≡ is_line line end → one ≡ false → Left end.element end.line ≡ end_place b
+      → Left line.element line.line ≡ end_place b → ⊥
+  off_end line end one one_is other is = other_line line end (end_place b) (other_lines line end one one_is other) is
+
+  -- it is none of a tape's that isn't
+  pub no_tape : (t : ℕ) (p : Place) (s : Side) → IsNamedExit b p (exit.Window t s) → (1 ≤ t) × (t ≤ 3)
+  no_tape t p s named = tape_by p _ named t s refl
+    where
+      tape_by : (p : Place) (x : Exit) → IsNamedExit b p x → (t : ℕ) (s : Side) → x ≡ exit.Window t s → (1 ≤ t) × (t ≤ 3)
+      tape_by p x (inside m k is) t s named = absurd (let h : exit.Inside ≡ exit.Window t s = named in cc)
+      tape_by p x (ends is) t s named = absurd (let h : exit.End ≡ exit.Window t s = named in cc)
+      tape_by p x (stuck q a u c awaits low is) t s named = absurd (let h : exit.Stuck a c ≡ exit.Window t s = named in cc)
+      tape_by p x (right u low high is) t s named = let tapes : u ≡ t = (let h : exit.Window u side.Right ≡ exit.Window t s = named in cc) in (
+        omega
+            arith,
+        omega arith,
+      )
+      tape_by p x (left u low high is) t s named = let tapes : u ≡ t = (let h : exit.Window u side.Left ≡ exit.Window t s = named in cc) in (
+        omega arith,
+        omega arith,
+      )
+
+  -- a line without a name
+  pub no_name : (e l : ℕ) → (Left e l ≡ end_place b → ⊥) → ((a c : ℕ) → IsNamedExit b (Left e l) (exit.Stuck a c) → ⊥)
+      → ((t : ℕ) (s : Side) → IsNamedExit b (Left e l) (exit.Window t s) → ⊥) → (x : Exit) → IsNamedExit b (Left e l) x → ⊥
+  no_name e l no_end no_stuck no_side x named = by_name _ x named refl
+    where
+      by_name : (p : Place) (x : Exit) → IsNamedExit b p x → p ≡ Left e l → ⊥
+      by_name p x (inside m k is) at = absurd (let h : Enter m k ≡ Left e l = sym is ∙ at in cc)
+      by_name p x (ends is) at = no_end (sym at ∙ is)
+      by_name p x (stuck q a t c awaits low is) at = no_stuck a c (subst (λ r. IsNamedExit b r (exit.Stuck a c)) at (stuck q a t c awaits low is))
+      by_name p x (right t low high is) at = no_side t side.Right (subst (λ r. IsNamedExit b r (exit.Window t side.Right)) at (right t low high is))
+      by_name p x (left t low high is) at = no_side t side.Left (subst (λ r. IsNamedExit b r (exit.Window t side.Left)) at (left t low high is))

@@ -1,8 +1,6 @@
-pub mod Boards
-pub mod BoardLaws
-pub mod Costs
-pub mod Layouts
-pub mod Flats
-pub mod BoardMoments
-pub mod Readings
-pub mod LayoutLaws
+pub mod Flattened
+pub mod BoardWires
+pub mod Locations
+pub mod Starts
+pub mod Moments
+pub mod Entered

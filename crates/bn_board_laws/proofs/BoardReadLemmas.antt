@@ -8,11 +8,11 @@ use Rattle.bn_bennett.specs.Translation.{Translation, IsTranslation}
 use Rattle.bn_network.specs.Controls.{symbol_count}
 use Rattle.bn_network.specs.Networks.{network_start}
 use Rattle.bn_network.specs.Moments.{HasLetters}
-use Rattle.bn_board.specs.Layouts.{spelled_config}
-use Rattle.bn_board.specs.Flats.{Flat, IsFlatOf, machine_of, flat_start}
-use Rattle.bn_board.specs.LayoutLaws.{BoardsRead}
-use Rattle.bn_board.proofs.LetterLemmas.{some_symbols, tape_letters}
-use Rattle.bn_board.proofs.ReadingLemmas.{own_flat, own_accepted}
+use Rattle.bn_board_spec.specs.Layouts.{spelled_config}
+use Rattle.bn_board_spec.specs.Flats.{Flat, IsFlatOf, machine_of, flat_start}
+use Rattle.bn_board_spec.specs.LayoutLaws.{BoardsRead}
+use Rattle.bn_board_spec.proofs.LetterLemmas.{some_symbols, tape_letters}
+use Rattle.bn_board_spec.proofs.ReadingLemmas.{own_flat, own_accepted}
 use Rattle.bn_board_laws.proofs.ClosedLemmas.{uniform}
 use Rattle.bn_board_laws.specs.NetworkMoments.{IsUniformNetwork, StartsSpellWords, machine_start}
 use Rattle.bn_network_laws.proofs.FirstLemmas.{start_shown}

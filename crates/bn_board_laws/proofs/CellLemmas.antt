@@ -7,9 +7,9 @@ use Rattle.bn_quad.specs.Quadruples.{Quadruples, quadruples_of}
 use Rattle.bn_network.specs.Cells.{cell_table}
 use Rattle.bn_network.specs.Controls.{ControlState, symbol_count}
 use Rattle.bn_network.specs.Networks.{IsNetwork, IsTape, cells_in, first_cell}
-use Rattle.bn_board.specs.Boards.{base}
-use Rattle.bn_board.specs.Layouts.{Layout, IsLayout, cell_element}
-use Rattle.bn_board.proofs.TabledLemmas.{has_cell, cell_base}
+use Rattle.bn_board_spec.specs.Boards.{base}
+use Rattle.bn_board_spec.specs.Layouts.{Layout, IsLayout, cell_element}
+use Rattle.bn_board_spec.proofs.TabledLemmas.{has_cell, cell_base}
 
 module _ (l : Limits) (names : List ControlState) (n : Circuit) where
   -- each cell's table and its bank's first element

@@ -23,10 +23,10 @@ use Rattle.bn_network_laws.proofs.HeadLemmas.{heads-stay}
 use Rattle.bn_network_laws.proofs.LastLemmas.{last-moment}
 use Rattle.bn_network_laws.proofs.NextLemmas.{next-moment}
 use Rattle.bn_rsm.proofs.CostLemmas.{costs-bounded}
-use Rattle.bn_board.proofs.ListedLemmas.{boards-there}
-use Rattle.bn_board.specs.LayoutLaws.{BoardsRead, FlatsAreOne}
-use Rattle.bn_board.proofs.ReadingLemmas.{boards-read}
-use Rattle.bn_board.proofs.SameLemmas.{flats-one}
+use Rattle.bn_board_spec.proofs.ListedLemmas.{boards-there}
+use Rattle.bn_board_spec.specs.LayoutLaws.{BoardsRead, FlatsAreOne}
+use Rattle.bn_board_spec.proofs.ReadingLemmas.{boards-read}
+use Rattle.bn_board_spec.proofs.SameLemmas.{flats-one}
 use Rattle.bn_board_laws.specs.ExistenceLaws.{FlatsAreThere}
 use Rattle.bn_board_laws.proofs.FlatLemmas.{flats-there}
 use Rattle.bn_board_laws.specs.HeadlineLaws.{BoardsRunToTheirExit}

@@ -9,7 +9,7 @@ use Rattle.bn_circuits.specs.declared.place.Place.TheVariants.{Enter}
 use Rattle.bn_circuits.specs.declared.config.Config.{Config}
 use Rattle.bn_circuits.specs.Situations.{Situation, Turns, IsAtEnd}
 use Rattle.bn_rsm.specs.RunCosts.{run_cost}
-use Rattle.bn_board.specs.Flats.{situation_at_start}
+use Rattle.bn_board_spec.specs.Flats.{situation_at_start}
 use Rattle.bn_circuits.proofs.SituationLemmas.{turns_once}
 use Rattle.bn_circuits.proofs.RunPartLemmas.{runs_split}
 use Rattle.bn_board_laws.specs.HeadlineLaws.{CostsAreOne}

@@ -25,8 +25,8 @@ use Rattle.bn_bennett.specs.Laws.{TranslationsEndAlike, TranslationsAreUniform, 
 use Rattle.bn_bennett.specs.Translation.{name_of}
 use Rattle.bn_bennett.specs.Runs.{beginning_of, ending_of}
 use Rattle.bn_realise.specs.Banks.{IsResting, column_at}
-use Rattle.bn_board.specs.declared.exit.Exit.{Exit}
-use Rattle.bn_board.specs.declared.exit.Exit.TheVariants as exit
+use Rattle.bn_board_spec.specs.declared.exit.Exit.{Exit}
+use Rattle.bn_board_spec.specs.declared.exit.Exit.TheVariants as exit
 use Rattle.bn_network.specs.declared.cell_line.CellLine.TheVariants.{TakeRight, TakeLeft}
 use Rattle.bn_circuits.specs.Situations.{Situation}
 use Rattle.bn_rsm.specs.RunCosts.{run_cost}
@@ -37,21 +37,21 @@ use Rattle.bn_network.specs.Networks.{cells_in, first_cell, IsControlAt, ShowsTa
 use Rattle.bn_network_laws.specs.Ends.{EndsBy, by_end, by_stop, by_right, by_left, IsStoppedAt, left_at, tape_of, taken_from}
 use Rattle.bn_network_laws.proofs.ShownLemmas.{all_cells}
 use Rattle.bn_network_laws.specs.NetworkLaws.{FirstMoment, NextMoment, LastMoment}
-use Rattle.bn_board.specs.Boards.{StandsFor, IsLoose}
-use Rattle.bn_board.specs.Layouts.{IsExit, named, ends, stuck, right, left, cell_output, is_moment, symbol_count_at, spelled_by, spelled_config, lines_at}
-use Rattle.bn_board.specs.Flats.{Flat, machine_of, IsFlatOf, IsAccepted, situation_at_start, flat_start}
-use Rattle.bn_board.proofs.AgreedLemmas.{some_cells}
-use Rattle.bn_board.specs.Costs.{bound_of}
+use Rattle.bn_board_spec.specs.Boards.{StandsFor, IsLoose}
+use Rattle.bn_board_spec.specs.Layouts.{IsExit, named, ends, stuck, right, left, cell_output, is_moment, symbol_count_at, spelled_by, spelled_config, lines_at}
+use Rattle.bn_board_spec.specs.Flats.{Flat, machine_of, IsFlatOf, IsAccepted, situation_at_start, flat_start}
+use Rattle.bn_board_spec.proofs.AgreedLemmas.{some_cells}
+use Rattle.bn_board_spec.specs.Costs.{bound_of}
 use Rattle.bn_board_laws.specs.Headline.{IsExitFor, EndsWith, RunsToExit, SpellsRestored, SpellsEnd}
 use Rattle.bn_board_laws.proofs.StuckLemmas.{HoldsStuck, holds_stuck}
 use Rattle.bn_board_laws.proofs.NoRoomLemmas.{leaves, stuck_ends}
-use Rattle.bn_board.specs.Readings.{elements_in, BoardReads}
+use Rattle.bn_board_spec.specs.Readings.{elements_in, BoardReads}
 use Rattle.bn_board_laws.specs.Journeys.{Strides, NetworkComes, NetworkEndsAs}
 use Rattle.bn_board_laws.proofs.JourneysLemmas.{BoardComes}
-use Rattle.bn_board.specs.LayoutLaws.{BoardsRead}
+use Rattle.bn_board_spec.specs.LayoutLaws.{BoardsRead}
 use Rattle.bn_board_laws.proofs.JourneyedLemmas.{networks-end}
 use Rattle.bn_board_laws.proofs.TravelledLemmas.{boards-come}
-use Rattle.bn_board.proofs.SameLemmas.{number_once}
+use Rattle.bn_board_spec.proofs.SameLemmas.{number_once}
 use Rattle.bn_board_laws.specs.HeadlineLaws.{BoardsRunToTheirExit}
 use Rattle.bn_circuits.proofs.RunPartLemmas.{steps_of_run}
 use Rattle.bn_network_laws.proofs.LastLemmas.{one_tape}

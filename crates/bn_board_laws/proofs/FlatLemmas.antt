@@ -9,15 +9,15 @@ use Rattle.bn_bennett.specs.Translation.{Translation, IsTranslation}
 use Rattle.bn_network.specs.ControlLaws.{ControlsAreOne}
 use Rattle.bn_network.specs.Controls.{symbol_count}
 use Rattle.bn_network.specs.Moments.{HasLetters}
-use Rattle.bn_board.specs.Flats.{Flat, IsFlatOf}
-use Rattle.bn_board.proofs.SameLemmas.{flats-one}
-use Rattle.bn_board.proofs.LetterLemmas.{some_symbols, tape_letters}
+use Rattle.bn_board_spec.specs.Flats.{Flat, IsFlatOf}
+use Rattle.bn_board_spec.proofs.SameLemmas.{flats-one}
+use Rattle.bn_board_spec.proofs.LetterLemmas.{some_symbols, tape_letters}
 use Rattle.bn_network.proofs.ExistingLemmas.{have-entries}
 use Rattle.bn_network.proofs.OccurringLemmas.{order_one, order_there}
 use Rattle.bn_network.proofs.TabledLemmas.{table_one, table_there}
 use Rattle.bn_board_laws.proofs.NetworkLemmas.{networks-there, networks-modules}
 use Rattle.bn_board_laws.proofs.LayoutLemmas.{layouts-there}
-use Rattle.bn_board.specs.BoardLaws.{BoardsAreThere}
+use Rattle.bn_board_spec.specs.BoardLaws.{BoardsAreThere}
 use Rattle.bn_board_laws.specs.ExistenceLaws.{FlatsAreThere}
 
 -- the laws of the control

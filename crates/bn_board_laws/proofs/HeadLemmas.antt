@@ -24,7 +24,7 @@ use Rattle.bn_network.specs.Controls.{ControlState, symbol_count}
 use Rattle.bn_network.specs.Networks.{IsNetwork, IsTape, ShowsTape, ShowsTapes, cell_of, cells_in, first_cell, left_of, network_start}
 use Rattle.bn_network.specs.Moments.{HasHeads}
 use Rattle.bn_network_laws.specs.NetworkLaws.{HeadsStayOne}
-use Rattle.bn_board.specs.Boards.{AreModules, IsBoard, StandsFor, base}
+use Rattle.bn_board_spec.specs.Boards.{AreModules, IsBoard, StandsFor, base}
 use Rattle.bn_board_laws.proofs.MarkLemmas.{apart_throughout, stands_mark, marked_is}
 
 -- ---- states before a move and after it

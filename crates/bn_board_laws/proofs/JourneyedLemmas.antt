@@ -17,10 +17,10 @@ use Rattle.bn_network.specs.Controls.{symbol_count, ControlMove, IsEntry}
 use Rattle.bn_network.specs.Moments.{IsMomentOf, TellsMoments, HasLetters, quad_moves}
 use Rattle.bn_network_laws.specs.NetworkLaws.{FirstMoment, NextMoment, LastMoment}
 use Rattle.bn_network_laws.specs.Ends.{IsEarlyStop}
-use Rattle.bn_board.specs.Flats.{Flat, machine_of, IsFlatOf, IsAccepted}
+use Rattle.bn_board_spec.specs.Flats.{Flat, machine_of, IsFlatOf, IsAccepted}
 use Rattle.bn_board_laws.specs.Journeys.{Strides, NetworkComes, NetworkEndsAs}
 use Rattle.bn_board_laws.specs.HeadlineLaws.{NetworksEndAlike}
-use Rattle.bn_board.proofs.LetterLemmas.{some_symbols, tape_letters}
+use Rattle.bn_board_spec.proofs.LetterLemmas.{some_symbols, tape_letters}
 use Rattle.bn_network_laws.proofs.LastLemmas.{stopped_at_one}
 
 -- a run that ends as stopped is not in the final state

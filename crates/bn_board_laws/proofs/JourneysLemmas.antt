@@ -12,10 +12,10 @@ use Rattle.bn_circuits.specs.Situations.{Situation, Turns, IsAtEnd}
 use Rattle.bn_rsm.specs.RunCosts.{run_cost}
 use Rattle.bn_circuits.specs.Counting.{tally}
 use Rattle.bn_network_laws.specs.Ends.{EndsBy}
-use Rattle.bn_board.specs.Boards.{AreModules, StandsFor, IsLoose}
-use Rattle.bn_board.specs.Layouts.{is_moment}
-use Rattle.bn_board.specs.Flats.{Flat, machine_of, IsFlatOf, situation_at_start, flat_start}
-use Rattle.bn_board.specs.Readings.{elements_in, MomentsAgree}
+use Rattle.bn_board_spec.specs.Boards.{AreModules, StandsFor, IsLoose}
+use Rattle.bn_board_spec.specs.Layouts.{is_moment}
+use Rattle.bn_board_spec.specs.Flats.{Flat, machine_of, IsFlatOf, situation_at_start, flat_start}
+use Rattle.bn_board_spec.specs.Readings.{elements_in, MomentsAgree}
 use Rattle.bn_board_laws.specs.Journeys.{NetworkComes}
 
 -- The board's run in its cost: a moment for each of the machine's steps and one more, and where the signal stands at the end.

@@ -9,8 +9,8 @@ use Rattle.bn_quad.specs.Quadruples.{Quadruples, IsQuadMachine, final_state_of}
 use Rattle.bn_quad.specs.Calls.{IsUniformMachine}
 use Rattle.bn_network.specs.declared.cell_line.CellLine.TheVariants.{Read}
 use Rattle.bn_network.specs.Controls.{ControlState, Begin, End, Reads, Shifts, Writes, Tape as to_tape, ControlMove, IsEntry, IsFirstOf, finishes, leaves, waits, Occurs, is_begin, is_end, is_open, is_read, is_shift, is_write, IsNumbering, reads_of, shifts_of, symbols_read, out_number, IsFirstKept, final_kept, sent_kept}
-use Rattle.bn_board.specs.Layouts.{Layout, IsLayout}
-use Rattle.bn_board.proofs.SameLemmas.{layouts_one}
+use Rattle.bn_board_spec.specs.Layouts.{Layout, IsLayout}
+use Rattle.bn_board_spec.proofs.SameLemmas.{layouts_one}
 use Rattle.bn_network.proofs.EntryLemmas.{one_entry}
 use Rattle.bn_network.proofs.ExistingLemmas.{some_entry, have-entries}
 use Rattle.bn_network.proofs.GoingLemmas.{end_entry}

@@ -15,9 +15,9 @@ use Rattle.bn_realise.specs.Banks.{AreMarked, bottom_at}
 use Rattle.bn_realise.proofs.BankCrossingLemmas.{marked-once}
 use Rattle.bn_circuits.specs.Situations.{Situation, Turns, IsAtEnd}
 use Rattle.bn_rsm.specs.RunCosts.{run_cost}
-use Rattle.bn_board.specs.Boards.{AreModules, IsBoard, StandsFor, IsAmid, base, IsLoose}
-use Rattle.bn_board.proofs.MovedLemmas.{marks}
-use Rattle.bn_board.proofs.ModuleLemmas.{found}
+use Rattle.bn_board_spec.specs.Boards.{AreModules, IsBoard, StandsFor, IsAmid, base, IsLoose}
+use Rattle.bn_board_spec.proofs.MovedLemmas.{marks}
+use Rattle.bn_board_spec.proofs.ModuleLemmas.{found}
 use Rattle.bn_board_laws.proofs.VisitLemmas.{visits}
 
 -- ---- two bars that lie flat together

@@ -20,13 +20,13 @@ use Rattle.bn_network.specs.Controls.{symbol_count}
 use Rattle.bn_network.specs.Networks.{IsTape, ShowsTapes, cells_in, first_cell}
 use Rattle.bn_network.specs.Moments.{HasHeads}
 use Rattle.bn_network_laws.specs.NetworkLaws.{HeadsStayOne, FirstMoment, NextMoment, LastMoment}
-use Rattle.bn_board.specs.Boards.{base}
-use Rattle.bn_board.specs.Layouts.{symbol_count_at, cell_element}
-use Rattle.bn_board.specs.Flats.{Flat, machine_of, IsFlatOf, IsAccepted, situation_at_start, flat_start}
-use Rattle.bn_board.specs.Costs.{HasCost}
+use Rattle.bn_board_spec.specs.Boards.{base}
+use Rattle.bn_board_spec.specs.Layouts.{symbol_count_at, cell_element}
+use Rattle.bn_board_spec.specs.Flats.{Flat, machine_of, IsFlatOf, IsAccepted, situation_at_start, flat_start}
+use Rattle.bn_board_spec.specs.Costs.{HasCost}
 use Rattle.bn_board_laws.specs.Journeys.{NetworkComes, NetworkEndsAs}
-use Rattle.bn_board.proofs.ReadingLemmas.{Readings, flat-Readings, own_flat, own_accepted}
-use Rattle.bn_board.proofs.LetterLemmas.{letters_are}
+use Rattle.bn_board_spec.proofs.ReadingLemmas.{Readings, flat-Readings, own_flat, own_accepted}
+use Rattle.bn_board_spec.proofs.LetterLemmas.{letters_are}
 use Rattle.bn_board_laws.specs.Moments.{MomentsAreTold}
 use Rattle.bn_board_laws.proofs.MomentsLemmas.{BanksHaveOneMark, MomentsStandAtSums, TapesHaveOneHead}
 use Rattle.bn_board_laws.proofs.MarkLemmas.{one_mark}

@@ -9,11 +9,11 @@ use Rattle.bn_machine.specs.Outcome.{Limits}
 use Rattle.bn_realise.specs.Banks.{bottom_at}
 use Rattle.bn_network.specs.Cells.{cell_line_count}
 use Rattle.bn_network.specs.Networks.{cells_in}
-use Rattle.bn_board.specs.Boards.{base}
-use Rattle.bn_board.specs.Layouts.{moment_at, symbol_count_at, cell_element}
-use Rattle.bn_board.specs.BoardMoments.{IsBoardMoment}
-use Rattle.bn_board.specs.Flats.{Flat, machine_of, IsFlatOf, IsAccepted, flat_start}
-use Rattle.bn_board.specs.Costs.{HasCost}
+use Rattle.bn_board_spec.specs.Boards.{base}
+use Rattle.bn_board_spec.specs.Layouts.{moment_at, symbol_count_at, cell_element}
+use Rattle.bn_board_spec.specs.BoardMoments.{IsBoardMoment}
+use Rattle.bn_board_spec.specs.Flats.{Flat, machine_of, IsFlatOf, IsAccepted, flat_start}
+use Rattle.bn_board_spec.specs.Costs.{HasCost}
 use Rattle.bn_board_laws.specs.Moments.{MomentOnBoard}
 
 -- the board is at a moment exactly at the sums of costs at which the network is at one

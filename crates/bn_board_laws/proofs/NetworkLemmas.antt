@@ -6,7 +6,7 @@ use Rattle.bn_element.specs.Tables.{Table}
 use Rattle.bn_network.specs.Cells.{cell_table}
 use Rattle.bn_network.specs.Controls.{Begin, symbol_count, is_begin}
 use Rattle.bn_network.specs.Networks.{IsTape}
-use Rattle.bn_board.proofs.SameLemmas.{networks_one}
+use Rattle.bn_board_spec.proofs.SameLemmas.{networks_one}
 use Rattle.bn_network.proofs.LineLemmas.{lines_some}
 use Rattle.bn_network.proofs.ListedLemmas.{same}
 use Rattle.bn_network.proofs.TabledLemmas.{table_one, table_there}

@@ -10,11 +10,11 @@ use Rattle.bn_network.specs.ControlLaws.{HasEntries}
 use Rattle.bn_network.proofs.ExistingLemmas.{have-entries}
 use Rattle.bn_network.specs.Networks.{IsNetwork, network_start}
 use Rattle.bn_network.specs.Moments.{HasLetters}
-use Rattle.bn_board.specs.Layouts.{Layout, IsLayout, symbol_count_at}
-use Rattle.bn_board.proofs.TabledLemmas.{machine, has_cell, cell_base, whole, counted}
-use Rattle.bn_board.proofs.AgreedLemmas.{net_test, moment_state, modules, between, amid, loose, which, tells, quiet, end, cell_exit, loose_exit, some_states}
-use Rattle.bn_board.proofs.StartingLemmas.{starts, heads}
-use Rattle.bn_board.proofs.SpellingLemmas.{spells, spells_loose}
+use Rattle.bn_board_spec.specs.Layouts.{Layout, IsLayout, symbol_count_at}
+use Rattle.bn_board_spec.proofs.TabledLemmas.{machine, has_cell, cell_base, whole, counted}
+use Rattle.bn_board_spec.proofs.AgreedLemmas.{net_test, moment_state, modules, between, amid, loose, which, tells, quiet, end, cell_exit, loose_exit, some_states}
+use Rattle.bn_board_spec.proofs.StartingLemmas.{starts, heads}
+use Rattle.bn_board_spec.proofs.SpellingLemmas.{spells, spells_loose}
 use Rattle.bn_board_laws.specs.NetworkReads.{NetworkReads}
 use Rattle.bn_board_laws.specs.NetworkMoments.{NetworksAreRead}
 

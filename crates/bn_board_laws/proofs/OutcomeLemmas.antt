@@ -14,13 +14,13 @@ use Rattle.bn_bennett_laws.specs.declared.name.Name.{Name}
 use Rattle.bn_bennett_laws.specs.declared.name.Name.TheVariants.{Compute, GoRight}
 use Rattle.bn_bennett.specs.Translation.{IsTranslation, Translation, name_of}
 use Rattle.bn_bennett.proofs.Counting.{numbers_states}
-use Rattle.bn_board.specs.declared.exit.Exit.{Exit}
-use Rattle.bn_board.specs.declared.exit.Exit.TheVariants as exit
-use Rattle.bn_board.specs.Layouts.{Layout, moments, IsExit, IsNamedExit, named, unnamed, inside, ends, stuck, right, left}
-use Rattle.bn_board.specs.Flats.{Flat, flat_start}
+use Rattle.bn_board_spec.specs.declared.exit.Exit.{Exit}
+use Rattle.bn_board_spec.specs.declared.exit.Exit.TheVariants as exit
+use Rattle.bn_board_spec.specs.Layouts.{Layout, moments, IsExit, IsNamedExit, named, unnamed, inside, ends, stuck, right, left}
+use Rattle.bn_board_spec.specs.Flats.{Flat, flat_start}
 use Rattle.bn_board_laws.specs.Headline.{IsExitFor, RunsToExit, SpellsRestored}
 use Rattle.bn_board_laws.specs.HeadlineLaws.{BoardsRunToTheirExit, ExitsTellOutcomes, BoardsLeaveByOutcomes, EndsInTime, BoardsEndInTime, BoardsAreRestored, BoardsRunBack}
-use Rattle.bn_board.specs.LayoutLaws.{ExitsAreOne}
+use Rattle.bn_board_spec.specs.LayoutLaws.{ExitsAreOne}
 use Rattle.bn_circuits.proofs.RunPartLemmas.{runs_split, runs-undo_in_part, steps_of_run}
 use Rattle.bn_circuits.proofs.RunLemmas.{run_stops, Reaches-run}
 use Rattle.bn_circuits.specs.Stepping.{run, back}

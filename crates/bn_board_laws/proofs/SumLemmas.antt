@@ -17,13 +17,13 @@ use Rattle.bn_circuits.specs.Counting.{tally, one_if}
 use Rattle.bn_network.specs.ControlLaws.{HasEntries}
 use Rattle.bn_network.specs.Moments.{IsMoment, at_end, sent, IsMomentOf}
 use Rattle.bn_network_laws.proofs.ShownLemmas.{all_cells}
-use Rattle.bn_board.specs.Boards.{IsBoard, StandsFor}
-use Rattle.bn_board.specs.Layouts.{is_moment, moment_at}
-use Rattle.bn_board.specs.Flats.{Flat, machine_of, situation_at_start, flat_start}
-use Rattle.bn_board.specs.Costs.{HasCost}
+use Rattle.bn_board_spec.specs.Boards.{IsBoard, StandsFor}
+use Rattle.bn_board_spec.specs.Layouts.{is_moment, moment_at}
+use Rattle.bn_board_spec.specs.Flats.{Flat, machine_of, situation_at_start, flat_start}
+use Rattle.bn_board_spec.specs.Costs.{HasCost}
 use Rattle.bn_board_laws.specs.Journeys.{NetworkComes}
-use Rattle.bn_board.specs.Readings.{MomentsAgree}
-use Rattle.bn_board.proofs.ReadingLemmas.{Readings}
+use Rattle.bn_board_spec.specs.Readings.{MomentsAgree}
+use Rattle.bn_board_spec.proofs.ReadingLemmas.{Readings}
 use Rattle.bn_board_laws.specs.Moments.{MomentOnBoard}
 use Rattle.bn_board_laws.proofs.VisitLemmas.{visits, reach}
 use Rattle.bn_rsm.proofs.RunCostLemmas.{cost-joins}

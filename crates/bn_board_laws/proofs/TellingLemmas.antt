@@ -17,14 +17,14 @@ use Rattle.bn_network.specs.Controls.{ControlState, ControlMove, IsNumbering, sy
 use Rattle.bn_network.specs.ControlLaws.{HasEntries}
 use Rattle.bn_network.specs.Networks.{IsNetwork, IsNetWire, IsTape, commands, cells_in, first_cell}
 use Rattle.bn_circuits.specs.Circuits.{line_at}
-use Rattle.bn_board.specs.Boards.{base}
-use Rattle.bn_board.specs.Layouts.{Layout, IsLayout, same_place, command_place, end_place, is_marked_at, is_sent, moment_at, first_element, cell_element, lines_at}
-use Rattle.bn_board.proofs.SameLemmas.{number_once}
-use Rattle.bn_board.proofs.AgreedLemmas.{is_same_place, same_place_is, led_board}
-use Rattle.bn_board.proofs.FirstLemmas.{position_at, position_holds}
-use Rattle.bn_board.proofs.ModuleLemmas.{found}
-use Rattle.bn_board.proofs.CommandLemmas.{IsCommandMove, entry-IsCommandMove, entry_low, final_low}
-use Rattle.bn_board.specs.BoardMoments.{IsBoardMoment, left_by_end, enters_first}
+use Rattle.bn_board_spec.specs.Boards.{base}
+use Rattle.bn_board_spec.specs.Layouts.{Layout, IsLayout, same_place, command_place, end_place, is_marked_at, is_sent, moment_at, first_element, cell_element, lines_at}
+use Rattle.bn_board_spec.proofs.SameLemmas.{number_once}
+use Rattle.bn_board_spec.proofs.AgreedLemmas.{is_same_place, same_place_is, led_board}
+use Rattle.bn_board_spec.proofs.FirstLemmas.{position_at, position_holds}
+use Rattle.bn_board_spec.proofs.ModuleLemmas.{found}
+use Rattle.bn_board_spec.proofs.CommandLemmas.{IsCommandMove, entry-IsCommandMove, entry_low, final_low}
+use Rattle.bn_board_spec.specs.BoardMoments.{IsBoardMoment, left_by_end, enters_first}
 use Rattle.bn_board_laws.proofs.CellLemmas.{CellsLie}
 
 -- ---- marks

@@ -13,16 +13,16 @@ use Rattle.bn_bennett.specs.Runs.{beginning_of}
 use Rattle.bn_circuits.specs.Situations.{Situation, Turns, IsAtEnd}
 use Rattle.bn_rsm.specs.RunCosts.{run_cost, step_cost}
 use Rattle.bn_circuits.specs.Counting.{tally, one_if}
-use Rattle.bn_board.specs.Boards.{AreModules, IsBoard, StandsFor, IsLoose}
-use Rattle.bn_board.specs.Layouts.{is_moment}
-use Rattle.bn_board.specs.Flats.{Flat, situation_at_start, flat_start}
-use Rattle.bn_board.specs.Readings.{elements_in, MomentsAgree}
+use Rattle.bn_board_spec.specs.Boards.{AreModules, IsBoard, StandsFor, IsLoose}
+use Rattle.bn_board_spec.specs.Layouts.{is_moment}
+use Rattle.bn_board_spec.specs.Flats.{Flat, situation_at_start, flat_start}
+use Rattle.bn_board_spec.specs.Readings.{elements_in, MomentsAgree}
 use Rattle.bn_board_laws.specs.Journeys.{Strides, NetworkComes}
 use Rattle.bn_board_laws.proofs.JourneysLemmas.{BoardComes, BoardsComeAlike}
 use Rattle.bn_circuits.proofs.CountingLemmas.{tallies-add, tally-zero}
-use Rattle.bn_board.proofs.FollowedLemmas.{boards-follow}
+use Rattle.bn_board_spec.proofs.FollowedLemmas.{boards-follow}
 use Rattle.bn_rsm.proofs.RunCostLemmas.{cost-none, cost-joins, one_cost, cost_some, left_cost}
-use Rattle.bn_board.proofs.LooseLemmas.{loose-move}
+use Rattle.bn_board_spec.proofs.LooseLemmas.{loose-move}
 
 negated : (b : Bool) → b ≡ false → not b ≡ true
 negated true h = absurd (cc)

@@ -12,13 +12,13 @@ use Rattle.bn_circuits.specs.declared.place.Place.TheVariants.{Enter, Left}
 use Rattle.bn_circuits.specs.declared.config.Config.{Config}
 use Rattle.bn_circuits.specs.Situations.{Situation, Turns, IsAtEnd}
 use Rattle.bn_rsm.specs.RunCosts.{run_cost, step_cost, entry_cost}
-use Rattle.bn_board.specs.Boards.{AreModules, IsBoard, StandsFor, IsAmid, IsLoose}
-use Rattle.bn_board.specs.BoardLaws.{IsAtMove}
+use Rattle.bn_board_spec.specs.Boards.{AreModules, IsBoard, StandsFor, IsAmid, IsLoose}
+use Rattle.bn_board_spec.specs.BoardLaws.{IsAtMove}
 use Rattle.bn_circuits.proofs.RunPartLemmas.{paths-between}
-use Rattle.bn_board.proofs.FollowedLemmas.{boards-follow}
+use Rattle.bn_board_spec.proofs.FollowedLemmas.{boards-follow}
 use Rattle.bn_rsm.proofs.RunCostLemmas.{cost-joins, one_cost}
-use Rattle.bn_board.proofs.VisitedLemmas.{boards-visit}
-use Rattle.bn_board.proofs.LooseLemmas.{loose-move}
+use Rattle.bn_board_spec.proofs.VisitedLemmas.{boards-visit}
+use Rattle.bn_board_spec.proofs.LooseLemmas.{loose-move}
 
 -- a run is a path whose claim is empty
 passes_all : {S : Type 0} (step : S → S → Type 0) (n : ℕ) (x y : S) → Reaches step n x y → Passes step (λ s. true) n x y

@@ -13,15 +13,15 @@ use Rattle.bn_circuits.specs.Situations.{Situation, Turns, IsAtEnd}
 use Rattle.bn_rsm.specs.RunCosts.{run_cost}
 use Rattle.bn_circuits.specs.Counting.{tally, one_if}
 use Rattle.bn_network.specs.Moments.{IsMomentOf}
-use Rattle.bn_board.specs.Boards.{AreModules, IsBoard, StandsFor}
-use Rattle.bn_board.specs.Layouts.{is_moment}
-use Rattle.bn_board.specs.Flats.{Flat, machine_of}
+use Rattle.bn_board_spec.specs.Boards.{AreModules, IsBoard, StandsFor}
+use Rattle.bn_board_spec.specs.Layouts.{is_moment}
+use Rattle.bn_board_spec.specs.Flats.{Flat, machine_of}
 use Rattle.bn_board_laws.specs.Journeys.{Strides}
-use Rattle.bn_board.specs.Readings.{MomentsAgree}
+use Rattle.bn_board_spec.specs.Readings.{MomentsAgree}
 use Rattle.bn_circuits.proofs.RunPartLemmas.{runs_split}
 use Rattle.bn_circuits.proofs.CountingLemmas.{tallies-add, tally-zero}
 use Rattle.bn_circuits.proofs.SituationLemmas.{turns-turn}
-use Rattle.bn_board.proofs.FollowedLemmas.{boards-follow}
+use Rattle.bn_board_spec.proofs.FollowedLemmas.{boards-follow}
 use Rattle.bn_rsm.proofs.RunCostLemmas.{cost-none, cost-joins, cost_some}
 
 -- one move at most leads on

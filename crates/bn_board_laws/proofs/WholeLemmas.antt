@@ -15,14 +15,14 @@ use Rattle.bn_circuits.specs.Situations.{Situation, Turns}
 use Rattle.bn_rsm.specs.RunCosts.{run_cost}
 use Rattle.bn_network.specs.ControlLaws.{StatesHaveEntries, HasEntries}
 use Rattle.bn_network.specs.Controls.{control_lines}
-use Rattle.bn_board.specs.Boards.{base}
-use Rattle.bn_board.specs.Flats.{Flat, machine_of, situation_at_start, flat_start}
-use Rattle.bn_board.specs.Costs.{HasCost}
+use Rattle.bn_board_spec.specs.Boards.{base}
+use Rattle.bn_board_spec.specs.Flats.{Flat, machine_of, situation_at_start, flat_start}
+use Rattle.bn_board_spec.specs.Costs.{HasCost}
 use Rattle.bn_board_laws.specs.Headline.{RunsToExit}
 use Rattle.bn_board_laws.proofs.ExitedLemmas.{boards-run}
 use Rattle.bn_board_laws.proofs.JourneyedLemmas.{networks-end}
-use Rattle.bn_board.proofs.ReadingLemmas.{boards-read, flat-Readings, own_flat, own_accepted}
-use Rattle.bn_board.proofs.LetterLemmas.{letters_are, some_letters}
+use Rattle.bn_board_spec.proofs.ReadingLemmas.{boards-read, flat-Readings, own_flat, own_accepted}
+use Rattle.bn_board_spec.proofs.LetterLemmas.{letters_are, some_letters}
 use Rattle.bn_board_laws.specs.Moments.{MomentsAreByMarks, BoardsHaveMoments}
 use Rattle.bn_board_laws.proofs.MomentsLemmas.{RunsTellMoments, BoardMomentsAreSums}
 use Rattle.bn_board_laws.proofs.CellLemmas.{cells_lie}

@@ -11,9 +11,9 @@ use Rattle.bn_table.specs.Rows.{FitsTable}
 use Rattle.bn_network.specs.Controls.{ControlState, IsNumbering}
 use Rattle.bn_network.specs.Networks.{IsNetwork}
 use Rattle.bn_network.specs.Moments.{HasLetters}
-use Rattle.bn_board.specs.Boards.{AreModules}
-use Rattle.bn_board.specs.Layouts.{Layout, IsLayout}
-use Rattle.bn_board.specs.Flats.{Flat, IsFlatOf, AreSameFlats}
+use Rattle.bn_board_spec.specs.Boards.{AreModules}
+use Rattle.bn_board_spec.specs.Layouts.{Layout, IsLayout}
+use Rattle.bn_board_spec.specs.Flats.{Flat, IsFlatOf, AreSameFlats}
 use Rattle.bn_circuits.specs.Alike.{AreAlike}
 
 -- a uniform machine with a symbol on each tape has a network in any limits, and two of them have the same tables and

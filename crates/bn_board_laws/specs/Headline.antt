@@ -21,13 +21,13 @@ use Rattle.bn_bennett_laws.specs.declared.name.Name.TheVariants.{Compute}
 use Rattle.bn_bennett.specs.Translation.{name_of}
 use Rattle.bn_bennett.specs.Runs.{ending_of}
 use Rattle.bn_realise.specs.Banks.{IsResting}
-use Rattle.bn_board.specs.declared.exit.Exit.{Exit}
-use Rattle.bn_board.specs.declared.exit.Exit.TheVariants as exit
+use Rattle.bn_board_spec.specs.declared.exit.Exit.{Exit}
+use Rattle.bn_board_spec.specs.declared.exit.Exit.TheVariants as exit
 use Rattle.bn_network.specs.Controls.{End}
-use Rattle.bn_board.specs.Boards.{base}
-use Rattle.bn_board.specs.Layouts.{IsExit, moments, spelled_by, spelled_config, spelled_tapes}
-use Rattle.bn_board.specs.Flats.{Flat, flat_start}
-use Rattle.bn_board.specs.Costs.{HasCost, bound_of}
+use Rattle.bn_board_spec.specs.Boards.{base}
+use Rattle.bn_board_spec.specs.Layouts.{IsExit, moments, spelled_by, spelled_config, spelled_tapes}
+use Rattle.bn_board_spec.specs.Flats.{Flat, flat_start}
+use Rattle.bn_board_spec.specs.Costs.{HasCost, bound_of}
 
 -- the exit that an outcome names: a state of the machine is the state of the reversible machine that computes in it
 abbrev pub IsExitFor : Flat → Outcome → Exit → Type 0

@@ -10,11 +10,11 @@ use Rattle.bn_machine.specs.Outcome.{Limits, Outcome, HasOutcome}
 use Rattle.bn_machine.specs.declared.quint.Side.{Side}
 use Rattle.bn_bennett_laws.specs.declared.name.Name.TheVariants.{Compute}
 use Rattle.bn_bennett.specs.Translation.{name_of}
-use Rattle.bn_board.specs.declared.exit.Exit.{Exit}
-use Rattle.bn_board.specs.declared.exit.Exit.TheVariants as exit
-use Rattle.bn_board.specs.Layouts.{IsExit, moments}
-use Rattle.bn_board.specs.Flats.{Flat, machine_of, IsFlatOf, IsAccepted, flat_start}
-use Rattle.bn_board.specs.Costs.{HasCost, bound_of}
+use Rattle.bn_board_spec.specs.declared.exit.Exit.{Exit}
+use Rattle.bn_board_spec.specs.declared.exit.Exit.TheVariants as exit
+use Rattle.bn_board_spec.specs.Layouts.{IsExit, moments}
+use Rattle.bn_board_spec.specs.Flats.{Flat, machine_of, IsFlatOf, IsAccepted, flat_start}
+use Rattle.bn_board_spec.specs.Costs.{HasCost, bound_of}
 use Rattle.bn_board_laws.specs.Headline.{IsExitFor, RunsToExit, SpellsRestored}
 use Rattle.bn_board_laws.specs.Journeys.{NetworkEndsAs}
 use Rattle.bn_network.specs.Moments.{TellsMoments}

@@ -14,8 +14,8 @@ use Rattle.bn_circuits.specs.Situations.{Situation, IsAtEnd}
 use Rattle.bn_rsm.specs.RunCosts.{run_cost}
 use Rattle.bn_network.specs.Moments.{IsMomentOf, Travels}
 use Rattle.bn_network_laws.specs.Ends.{EndsBy}
-use Rattle.bn_board.specs.Flats.{Flat, machine_of, situation_at_start}
-use Rattle.bn_board.specs.Readings.{elements_in}
+use Rattle.bn_board_spec.specs.Flats.{Flat, machine_of, situation_at_start}
+use Rattle.bn_board_spec.specs.Readings.{elements_in}
 
 -- one step of the quadruple machine, and the network's moves from its moment to the next one
 pub record Strides (f : Flat) (test : Situation → Bool) (x y : Situation × Configuration ℕ) : Type 0 where

@@ -17,11 +17,11 @@ use Rattle.bn_rsm.specs.RunCosts.{run_cost}
 use Rattle.bn_network.specs.Cells.{cell_line_count}
 use Rattle.bn_network.specs.Networks.{cells_in}
 use Rattle.bn_network.specs.Moments.{IsMoment, IsMomentOf}
-use Rattle.bn_board.specs.Boards.{StandsFor, base}
-use Rattle.bn_board.specs.Layouts.{moment_at, moments, symbol_count_at, cell_element}
-use Rattle.bn_board.specs.BoardMoments.{IsBoardMoment, HasOneState}
-use Rattle.bn_board.specs.Flats.{Flat, machine_of, IsFlatOf, IsAccepted, situation_at_start, flat_start}
-use Rattle.bn_board.specs.Costs.{HasCost}
+use Rattle.bn_board_spec.specs.Boards.{StandsFor, base}
+use Rattle.bn_board_spec.specs.Layouts.{moment_at, moments, symbol_count_at, cell_element}
+use Rattle.bn_board_spec.specs.BoardMoments.{IsBoardMoment, HasOneState}
+use Rattle.bn_board_spec.specs.Flats.{Flat, machine_of, IsFlatOf, IsAccepted, situation_at_start, flat_start}
+use Rattle.bn_board_spec.specs.Costs.{HasCost}
 use Rattle.bn_board_laws.specs.Headline.{BoardSpells}
 
 -- where the board stands for a situation of the network, its moment is the network's

@@ -18,8 +18,8 @@ use Rattle.bn_network.specs.Networks.{IsNetwork, IsTape, IsControlAt, network_st
 use Rattle.bn_network.specs.Moments.{HasLetters, HasHeads, IsMomentOf, TellsMoments, Travels, quad_moves, head_cell}
 use Rattle.bn_network_laws.specs.Ends.{EndsBy, IsEarlyStop, IsStoppedAt, tape_of}
 use Rattle.bn_machine.specs.Machine.{Program}
-use Rattle.bn_board.specs.Flats.{Flat, IsFlatOf, IsAccepted, flat_start}
-use Rattle.bn_board.specs.Layouts.{Layout, IsLayout, spelled_by, spelled_config}
+use Rattle.bn_board_spec.specs.Flats.{Flat, IsFlatOf, IsAccepted, flat_start}
+use Rattle.bn_board_spec.specs.Layouts.{Layout, IsLayout, spelled_by, spelled_config}
 use Rattle.bn_board_laws.specs.NetworkReads.{NetworkReads}
 
 -- a uniform machine with a symbol on each tape, its control's states in order, and its network in these limits

@@ -4,7 +4,7 @@ ghost use Rattle.bn_board_laws.specs.ExistenceLaws.{FlatsAreThere, LayoutsAreThe
 ghost use Rattle.bn_board_laws.specs.ExistenceLaws.{NetworksAreThere};
 
 use bn_bennett::{translations_are_one, translations_are_there, translations_are_uniform};
-use bn_board::boards_are_there;
+use bn_board_spec::boards_are_there;
 
 /// A uniform machine has a network in any limits, and two of them are alike.
 pub fn networks_are_there()

@@ -8,7 +8,7 @@ ghost use Rattle.bn_board_laws.specs.Moments.{BoardsHaveMoments, MomentsAreByMar
 use bn_bennett::{
     translations_are_uniform, translations_end_alike, translations_have_no_room, translations_stand,
 };
-use bn_board::{boards_are_read, exits_are_one};
+use bn_board_spec::{boards_are_read, exits_are_one};
 use bn_machine::outcome_is_one;
 use bn_network::states_have_entries;
 use bn_network_laws::{first_moment_comes, heads_stay_one, last_moment_ends, next_moment_comes};

@@ -1,7 +1,7 @@
 //! Laws on the network of any uniform machine, and on what is read off its board. Each function does nothing: its
 //! contract is the law.
 
-ghost use Rattle.bn_board.specs.LayoutLaws.{BoardsRead};
+ghost use Rattle.bn_board_spec.specs.LayoutLaws.{BoardsRead};
 ghost use Rattle.bn_board_laws.specs.NetworkMoments.{NetworksAreRead, NetworksHaveMoments, NetworksStopAtFirstReads};
 ghost use Rattle.bn_board_laws.specs.NetworkMoments.{StartsSpellWords};
 

@@ -15,3 +15,6 @@ pub mod WithinLemmas
 pub mod TableLemmas
 pub mod DraftLemmas
 pub mod MadeLemmas
+pub mod CountLemmas
+pub mod ShownLemmas
+pub mod OpenLemmas

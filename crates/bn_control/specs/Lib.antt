@@ -6,3 +6,4 @@ pub mod Named
 pub mod Ordered
 pub mod Numbered
 pub mod Made
+pub mod Shown

@@ -2,6 +2,7 @@
 #![tactic(auto)]
 
 mod command;
+mod count;
 mod draft;
 mod entries;
 mod finite;
@@ -10,10 +11,12 @@ mod make;
 mod named;
 mod numbered;
 mod order;
+mod shown;
 mod state;
 mod states;
 
 pub use bn_network::MOST_SYMBOLS;
 pub use bn_rsm::NoMemory;
+pub use count::state_count;
 pub use finite::Control;
 pub use make::{MOST_QUADRUPLES, MOST_STATES, control, most_quadruples_are_stated};

@@ -7,8 +7,8 @@ use Rattle.bn_lists.specs.Lists.{IsFirstWith, nth}
 use Rattle.bn_net.specs.declared.net.TheConstants.{MOST_ELEMENTS}
 use Rattle.bn_farm.specs.Farms.{board_of, elements_together}
 use Rattle.bn_farm.specs.Farms.{FarmBoard, IsSpelled}
-use Rattle.bn_netlist_lines.specs.declared.net_config.NetConfig.{NetConfig}
-use Rattle.bn_cut.specs.Cuts.{IsCut, IsUncut}
+use Rattle.bn_netlist.specs.declared.net_config.NetConfig.{NetConfig}
+use Rattle.bn_base.specs.Cuts.{IsCut, IsUncut}
 use Rattle.bn_netlist_laws.proofs.AdmittedLemmas.{most_small}
 use Rattle.bn_farm.specs.declared.event.Event.{Event}
 use Rattle.bn_farm.specs.declared.farm_refusal.FarmRefusal.{FarmRefusal}

@@ -13,9 +13,9 @@ use Rattle.bn_netlist_laws.specs.Faults.{AreFaultlessAfter}
 use Rattle.bn_netlist_laws.proofs.AdmittedLemmas.{admitted-whole}
 use Rattle.bn_netlist_laws.proofs.EntryLemmas.{has-text}
 use Rattle.bn_netlist_laws.proofs.SentenceLemmas.{sentence_text-in_line}
-use Rattle.bn_cut.specs.Cuts.{IsCut, IsUncut}
-use Rattle.bn_cut.proofs.CutLemmas.{IsLooked, IsNoMark, all_looked, cuts-never_both, cuts-one, line_looked, mark_looked, none_looked}
-use Rattle.bn_cut.proofs.CutOrNot.{cut_or_not}
+use Rattle.bn_base.specs.Cuts.{IsCut, IsUncut}
+use Rattle.bn_base.proofs.CutLemmas.{IsLooked, IsNoMark, all_looked, cuts-never_both, cuts-one, line_looked, mark_looked, none_looked}
+use Rattle.bn_base.proofs.CutOrNot.{cut_or_not}
 use Rattle.bn_farm.specs.declared.event.Event.{Event}
 use Rattle.bn_farm.specs.Farms.{IsFarm}
 use Rattle.bn_farm.specs.FarmTexts.{AreEventsOf, AreParts, SpellBoards, parts_text, order_of, order_text, schedule_text}

@@ -11,8 +11,8 @@ use Rattle.bn_circuits.specs.declared.config.Config.{Config}
 use Rattle.bn_net.specs.RotaryNets.{rotary_circuit}
 use Rattle.bn_farm.specs.Farms.{board_of}
 use Rattle.bn_farm.specs.Farms.{IsAdmitted, FarmBoard, circuit_in, in_config}
-use Rattle.bn_netlist_lines.specs.declared.net_config.NetConfig.{NetConfig}
-use Rattle.bn_netlist_lines.proofs.NetLemmas.{circuits-agree}
+use Rattle.bn_netlist.specs.declared.net_config.NetConfig.{NetConfig}
+use Rattle.bn_netlist.proofs.NetLemmas.{circuits-agree}
 use Rattle.bn_farm.specs.declared.event.Event.{Event}
 use Rattle.bn_farm.specs.Farms.{IsFarm, after_steps, at_board, farm_after, stepped, ticks}
 use Rattle.bn_farm.specs.Playing.{AreOnBoards}

@@ -5,7 +5,7 @@ use Rattle.std.proofs.lemmas.Option.{slice_get-get_or, slice_get-map}
 use Rattle.std.proofs.lemmas.List.{append-nil, take_all}
 use Rattle.bn_netlist_laws.specs.Spelling.{IsTextOf}
 use Rattle.bn_farm.specs.Farms.{FarmBoard, IsAdmitted, IsSpelled, board_of}
-use Rattle.bn_netlist_lines.specs.declared.net_config.NetConfig.{NetConfig}
+use Rattle.bn_netlist.specs.declared.net_config.NetConfig.{NetConfig}
 use Rattle.std.specs.Prelude.{option_map}
 use Rattle.bn_farm.specs.declared.event.Event.{Event}
 use Rattle.bn_farm.specs.Farms.{IsFarm}

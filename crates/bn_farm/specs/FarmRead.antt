@@ -2,12 +2,12 @@
 use Rattle.std.specs.Prelude.{◌≡◌, ◌≢◌, ℕ, ◌+◌, ◌<◌, ◌≤◌, List, [], ◌∷◌, ◌++◌, length}
 use Rattle.bn_lists.specs.Lists.{IsFirstWith}
 use Rattle.bn_net.specs.declared.net.TheConstants.{MOST_ELEMENTS}
-use Rattle.bn_netlist_lines.specs.NetText.{IsTextRefusal}
+use Rattle.bn_netlist.specs.NetText.{IsTextRefusal}
 use Rattle.bn_farm.specs.Farms.{FarmBoard, IsSpelled, board_of, elements_together}
-use Rattle.bn_netlist_lines.specs.declared.net_config.NetConfig.{NetConfig}
-use Rattle.bn_netlist_lines.specs.declared.refusal.NetlistRefusal.{NetlistRefusal}
-use Rattle.bn_netlist_lines.specs.declared.refusal.NetlistRefusal.TheVariants as netlist
-use Rattle.bn_cut.specs.Cuts.{IsUncut}
+use Rattle.bn_netlist.specs.declared.net_config.NetConfig.{NetConfig}
+use Rattle.bn_netlist.specs.declared.line_refusal.NetlistRefusal.{NetlistRefusal}
+use Rattle.bn_netlist.specs.declared.line_refusal.NetlistRefusal.TheVariants as netlist
+use Rattle.bn_base.specs.Cuts.{IsUncut}
 use Rattle.bn_farm.specs.declared.event.Event.{Event}
 use Rattle.bn_farm.specs.declared.farm_refusal.FarmRefusal.{FarmRefusal}
 use Rattle.bn_farm.specs.declared.farm_refusal.FarmRefusal.TheVariants.{NoSchedule, Board, Form, NoBoard, Elements}

@@ -4,7 +4,7 @@ use Rattle.std.specs.Prelude.{◌≡◌, ◌≢◌, ℕ, zero, suc, ◌+◌, ◌
 use Rattle.std.specs.Prelude.{codes, decimal, ◌⊎◌}
 use Rattle.bn_base.specs.Number.{greatest}
 use Rattle.bn_farm.specs.Farms.{FarmBoard, IsSpelled}
-use Rattle.bn_cut.specs.Cuts.{IsCut, IsUncut}
+use Rattle.bn_base.specs.Cuts.{IsCut, IsUncut}
 use Rattle.bn_farm.specs.declared.event.Event.{Event}
 use Rattle.bn_farm.specs.declared.order.Order.{Order}
 

@@ -7,8 +7,8 @@ use Rattle.bn_circuits.specs.Stepping.{run, back}
 use Rattle.bn_circuits.specs.declared.config.Config.{Config}
 use Rattle.bn_netlist_laws.specs.Spelling.{Spelling, Admits, Spelled, circuit_of, moved_to}
 use Rattle.bn_netlist_laws.specs.declared.version.Version.{Version}
-use Rattle.bn_netlist_lines.specs.declared.net_config.NetConfig.{NetConfig}
-use Rattle.bn_netlist_lines.specs.NetText.{spelling_of}
+use Rattle.bn_netlist.specs.declared.net_config.NetConfig.{NetConfig}
+use Rattle.bn_netlist.specs.NetText.{spelling_of}
 use Rattle.bn_farm.specs.declared.event.Event.{Event}
 
 -- ---- boards

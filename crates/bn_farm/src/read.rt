@@ -8,7 +8,7 @@ use crate::event::Event;
 use crate::refusal::ScheduleRefusal;
 use crate::schedule::Schedule;
 use crate::take_order::take_order;
-use bn_netlist_lines::Cursor;
+use bn_netlist::Cursor;
 use std::alloc::Global;
 
 /// Reads the schedule of a farm of so many boards. A refusal names the first line with a fault, counted from 1, and its

@@ -4,14 +4,14 @@ ghost use Rattle.std.specs.Prelude.{◌≡◌, ◌≢◌, ℕ, ◌+◌, ◌<◌,
 ghost use Rattle.bn_farm.specs.Farms.{board_of, elements_together, IsFarm};
 ghost use Rattle.bn_farm.specs.FarmRead.{HasPushed, IsFarmRead, IsFarmRefusal, IsPartRefusal, IsRestRead};
 ghost use Rattle.bn_farm.specs.FarmRead.{IsRestRefusal, IsUnspelled};
-ghost use Rattle.bn_netlist_lines.specs.NetText.{IsTextRefusal};
+ghost use Rattle.bn_netlist.specs.NetText.{IsTextRefusal};
 
 use crate::farm::Farm;
 use crate::farm_refusal::FarmRefusal;
 use crate::read::read_schedule;
 use crate::refusal::ScheduleRefusal;
 use crate::schedule::Schedule;
-use bn_cut::cut_input;
+use bn_base::cut_input;
 use bn_net::MOST_ELEMENTS;
 use bn_netlist::{NetConfig, NetlistRefusal, read_config};
 use std::alloc::Global;

@@ -4,7 +4,7 @@ ghost use Rattle.bn_netlist_laws.specs.Reading.{Takes};
 ghost use Rattle.bn_farm.specs.Reading.{order_taken, sign_taken};
 
 use crate::order::Order;
-use bn_netlist_lines::Cursor;
+use bn_netlist::Cursor;
 
 // A sign.
 #[tactic(auto, unfolding(crate::specs::Reading::sign_taken))]

@@ -1,5 +1,5 @@
 -- The laws of this crate with the laws below them put in, for the crates above that cite them as they are.
-use Rattle.bn_control_count_laws.proofs.TotalLemmas.{controls_are_counted}
+use Rattle.bn_headline_laws.proofs.TotalLemmas.{controls_are_counted}
 use Rattle.bn_table.proofs.MachineLemmas.{tables_machines}
 use Rattle.bn_board_laws.proofs.ClosedLemmas.{flats_there, run_to_exit}
 use Rattle.bn_board_laws.proofs.CountLemmas.{costs-one}

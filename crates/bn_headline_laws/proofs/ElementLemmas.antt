@@ -4,7 +4,7 @@ use Rattle.std.proofs.Common.{arith, ap, ◌∙◌}
 use Rattle.bn_machine.specs.Outcome.{Limits}
 use Rattle.bn_network.specs.Controls.{lines_before}
 use Rattle.bn_network.specs.Networks.{bank_size, cell_size, cells_in}
-use Rattle.bn_control_count_laws.specs.Laws.{ControlsAreCounted, without_shift, never_entered, never_left}
+use Rattle.bn_headline_laws.specs.CountLaws.{ControlsAreCounted, without_shift, never_entered, never_left}
 use Rattle.bn_headline_laws.specs.Elements.{control_states}
 use Rattle.bn_headline_laws.specs.Laws.{ElementsAreCounted}
 

@@ -4,8 +4,8 @@ use Rattle.std.specs.Fmt.{digits}
 use Rattle.std.proofs.Common.{arith, lit<, lit≤, sym, ap, ◌∙◌}
 use Rattle.std.proofs.lemmas.Int.{ints}
 use Rattle.bn_machine.specs.Tape.{word_tape}
-use Rattle.bn_board.specs.Layouts.{tape_in}
-use Rattle.bn_board.proofs.ShownHeadLemmas.{shown_inside}
+use Rattle.bn_board_spec.specs.Layouts.{tape_in}
+use Rattle.bn_board_spec.proofs.ShownHeadLemmas.{shown_inside}
 use Rattle.bn_machine.specs.Outcome.{Halted}
 use Rattle.bn_csv.specs.Lines.{line_of, lines_of}
 use Rattle.bn_gen.specs.Text.{increments_table, increments_text}

@@ -11,11 +11,11 @@ use Rattle.bn_bennett_laws.specs.Stages.{IsStandardMachine, IsSpelledBy}
 use Rattle.bn_bennett.specs.Translation.{Translation, IsTranslation}
 use Rattle.bn_network.specs.Controls.{symbol_count}
 use Rattle.bn_network.specs.Networks.{network_start}
-use Rattle.bn_board.specs.Boards.{size, board_start}
-use Rattle.bn_board.specs.Layouts.{IsLayout, spelled_config}
-use Rattle.bn_board.specs.Flats.{Flat, IsFlatOf, IsAccepted, machine_of, flat_start}
+use Rattle.bn_board_spec.specs.Boards.{size, board_start}
+use Rattle.bn_board_spec.specs.Layouts.{IsLayout, spelled_config}
+use Rattle.bn_board_spec.specs.Flats.{Flat, IsFlatOf, IsAccepted, machine_of, flat_start}
 use Rattle.bn_assembly.specs.Assembled.{Assembled, IsAssembled, network_of}
-use Rattle.bn_flat.specs.Flattened.{Flattened}
+use Rattle.bn_board.specs.Flattened.{Flattened}
 use Rattle.bn_board_laws.proofs.ClosedLemmas.{run_to_exit}
 use Rattle.bn_board_laws.specs.NetworkMoments.{IsUniformNetwork, machine_start}
 use Rattle.bn_headline_laws.specs.FlattenLaws.{MayBeAssembled, IsBoardAtStart, IsFlattenedFor, FlattenedBoardsAreFlats, FlattenedBoardsRunToTheirExit}

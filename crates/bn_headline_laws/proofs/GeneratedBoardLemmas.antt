@@ -8,8 +8,8 @@ use Rattle.bn_bennett_laws.specs.Stages.{IsStandardMachine}
 use Rattle.bn_network.specs.Networks.{elements_by}
 use Rattle.bn_reply_boards_laws.proofs.ClosedLemmas.{counted}
 use Rattle.bn_board_laws.proofs.ClosedLemmas.{flats_there}
-use Rattle.bn_control_count_laws.specs.Laws.{without_shift, never_entered, never_left}
-use Rattle.bn_control_count_laws.proofs.TotalLemmas.{controls_are_counted}
+use Rattle.bn_headline_laws.specs.CountLaws.{without_shift, never_entered, never_left}
+use Rattle.bn_headline_laws.proofs.TotalLemmas.{controls_are_counted}
 use Rattle.bn_gen.specs.Increments.{IsRoundCount, incrementer, quints_of}
 use Rattle.bn_gen.proofs.MachineLemmas as gen
 use Rattle.bn_headline_laws.specs.GeneratedLaws.{elements_for, GeneratedControlsAreCounted, GeneratedBoardsAreCounted, GeneratedBoardsAreThere}

@@ -31,7 +31,7 @@ use Rattle.bn_circuits.proofs.RunPartLemmas.{runs_split, steps_of_run}
 use Rattle.bn_machine.specs.Tape.{Tape}
 use Rattle.bn_machine.specs.Machine.{start}
 use Rattle.bn_machine.specs.Run.{Follows}
-use Rattle.bn_board.specs.declared.spelled.Spelled.{Spelled}
+use Rattle.bn_board_spec.specs.declared.spelled.Spelled.{Spelled}
 use Rattle.bn_machine.specs.Outcome as outcome
 use Rattle.bn_machine.specs.Outcome.{Limits, Outcome, HasOutcome}
 use Rattle.bn_net.specs.declared.net.TheConstants.{MOST_ELEMENTS}
@@ -41,10 +41,10 @@ use Rattle.bn_table.specs.Laws.{TablesAreMachines}
 use Rattle.bn_table.specs.Rows.{Named}
 use Rattle.bn_network.specs.Controls.{ControlState, lines_before}
 use Rattle.bn_network.specs.Networks.{bank_size, cell_size, cells_in, elements_by, left_of}
-use Rattle.bn_board.specs.declared.exit.Exit.TheVariants as exit
-use Rattle.bn_board.specs.Layouts.{Layout, IsLayout, elements_of, is_moment, spelled_tape, cell_element, cell_state_at, cells_shown, has_head, head_shown, is_marked_at, symbol_count_at, symbol_by}
-use Rattle.bn_board.specs.Flats.{IsFlatOf, Flat, flat_start}
-use Rattle.bn_board.specs.Costs.{HasCost, bound_of}
+use Rattle.bn_board_spec.specs.declared.exit.Exit.TheVariants as exit
+use Rattle.bn_board_spec.specs.Layouts.{Layout, IsLayout, elements_of, is_moment, spelled_tape, cell_element, cell_state_at, cells_shown, has_head, head_shown, is_marked_at, symbol_count_at, symbol_by}
+use Rattle.bn_board_spec.specs.Flats.{IsFlatOf, Flat, flat_start}
+use Rattle.bn_board_spec.specs.Costs.{HasCost, bound_of}
 use Rattle.bn_board_laws.specs.Headline.{HasEndTapes, RunsToExit, SpellsEnd}
 use Rattle.bn_board_laws.specs.HeadlineLaws.{CostsAreOne}
 use Rattle.bn_reply.specs.declared.status.Status.{Status}
@@ -52,7 +52,7 @@ use Rattle.bn_reply.specs.declared.status.Status.TheVariants as statuses
 use Rattle.bn_reply.specs.TableReply.{WordReplies}
 use Rattle.bn_reply.proofs.SettledLemmas.{standard_tells, word_tells}
 use Rattle.bn_reply.proofs.TableLemmas.{reads_table}
-use Rattle.bn_board.specs.Boards.{size}
+use Rattle.bn_board_spec.specs.Boards.{size}
 use Rattle.bn_base.specs.Number.{greatest}
 use Rattle.bn_reply.specs.declared.limits.TheConstants.{MOST_INPUT_BYTES}
 use Rattle.bn_reply_boards_laws.specs.Windows.{BoardReplies, long, large, board, ComesTo, CountsElements, large_line}

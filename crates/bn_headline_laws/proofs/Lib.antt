@@ -13,3 +13,12 @@ pub mod ControlLemmas
 pub mod GeneratedBoardLemmas
 pub mod GeneratedRunLemmas
 pub mod CommandLemmas
+pub mod Told
+pub mod AlongLemmas
+pub mod PrefixLemmas
+pub mod ToldLemmas
+pub mod StateLemmas
+pub mod SumLemmas
+pub mod CountLemmas
+pub mod NameLemmas
+pub mod TotalLemmas

@@ -3,7 +3,7 @@ use Rattle.std.specs.Prelude.{◌≡◌, ℕ, ◌+◌, ◌≤◌}
 use Rattle.std.proofs.Common.{arith, subst, ◌∙◌, zero-add}
 use Rattle.bn_circuits.specs.Stepping.{back, run}
 use Rattle.bn_circuits.proofs.RunLemmas.{run-zero}
-use Rattle.bn_board.specs.Flats.{flat_start}
+use Rattle.bn_board_spec.specs.Flats.{flat_start}
 use Rattle.bn_board_laws.specs.HeadlineLaws.{BoardsEndInTime, BoardsRunBack}
 use Rattle.bn_reply_boards_laws.specs.Laws.{GivenBoardsAreAccepted, RunsHaveOneOfEach}
 use Rattle.bn_headline_laws.specs.CircuitHeadline.{CircuitHeadline}

@@ -26,9 +26,9 @@ use Rattle.bn_network_laws.proofs.NextLemmas.{next-moment}
 use Rattle.bn_network_laws.proofs.CommandLemmas.{commands-walk}
 use Rattle.bn_network.proofs.ExistingLemmas.{have-entries}
 use Rattle.bn_control.specs.Controlled.{Controlled, IsStuckAt}
-use Rattle.bn_board.proofs.ListedLemmas.{boards-there}
+use Rattle.bn_board_spec.proofs.ListedLemmas.{boards-there}
 use Rattle.bn_board_laws.proofs.LayoutLemmas.{layouts-there}
-use Rattle.bn_board.specs.Flats.{Flat, IsFlatOf, IsAccepted}
+use Rattle.bn_board_spec.specs.Flats.{Flat, IsFlatOf, IsAccepted}
 use Rattle.bn_board_laws.specs.Journeys.{Strides, NetworkComes, NetworkEndsAs}
 use Rattle.bn_board_laws.proofs.JourneyedLemmas.{networks-end}
 use Rattle.bn_assembly.specs.Assembled.{Assembled, IsAssembled, network_of}

@@ -4,7 +4,7 @@ use Rattle.std.specs.Prelude.{ℕ, ◌+◌, ◌-◌, ◌*◌, length}
 use Rattle.bn_machine.specs.Machine.{Program}
 use Rattle.bn_machine.specs.Outcome.{Limits}
 use Rattle.bn_network.specs.Networks.{bank_size, cell_size}
-use Rattle.bn_control_count_laws.specs.Laws.{without_shift, never_entered, never_left}
+use Rattle.bn_headline_laws.specs.CountLaws.{without_shift, never_entered, never_left}
 
 -- The control has so many states: twelve for each quintuple, less two for each without a shift; four for each state but
 -- one, less one for each but the start that no quintuple enters, and one for each but the final that none leaves; eight

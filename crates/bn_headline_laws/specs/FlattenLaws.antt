@@ -7,12 +7,12 @@ use Rattle.bn_machine.specs.Outcome.{Limits, Outcome, HasOutcome}
 use Rattle.bn_bennett_laws.specs.Stages.{IsStandardMachine, IsSpelledBy}
 use Rattle.bn_bennett.specs.Translation.{Translation, IsTranslation}
 use Rattle.bn_network.specs.Controls.{ControlState}
-use Rattle.bn_board.specs.Layouts.{end_place}
-use Rattle.bn_board.specs.Flats.{Flat, IsFlatOf, IsAccepted, flat_start}
+use Rattle.bn_board_spec.specs.Layouts.{end_place}
+use Rattle.bn_board_spec.specs.Flats.{Flat, IsFlatOf, IsAccepted, flat_start}
 use Rattle.bn_board_laws.specs.Headline.{RunsToExit}
 use Rattle.bn_network.specs.Limits.{AreSmall}
 use Rattle.bn_assembly.specs.Assembled.{Assembled, IsAssembled, network_of}
-use Rattle.bn_flat.specs.Flattened.{Flattened, IsFlattened}
+use Rattle.bn_board.specs.Flattened.{Flattened, IsFlattened}
 
 -- what may be assembled: a machine in standard form, a word of its letters that fits, and a window that isn't too large
 pub record MayBeAssembled (p : Program) (l : Limits) (word : List ℕ) : Type 0 where

@@ -4,8 +4,8 @@ use Rattle.std.specs.Prelude.{◌≡◌, ℕ, zero, suc, ◌+◌, ◌*◌, ◌�
 use Rattle.bn_net.specs.declared.net.TheConstants.{MOST_ELEMENTS}
 use Rattle.bn_bennett.specs.Translation.{Translation, IsTranslation}
 use Rattle.bn_network.specs.Controls.{ControlState, IsNumbering}
-use Rattle.bn_board.specs.Boards.{size}
-use Rattle.bn_board.specs.Flats.{Flat}
+use Rattle.bn_board_spec.specs.Boards.{size}
+use Rattle.bn_board_spec.specs.Flats.{Flat}
 use Rattle.bn_reply_boards.specs.GenerateReply.{digits, window}
 use Rattle.bn_reply_boards_laws.specs.Windows.{ComesTo, CountsElements}
 use Rattle.bn_gen.specs.Increments.{IsRoundCount, incrementer}

@@ -4,8 +4,8 @@ use Rattle.bn_io.specs.Told.{Grows}
 use Rattle.bn_machine.specs.Machine.{Program}
 use Rattle.bn_circuits.specs.Stepping.{back, run}
 use Rattle.bn_circuits.specs.declared.place.Place.TheVariants.{Enter}
-use Rattle.bn_board.specs.Flats.{Flat, flat_start}
-use Rattle.bn_board.specs.Costs.{HasCost}
+use Rattle.bn_board_spec.specs.Flats.{Flat, flat_start}
+use Rattle.bn_board_spec.specs.Costs.{HasCost}
 use Rattle.bn_reply_boards_laws.specs.Headline.{IsGiven, run_words}
 use Rattle.bn_reply_boards_laws.specs.RunText.{steps_line}
 use Rattle.bn_reply.specs.declared.limits.TheConstants.{MOST_INPUT_BYTES}

@@ -11,3 +11,4 @@ pub mod GeneratedLaws
 pub mod GeneratedRuns
 pub mod CommandHeadlines
 pub mod CommandLaws
+pub mod CountLaws

@@ -12,7 +12,7 @@ use Rattle.bn_machine.specs.Outcome.{Limits, Outcome, Halted, HasOutcome}
 use Rattle.bn_net.specs.declared.net.TheConstants.{MOST_ELEMENTS}
 use Rattle.bn_netlist_laws.specs.Sentences.{line_text}
 use Rattle.bn_table.specs.Rows.{Named}
-use Rattle.bn_board.specs.declared.spelled.SpelledTape.{SpelledTape}
+use Rattle.bn_board_spec.specs.declared.spelled.SpelledTape.{SpelledTape}
 use Rattle.bn_board_laws.specs.Headline.{HasEndTapes}
 use Rattle.bn_reply.specs.Lines.{line}
 use Rattle.bn_reply.specs.declared.limits.TheConstants.{MOST_INPUT_BYTES}

@@ -3,10 +3,12 @@
 #![tactic(auto)]
 
 mod command_laws;
+mod count_laws;
 mod laws;
 mod link_laws;
 
 pub use command_laws::commands_tell;
+pub use count_laws::controls_are_counted;
 pub use laws::{
     boards_return, elements_are_counted, generated_tells_machine, headline_tells_circuit,
     headlines_agree, increments_are_counted, increments_run, own_runs_are_one,

@@ -5,21 +5,29 @@
 //! at its last value.
 #![tactic(auto)]
 
+mod giving;
+mod input;
 mod mem_sink;
 mod mem_source;
 mod reading;
 mod sinks;
+mod slice_input;
 mod sources;
 mod std_sink;
 mod std_source;
+mod vec_sink;
 mod writing;
 
 pub use bn_lists::NoMemory;
+pub use giving::{PIECE, give_pieces};
+pub use input::Input;
 pub use mem_sink::MemSink;
 pub use mem_source::MemSource;
-pub use reading::{ReadRefusal, piece_size, read_all};
+pub use reading::{ReadRefusal, piece_size, read_all, read_whole};
 pub use sinks::{Sink, SinkFailed};
+pub use slice_input::SliceInput;
 pub use sources::{Source, SourceFailed};
 pub use std_sink::StdSink;
 pub use std_source::StdSource;
+pub use vec_sink::VecSink;
 pub use writing::{WriteFault, write_all};

@@ -4,6 +4,7 @@ ghost use Rattle.std.specs.Prelude.{IfErr, OnOk, IfSome, IsErrOf, IsTrue};
 ghost use Rattle.bn_io.specs.Faults.{Rose};
 ghost use Rattle.bn_io.specs.Told.{ReadsWithin};
 
+use crate::input::Input;
 use crate::sources::{Source, SourceFailed};
 use std::alloc::{AllocError, Global};
 
@@ -53,9 +54,29 @@ pub fn read_all<S: Source>(
     ensures read_fault { IsErrOf result ReadRefusal.ReadFault →
         Rose (S.faults source.old) (S.faults source.new) }
 {
+    read_whole(alloc, source, limit)
+}
+
+/// Reads any input to its end, as `read_all` does a source.
+pub fn read_whole<I: Input>(
+    alloc: Global,
+    input: &mut I,
+    limit: u64,
+) -> Result<Vec<u8>, ReadRefusal>
+    ensures whole { IfOk result (λ bytes. IfSome (I.left input.old)
+        (λ xs. (bytes.items ≡ xs) × (I.left input.new ≡ Some []))) }
+    ensures within { IfOk result (λ bytes. vec_len bytes ≤ limit) }
+    ensures too_long { IsErrOf result ReadRefusal.TooLong → IfSome (I.left input.old)
+        (λ xs. limit < length xs) }
+    ensures taken { (piece : List ℕ) × ReadsWithin (I.left input.old) (I.left input.new) limit
+        (IsErrOf result ReadRefusal.TooLong) piece }
+    ensures later { I.faults input.old ≤ I.faults input.new }
+    ensures read_fault { IsErrOf result ReadRefusal.ReadFault →
+        Rose (I.faults input.old) (I.faults input.new) }
+{
     let mut buffer = chunk(alloc)?;
     let mut bytes = Vec::new(alloc);
-    read_onto(source, buffer.as_mut_slice(), &mut bytes, limit)?;
+    read_onto(input, buffer.as_mut_slice(), &mut bytes, limit)?;
     Ok(bytes)
 }
 
@@ -69,51 +90,51 @@ fn chunk(alloc: Global) -> Result<Vec<u8>, ReadRefusal>
 }
 
 // Reads to the end of input, by way of `buffer`, into `bytes`, which begins empty.
-fn read_onto<S: Source>(
-    source: &mut S,
+fn read_onto<I: Input>(
+    input: &mut I,
     buffer: &mut [u8],
     bytes: &mut Vec<u8>,
     limit: u64,
 ) -> Result<(), ReadRefusal>
     requires space { 0 < length buffer.old }
     requires empty { bytes.old.items ≡ [] }
-    ensures whole { OnOk result (IfSome (S.left source.old)
-        (λ xs. (bytes.new.items ≡ xs) × (S.left source.new ≡ Some []))) }
+    ensures whole { OnOk result (IfSome (I.left input.old)
+        (λ xs. (bytes.new.items ≡ xs) × (I.left input.new ≡ Some []))) }
     ensures within { OnOk result (vec_len bytes.new ≤ limit) }
-    ensures taken { (piece : List ℕ) × ReadsWithin (S.left source.old) (S.left source.new) limit
+    ensures taken { (piece : List ℕ) × ReadsWithin (I.left input.old) (I.left input.new) limit
         (IsErrOf result ReadRefusal.TooLong) piece }
-    ensures later { S.faults source.old ≤ S.faults source.new }
+    ensures later { I.faults input.old ≤ I.faults input.new }
     ensures read_fault { IsErrOf result ReadRefusal.ReadFault →
-        Rose (S.faults source.old) (S.faults source.new) }
+        Rose (I.faults input.old) (I.faults input.new) }
 {
-    while !read_piece(source, buffer, bytes, limit)? {}
+    while !read_piece(input, buffer, bytes, limit)? {}
     Ok(())
 }
 
 // Reads the next bytes behind `bytes`, by way of `buffer`, and answers whether the input has ended.
-fn read_piece<S: Source>(
-    source: &mut S,
+fn read_piece<I: Input>(
+    input: &mut I,
     buffer: &mut [u8],
     bytes: &mut Vec<u8>,
     limit: u64,
 ) -> Result<bool, ReadRefusal>
     requires space { 0 < length buffer.old }
     requires within { vec_len bytes.old ≤ limit }
-    ensures taken { (piece : List ℕ) × ReadsWithin (S.left source.old) (S.left source.new)
+    ensures taken { (piece : List ℕ) × ReadsWithin (I.left input.old) (I.left input.new)
         (limit - vec_len bytes.old) (IsErrOf result ReadRefusal.TooLong) piece
         × OnOk result (bytes.new.items ≡ bytes.old.items ++ piece) }
     ensures ended { IfOk result (λ ended. IsTrue ended →
         (bytes.new.items ≡ bytes.old.items)
-        × IfSome (S.left source.old) (λ xs. (xs ≡ []) × (S.left source.new ≡ Some []))) }
+        × IfSome (I.left input.old) (λ xs. (xs ≡ []) × (I.left input.new ≡ Some []))) }
     ensures more { IfOk result (λ ended. ended ≡ false → vec_len bytes.old < vec_len bytes.new) }
     ensures within { OnOk result (vec_len bytes.new ≤ limit) }
-    ensures later { S.faults source.old ≤ S.faults source.new }
+    ensures later { I.faults input.old ≤ I.faults input.new }
     ensures read_fault { IsErrOf result ReadRefusal.ReadFault →
-        Rose (S.faults source.old) (S.faults source.new) }
+        Rose (I.faults input.old) (I.faults input.new) }
 {
     let room = limit - bytes.len() as u64;
     let asked = piece_size(room, buffer.len());
-    let count = match source.take(&mut buffer[..asked]) {
+    let count = match input.take(&mut buffer[..asked]) {
         Ok(count) => count,
         Err(SourceFailed) => return Err(ReadRefusal::ReadFault),
     };

@@ -7,9 +7,9 @@ use Rattle.bn_net.specs.RotaryNets.{IsNetOf, rotary_circuit}
 use Rattle.bn_net.specs.Wirings.{AreWiresOf}
 use Rattle.bn_netlist_laws.specs.Spelling.{Admits}
 use Rattle.bn_netlist_laws.specs.declared.version.Version.{Version}
-use Rattle.bn_netlist_lines.specs.NetText.{spelling_of}
-use Rattle.bn_netlist_lines.specs.declared.net_config.NetConfig.{NetConfig}
-use Rattle.bn_netlist_lines.proofs.NetLemmas.{circuits-agree}
+use Rattle.bn_netlist.specs.NetText.{spelling_of}
+use Rattle.bn_netlist.specs.declared.net_config.NetConfig.{NetConfig}
+use Rattle.bn_netlist.proofs.NetLemmas.{circuits-agree}
 use Rattle.bn_mirror.specs.Listing.{IsMirroredWire}
 use Rattle.bn_mirror.specs.Mirror.{mirrored_line, mirrored_place, IsMirror}
 use Rattle.bn_mirror.proofs.AdmittedLemmas.{mirrors-admitted}

@@ -7,7 +7,7 @@ ghost use Rattle.bn_net.specs.RotaryNets.{rotary_circuit};
 ghost use Rattle.bn_net.specs.Wirings.{AreWiresOf};
 ghost use Rattle.bn_net.specs.declared.net.TheConstants.{MOST_ELEMENTS};
 ghost use Rattle.bn_netlist_laws.specs.Spelling.{Admits};
-ghost use Rattle.bn_netlist_lines.specs.NetText.{spelling_of};
+ghost use Rattle.bn_netlist.specs.NetText.{spelling_of};
 ghost use Rattle.bn_mirror.specs.Listing.{IsListing, IsMirroredWire};
 ghost use Rattle.bn_mirror.specs.Mirror.{IsMirror, mirrored_line, mirrored_place};
 
@@ -15,7 +15,7 @@ use bn_circuits::{Config, Line, Place, States, Wire};
 use bn_element::{EAST, NORTH, Rotary, SOUTH, WEST};
 use bn_lists::NoMemory;
 use bn_net::{Net, rotary_net};
-use bn_netlist_lines::NetConfig;
+use bn_netlist::NetConfig;
 use std::alloc::Global;
 
 /// The mirror of a net in a configuration that may be spelled in its version: a net of the same elements whose steps

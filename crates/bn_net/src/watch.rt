@@ -12,12 +12,21 @@ use std::marker::Model;
 /// Someone who is told the place after each element step. A watch has one meaning: the list of the
 /// places that it was told, where it tells that list.
 pub trait Watch {
-    ghost use Rattle.std.specs.Prelude.{Option, List, [], ◌∷◌};
+    ghost use Rattle.std.specs.Prelude.{◌≡◌, Option, None, List, [], ◌∷◌};
+    ghost use Rattle.std.specs.Bool.{OnFalse};
     ghost use Rattle.bn_circuits.specs.declared.place.Place.{Place};
     ghost use Rattle.bn_net.specs.Watching.{Hears};
 
     /// The places told, the first one first, or nothing where no list is told.
     ghost told: { Self → Option (List Place) };
+
+    /// Whether it is to be told places, as a watch is that doesn't say otherwise: one that isn't tells no list, so a
+    /// run need not come to each place by itself.
+    fn listens(&self) -> bool
+        ensures { OnFalse result (told self.now ≡ None) }
+    {
+        true
+    }
 
     /// Tells it a place: afterwards it tells no list, or it told its list before, and the list has
     /// grown by this place at its end. Takes no memory.
@@ -33,6 +42,10 @@ impl Watch for Quiet {
     ghost use Rattle.std.specs.Prelude.{None};
 
     ghost told = { λ _. None };
+
+    fn listens(&self) -> bool {
+        false
+    }
 
     fn enter(&mut self, _place: &Place) {}
 }

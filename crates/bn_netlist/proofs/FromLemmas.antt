@@ -1,7 +1,8 @@
 -- Reading a text from a source.
-use Rattle.std.specs.Prelude.{◌≡◌, ◌≢◌, ℕ, List, Option, Result, Ok, Err, IfOk, IfErr, IsErrOf}
+use Rattle.std.specs.Prelude.{◌≡◌, ◌≢◌, ℕ, List, Option, Some, Result, Ok, Err, IfOk, IfErr, IsErrOf}
+use Rattle.std.proofs.Common.{append-nil, subst, sym, ◌∙◌, []}
 use Rattle.std.proofs.lemmas.Result.{IfErr-at_err}
-use Rattle.bn_io.specs.Told.{ReadsWithin}
+use Rattle.bn_io.specs.Told.{Loses, ReadsWithin}
 use Rattle.bn_netlist.specs.FromText.{IsFromRefusal, HasWhole}
 use Rattle.bn_netlist.specs.declared.refusal.FromRefusal.{FromRefusal}
 use Rattle.bn_netlist.specs.declared.refusal.FromRefusal.TheVariants.{ReadFault, TooLong, Text, NoMemory}
@@ -43,3 +44,9 @@ if_ok_at (Err e) P Q x q h = tt
 pub if_err_at : {T E X : Type 0} (r : Result T E) (P : E → X → Type 0) (Q : X → Type 0) (x : X) → Q x → IfErr r (λ e. (y : X) → Q y → P e y) → IfErr r (λ e. P e x)
 if_err_at (Ok c) P Q x q h = tt
 if_err_at (Err e) P Q x q h = h x q
+
+-- all bytes of an input that has none left
+pub all_given : (bytes piece : List ℕ) (after : Option (List ℕ)) → Loses (Some bytes) after piece → after ≡ Some [] → piece ≡ bytes
+all_given bytes piece after lost ended =
+    let none : Loses (Some bytes) (Some []) piece = subst (λ a. Loses (Some bytes) a piece) ended lost in
+    sym (none ∙ append-nil piece)

@@ -1,8 +1,9 @@
 -- Giving a text to a sink in pieces.
-use Rattle.std.specs.Prelude.{◌≡◌, ℕ, ◌+◌, ◌<◌, ◌≤◌, List, [], ◌∷◌, ◌++◌, Option, Some, None, refl}
+use Rattle.std.specs.Prelude.{◌≡◌, ℕ, ◌+◌, ◌<◌, ◌≤◌, List, [], ◌∷◌, ◌++◌, Option, refl}
 use Rattle.std.proofs.Common.{zero, suc, arith, sym, ap, subst, ◌∙◌}
 use Rattle.std.proofs.lemmas.List.{append_assoc, append-nil}
 use Rattle.bn_io.specs.Told.{Grows, GrowsByFront}
+use Rattle.bn_io.proofs.GivingLemmas.{grows_none}
 use Rattle.bn_io.proofs.ToldLemmas.{Grows-joins}
 use Rattle.bn_netlist_laws.specs.Spelling.{Spelling, AreSame}
 use Rattle.bn_netlist_laws.specs.Sentences.{Sentence, sentence_text, lines_text}
@@ -60,10 +61,6 @@ pub record AreGiven (v : Version) (s : Spelling) (old now : Option (List ℕ)) (
   pub grown : Grows old now given
   pub written : AreWritten v s (header_text v s) (given ++ kept) lines e m
 
-pub grows_none : (a : Option (List ℕ)) → Grows a a []
-grows_none None = tt
-grows_none (Some xs) = ap (λ (z : List ℕ). Some z) (sym (append-nil xs))
-
 pub given_none : (v : Version) (s : Spelling) (a : Option (List ℕ)) (kept : List ℕ) → kept ≡ header_text v s → AreGiven v s a a kept 0 0 0
 given_none v s a kept is =
     record {
@@ -119,8 +116,3 @@ given_last v s old now new kept lines e m a are all grows text is =
 -- the header alone has been made, or not even that
 pub none_given : (a : Option (List ℕ)) (text : List ℕ) → GrowsByFront a a text
 none_given a text = ([], text, refl, grows_none a)
-
--- a front of a piece is a front of what goes on with it
-pub front_of_piece : (a b : Option (List ℕ)) (text piece rest : List ℕ) → text ≡ piece ++ rest → GrowsByFront a b piece → GrowsByFront a b text
-front_of_piece a b text piece rest split grows =
-    (grows.0, grows.1 ++ rest, split ∙ ap (λ (z : List ℕ). z ++ rest) grows.2 ∙ append_assoc grows.0 grows.1 rest, grows.3)

@@ -1,3 +1,14 @@
+pub mod NetLemmas
+pub mod WordLemmas
+pub mod ColumnTests
+pub mod DraftLemmas
+pub mod ConnectLemmas
+pub mod EntriesLemmas
+pub mod FinishLemmas
+pub mod TakenLineLemmas
+pub mod TakeLemmas
+pub mod HeaderLineLemmas
+pub mod StageLemmas
 pub mod PackedLemmas
 pub mod ReadingLemmas
 pub mod PieceLemmas

@@ -15,8 +15,8 @@ use Rattle.bn_net.specs.Wirings.{AreApart}
 use Rattle.bn_net.proofs.WiringsLemmas.{apart-IsOneToOne}
 use Rattle.bn_netlist_laws.specs.Spelling.{AreSame, circuit_of}
 use Rattle.bn_netlist_laws.specs.declared.header.Header.{Header}
-use Rattle.bn_netlist_lines.proofs.NetLemmas.{map-replicate}
-use Rattle.bn_netlist_lines.specs.WireSpelling.{spelling_by}
+use Rattle.bn_netlist.proofs.NetLemmas.{map-replicate}
+use Rattle.bn_netlist.specs.WireSpelling.{spelling_by}
 use Rattle.bn_netlist.specs.PackedText.{spelling_of_packed}
 use Rattle.bn_netlist.specs.declared.packed_config.PackedConfig.{PackedConfig}
 

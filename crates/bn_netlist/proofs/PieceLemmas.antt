@@ -1,7 +1,7 @@
 -- A text that comes in pieces.
 use Rattle.std.specs.Prelude.{◌≡◌, ◌≢◌, ℕ, ◌+◌, ◌<◌, ◌==◌, true, false, List, [], ◌∷◌, ◌++◌, length, refl}
 use Rattle.std.proofs.Common.{arith, sym, ap, subst, ◌∙◌, get_or, inl, inr}
-use Rattle.std.proofs.lemmas.Bool.Decides.{eqb_tells}
+use Rattle.std.proofs.lemmas.Bool.Decides.{eqb_tells, nat_tests}
 use Rattle.std.proofs.Math.ListN.{get_or-append}
 use Rattle.std.proofs.Math.Seq.{get_or-append_seam}
 use Rattle.std.proofs.lemmas.List.{append_assoc, append-nil, length-append}
@@ -10,14 +10,15 @@ use Rattle.bn_base.specs.Line.{IsInLine}
 use Rattle.bn_netlist_laws.specs.Sentences.{Sentence, sentence_text, lines_text}
 use Rattle.bn_netlist_laws.specs.Faults.{malformed, IsMalformed, IsFirstBadLine}
 use Rattle.bn_netlist_laws.proofs.SentenceLemmas.{lines-are-short}
-use Rattle.bn_netlist_lines.specs.NetText.{IsTextRefusal}
-use Rattle.bn_netlist_lines.specs.Stages.{AreTaken, TakesTo}
+use Rattle.bn_netlist.specs.LineReading.{RefusesLine}
+use Rattle.bn_netlist.specs.NetText.{IsTextRefusal}
+use Rattle.bn_netlist.specs.Stages.{AreTaken, TakesTo}
 use Rattle.bn_netlist.specs.Pieces.{HasCome, RefusesOn}
-use Rattle.bn_netlist_lines.specs.declared.stage.Stage.{Stage}
-use Rattle.bn_netlist_lines.specs.declared.stage.Stage.TheVariants as stage
-use Rattle.bn_netlist_lines.specs.declared.refusal.NetlistRefusal.{NetlistRefusal}
-use Rattle.bn_netlist_lines.specs.declared.refusal.NetlistRefusal.TheVariants.{Syntax}
-use Rattle.bn_netlist_lines.proofs.StageLemmas.{nothing_taken, nothing_in_line, text_taken, cut_short}
+use Rattle.bn_netlist.specs.declared.stage.Stage.{Stage}
+use Rattle.bn_netlist.specs.declared.stage.Stage.TheVariants as stage
+use Rattle.bn_netlist.specs.declared.line_refusal.NetlistRefusal.{NetlistRefusal}
+use Rattle.bn_netlist.specs.declared.line_refusal.NetlistRefusal.TheVariants.{Syntax}
+use Rattle.bn_netlist.proofs.StageLemmas.{nothing_taken, nothing_in_line, text_refused, text_taken, cut_short}
 
 pub nothing_come : HasCome [] [] stage.Title
 nothing_come = record { lines = []; begins = refl; in_line = nothing_in_line; are = nothing_taken }
@@ -141,3 +142,17 @@ some_bytes n xs count test none =
   where
     false_is_not_true : false ≡ true → ⊥
     false_is_not_true e = cc
+
+-- and none
+pub no_bytes : (n : ℕ) (xs : List ℕ) → n ≡ length xs → true ≡ (n == 0) → xs ≡ []
+no_bytes n [] count test = refl
+no_bytes n (x ∷ xs) count test = absurd (grind (arith, nat_tests))
+
+-- a line that has come whole is refused where it stands
+pub whole_refused : (s : Stage) (line end : List ℕ) (r : NetlistRefusal) → line ≡ [] →
+    ((lines : List Sentence) → AreTaken lines s → RefusesLine lines end r) →
+    (lines : List Sentence) → AreTaken lines s → IsInLine (line ++ end) → (rest : List ℕ) →
+    IsTextRefusal (lines_text lines ++ ((line ++ end) ++ 10 ∷ rest)) r
+whole_refused s [] end r none refuses lines taken in_line rest =
+    text_refused s lines end rest r taken in_line (refuses lines taken)
+whole_refused s (x ∷ xs) end r none refuses lines taken in_line rest = absurd (cc)

@@ -2,13 +2,14 @@
 use Rattle.std.specs.Prelude.{◌≡◌, ℕ, ◌+◌, ◌<◌, ◌≤◌, min, List, [], ◌∷◌, ◌++◌, Option, Some, None, MatchOption, refl}
 use Rattle.std.proofs.Common.{zero, suc, arith, sym, ap, subst, ◌∙◌}
 use Rattle.std.proofs.lemmas.List.{append_assoc, append-nil}
-use Rattle.bn_netlist_laws.specs.Spelling.{Spelling, circuit_of}
+use Rattle.bn_io.specs.Told.{Grows}
+use Rattle.bn_netlist_laws.specs.Spelling.{Admits, Spelling, circuit_of}
 use Rattle.bn_netlist_laws.specs.Sentences.{Sentence, sentence_text, lines_text}
-use Rattle.bn_netlist_laws.specs.Spelling.{IsWrittenAt, AreEntries, no_entry, element_entry, column_entry, IsTextOf, header_of, header_then}
+use Rattle.bn_netlist_laws.specs.Spelling.{IsWrittenAt, AreEntries, no_entry, element_entry, column_entry, IsTextOf}
 use Rattle.bn_netlist_laws.specs.Columns.{IsColumnAt}
 use Rattle.bn_netlist_laws.specs.declared.version.Version.{Version}
 use Rattle.bn_netlist_laws.specs.declared.version.Version.TheVariants.{Two}
-use Rattle.bn_netlist_laws.proofs.EntryLemmas.{column_within}
+use Rattle.bn_netlist_laws.proofs.EntryLemmas.{column_within, has-text}
 use Rattle.bn_netlist_laws.proofs.TextLemmas.{lines_text-append}
 use Rattle.bn_netlist.specs.Writing.{IsPlaceIn, NextLine, an_element, a_column, a_row, element_behind, AreLeft, Writes}
 
@@ -133,11 +134,14 @@ written_all v s old text lines e m all are =
     let last = after_all s.elements lines e m all are.after in
     (are.entries, subst (λ (i : ℕ). Writes v s are.entries i 0) last.0 (subst (λ (i : ℕ). Writes v s are.entries e i) last.1 are.writes), are.text_is)
 
--- the whole text
-pub whole_text : (v : Version) (s : Spelling) (old header text : List ℕ) → old ≡ [] → header ≡ old ++ lines_text (header_then (header_of v s) []) → ((entries : List Sentence) × Writes v s entries s.elements 0 × (text ≡ header ++ lines_text entries)) → IsTextOf v s text
-whole_text v s old header text none is all =
-    record {
-      entries = all.0;
-      are = writes_all v s all.0 s.elements refl all.1;
-      written = all.2 ∙ ap (λ (t : List ℕ). t ++ lines_text all.0) (is ∙ ap (λ (t : List ℕ). t ++ lines_text (header_then (header_of v s) [])) none) ∙ sym (lines_text-append (header_then (header_of v s) []) all.0);
-    }
+-- what a sink that grows has taken is the text
+pub written_to : (v : Version) (s : Spelling) (old new : List ℕ) → Admits v s → old ≡ [] →
+    ((text : List ℕ) → IsTextOf v s text → Grows (Some old) (Some new) text) → IsTextOf v s new
+written_to v s old new admitted none grows =
+    let text = has-text v s admitted in
+    let same : new ≡ text.0 = all_of old new text.0 none (grows text.0 text.1.is_text) in
+    subst (IsTextOf v s) (sym same) text.1.is_text
+  where
+    all_of : (old new text : List ℕ) → old ≡ [] → Grows (Some old) (Some new) text → new ≡ text
+    all_of [] new text none is = cc
+    all_of (x ∷ xs) new text none is = absurd (cc)

@@ -3,7 +3,7 @@ use Rattle.std.specs.Prelude.{◌≢◌, ℕ, List}
 use Rattle.bn_netlist.specs.Pieces.{HasCome, RefusesOn}
 use Rattle.bn_netlist.specs.declared.pieces.Pieces.{Pieces}
 use Rattle.bn_netlist.specs.declared.pieces.Pieces.TheVariants.{Open, Refused}
-use Rattle.bn_netlist_lines.specs.declared.refusal.NetlistRefusal.TheVariants.{NoMemory}
+use Rattle.bn_netlist.specs.declared.line_refusal.NetlistRefusal.TheVariants.{NoMemory}
 
 -- these bytes have come
 abbrev pub HaveCome : Pieces → List ℕ → Type 0

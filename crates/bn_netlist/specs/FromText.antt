@@ -1,7 +1,7 @@
 -- What a refusal says of the bytes that were taken from a source.
 use Rattle.std.specs.Prelude.{◌≡◌, ◌≢◌, ℕ, List, [], Option, Some, IfSome}
-use Rattle.bn_netlist_lines.specs.NetText.{IsTextRefusal}
-use Rattle.bn_netlist_lines.specs.declared.refusal.NetlistRefusal.TheVariants.{NoMemory}
+use Rattle.bn_netlist.specs.NetText.{IsTextRefusal}
+use Rattle.bn_netlist.specs.declared.line_refusal.NetlistRefusal.TheVariants.{NoMemory}
 use Rattle.bn_netlist.specs.declared.refusal.FromRefusal.{FromRefusal}
 use Rattle.bn_netlist.specs.declared.refusal.FromRefusal.TheVariants.{Text}
 

@@ -1,3 +1,9 @@
+pub mod NetText
+pub mod Drafting
+pub mod LineReading
+pub mod WireSpelling
+pub mod Stages
+pub mod Finishing
 pub mod FromText
 pub mod Pieces
 pub mod Coming

@@ -2,10 +2,10 @@
 use Rattle.std.specs.Prelude.{◌≡◌, ℕ, List, ◌++◌}
 use Rattle.bn_base.specs.Line.{IsInLine}
 use Rattle.bn_netlist_laws.specs.Sentences.{Sentence, lines_text}
-use Rattle.bn_netlist_lines.specs.NetText.{IsTextRefusal}
-use Rattle.bn_netlist_lines.specs.Stages.{AreTaken}
-use Rattle.bn_netlist_lines.specs.declared.stage.Stage.{Stage}
-use Rattle.bn_netlist_lines.specs.declared.refusal.NetlistRefusal.{NetlistRefusal}
+use Rattle.bn_netlist.specs.NetText.{IsTextRefusal}
+use Rattle.bn_netlist.specs.Stages.{AreTaken}
+use Rattle.bn_netlist.specs.declared.stage.Stage.{Stage}
+use Rattle.bn_netlist.specs.declared.line_refusal.NetlistRefusal.{NetlistRefusal}
 
 -- These bytes have come: lines that have all been taken, and behind them the front of another.
 pub record HasCome (text line : List ℕ) (s : Stage) : Type 0 where

@@ -4,7 +4,8 @@ ghost use Rattle.std.specs.Prelude.{◌≡◌, ℕ, length, MatchOption};
 ghost use Rattle.bn_netlist_laws.specs.Columns.{IsColumnAt};
 ghost use Rattle.bn_netlist_laws.specs.Spelling.{circuit_of};
 
-use bn_netlist_lines::{Spellable, column_rows};
+use crate::column_lines::column_rows;
+use crate::spellable::Spellable;
 
 /// The number of rows of the column that begins at this element; `None` exactly where no column begins
 /// there. It takes no memory. (This project's own profile.)

@@ -4,14 +4,16 @@ ghost use Rattle.std.specs.Prelude.{◌≡◌, ◌+◌, ℕ, List, ◌++◌, ◌
 ghost use Rattle.bn_base.specs.Line.{IsInLine};
 ghost use Rattle.bn_netlist_laws.specs.Sentences.{Sentence, lines_text};
 ghost use Rattle.bn_netlist_laws.specs.Spelling.{Spelled};
-ghost use Rattle.bn_netlist_lines.specs.LineReading.{RefusesLine};
-ghost use Rattle.bn_netlist_lines.specs.NetText.{IsTextRefusal};
-ghost use Rattle.bn_netlist_lines.specs.Stages.{AreTaken, HasTaken, TakesTo};
+ghost use Rattle.bn_netlist.specs.LineReading.{RefusesLine};
+ghost use Rattle.bn_netlist.specs.NetText.{IsTextRefusal};
+ghost use Rattle.bn_netlist.specs.Stages.{AreTaken, HasTaken, TakesTo};
 ghost use Rattle.bn_netlist.specs.Pieces.{HasCome, IsFront, RefusesOn};
-ghost use Rattle.bn_netlist_lines.specs.declared.stage.Stage.{Stage};
+ghost use Rattle.bn_netlist.specs.declared.stage.Stage.{Stage};
 
+use crate::from_wires::FromWires;
+use crate::line_refusal::NetlistRefusal;
+use crate::stage::Stage;
 use bn_base::{Lines, NextLine};
-use bn_netlist_lines::{FromWires, NetlistRefusal, Stage};
 use std::alloc::Global;
 
 /// The most bytes of a line that are kept: no line of any form is longer.
@@ -80,7 +82,8 @@ impl Front {
     }
 }
 
-// Takes a line that has come in pieces, `end` the last of them, and keeps nothing of it.
+// Takes a line that has come in pieces, `end` the last of them, and keeps nothing of it. One that has come whole is
+// taken where it stands.
 fn take_line(
     alloc: Global,
     stage: Stage,
@@ -95,6 +98,9 @@ fn take_line(
         → IsInLine (line.old.items ++ end.now) → (rest : List ℕ)
         → IsTextRefusal (lines_text lines ++ ((line.old.items ++ end.now) ++ 10 ∷ rest)) r) }
 {
+    if line.is_empty() {
+        return stage.take(alloc, end);
+    }
     keep(line, end, stage.next_line())?;
     let next = stage.take(alloc, line.as_slice())?;
     line.clear();

@@ -2,14 +2,30 @@
 //! place of the first fault, and written, from bytes and to bytes as well as in pieces.
 #![tactic(auto)]
 
+mod bytes;
 mod column;
+mod column_lines;
 mod cursor;
+mod draft;
+mod entries;
+mod finish;
+mod forms;
+mod from_wires;
 mod front;
+mod header_lines;
+mod inner;
+mod laws;
+mod line_refusal;
+mod net_config;
 mod packed_config;
 mod pieces;
 mod read;
 mod read_from;
 mod refusal;
+mod spellable;
+mod spelled_out;
+mod stage;
+mod take_line;
 mod write;
 mod write_to;
 
@@ -20,11 +36,23 @@ pub use bn_netlist_laws::{
     lines_are_short, one_configuration_a_text, one_first_fault, one_number_of_rows,
     one_text_a_configuration, spelled_alike, spellings_move, texts_end,
 };
-pub use bn_netlist_lines::{NetConfig, NetlistRefusal, Spellable, circuits_agree};
+pub use bytes::Cursor;
 pub use column::column_at;
+pub use column_lines::column_rows;
+pub use draft::Draft;
+pub use entries::Entries;
+pub use forms::{column_of, element_of, named_after, number_after, sides_of, version_of};
+pub use from_wires::FromWires;
+pub use header_lines::{take_count, take_end, take_place, take_start, take_steps, take_title};
+pub use laws::{circuits_agree, lines_are_read, lines_refuse_texts};
+pub use line_refusal::NetlistRefusal;
+pub use net_config::NetConfig;
 pub use packed_config::PackedConfig;
-pub use read::{read_config, read_packed};
-pub use read_from::{read_config_from, read_packed_from};
+pub use read::read_config;
+pub use read_from::{read_config_from, read_text};
 pub use refusal::{FromRefusal, ToRefusal};
+pub use spellable::Spellable;
+pub use spelled_out::first_spelled_out;
+pub use stage::Stage;
 pub use write::write_config;
 pub use write_to::write_config_to;

@@ -1,9 +1,10 @@
 //! A packed net in a configuration, with what its text names.
 
+use crate::from_wires::FromWires;
+use crate::spellable::Spellable;
 use bn_circuits::{Config, Line, Place, States, Wire};
 use bn_lists::NoMemory;
 use bn_netlist_laws::{Header, Version};
-use bn_netlist_lines::{FromWires, Spellable};
 use bn_packed::Packed;
 use std::alloc::Global;
 

@@ -2,12 +2,13 @@
 
 ghost use Rattle.std.specs.Prelude.{◌≡◌, ◌≢◌, ℕ, List, ◌++◌, [], IfOk, IfErr};
 ghost use Rattle.bn_netlist_laws.specs.Spelling.{Spelled};
-ghost use Rattle.bn_netlist_lines.specs.NetText.{IsTextRefusal};
+ghost use Rattle.bn_netlist.specs.NetText.{IsTextRefusal};
 ghost use Rattle.bn_netlist.specs.Coming.{HaveCome, ComeSome};
 
+use crate::from_wires::FromWires;
 use crate::front::Front;
+use crate::line_refusal::NetlistRefusal;
 use bn_lists::NoMemory;
-use bn_netlist_lines::{FromWires, NetlistRefusal};
 use std::alloc::Global;
 
 /// A configuration text that comes in pieces. Of a faulty text it keeps the fault alone.

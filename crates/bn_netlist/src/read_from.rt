@@ -1,31 +1,51 @@
-//! Reading a configuration text from a source.
+//! Reading a configuration text from an input.
 
 ghost use Rattle.std.specs.Prelude.{◌≡◌, ◌≢◌, ◌+◌, ◌-◌, ◌<◌, ◌≤◌, ℕ, List, [], length, take, min, IfOk, IfErr, IsErrOf};
 ghost use Rattle.std.specs.Prelude.{IfSome};
 ghost use Rattle.bn_io.specs.Faults.{Rose};
 ghost use Rattle.bn_io.specs.Told.{ReadsWithin};
 ghost use Rattle.bn_netlist_laws.specs.Spelling.{Spelled};
-ghost use Rattle.bn_netlist_lines.specs.NetText.{spelling_of};
+ghost use Rattle.bn_netlist.specs.NetText.{spelling_of};
 ghost use Rattle.bn_netlist.specs.FromText.{IsFromRefusal, HasWhole, Ends};
 ghost use Rattle.bn_netlist.specs.Coming.{HaveCome, ComeSome};
-ghost use Rattle.bn_netlist.specs.PackedText.{spelling_of_packed};
 
-use crate::packed_config::PackedConfig;
+use crate::from_wires::FromWires;
+use crate::line_refusal::NetlistRefusal;
+use crate::net_config::NetConfig;
 use crate::pieces::Pieces;
 use crate::refusal::FromRefusal;
-use bn_io::{Source, SourceFailed, piece_size};
-use bn_netlist_lines::{FromWires, NetConfig, NetlistRefusal};
+use bn_io::{Input, Source, SourceFailed, piece_size};
 use std::alloc::Global;
 
 /// How many bytes one call asks of a source, at most.
 const CHUNK: usize = 65536;
 
-/// Reads a configuration text of either version from a source, to the end of its input, and keeps
-/// only a short part of the text. The refusals are tested in this order: `ReadFault`, only where
-/// the source's count of faults rose in this call or stands at its last value; `TooLong`, exactly
-/// where the source gave more than `limit` bytes; `Text`, exactly where the bytes taken have no
-/// reading: their first fault. After a faulty line it goes on taking bytes to the end of input.
-/// (This project's own profile.)
+/// Reads a configuration text of either version from an input, to its end: that of a net with its configuration, or
+/// that of a packed net, of which no net of elements is made beside it. Of a source it keeps only a short part of the
+/// text; an input that lends its bytes is read where it stands. The refusals are tested in this order: `ReadFault`,
+/// only where the input's count of faults rose in this call or stands at its last value; `TooLong`, exactly where the
+/// input gave more than `limit` bytes; `Text`, exactly where the bytes taken have no reading: their first fault. After
+/// a faulty line it goes on taking bytes to the end of input. (This project's own profile.)
+pub fn read_text<C: FromWires, I: Input>(
+    alloc: Global,
+    input: &mut I,
+    limit: u64,
+) -> Result<C, FromRefusal>
+    ensures taken { (piece : List ℕ) × ReadsWithin (I.left input.old) (I.left input.new) limit
+        (IsErrOf result FromRefusal.TooLong) piece
+        × IfOk result (λ c. Spelled (C.version c) (C.spelling c) piece)
+        × IfErr result (IsFromRefusal piece) }
+    ensures whole { IfOk result (λ _. Ends (I.left input.old) (I.left input.new)) }
+    ensures refused_whole { IfErr result (λ r. HasWhole r → Ends (I.left input.old) (I.left input.new)) }
+    ensures later { I.faults input.old ≤ I.faults input.new }
+    ensures read_fault { IsErrOf result FromRefusal.ReadFault →
+        Rose (I.faults input.old) (I.faults input.new) }
+{
+    let pieces = read_input(alloc, input, limit)?;
+    config_of(alloc, pieces)
+}
+
+/// Reads a configuration text from a source as `read_text` does.
 pub fn read_config_from<S: Source>(
     alloc: Global,
     source: &mut S,
@@ -41,50 +61,7 @@ pub fn read_config_from<S: Source>(
     ensures read_fault { IsErrOf result FromRefusal.ReadFault →
         Rose (S.faults source.old) (S.faults source.new) }
 {
-    read_from(alloc, source, limit)
-}
-
-/// Reads a configuration text from a source as `read_config_from` does, and packs the net from the wires that
-/// were read: no net of elements is made beside it. (This project's own profile.)
-pub fn read_packed_from<S: Source>(
-    alloc: Global,
-    source: &mut S,
-    limit: u64,
-) -> Result<PackedConfig, FromRefusal>
-    ensures taken { (piece : List ℕ) × ReadsWithin (S.left source.old) (S.left source.new) limit
-        (IsErrOf result FromRefusal.TooLong) piece
-        × IfOk result (λ c. Spelled c.version (spelling_of_packed c) piece)
-        × IfErr result (IsFromRefusal piece) }
-    ensures whole { IfOk result (λ _. Ends (S.left source.old) (S.left source.new)) }
-    ensures refused_whole { IfErr result (λ r. HasWhole r → Ends (S.left source.old) (S.left source.new)) }
-    ensures later { S.faults source.old ≤ S.faults source.new }
-    ensures read_fault { IsErrOf result FromRefusal.ReadFault →
-        Rose (S.faults source.old) (S.faults source.new) }
-{
-    read_from(alloc, source, limit)
-}
-
-// As both of them.
-fn read_from<C: FromWires, S: Source>(
-    alloc: Global,
-    source: &mut S,
-    limit: u64,
-) -> Result<C, FromRefusal>
-    ensures taken { (piece : List ℕ) × ReadsWithin (S.left source.old) (S.left source.new) limit
-        (IsErrOf result FromRefusal.TooLong) piece
-        × IfOk result (λ c. Spelled (C.version c) (C.spelling c) piece)
-        × IfErr result (IsFromRefusal piece) }
-    ensures whole { IfOk result (λ _. Ends (S.left source.old) (S.left source.new)) }
-    ensures refused_whole { IfErr result (λ r. HasWhole r → Ends (S.left source.old) (S.left source.new)) }
-    ensures later { S.faults source.old ≤ S.faults source.new }
-    ensures read_fault { IsErrOf result FromRefusal.ReadFault →
-        Rose (S.faults source.old) (S.faults source.new) }
-{
-    let Ok(mut buffer) = vec![in alloc; 0u8; CHUNK] else {
-        return Err(FromRefusal::NoMemory);
-    };
-    let pieces = read_pieces(alloc, source, buffer.as_mut_slice(), limit)?;
-    config_of(alloc, pieces)
+    read_text(alloc, source, limit)
 }
 
 // The configuration of a text that has come whole.
@@ -103,30 +80,60 @@ fn config_of<C: FromWires>(alloc: Global, pieces: Pieces) -> Result<C, FromRefus
     }
 }
 
-// Takes all pieces of the text, by way of `buffer`, to the end of input.
-fn read_pieces<S: Source>(
-    alloc: Global,
-    source: &mut S,
-    buffer: &mut [u8],
-    limit: u64,
-) -> Result<Pieces, FromRefusal>
-    requires { 0 < length buffer.old }
-    ensures taken { (piece : List ℕ) × ReadsWithin (S.left source.old) (S.left source.new) limit
+// Takes all pieces of the text to the end of input: the one piece that is lent, or piece after piece.
+fn read_input<I: Input>(alloc: Global, input: &mut I, limit: u64) -> Result<Pieces, FromRefusal>
+    ensures taken { (piece : List ℕ) × ReadsWithin (I.left input.old) (I.left input.new) limit
         (IsErrOf result FromRefusal.TooLong) piece
         × IfOk result (λ p. HaveCome p piece) }
-    ensures whole { IfOk result (λ _. Ends (S.left source.old) (S.left source.new)) }
+    ensures whole { IfOk result (λ _. Ends (I.left input.old) (I.left input.new)) }
     ensures no_text { IfErr result (λ r. HasWhole r → ⊥) }
-    ensures later { S.faults source.old ≤ S.faults source.new }
+    ensures later { I.faults input.old ≤ I.faults input.new }
     ensures read_fault { IsErrOf result FromRefusal.ReadFault →
-        Rose (S.faults source.old) (S.faults source.new) }
+        Rose (I.faults input.old) (I.faults input.new) }
 {
     let Ok(start) = Pieces::new(alloc) else {
         return Err(FromRefusal::NoMemory);
     };
+    match input.rest() {
+        Some(bytes) if bytes.len() as u64 <= limit => {
+            let Ok(pieces) = start.push(alloc, bytes) else {
+                return Err(FromRefusal::NoMemory);
+            };
+            input.take_rest();
+            Ok(pieces)
+        }
+        _ => {
+            let Ok(mut buffer) = vec![in alloc; 0u8; CHUNK] else {
+                return Err(FromRefusal::NoMemory);
+            };
+            read_pieces(alloc, start, input, buffer.as_mut_slice(), limit)
+        }
+    }
+}
+
+// Takes all pieces of the text, by way of `buffer`, to the end of input.
+fn read_pieces<I: Input>(
+    alloc: Global,
+    start: Pieces,
+    input: &mut I,
+    buffer: &mut [u8],
+    limit: u64,
+) -> Result<Pieces, FromRefusal>
+    requires space { 0 < length buffer.old }
+    requires begun { HaveCome start [] }
+    ensures taken { (piece : List ℕ) × ReadsWithin (I.left input.old) (I.left input.new) limit
+        (IsErrOf result FromRefusal.TooLong) piece
+        × IfOk result (λ p. HaveCome p piece) }
+    ensures whole { IfOk result (λ _. Ends (I.left input.old) (I.left input.new)) }
+    ensures no_text { IfErr result (λ r. HasWhole r → ⊥) }
+    ensures later { I.faults input.old ≤ I.faults input.new }
+    ensures read_fault { IsErrOf result FromRefusal.ReadFault →
+        Rose (I.faults input.old) (I.faults input.new) }
+{
     let mut pieces = start;
     let mut taken: u64 = 0;
     loop {
-        let count = read_piece(source, buffer, limit - taken)?;
+        let count = read_piece(input, buffer, limit - taken)?;
         if count == 0 {
             return Ok(pieces);
         }
@@ -140,21 +147,21 @@ fn read_pieces<S: Source>(
 
 // Takes the next bytes into the front of `buffer`, and answers how many: 0 only at the end of
 // input.
-fn read_piece<S: Source>(source: &mut S, buffer: &mut [u8], room: u64) -> Result<usize, FromRefusal>
+fn read_piece<I: Input>(input: &mut I, buffer: &mut [u8], room: u64) -> Result<usize, FromRefusal>
     requires { 0 < length buffer.old }
-    ensures taken { (piece : List ℕ) × ReadsWithin (S.left source.old) (S.left source.new) room
+    ensures taken { (piece : List ℕ) × ReadsWithin (I.left input.old) (I.left input.new) room
         (IsErrOf result FromRefusal.TooLong) piece
         × IfOk result (λ c. piece ≡ take c buffer.new) }
     ensures bound { IfOk result (λ c. c ≤ length buffer.old) }
     ensures within { IfOk result (λ c. c ≤ room) }
-    ensures ended { IfOk result (λ c. c ≡ 0 → Ends (S.left source.old) (S.left source.new)) }
+    ensures ended { IfOk result (λ c. c ≡ 0 → Ends (I.left input.old) (I.left input.new)) }
     ensures no_text { IfErr result (λ r. HasWhole r → ⊥) }
-    ensures later { S.faults source.old ≤ S.faults source.new }
+    ensures later { I.faults input.old ≤ I.faults input.new }
     ensures read_fault { IsErrOf result FromRefusal.ReadFault →
-        Rose (S.faults source.old) (S.faults source.new) }
+        Rose (I.faults input.old) (I.faults input.new) }
 {
     let asked = piece_size(room, buffer.len());
-    let count = match source.take(&mut buffer[..asked]) {
+    let count = match input.take(&mut buffer[..asked]) {
         Ok(count) => count,
         Err(SourceFailed) => return Err(FromRefusal::ReadFault),
     };

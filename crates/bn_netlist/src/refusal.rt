@@ -1,6 +1,6 @@
 //! What reading from a source and writing to a sink refuse.
 
-use bn_netlist_lines::NetlistRefusal;
+use crate::line_refusal::NetlistRefusal;
 
 /// Why no configuration was read from a source.
 #[derive(Clone, Copy, PartialEq, Eq, Debug)]

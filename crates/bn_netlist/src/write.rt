@@ -12,12 +12,14 @@ ghost use Rattle.bn_netlist.specs.Writing.{IsPlaceIn, IsBehindRow, NextLine, Wri
 
 use crate::column::column_at;
 use crate::cursor::Place;
+use crate::spellable::Spellable;
+use crate::write_to::write_config_to;
 use bn_base::push_u64;
 use bn_circuits::Line;
 use bn_element::{EAST, HORIZONTAL, NORTH, SOUTH, WEST};
+use bn_io::VecSink;
 use bn_lists::NoMemory;
 use bn_netlist_laws::Version;
-use bn_netlist_lines::Spellable;
 use std::alloc::Global;
 
 /// The one text of a configuration that may be spelled in its version. (This project's own profile.)
@@ -25,10 +27,11 @@ pub fn write_config<C: Spellable>(alloc: Global, config: &C) -> Result<Vec<u8>, 
     requires { Admits (C.version config.now) (C.spelling config.now) }
     ensures { IfOk result (λ text. IsTextOf (C.version config.now) (C.spelling config.now) text.items) }
 {
-    let mut text = Vec::new(alloc);
-    push_header(&mut text, config)?;
-    push_entries(&mut text, config)?;
-    Ok(text)
+    let mut sink = VecSink::new(alloc);
+    match write_config_to(alloc, &mut sink, config) {
+        Ok(()) => Ok(sink.into_bytes()),
+        Err(_) => Err(NoMemory),
+    }
 }
 
 // The six lines before those of the elements.
@@ -43,23 +46,6 @@ pub(crate) fn push_header<C: Spellable>(text: &mut Vec<u8>, config: &C) -> Resul
     push_named(text, b"end ", config.end())?;
     push_counted(text, b"steps ", config.steps())?;
     push_place(text, config.place())
-}
-
-// The lines of all elements.
-fn push_entries<C: Spellable>(text: &mut Vec<u8>, config: &C) -> Result<(), NoMemory>
-    requires { Admits (C.version config.now) (C.spelling config.now) }
-    ensures { OnOk result ((entries : List Sentence)
-        × Writes (C.version config.now) (C.spelling config.now) entries (C.spelling config.now).elements 0
-        × (text.new.items ≡ text.old.items ++ lines_text entries)) }
-{
-    let mut place = Place {
-        element: 0,
-        rows: 0,
-    };
-    for line in 0..config.len() {
-        place = push_line(text, config, place)?;
-    }
-    Ok(())
 }
 
 // The line at this place, and the place behind it.

@@ -10,3 +10,4 @@ pub mod ListedLemmas
 pub mod ReversedLemmas
 pub mod LooseLemmas
 pub mod StepLemmas
+pub mod PutLemmas

@@ -340,7 +340,7 @@ packed_back-IsToldRun now wiring bars after from to n m e count old new is circu
 
 -- ---- what is packed
 
-two_states : (elements : List Rotary) (e : ℕ) → e < length (map {B = Table} (λ _. rotary) elements) → states_of (map (λ _. rotary) elements) e ≡ 2
+pub two_states : (elements : List Rotary) (e : ℕ) → e < length (map {B = Table} (λ _. rotary) elements) → states_of (map (λ _. rotary) elements) e ≡ 2
 two_states [] e low = absurd (omega arith)
 two_states (x ∷ elements) zero low = refl
 two_states (x ∷ elements) (suc e) low = two_states elements e (omega arith)

@@ -125,6 +125,18 @@ impl Bars {
         }
     }
 
+    /// Gives an element's bar this state.
+    #[tactic(auto, using(crate::proofs::PutLemmas::put_same, crate::proofs::PutLemmas::put_turned))]
+    pub(crate) fn put(&mut self, element: usize, state: u32)
+        requires element { element < length self.old }
+        requires state { state < 2 }
+        ensures { self.new ≡ slice_set self.old element state }
+    {
+        if self.get(element) != state {
+            self.turn(element);
+        }
+    }
+
     /// The same bars once more.
     pub(crate) fn copy(&self, alloc: Global) -> Result<Bars, NoMemory>
         ensures { IfOk result (λ b. b ≡ self.now) }

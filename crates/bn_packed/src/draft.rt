@@ -11,8 +11,8 @@ use std::alloc::Global;
 use std::marker::Model;
 
 /// Wires of a net of rotary elements, put in some at a time, in the form in which they are packed: so no list of all of
-/// them need stand in memory. Elements and lines are counted from 0. Clauses see the number of elements, and where lines
-/// lead so far.
+/// them need stand in memory. Elements and lines are counted from 0. Clauses see the number of elements, and where
+/// lines lead so far.
 #[derive(Debug, Drop)]
 pub struct Draft {
     ends: Ends<u32>,

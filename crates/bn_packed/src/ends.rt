@@ -35,7 +35,7 @@ impl<C: Cell> Ends<C> {
     ghost use Rattle.bn_net.specs.Wirings.{AreApart, AreFitting};
     ghost use Rattle.bn_packed.specs.Drafts.{AreDrawn};
     ghost use Rattle.bn_packed.specs.Numbers.{line_of};
-    ghost use Rattle.bn_packed.specs.Ends.{EndList, IsLineBelow, AreTargets, AreReversed, ends_in, numbers_for};
+    ghost use Rattle.bn_packed.specs.Ends.{EndList, IsLineBelow, AreTargets, AreReversed, ends_in};
 
     /// The ends of no element, in no memory.
     pub(crate) fn empty(alloc: Global) -> Ends<C>

@@ -18,4 +18,4 @@ pub use bn_net::NoMemory;
 pub use direction::Direction;
 pub use draft::Draft;
 pub use packed::Packed;
-pub use stop::Stop;
+pub use stop::{Nowhere, Stop};

@@ -1,8 +1,10 @@
 //! Packed netlists.
 
-ghost use Rattle.std.specs.Prelude.{◌≡◌, ◌<◌, List, length, Some, IfOk, slice_get};
+ghost use Rattle.std.specs.Prelude.{◌≡◌, ◌+◌, ◌<◌, ◌≤◌, List, length, Some, IfOk, slice_get, slice_set};
 ghost use Rattle.std.specs.Bool.{OnTrue, OnFalse};
 ghost use Rattle.bn_circuits.specs.Circuits.{IsCircuit, IsConfig, IsOutputOf, Goes, IsStuck, IsFirst, target};
+ghost use Rattle.bn_circuits.specs.Circuits.{clock, place_after};
+ghost use Rattle.bn_packed.specs.PackedNets.{config_at};
 ghost use Rattle.bn_circuits.specs.Stepping.{places};
 ghost use Rattle.bn_circuits.specs.declared.line.Wire.{Wire};
 ghost use Rattle.bn_net.specs.Watching.{Hears};
@@ -183,6 +185,44 @@ impl Packed {
         ensures { result ≡ target self.now.net.wires from }
     {
         self.wires.target(from)
+    }
+
+    /// Gives an element's bar this state, as a leap over many steps does. Takes no memory.
+    pub fn set_bar(&mut self, element: u32, state: u32)
+        requires element { element < length self.old.net.elements }
+        requires state { state < 2 }
+        ensures net { self.new.net ≡ self.old.net }
+        ensures config { self.new.config ≡ config_at (slice_set self.old.config.states element state)
+            self.old.config.place self.old.config.steps }
+    {
+        let _elements = self.wires.len();
+        self.bars.put(element as usize, state);
+    }
+
+    /// Puts the signal where it is once it has come out by this output line, with so many steps more counted. Takes no
+    /// memory.
+    pub fn send(&mut self, from: Line, steps: u64)
+        requires from { IsOutputOf (rotary_circuit self.old.net).tables from }
+        requires room { self.old.config.steps + steps ≤ clock }
+        ensures net { self.new.net ≡ self.old.net }
+        ensures config { self.new.config ≡ config_at self.old.config.states (place_after self.old.net.wires from)
+            (self.old.config.steps + steps) }
+    {
+        let _elements = self.wires.len();
+        let place = match self.wires.target(from) {
+            Some(to) => Place::Enter {
+                element: to.element,
+                line: to.line,
+            },
+            None => Place::Left {
+                element: from.element,
+                line: from.line,
+            },
+        };
+        self.signal = Signal {
+            place,
+            steps: self.signal.steps + steps,
+        };
     }
 
     /// The same packed netlist once more.

@@ -17,8 +17,9 @@ pub trait Stop {
         ensures { result ≡ stops self.now at };
 }
 
-// No line: a run goes on to its end.
-pub(crate) struct Nowhere;
+/// No line: a run goes on to its end.
+#[derive(Clone, Copy, Debug)]
+pub struct Nowhere;
 
 impl Stop for Nowhere {
     ghost use Rattle.std.specs.Prelude.{false};

@@ -5,3 +5,4 @@ pub mod TableLemmas
 pub mod SettledLemmas
 pub mod ReplyLemmas
 pub mod StreamLemmas
+pub mod PieceLemmas

@@ -1,5 +1,5 @@
 -- The lines that refuse a table or a word (this project's own profile).
-use Rattle.std.specs.Prelude.{ℕ, List, [], ◌∷◌, ◌++◌, codes, decimal}
+use Rattle.std.specs.Prelude.{ℕ, suc, ℤ, pos, negsuc, List, [], ◌∷◌, ◌++◌, codes, decimal}
 use Rattle.bn_table.specs.declared.refusal.TableRefusal.{TableRefusal}
 use Rattle.bn_table.specs.declared.refusal.TableRefusal.TheVariants as faults
 use Rattle.bn_standard.specs.declared.why.Why.{Why}
@@ -52,3 +52,8 @@ long_line count = line (codes "size: word needs " ∷ decimal count ∷ [])
 -- the line of a machine's run that goes on after so many steps
 abbrev pub running_line : ℕ → List ℕ
 running_line n = line (codes "running " ∷ decimal n ∷ [])
+
+-- a position in decimal digits, with a sign where it is below 0
+abbrev pub position_text : ℤ → List ℕ
+position_text (pos n) = decimal n
+position_text (negsuc n) = codes "-" ++ decimal (suc n)

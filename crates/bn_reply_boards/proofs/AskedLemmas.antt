@@ -5,8 +5,8 @@ use Rattle.bn_machine.specs.Outcome.{Limits}
 use Rattle.bn_table.specs.Rows.{Named}
 use Rattle.bn_table.proofs.MachineLemmas.{tables_machines}
 use Rattle.bn_bennett.specs.Translation.{Translation}
-use Rattle.bn_board.specs.Flats.{Flat, IsAccepted}
-use Rattle.bn_flat.specs.Flattened.{Flattened}
+use Rattle.bn_board_spec.specs.Flats.{Flat, IsAccepted}
+use Rattle.bn_board.specs.Flattened.{Flattened}
 use Rattle.bn_reply.specs.Lines.{long_line}
 use Rattle.bn_reply.specs.TableReply.{JudgedReplies, StandardReplies, WordReplies, faulty, fit, foreign, read, spelled, unfit}
 use Rattle.bn_reply.specs.declared.reply.Reply.{Reply}

@@ -1,7 +1,6 @@
 pub mod OpeningLemmas
 pub mod AskedLemmas
 pub mod MadeLemmas
-pub mod PieceLemmas
 pub mod CellTextLemmas
 pub mod ShownLemmas
 pub mod RunTextLemmas

@@ -15,9 +15,9 @@ use Rattle.bn_netlist_laws.specs.declared.version.Version.TheVariants.{Two}
 use Rattle.bn_netlist.specs.PackedText.{spelling_of_packed}
 use Rattle.bn_netlist.specs.declared.packed_config.PackedConfig.{PackedConfig}
 use Rattle.bn_element.specs.Rotary.{rotary}
-use Rattle.bn_board.specs.Boards.{IsBoard, IsBoardWire}
-use Rattle.bn_board.specs.Flats.{Flat, IsAccepted}
-use Rattle.bn_flat.specs.Flattened.{Flattened, IsBoardKept}
+use Rattle.bn_board_spec.specs.Boards.{IsBoard, IsBoardWire}
+use Rattle.bn_board_spec.specs.Flats.{Flat, IsAccepted}
+use Rattle.bn_board.specs.Flattened.{Flattened, IsBoardKept}
 use Rattle.bn_reply.specs.declared.status.Status.TheVariants as statuses
 use Rattle.bn_reply_boards_laws.specs.Laws.{BoardsAreSpelled}
 use Rattle.bn_reply_boards_laws.specs.CompileReply.{CompileReplies, IsFlatSpelling, TellsStart}

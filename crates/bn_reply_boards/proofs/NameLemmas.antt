@@ -16,11 +16,11 @@ use Rattle.bn_bennett_laws.specs.declared.name.Name.TheVariants.{Compute, GoRigh
 use Rattle.bn_bennett.specs.Meaning.{machine_state_by}
 use Rattle.bn_bennett.specs.Translation.{name_of}
 use Rattle.bn_bennett.specs.declared.translated.MachineState.TheVariants.{AtState}
-use Rattle.bn_board.specs.declared.exit.Exit.{Exit}
-use Rattle.bn_board.specs.declared.exit.Exit.TheVariants as exit
-use Rattle.bn_board.specs.LayoutLaws.{ExitsAreOne}
-use Rattle.bn_board.specs.Layouts.{IsExit, IsNamedExit, inside, named, unnamed}
-use Rattle.bn_board.specs.Flats.{Flat, IsAccepted, IsFlatOf, flat_start}
+use Rattle.bn_board_spec.specs.declared.exit.Exit.{Exit}
+use Rattle.bn_board_spec.specs.declared.exit.Exit.TheVariants as exit
+use Rattle.bn_board_spec.specs.LayoutLaws.{ExitsAreOne}
+use Rattle.bn_board_spec.specs.Layouts.{IsExit, IsNamedExit, inside, named, unnamed}
+use Rattle.bn_board_spec.specs.Flats.{Flat, IsAccepted, IsFlatOf, flat_start}
 use Rattle.bn_board_laws.specs.Headline.{IsExitFor, RunsToExit}
 use Rattle.bn_board_laws.specs.HeadlineLaws.{BoardsRunToTheirExit}
 use Rattle.bn_board_laws.proofs.CountLemmas.{before_end}

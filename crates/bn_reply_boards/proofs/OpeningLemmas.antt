@@ -17,13 +17,13 @@ use Rattle.bn_net.specs.declared.net.TheConstants.{MOST_ELEMENTS}
 use Rattle.bn_network.specs.Controls.{ControlState, symbol_count}
 use Rattle.bn_network.specs.Networks.{network_start}
 use Rattle.bn_control.specs.Controlled.{IsWithinLimits}
-use Rattle.bn_board.specs.Boards.{IsBoard, size, board_start}
-use Rattle.bn_board.specs.Layouts.{IsLayout}
-use Rattle.bn_board.specs.Flats.{Flat, IsFlatOf}
-use Rattle.bn_board.proofs.LetterLemmas.{some_symbols}
+use Rattle.bn_board_spec.specs.Boards.{IsBoard, size, board_start}
+use Rattle.bn_board_spec.specs.Layouts.{IsLayout}
+use Rattle.bn_board_spec.specs.Flats.{Flat, IsFlatOf}
+use Rattle.bn_board_spec.proofs.LetterLemmas.{some_symbols}
 use Rattle.bn_assembly.specs.Assembled as assembled
 use Rattle.bn_assembly.specs.Assembled.{Assembled, IsAssembled, IsWordOf, network_of}
-use Rattle.bn_flat.specs.Flattened.{Flattened, IsFlattened, IsBoardKept}
+use Rattle.bn_board.specs.Flattened.{Flattened, IsFlattened, IsBoardKept}
 use Rattle.bn_reply.specs.Words.{IsLetterSymbol}
 use Rattle.bn_reply_boards_laws.specs.Windows.{CountsElements}
 use Rattle.bn_reply_boards.specs.Opened.{IsMade}

@@ -12,15 +12,15 @@ use Rattle.bn_machine.specs.Machine.{Program}
 use Rattle.bn_machine.specs.Outcome.{Limits}
 use Rattle.bn_table.specs.Rows.{Named}
 use Rattle.bn_bennett.specs.Translation.{Translation}
-use Rattle.bn_board.specs.Boards.{IsBoard}
-use Rattle.bn_board.specs.Costs.{bound_of}
-use Rattle.bn_board.specs.declared.exit.Exit.{Exit}
-use Rattle.bn_board.specs.Layouts.{IsExit, IsNamedExit, Layout, is_moment, symbol_count_at, moments, named, unnamed}
-use Rattle.bn_board.specs.Flats.{Flat, IsAccepted, IsFlatOf, flat_start}
-use Rattle.bn_board.specs.LayoutLaws.{ExitsAreOne}
-use Rattle.bn_board.proofs.LetterLemmas.{symbols_are}
+use Rattle.bn_board_spec.specs.Boards.{IsBoard}
+use Rattle.bn_board_spec.specs.Costs.{bound_of}
+use Rattle.bn_board_spec.specs.declared.exit.Exit.{Exit}
+use Rattle.bn_board_spec.specs.Layouts.{IsExit, IsNamedExit, Layout, is_moment, symbol_count_at, moments, named, unnamed}
+use Rattle.bn_board_spec.specs.Flats.{Flat, IsAccepted, IsFlatOf, flat_start}
+use Rattle.bn_board_spec.specs.LayoutLaws.{ExitsAreOne}
+use Rattle.bn_board_spec.proofs.LetterLemmas.{symbols_are}
 use Rattle.bn_board_laws.specs.HeadlineLaws.{BoardsRunToTheirExit}
-use Rattle.bn_flat.specs.Flattened.{Flattened, IsSameBoard}
+use Rattle.bn_board.specs.Flattened.{Flattened, IsSameBoard}
 use Rattle.bn_net.specs.Watching.{Hears}
 use Rattle.bn_reply.specs.declared.status.Status.{Status}
 use Rattle.bn_reply_boards_laws.specs.Counts.{Counts}

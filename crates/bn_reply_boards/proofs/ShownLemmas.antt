@@ -20,7 +20,7 @@ use Rattle.bn_realise.specs.Banks.{bottom_at}
 use Rattle.bn_network.specs.Cells.{cell_line_count}
 use Rattle.bn_network.specs.Networks.{cells_in}
 use Rattle.bn_table.specs.Rows.{Named}
-use Rattle.bn_board.specs.Layouts.{Layout, symbol_count_at, cell_element, cell_state_at, cells_shown, is_marked_at, marked_column, symbol_by}
+use Rattle.bn_board_spec.specs.Layouts.{Layout, symbol_count_at, cell_element, cell_state_at, cells_shown, is_marked_at, marked_column, symbol_by}
 use Rattle.bn_reply_boards.specs.Shown.{HasLetter, HaveLetters}
 
 -- ---- cells

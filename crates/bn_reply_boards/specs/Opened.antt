@@ -10,9 +10,9 @@ use Rattle.bn_bennett.specs.Translation.{Translation, IsTranslation}
 use Rattle.bn_table.specs.Rows.{Named}
 use Rattle.bn_control.specs.Controlled.{IsWithinLimits}
 use Rattle.bn_assembly.specs.Assembled.{IsWordOf}
-use Rattle.bn_board.specs.Layouts.{end_place}
-use Rattle.bn_board.specs.Flats.{Flat, flat_start}
-use Rattle.bn_flat.specs.Flattened.{Flattened, IsBoardKept}
+use Rattle.bn_board_spec.specs.Layouts.{end_place}
+use Rattle.bn_board_spec.specs.Flats.{Flat, flat_start}
+use Rattle.bn_board.specs.Flattened.{Flattened, IsBoardKept}
 use Rattle.bn_reply.specs.TableReply.{ReadsStandard, StandardReplies, WordReplies}
 use Rattle.bn_reply.specs.Words.{IsSpelledBy}
 use Rattle.bn_reply.specs.declared.reply.Reply.{Reply}

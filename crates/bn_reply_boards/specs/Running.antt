@@ -6,11 +6,11 @@ use Rattle.bn_circuits.specs.declared.config.Config.{Config}
 use Rattle.bn_net.specs.RotaryNets.{rotary_circuit}
 use Rattle.bn_table.specs.Rows.{Named}
 use Rattle.bn_bennett.specs.Translation.{Translation}
-use Rattle.bn_board.specs.declared.exit.Exit.{Exit}
-use Rattle.bn_board.specs.Layouts.{IsExit, Layout, moments}
-use Rattle.bn_board.specs.Flats.{Flat, flat_start}
-use Rattle.bn_board.specs.Costs.{bound_of}
-use Rattle.bn_flat.specs.Flattened.{Flattened}
+use Rattle.bn_board_spec.specs.declared.exit.Exit.{Exit}
+use Rattle.bn_board_spec.specs.Layouts.{IsExit, Layout, moments}
+use Rattle.bn_board_spec.specs.Flats.{Flat, flat_start}
+use Rattle.bn_board_spec.specs.Costs.{bound_of}
+use Rattle.bn_board.specs.Flattened.{Flattened}
 use Rattle.bn_net.specs.Watching.{Hears}
 use Rattle.bn_reply.specs.Replying.{IsReplied, IsUnfinished}
 use Rattle.bn_reply.specs.declared.reply.Reply.{Reply}

@@ -1,6 +1,6 @@
 //! The command `compile`.
 
-ghost use Rattle.std.specs.Prelude.{◌≡◌, ◌≤◌, List, [], IfOk, Option};
+ghost use Rattle.std.specs.Prelude.{◌≡◌, ◌≤◌, List, IfOk, Option};
 ghost use Rattle.bn_circuits.specs.declared.place.Place.{Place};
 ghost use Rattle.bn_network.specs.Limits.{AreSmall};
 ghost use Rattle.bn_assembly.specs.Assembled.{limits_of};
@@ -12,31 +12,17 @@ ghost use Rattle.bn_reply_circuits.specs.Unwritten.{WillReply};
 
 use crate::opening::{OpenedInput, open_input};
 use bn_assembly::Windows;
-use bn_flat::Board;
+use bn_board::Board;
 use bn_io::Sink;
 use bn_netlist::{PackedConfig, Version};
-use bn_reply::{NoMemory, Reply, Status};
+use bn_reply::{NoMemory, Status};
 use bn_reply_circuits::Unwritten;
 use std::alloc::Global;
 
-/// What `compile` answers to a word, a window and some bytes: whether they are a table with a machine in standard
-/// form, the word is one of its letters and fits, and the board hasn't too many elements; and then the configuration
-/// text of the board at its start, in version 2.
-pub fn reply_compile(
-    alloc: Global,
-    word: &[u8],
-    windows: &Windows,
-    bytes: &[u8],
-) -> Result<Reply, NoMemory>
-    requires { AreSmall (limits_of windows.now) }
-    ensures { IfOk result (λ r. CompileReplies word.now (limits_of windows.now) bytes.now r.status r.text.items []) }
-{
-    let answer = start_of(alloc, word, windows, bytes)?;
-    answer.into_reply(alloc)
-}
-
-/// Gives a sink what `compile` answers, as `reply_compile` has it: the text of a board in pieces.
-pub fn give_compile<K: Sink>(
+/// Answers `compile` to a word, a window and some bytes: whether they are a table with a machine in standard form, the
+/// word is one of its letters and fits, and the board hasn't too many elements; and then gives the sink the
+/// configuration text of the board at its start, in version 2 and in pieces.
+pub fn answer_compile<K: Sink>(
     alloc: Global,
     word: &[u8],
     windows: &Windows,

@@ -6,12 +6,11 @@ mod compile;
 mod generate;
 mod generate_laws;
 mod opening;
-mod pieces;
 mod run;
 mod run_text;
 mod tape_text;
 
-pub use compile::{give_compile, reply_compile};
+pub use compile::answer_compile;
 pub use generate::reply_generate;
 pub use generate_laws::{
     generate_has_one_reply, generated_runs_tell_outcomes, generated_tables_are_given,
@@ -19,7 +18,6 @@ pub use generate_laws::{
 pub use opening::{
     OpenedInput, OpenedMachine, OpenedWindow, open_input, open_machine, open_window,
 };
-pub use pieces::{push, push_position};
 pub use run::{Ran, reply_run, run_to_exit, status_of};
 pub use run_text::{push_exit, text_of_run};
 pub use tape_text::push_tapes;

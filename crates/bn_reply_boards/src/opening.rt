@@ -11,7 +11,7 @@ ghost use Rattle.bn_reply_boards_laws.specs.Windows.{large_line};
 
 use bn_assembly::{AssembleRefusal, Windows, assemble};
 use bn_bennett::{Translated, translate};
-use bn_flat::{Board, flatten};
+use bn_board::{Board, flatten};
 use bn_reply::{
     Judged, NoMemory, OpenedTable, OpenedWord, Reply, Status, judge_table, open_table, open_word,
     too_long,

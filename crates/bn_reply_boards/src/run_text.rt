@@ -5,22 +5,21 @@ ghost use Rattle.bn_netlist_laws.specs.Sentences.{line_of_place, line_text};
 ghost use Rattle.bn_bennett.specs.Translation.{name_of};
 ghost use Rattle.bn_bennett.specs.Meaning.{machine_state_by};
 ghost use Rattle.bn_bennett.specs.declared.translated.MachineState.TheVariants.{AtState};
-ghost use Rattle.bn_board.specs.Layouts.{symbol_count_at};
-ghost use Rattle.bn_board.specs.Flats.{Flat};
+ghost use Rattle.bn_board_spec.specs.Layouts.{symbol_count_at};
+ghost use Rattle.bn_board_spec.specs.Flats.{Flat};
 ghost use Rattle.bn_reply_boards_laws.specs.RunText.{exit_line, output_from, output_line, quadruple_line, rest_text};
 ghost use Rattle.bn_reply_boards_laws.specs.RunText.{run_text};
 ghost use Rattle.bn_reply_boards_laws.specs.RunText.{state_text, stuck_line, tape_lines, window_line};
 ghost use Rattle.bn_reply_boards.specs.Shown.{HasNames, HaveLetters, IsKnownStuck, IsShown};
 
-use crate::pieces::{push, push_counted};
 use crate::tape_text::{push_output, push_tapes};
 use bn_base::push_u64;
 use bn_bennett::{MachineState, Translated};
+use bn_board::{Board, Exit, Spelled};
 use bn_element::{EAST, NORTH, SOUTH};
-use bn_flat::{Board, Exit, Spelled};
 use bn_machine::Side;
 use bn_net::{Line, Place};
-use bn_reply::{NoMemory, push_letters};
+use bn_reply::{NoMemory, push, push_counted, push_letters};
 use bn_table::Table;
 use std::alloc::Global;
 
@@ -162,7 +161,7 @@ fn push_rest(
     let shown = board.cells_of(alloc)?;
     match exit {
         Exit::End => push_end(alloc, text, table, &shown, quadruple_steps),
-        _ => push_tapes(alloc, text, table, &shown),
+        _ => push_tapes(text, table, &shown),
     }
 }
 
@@ -182,6 +181,6 @@ fn push_end(
         ++ output_line table.now (output_from (drop 1 shown.now.three.cells))))) }
 {
     push_counted(text, b"quadruple steps ", quadruple_steps)?;
-    push_tapes(alloc, text, table, shown)?;
+    push_tapes(text, table, shown)?;
     push_output(alloc, text, table, shown.three.cells.as_slice())
 }

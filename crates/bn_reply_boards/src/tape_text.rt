@@ -5,34 +5,27 @@ ghost use Rattle.bn_reply_boards_laws.specs.RunText.{cells_text, head_text, numb
 ghost use Rattle.bn_reply_boards_laws.specs.RunText.{symbol_text, tape_line, tape_lines};
 ghost use Rattle.bn_reply_boards.specs.Shown.{HasLetter, HaveLetters, bounds_text};
 
-use crate::pieces::{push, push_position};
 use bn_base::push_u64;
-use bn_flat::{Spelled, SpelledTape};
-use bn_reply::{NoMemory, push_letters};
+use bn_board::{Spelled, SpelledTape};
+use bn_reply::{NoMemory, push, push_letters, push_position};
 use bn_table::Table;
 use std::alloc::Global;
 
 /// Appends the lines of three tapes: of each the position of its first cell, of its head, and its cells from left to
 /// right. On tapes 1 and 3 the table has a letter for each symbol that is shown.
-pub fn push_tapes(
-    alloc: Global,
-    text: &mut Vec<u8>,
-    table: &Table,
-    shown: &Spelled,
-) -> Result<(), NoMemory>
+pub fn push_tapes(text: &mut Vec<u8>, table: &Table, shown: &Spelled) -> Result<(), NoMemory>
     requires one { HaveLetters table.now 1 shown.now.one.cells }
     requires three { HaveLetters table.now 3 shown.now.three.cells }
     ensures { OnOk result (text.new.items ≡ text.old.items
         ++ tape_lines table.now shown.now.one shown.now.two shown.now.three) }
 {
-    push_tape(alloc, text, table, 1, &shown.one)?;
-    push_tape(alloc, text, table, 2, &shown.two)?;
-    push_tape(alloc, text, table, 3, &shown.three)
+    push_tape(text, table, 1, &shown.one)?;
+    push_tape(text, table, 2, &shown.two)?;
+    push_tape(text, table, 3, &shown.three)
 }
 
 // Appends the line of a tape.
 fn push_tape(
-    alloc: Global,
     text: &mut Vec<u8>,
     table: &Table,
     tape: u32,
@@ -43,28 +36,28 @@ fn push_tape(
 {
     push(text, b"tape ")?;
     push_u64(text, u64::from(tape))?;
-    push_bounds(alloc, text, shown)?;
+    push_bounds(text, shown)?;
     push_cells(text, table, tape, shown.cells.as_slice())?;
     push(text, b"\n")
 }
 
 // Appends the position of a tape's first cell, and of its head.
-fn push_bounds(alloc: Global, text: &mut Vec<u8>, shown: &SpelledTape) -> Result<(), NoMemory>
+fn push_bounds(text: &mut Vec<u8>, shown: &SpelledTape) -> Result<(), NoMemory>
     ensures { OnOk result (text.new.items ≡ text.old.items ++ bounds_text shown.now) }
 {
     push(text, b" from ")?;
-    push_position(alloc, text, shown.first)?;
+    push_position(text, shown.first)?;
     push(text, b" head ")?;
-    push_head(alloc, text, shown.head)?;
+    push_head(text, shown.head)?;
     push(text, b":")
 }
 
 // Appends the position of a head, or a question mark where no cell shows it.
-fn push_head(alloc: Global, text: &mut Vec<u8>, head: Option<i64>) -> Result<(), NoMemory>
+fn push_head(text: &mut Vec<u8>, head: Option<i64>) -> Result<(), NoMemory>
     ensures { OnOk result (text.new.items ≡ text.old.items ++ head_text head) }
 {
     match head {
-        Some(position) => push_position(alloc, text, position),
+        Some(position) => push_position(text, position),
         None => push(text, b"?"),
     }
 }

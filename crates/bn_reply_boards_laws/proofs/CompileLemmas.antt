@@ -17,9 +17,9 @@ use Rattle.bn_netlist_laws.specs.declared.version.Version.TheVariants.{Two}
 use Rattle.bn_netlist_laws.proofs.EntryLemmas.{has-text}
 use Rattle.bn_table.specs.Laws.{TablesAreMachines}
 use Rattle.bn_table.specs.Rows.{Named}
-use Rattle.bn_board.specs.Boards.{size}
-use Rattle.bn_board.specs.Flats.{Flat}
-use Rattle.bn_board.specs.LayoutLaws.{WordsDifferInCells, WordsShareBoards}
+use Rattle.bn_board_spec.specs.Boards.{size}
+use Rattle.bn_board_spec.specs.Flats.{Flat}
+use Rattle.bn_board_spec.specs.LayoutLaws.{WordsDifferInCells, WordsShareBoards}
 use Rattle.bn_reply_circuits_laws.specs.CircuitReply.{BackReplies, CircuitIsSettled, StepReplies, walked}
 use Rattle.bn_standard.specs.Standard.{IsStandard}
 use Rattle.bn_reply.specs.Words.{IsSpelledBy}

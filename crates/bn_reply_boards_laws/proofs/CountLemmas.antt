@@ -12,8 +12,8 @@ use Rattle.bn_network.specs.Cells.{cell_table}
 use Rattle.bn_network.specs.Controls.{ControlState, IsNumbering, IsControlTable, symbol_count, control_lines}
 use Rattle.bn_network.specs.Networks.{module_tables, elements_by, cells_in, cell_size, bank_size}
 use Rattle.bn_network.specs.ControlLaws.{ControlsAreOne}
-use Rattle.bn_board.specs.Boards.{size, size_of}
-use Rattle.bn_board.specs.Flats.{Flat, IsFlatOf}
+use Rattle.bn_board_spec.specs.Boards.{size, size_of}
+use Rattle.bn_board_spec.specs.Flats.{Flat, IsFlatOf}
 use Rattle.bn_reply_boards_laws.specs.Counts.{Counts}
 use Rattle.bn_reply_boards_laws.specs.Windows.{CountsElements}
 use Rattle.bn_reply_boards_laws.specs.Laws.{BoardsAreCounted}

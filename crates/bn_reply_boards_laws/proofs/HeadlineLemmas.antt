@@ -6,12 +6,12 @@ use Rattle.bn_machine.specs.Outcome.{Limits, Outcome}
 use Rattle.bn_machine.proofs.OutcomeLemmas.{outcome_exists, outcome_once}
 use Rattle.bn_table.specs.Laws.{TablesAreMachines}
 use Rattle.bn_table.specs.Rows.{Named}
-use Rattle.bn_board.specs.Boards.{size}
+use Rattle.bn_board_spec.specs.Boards.{size}
 use Rattle.bn_board_laws.specs.ExistenceLaws.{FlatsAreThere}
 use Rattle.bn_board_laws.specs.HeadlineLaws.{BoardsRunToTheirExit}
 use Rattle.bn_board_laws.proofs.CountLemmas.{costs-one}
-use Rattle.bn_board.specs.Flats.{Flat}
-use Rattle.bn_board.specs.LayoutLaws.{ExitsAreOne, FlatsAreOne}
+use Rattle.bn_board_spec.specs.Flats.{Flat}
+use Rattle.bn_board_spec.specs.LayoutLaws.{ExitsAreOne, FlatsAreOne}
 use Rattle.bn_reply.specs.TableReply.{WordReplies}
 use Rattle.bn_reply.specs.declared.status.Status.{Status}
 use Rattle.bn_reply.proofs.SettledLemmas.{standard_tells, word_tells}

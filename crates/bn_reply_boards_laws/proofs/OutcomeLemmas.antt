@@ -14,15 +14,15 @@ use Rattle.bn_table.specs.Laws.{TablesAreMachines}
 use Rattle.bn_table.specs.Rows.{Named}
 use Rattle.bn_bennett_laws.specs.declared.name.Name.{Name}
 use Rattle.bn_bennett.specs.Meaning.{machine_state_by}
-use Rattle.bn_board.specs.declared.exit.Exit.{Exit}
-use Rattle.bn_board.specs.declared.exit.Exit.TheVariants as exit
-use Rattle.bn_board.specs.declared.spelled.Spelled.{Spelled}
-use Rattle.bn_board.specs.declared.spelled.SpelledTape.{SpelledTape}
-use Rattle.bn_board.specs.Layouts.{IsNamedExit, moments, spelled_by, spelled_tape, spelled_tapes, tape_in, inside}
-use Rattle.bn_board.specs.Flats.{Flat, IsFlatOf, flat_start}
-use Rattle.bn_board.specs.LayoutLaws.{ExitsAreOne}
-use Rattle.bn_board.specs.Boards.{size}
-use Rattle.bn_board.specs.Costs.{bound_of}
+use Rattle.bn_board_spec.specs.declared.exit.Exit.{Exit}
+use Rattle.bn_board_spec.specs.declared.exit.Exit.TheVariants as exit
+use Rattle.bn_board_spec.specs.declared.spelled.Spelled.{Spelled}
+use Rattle.bn_board_spec.specs.declared.spelled.SpelledTape.{SpelledTape}
+use Rattle.bn_board_spec.specs.Layouts.{IsNamedExit, moments, spelled_by, spelled_tape, spelled_tapes, tape_in, inside}
+use Rattle.bn_board_spec.specs.Flats.{Flat, IsFlatOf, flat_start}
+use Rattle.bn_board_spec.specs.LayoutLaws.{ExitsAreOne}
+use Rattle.bn_board_spec.specs.Boards.{size}
+use Rattle.bn_board_spec.specs.Costs.{bound_of}
 use Rattle.bn_board_laws.specs.Headline.{EndsWith, IsExitFor, RunsToExit}
 use Rattle.bn_board_laws.specs.HeadlineLaws.{BoardsRunToTheirExit}
 use Rattle.bn_board_laws.proofs.CountLemmas.{before_end, costs-one, places_stop}

@@ -9,7 +9,7 @@ use Rattle.bn_machine.proofs.TapeLemmas.{cell-word}
 use Rattle.bn_machine.specs.Machine.{Program, Moment}
 use Rattle.bn_machine.specs.Outcome as outcome
 use Rattle.bn_machine.specs.Outcome.{Limits, HasOutcome, ComesOut, halts, sticks, runs_out, leaves, copied, work_short, output_short}
-use Rattle.bn_board.specs.Layouts.{tape_in}
+use Rattle.bn_board_spec.specs.Layouts.{tape_in}
 use Rattle.bn_reply_boards_laws.specs.RunText.{output_from}
 
 blank_first : (v : ℕ) (cs : List (Option ℕ)) → v ≡ 0 → output_from (Some v ∷ cs) ≡ []

@@ -12,12 +12,12 @@ use Rattle.bn_circuits.proofs.CountingLemmas.{tallies-add, tally-more, tally-zer
 use Rattle.bn_circuits.proofs.RunPartLemmas.{runs_split, steps_of_run}
 use Rattle.bn_machine.specs.Outcome.{Outcome}
 use Rattle.bn_machine.proofs.OutcomeLemmas.{outcome_exists}
-use Rattle.bn_board.specs.declared.exit.Exit.{Exit}
-use Rattle.bn_board.specs.declared.exit.Exit.TheVariants as exit
-use Rattle.bn_board.specs.BoardMoments.{IsBoardMoment}
-use Rattle.bn_board.specs.Layouts.{IsExit, IsNamedExit, Layout, ends, inside, is_moment, left, moment_at, moments, named, right, stuck, unnamed}
-use Rattle.bn_board.specs.Flats.{Flat, flat_start, machine_of}
-use Rattle.bn_board.proofs.ReadingLemmas.{own_accepted, own_flat}
+use Rattle.bn_board_spec.specs.declared.exit.Exit.{Exit}
+use Rattle.bn_board_spec.specs.declared.exit.Exit.TheVariants as exit
+use Rattle.bn_board_spec.specs.BoardMoments.{IsBoardMoment}
+use Rattle.bn_board_spec.specs.Layouts.{IsExit, IsNamedExit, Layout, ends, inside, is_moment, left, moment_at, moments, named, right, stuck, unnamed}
+use Rattle.bn_board_spec.specs.Flats.{Flat, flat_start, machine_of}
+use Rattle.bn_board_spec.proofs.ReadingLemmas.{own_accepted, own_flat}
 use Rattle.bn_board_laws.specs.Headline.{RunsToExit}
 use Rattle.bn_board_laws.specs.HeadlineLaws.{BoardsRunToTheirExit}
 use Rattle.bn_board_laws.specs.Moments.{BoardsHaveMoments, HasMoments}

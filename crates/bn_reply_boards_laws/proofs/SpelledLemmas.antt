@@ -30,13 +30,13 @@ use Rattle.bn_network.specs.Controls.{Tape as to_tape, in_number, out_number}
 use Rattle.bn_network.specs.Networks.{IsNetWire, commands, replies, rightward, leftward}
 use Rattle.bn_network.proofs.LineLemmas.{lines_some}
 use Rattle.bn_network_laws.proofs.CellRowLemmas.{cells_later}
-use Rattle.bn_board.specs.Boards.{AreModules, IsBoardWire, own, between, StandsFor, bars_of, base, board_start, output_at, size, size_of}
-use Rattle.bn_board.proofs.ModuleLemmas.{bank_within, banks_apart, input_once, one_table, output_once, wired_input, wired_output}
-use Rattle.bn_board.proofs.MovedLemmas.{in_bank}
-use Rattle.bn_board.specs.Layouts.{end_place}
-use Rattle.bn_board.specs.Flats.{AreSameFlats, Flat, IsFlatOf, flat_start, situation_at_start}
-use Rattle.bn_board.specs.LayoutLaws.{BoardsRead}
-use Rattle.bn_board.specs.Readings.{BoardReads}
+use Rattle.bn_board_spec.specs.Boards.{AreModules, IsBoardWire, own, between, StandsFor, bars_of, base, board_start, output_at, size, size_of}
+use Rattle.bn_board_spec.proofs.ModuleLemmas.{bank_within, banks_apart, input_once, one_table, output_once, wired_input, wired_output}
+use Rattle.bn_board_spec.proofs.MovedLemmas.{in_bank}
+use Rattle.bn_board_spec.specs.Layouts.{end_place}
+use Rattle.bn_board_spec.specs.Flats.{AreSameFlats, Flat, IsFlatOf, flat_start, situation_at_start}
+use Rattle.bn_board_spec.specs.LayoutLaws.{BoardsRead}
+use Rattle.bn_board_spec.specs.Readings.{BoardReads}
 use Rattle.bn_reply_boards_laws.specs.CompileReply.{IsFlatSpelling}
 use Rattle.bn_reply_boards_laws.specs.Laws.{BoardsAreSpelled}
 use Rattle.bn_net.specs.declared.net.TheConstants.{MOST_ELEMENTS}

@@ -17,16 +17,16 @@ use Rattle.bn_bennett.specs.Meaning.{machine_state_by}
 use Rattle.bn_bennett.specs.Translation.{Translation, name_of}
 use Rattle.bn_realise.specs.Banks.{bank_input_line}
 use Rattle.bn_network.specs.Controls.{ControlState}
-use Rattle.bn_board.specs.Boards.{base, size}
+use Rattle.bn_board_spec.specs.Boards.{base, size}
 use Rattle.bn_board_laws.specs.ExistenceLaws.{FlatsAreThere}
-use Rattle.bn_board.specs.Costs.{bound_of}
-use Rattle.bn_board.specs.declared.exit.Exit.{Exit}
-use Rattle.bn_board.specs.declared.exit.Exit.TheVariants as exits_of
-use Rattle.bn_board.specs.declared.exit.Exit.TheVariants.{Inside, End, Stuck, Window, Unnamed}
-use Rattle.bn_board.specs.BoardMoments.{IsBoardMoment, enters_first, left_by_end}
-use Rattle.bn_board.specs.Layouts.{IsExit, named, unnamed, IsNamedExit, Layout, moments, spelled_tape}
-use Rattle.bn_board.specs.Flats.{AreSameFlats, Flat, flat_start, machine_of}
-use Rattle.bn_board.specs.LayoutLaws.{ExitsAreOne, FlatsAreOne}
+use Rattle.bn_board_spec.specs.Costs.{bound_of}
+use Rattle.bn_board_spec.specs.declared.exit.Exit.{Exit}
+use Rattle.bn_board_spec.specs.declared.exit.Exit.TheVariants as exits_of
+use Rattle.bn_board_spec.specs.declared.exit.Exit.TheVariants.{Inside, End, Stuck, Window, Unnamed}
+use Rattle.bn_board_spec.specs.BoardMoments.{IsBoardMoment, enters_first, left_by_end}
+use Rattle.bn_board_spec.specs.Layouts.{IsExit, named, unnamed, IsNamedExit, Layout, moments, spelled_tape}
+use Rattle.bn_board_spec.specs.Flats.{AreSameFlats, Flat, flat_start, machine_of}
+use Rattle.bn_board_spec.specs.LayoutLaws.{ExitsAreOne, FlatsAreOne}
 use Rattle.bn_reply.specs.Answering.{AgreeInAll, HasAnswer}
 use Rattle.bn_reply.specs.Codes.{IsReplyStatus}
 use Rattle.bn_reply.specs.declared.status.Status.{Status}

@@ -9,8 +9,8 @@ use Rattle.bn_net.specs.declared.net.TheConstants.{MOST_ELEMENTS}
 use Rattle.bn_bennett_laws.specs.Stages.{IsStandardMachine}
 use Rattle.bn_table.specs.Laws.{TablesAreMachines}
 use Rattle.bn_table.specs.Rows.{FitsTable, Named}
-use Rattle.bn_board.specs.Boards.{size}
-use Rattle.bn_board.specs.Flats.{Flat, IsFlatOf}
+use Rattle.bn_board_spec.specs.Boards.{size}
+use Rattle.bn_board_spec.specs.Flats.{Flat, IsFlatOf}
 use Rattle.bn_board_laws.specs.ExistenceLaws.{FlatsAreThere}
 use Rattle.bn_reply.specs.Answering.{AgreeInAll, HasAnswer, IsOneAnswer, IsSettled}
 use Rattle.bn_reply.specs.Codes.{IsReplyStatus}

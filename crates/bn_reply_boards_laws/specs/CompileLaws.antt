@@ -10,8 +10,8 @@ use Rattle.bn_table.specs.Rows.{Named}
 use Rattle.bn_realise.specs.Banks.{bottom_at}
 use Rattle.bn_network.specs.Cells.{cell_line_count}
 use Rattle.bn_network.specs.Networks.{cells_in}
-use Rattle.bn_board.specs.Layouts.{Layout, cell_element, symbol_count_at}
-use Rattle.bn_board.specs.Flats.{Flat}
+use Rattle.bn_board_spec.specs.Layouts.{Layout, cell_element, symbol_count_at}
+use Rattle.bn_board_spec.specs.Flats.{Flat}
 use Rattle.bn_reply_circuits_laws.specs.CircuitReply.{BackReplies, StepReplies}
 use Rattle.bn_reply.specs.declared.status.Status.{Status}
 use Rattle.bn_reply.specs.declared.status.Status.TheVariants.{Done}

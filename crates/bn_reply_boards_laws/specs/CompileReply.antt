@@ -8,9 +8,9 @@ use Rattle.bn_circuits.specs.declared.place.Place.TheVariants.{Enter, Left}
 use Rattle.bn_machine.specs.Outcome.{Limits}
 use Rattle.bn_netlist_laws.specs.Spelling.{Spelling, Spelled}
 use Rattle.bn_netlist_laws.specs.declared.version.Version.TheVariants.{Two}
-use Rattle.bn_board.specs.Boards.{IsBoardWire, size}
-use Rattle.bn_board.specs.Layouts.{end_place}
-use Rattle.bn_board.specs.Flats.{Flat, flat_start}
+use Rattle.bn_board_spec.specs.Boards.{IsBoardWire, size}
+use Rattle.bn_board_spec.specs.Layouts.{end_place}
+use Rattle.bn_board_spec.specs.Flats.{Flat, flat_start}
 use Rattle.bn_reply.specs.Answering.{IsSettled}
 use Rattle.bn_reply.specs.declared.status.Status.{Status}
 use Rattle.bn_reply.specs.declared.status.Status.TheVariants.{Done}

@@ -9,10 +9,10 @@ use Rattle.bn_machine.specs.Outcome as outcome
 use Rattle.bn_machine.specs.Outcome.{Limits, Outcome, HasOutcome}
 use Rattle.bn_net.specs.declared.net.TheConstants.{MOST_ELEMENTS}
 use Rattle.bn_table.specs.Rows.{Named}
-use Rattle.bn_board.specs.Boards.{size}
-use Rattle.bn_board.specs.declared.exit.Exit.TheVariants as exit
-use Rattle.bn_board.specs.Flats.{Flat}
-use Rattle.bn_board.specs.Costs.{HasCost, bound_of}
+use Rattle.bn_board_spec.specs.Boards.{size}
+use Rattle.bn_board_spec.specs.declared.exit.Exit.TheVariants as exit
+use Rattle.bn_board_spec.specs.Flats.{Flat}
+use Rattle.bn_board_spec.specs.Costs.{HasCost, bound_of}
 use Rattle.bn_board_laws.specs.Headline.{RunsToExit}
 use Rattle.bn_reply.specs.Lines.{line}
 use Rattle.bn_reply.specs.TableReply.{ReadsStandard}

@@ -6,12 +6,12 @@ use Rattle.bn_circuits.specs.declared.place.Place.{Place}
 use Rattle.bn_circuits.specs.declared.config.Config.{Config}
 use Rattle.bn_machine.specs.Outcome.{Limits}
 use Rattle.bn_table.specs.Rows.{Named}
-use Rattle.bn_board.specs.declared.exit.Exit.{Exit}
-use Rattle.bn_board.specs.declared.exit.Exit.TheVariants.{Inside, End, Stuck, Window, Unnamed}
-use Rattle.bn_board.specs.BoardMoments.{IsBoardMoment}
-use Rattle.bn_board.specs.Layouts.{IsNamedExit}
-use Rattle.bn_board.specs.Flats.{Flat, machine_of, flat_start}
-use Rattle.bn_board.specs.Costs.{bound_of}
+use Rattle.bn_board_spec.specs.declared.exit.Exit.{Exit}
+use Rattle.bn_board_spec.specs.declared.exit.Exit.TheVariants.{Inside, End, Stuck, Window, Unnamed}
+use Rattle.bn_board_spec.specs.BoardMoments.{IsBoardMoment}
+use Rattle.bn_board_spec.specs.Layouts.{IsNamedExit}
+use Rattle.bn_board_spec.specs.Flats.{Flat, machine_of, flat_start}
+use Rattle.bn_board_spec.specs.Costs.{bound_of}
 use Rattle.bn_reply.specs.Answering.{IsSettled}
 use Rattle.bn_reply.specs.declared.status.Status.{Status}
 use Rattle.bn_reply.specs.declared.status.Status.TheVariants as statuses

@@ -1,5 +1,5 @@
 -- The text of a run of a board (this project's own profile): what the configuration shows to which the run has come.
-use Rattle.std.specs.Prelude.{ℕ, ◌+◌, zero, suc, ◌==◌, if◌then◌else◌, drop, ℤ, pos, negsuc, List, [], ◌∷◌, ◌++◌}
+use Rattle.std.specs.Prelude.{ℕ, ◌+◌, zero, suc, ◌==◌, if◌then◌else◌, drop, ℤ, List, [], ◌∷◌, ◌++◌}
 use Rattle.std.specs.Prelude.{Option, Some, None, codes, decimal, slice_index_or}
 use Rattle.bn_circuits.specs.declared.place.Place.{Place}
 use Rattle.bn_circuits.specs.declared.config.Config.{Config}
@@ -13,13 +13,13 @@ use Rattle.bn_bennett.specs.Translation.{name_of}
 use Rattle.bn_bennett.specs.Meaning.{machine_state_by}
 use Rattle.bn_bennett.specs.declared.translated.MachineState.{MachineState}
 use Rattle.bn_bennett.specs.declared.translated.MachineState.TheVariants.{AtState, Within}
-use Rattle.bn_board.specs.Boards.{size}
-use Rattle.bn_board.specs.declared.exit.Exit.{Exit}
-use Rattle.bn_board.specs.declared.exit.Exit.TheVariants.{Inside, End, Stuck, Window, Unnamed}
-use Rattle.bn_board.specs.declared.spelled.SpelledTape.{SpelledTape}
-use Rattle.bn_board.specs.Layouts.{spelled_tape, tape_in}
-use Rattle.bn_board.specs.Flats.{Flat}
-use Rattle.bn_reply.specs.Lines.{line}
+use Rattle.bn_board_spec.specs.Boards.{size}
+use Rattle.bn_board_spec.specs.declared.exit.Exit.{Exit}
+use Rattle.bn_board_spec.specs.declared.exit.Exit.TheVariants.{Inside, End, Stuck, Window, Unnamed}
+use Rattle.bn_board_spec.specs.declared.spelled.SpelledTape.{SpelledTape}
+use Rattle.bn_board_spec.specs.Layouts.{spelled_tape, tape_in}
+use Rattle.bn_board_spec.specs.Flats.{Flat}
+use Rattle.bn_reply.specs.Lines.{line, position_text}
 use Rattle.bn_reply.specs.Words.{letters_of}
 
 -- ---- where the signal is
@@ -52,11 +52,6 @@ exit_line t f p (Window n s) = window_line n s
 exit_line t f p Unnamed = []
 
 -- ---- what the cells show
-
--- a position in decimal digits, with a sign where it is below 0
-abbrev pub position_text : ℤ → List ℕ
-position_text (pos n) = decimal n
-position_text (negsuc n) = codes "-" ++ decimal (suc n)
 
 -- the position of the head, and a question mark where no cell shows it
 abbrev pub head_text : Option ℤ → List ℕ

@@ -10,8 +10,8 @@ use Rattle.bn_bennett.specs.Translation.{Translation, IsTranslation}
 use Rattle.bn_table.specs.Rows.{Named}
 use Rattle.bn_network.specs.Controls.{ControlState, IsNumbering}
 use Rattle.bn_network.specs.Networks.{elements_by}
-use Rattle.bn_board.specs.Boards.{size}
-use Rattle.bn_board.specs.Flats.{Flat, IsFlatOf}
+use Rattle.bn_board_spec.specs.Boards.{size}
+use Rattle.bn_board_spec.specs.Flats.{Flat, IsFlatOf}
 use Rattle.bn_reply.specs.Lines.{line}
 use Rattle.bn_reply.specs.TableReply.{StandardReplies, WordReplies}
 use Rattle.bn_reply.specs.declared.status.Status.{Status}

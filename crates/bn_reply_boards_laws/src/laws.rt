@@ -10,10 +10,10 @@ ghost use Rattle.bn_reply_boards_laws.specs.Laws.{RunsHaveOneOfEach, MomentsAreC
 ghost use Rattle.bn_reply_boards_laws.specs.Laws.{RunsStopWithin, RunsTellOutcomes};
 
 use bn_bennett::translations_are_one;
-use bn_board::{
+use bn_board_laws::{boards_have_moments, boards_run_to_their_exit, flats_are_there};
+use bn_board_spec::{
     boards_are_read, exits_are_one, flats_are_one, words_differ_in_cells, words_share_boards,
 };
-use bn_board_laws::{boards_have_moments, boards_run_to_their_exit, flats_are_there};
 use bn_network::controls_are_one;
 use bn_reply_circuits_laws::circuits_have_one_reply;
 use bn_table::tables_are_machines;

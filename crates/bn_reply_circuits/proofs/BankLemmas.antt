@@ -23,9 +23,9 @@ use Rattle.bn_realise.proofs.BankEndsLemmas.{no_exit_wire}
 use Rattle.bn_realise.proofs.BankListsLemmas.{bank_list}
 use Rattle.bn_element.specs.declared.rotary.Rotary.{Rotary}
 use Rattle.bn_net.specs.Parts.{Parts, circuit}
-use Rattle.bn_netlist_lines.proofs.NetLemmas.{circuits-agree}
-use Rattle.bn_netlist_lines.specs.NetText.{spelling_of}
-use Rattle.bn_netlist_lines.specs.declared.net_config.NetConfig.{NetConfig}
+use Rattle.bn_netlist.proofs.NetLemmas.{circuits-agree}
+use Rattle.bn_netlist.specs.NetText.{spelling_of}
+use Rattle.bn_netlist.specs.declared.net_config.NetConfig.{NetConfig}
 use Rattle.bn_realise.specs.BankNets.{Banked, bank_elements, IsBankNet, IsBankOf, start_at}
 use Rattle.bn_realise.proofs.BankWiresLemmas.{bank_wire-IsWithinLines, bank_wire-no_input}
 use Rattle.bn_reply_circuits.specs.RealiseReply.{IsBankSpelling}

@@ -10,7 +10,7 @@ use Rattle.bn_net.specs.RotaryNets.{rotary_circuit}
 use Rattle.bn_lists.specs.declared.memory.NoMemory.{NoMemory as WantOfMemory}
 use Rattle.bn_net.proofs.WalkLemmas.{hears-nothing}
 use Rattle.bn_net.specs.Watching.{Hears}
-use Rattle.bn_netlist_lines.proofs.NetLemmas.{map-replicate}
+use Rattle.bn_netlist.proofs.NetLemmas.{map-replicate}
 use Rattle.bn_netlist_laws.specs.Spelling as what
 use Rattle.bn_netlist_laws.specs.Spelling.{circuit_of}
 use Rattle.bn_netlist_laws.specs.declared.version.Version.{Version}
@@ -33,10 +33,10 @@ use Rattle.bn_netlist_laws.proofs.VersionLemmas.{admission-rises, spellings-move
 use Rattle.bn_netlist_laws.specs.declared.version.Version.TheVariants.{Two}
 use Rattle.bn_netlist.specs.PackedText.{spelling_of_packed}
 use Rattle.bn_netlist.specs.declared.packed_config.PackedConfig.{PackedConfig}
-use Rattle.bn_netlist_lines.specs.NetText.{IsTextRefusal}
+use Rattle.bn_netlist.specs.NetText.{IsTextRefusal}
 use Rattle.bn_reply_circuits_laws.specs.CircuitReply.{fault_text, Misspelled}
-use Rattle.bn_netlist_lines.specs.declared.refusal.NetlistRefusal.{NetlistRefusal}
-use Rattle.bn_netlist_lines.specs.declared.refusal.NetlistRefusal.TheVariants.{Syntax, Order, Target, TwoSources, StartFed, EndWired, LeftWired, TooMany, Spelling, NoMemory}
+use Rattle.bn_netlist.specs.declared.line_refusal.NetlistRefusal.{NetlistRefusal}
+use Rattle.bn_netlist.specs.declared.line_refusal.NetlistRefusal.TheVariants.{Syntax, Order, Target, TwoSources, StartFed, EndWired, LeftWired, TooMany, Spelling, NoMemory}
 use Rattle.bn_reply_circuits.specs.Refused.{IsRefused}
 use Rattle.bn_reply_circuits.specs.Walking.{WalkReplies, walked_places, walked_to}
 use Rattle.bn_reply_circuits_laws.specs.CircuitReply.{misspelled, walked}
@@ -60,12 +60,6 @@ wrong bytes (LeftWired line) status text first is = (is.0, wrong_by bytes text l
 wrong bytes (TooMany line) status text first is = (is.0, wrong_by bytes text line too_many first is.1)
 wrong bytes (Spelling line) status text first is = (is.0, wrong_by bytes text line spelled_out first is.1)
 wrong bytes NoMemory status text first is = absurd is
-
--- what `migrate` replies to it
-pub migrate_refused : (bytes : List ℕ) (refusal : NetlistRefusal) (result : Result Reply WantOfMemory) → IsTextRefusal bytes refusal →
-    IfOk result (λ r. IsRefused refusal r.status r.text.items) → IfOk result (λ r. MigrateReplies bytes r.status r.text.items [])
-migrate_refused bytes refusal (Ok r) first is = let both = wrong bytes refusal r.status r.text.items first is in faulty both.1 both.0 refl
-migrate_refused bytes refusal (Err e) first is = tt
 
 -- what was read may be spelled in version 2
 pub read-Admits_two : (v : Version) (s : what.Spelling) (bytes : List ℕ) → Spelled v s bytes → Admits Two s
@@ -94,14 +88,6 @@ pub packed_heard : (way : Direction) (e : ℕ) (c : PackedConfig) (told heard : 
 packed_heard way e c told heard hears = subst (λ k. Hears told (places_along way k e c.packed.config) heard) (packed-circuit c) hears
 
 module _ (way : Direction) (e : ℕ) (bytes : List ℕ) where
-  -- the reply to a text that is refused
-  pub refused : (refusal : NetlistRefusal) (result : Result Reply WantOfMemory) (told : Option (List Place)) → IsTextRefusal bytes refusal →
-      IfOk result (λ r. IsRefused refusal r.status r.text.items) → IfOk result (λ r. IsReplied (WalkReplies way e bytes) r told told)
-  refused refusal (Ok r) told first is =
-      let both = wrong bytes refusal r.status r.text.items first is in
-      record { places = []; right = misspelled both.1 both.0 refl; hears = hears-nothing told }
-  refused refusal (Err e) told first is = tt
-
   -- what was read has walked
   module _ (v : Version) (s : what.Spelling) (spelled : Spelled v s bytes) where
     walked-IsConfig : (w : Direction) → IsConfig (circuit_of s) (run_along w (circuit_of s) s.config e)
@@ -115,15 +101,6 @@ module _ (way : Direction) (e : ℕ) (bytes : List ℕ) where
     walked_right : (text : List ℕ) → IsTextOf v (walked_to way e s) text → WalkReplies way e bytes Done text (walked_places way e s)
     walked_right text written = walked (record { version = v; spelling = s; spelled = spelled; written = written; places = refl }) refl
 
-    -- no reply, after the watch has heard all
-    pub unreplied : (result : Result Reply WantOfMemory) (told heard : Option (List Place)) → Hears told (walked_places way e s) heard →
-        OnErr result (IsUnfinished (WalkReplies way e bytes) told heard)
-    unreplied (Ok r) told heard hears = tt
-    unreplied (Err x) told heard hears =
-        let text = has-text v (walked_to way e s) walked-Admits in
-        told_some Done text.0 (walked_places way e s) (walked_places way e s) [] (walked_right text.0 text.1.is_text)
-        (sym (append-nil (walked_places way e s))) hears
-
     module _ (m : PackedConfig) (same : m.version ≡ v) (is : spelling_of_packed m ≡ walked_to way e s) where
       pub moved-Admits : Admits m.version (spelling_of_packed m)
       moved-Admits = subst (λ w. Admits w (spelling_of_packed m)) (sym same) (subst (Admits v) (sym is) walked-Admits)
@@ -132,16 +109,6 @@ module _ (way : Direction) (e : ℕ) (bytes : List ℕ) where
       moved_right : (text : List ℕ) → IsTextOf m.version (spelling_of_packed m) text → WalkReplies way e bytes Done text (walked_places way e s)
       moved_right text written =
           walked_right text (subst (λ t. IsTextOf v t text) is (subst (λ w. IsTextOf w (spelling_of_packed m) text) same written))
-
-      pub replied : (result : Result Reply WantOfMemory) (told heard : Option (List Place)) → Hears told (walked_places way e s) heard →
-          IfOk result (λ r. r.status ≡ Done) → IfOk result (λ r. IsTextOf m.version (spelling_of_packed m) r.text.items) →
-          IfOk result (λ r. IsReplied (WalkReplies way e bytes) r told heard)
-      replied (Ok r) told heard hears done written = record {
-        places = walked_places way e s;
-        right = subst (λ st. WalkReplies way e bytes st r.text.items (walked_places way e s)) (sym done) (moved_right r.text.items written);
-        hears = hears;
-      }
-      replied (Err x) told heard hears done written = tt
 
       -- how giving it ends
       pub moved_ends : (result : Status) (taken took : Option (List ℕ)) (before now : ℕ) (told heard : Option (List Place)) →

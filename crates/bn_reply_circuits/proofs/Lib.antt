@@ -5,3 +5,9 @@ pub mod PlanTextLemmas
 pub mod PlanReplyLemmas
 pub mod StreamLemmas
 pub mod UnwrittenLemmas
+pub mod MirrorLemmas
+pub mod MirrorBoardLemmas
+pub mod MirrorStreamLemmas
+pub mod FarmReplyLemmas
+pub mod ComeBackLemmas
+pub mod FarmAnswerLemmas

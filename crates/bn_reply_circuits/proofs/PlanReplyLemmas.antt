@@ -9,10 +9,10 @@ use Rattle.bn_element.specs.Rotary.{rotary}
 use Rattle.bn_net.proofs.WireListLemmas.{line_tells}
 use Rattle.bn_netlist_laws.specs.Faults.{Fault, IsFirstFault}
 use Rattle.bn_net.specs.declared.net.TheConstants.{MOST_ELEMENTS}
-use Rattle.bn_netlist_lines.specs.NetText.{IsTextRefusal}
+use Rattle.bn_netlist.specs.NetText.{IsTextRefusal}
 use Rattle.bn_netlist_laws.specs.Spelling.{Spelling, Admits, Spelled, circuit_of, most_elements}
 use Rattle.bn_netlist_laws.specs.declared.version.Version.{Version}
-use Rattle.bn_netlist_lines.specs.declared.refusal.NetlistRefusal.{NetlistRefusal}
+use Rattle.bn_netlist.specs.declared.line_refusal.NetlistRefusal.{NetlistRefusal}
 use Rattle.bn_netlist_laws.proofs.AdmittedLemmas.{most_small}
 use Rattle.bn_netlist_laws.proofs.TextLemmas.{spellings-agree, faulty_texts-spell-nothing}
 use Rattle.bn_netlist_laws.proofs.DecideLemmas.{texts-spell-or-fault}
@@ -43,12 +43,6 @@ few_elements v s a =
     let most = most_small v in
     let few : s.elements ≤ most_elements v = a.few in
     omega arith
-
--- the reply to a text that is refused
-pub refused : (bytes : List ℕ) (refusal : NetlistRefusal) (result : Result Reply WantOfMemory) → IsTextRefusal bytes refusal → IfOk result (λ r. IsRefused refusal r.status r.text.items)
-    → IfOk result (λ r. PlanReplies bytes r.status r.text.items [])
-refused bytes refusal (Ok r) first is = let both = wrong bytes refusal r.status r.text.items first is in misspelled both.1 both.0 refl
-refused bytes refusal (Err e) first is = tt
 
 -- the reply to a text that is read
 pub replied : (bytes : List ℕ) (v : Version) (s : Spelling) (result : Result Reply WantOfMemory) → Spelled v s bytes → IfOk result (λ r. r.status ≡ Done)

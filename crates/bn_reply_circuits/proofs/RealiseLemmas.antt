@@ -33,8 +33,8 @@ use Rattle.bn_reply.proofs.TableLemmas.{first_once}
 use Rattle.bn_reply.specs.declared.status.Status.{Status}
 use Rattle.bn_reply.specs.declared.status.Status.TheVariants as statuses
 use Rattle.bn_netlist_laws.proofs.VersionLemmas.{same_text}
-use Rattle.bn_netlist_lines.specs.NetText.{spelling_of}
-use Rattle.bn_netlist_lines.specs.declared.net_config.NetConfig.{NetConfig}
+use Rattle.bn_netlist.specs.NetText.{spelling_of}
+use Rattle.bn_netlist.specs.declared.net_config.NetConfig.{NetConfig}
 use Rattle.bn_reply_circuits.specs.Unwritten.{IsBankConfig, WillReply}
 use Rattle.bn_reply_circuits.specs.declared.unwritten.Unwritten.{Unwritten}
 use Rattle.bn_reply_circuits.specs.declared.unwritten.Unwritten.TheVariants.{Config}

@@ -15,8 +15,8 @@ use Rattle.bn_netlist_laws.specs.declared.version.Version.{Version}
 use Rattle.bn_netlist_laws.specs.declared.version.Version.TheVariants.{Two}
 use Rattle.bn_netlist_laws.proofs.EntryLemmas.{has-text}
 use Rattle.bn_netlist_laws.proofs.VersionLemmas.{admission-rises}
-use Rattle.bn_netlist_lines.specs.NetText.{IsTextRefusal}
-use Rattle.bn_netlist_lines.specs.declared.refusal.NetlistRefusal.{NetlistRefusal}
+use Rattle.bn_netlist.specs.NetText.{IsTextRefusal}
+use Rattle.bn_netlist.specs.declared.line_refusal.NetlistRefusal.{NetlistRefusal}
 use Rattle.bn_reply.specs.Ends.{TextEnds}
 use Rattle.bn_reply.specs.Outside.{outside}
 use Rattle.bn_reply.specs.Streams.{AnswerEnds, StreamEnds, Whole, TooLong, Failed, Unread}

@@ -24,22 +24,10 @@ line_will replies r h = record {
   right = λ status text is. subst (λ st. replies st text []) (sym is.0) (subst (λ z. replies r.status z []) (sym is.1) h);
 }
 
--- and one of a call that gives it
-pub lines_will : (replies : Status → List ℕ → List Place → Type 0) (result : Result Reply WantOfMemory) → IfOk result (λ r. replies r.status r.text.items []) →
-    IfOk result (λ r. WillReply replies (Line r))
-lines_will replies (Ok r) h = line_will replies r h
-lines_will replies (Err e) h = tt
-
 -- what is a reply of one command and so of another
 pub will_as : (P Q : Status → List ℕ → List Place → Type 0) → ((status : Status) (text : List ℕ) → P status text [] → Q status text []) →
     (a : Unwritten) → WillReply P a → WillReply Q a
 will_as P Q each a h = record { writable = h.writable; right = λ status text is. each status text (h.right status text is) }
-
--- written, it is a reply
-pub will_reply : (replies : Status → List ℕ → List Place → Type 0) (a : Unwritten) (result : Result Reply WantOfMemory) → WillReply replies a →
-    IfOk result (λ r. IsWrittenAs a r.status r.text.items) → IfOk result (λ r. replies r.status r.text.items [])
-will_reply replies a (Ok r) h is = h.right r.status r.text.items is
-will_reply replies a (Err e) h is = tt
 
 -- given, it is an answer
 pub will_ends : (replies : Status → List ℕ → List Place → Type 0) (a : Unwritten) (result : Status) (taken took : Option (List ℕ)) (before now : ℕ)
@@ -70,9 +58,3 @@ config_ends v s result taken took before now told admitted ends =
     let text = has-text v s admitted in
     text_ends (λ status text places. ((status ≡ Done) × IsTextOf v s text) × (places ≡ [])) (IsTextOf v s) text.0 [] result taken took before now
     told told text.1.is_text ((refl, text.1.is_text), refl) (hears-nothing told) ends
-
--- the same of a call that gives one
-pub all_will : (P Q : Status → List ℕ → List Place → Type 0) (result : Result Unwritten WantOfMemory) →
-    ((status : Status) (text : List ℕ) → P status text [] → Q status text []) → IfOk result (WillReply P) → IfOk result (WillReply Q)
-all_will P Q (Ok a) each h = will_as P Q each a h
-all_will P Q (Err e) each h = tt

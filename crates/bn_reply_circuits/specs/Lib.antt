@@ -3,3 +3,7 @@ pub mod Refused
 pub mod PlanReply
 pub mod Unwritten
 pub mod Walking
+pub mod MirrorReply
+pub mod MirrorLaws
+pub mod FarmReply
+pub mod FarmRefused

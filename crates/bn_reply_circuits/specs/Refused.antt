@@ -6,11 +6,11 @@ use Rattle.bn_netlist.specs.declared.refusal.FromRefusal.TheVariants as reading
 use Rattle.bn_netlist_laws.specs.Faults.{malformed, too_many, no_element, out_of_order, end_wired, left_wired}
 use Rattle.bn_netlist_laws.specs.Faults.{start_fed}
 use Rattle.bn_netlist_laws.specs.Faults.{second_source, spelled_out}
-use Rattle.bn_netlist_lines.specs.declared.refusal.NetlistRefusal.{NetlistRefusal}
-use Rattle.bn_netlist_lines.specs.declared.refusal.NetlistRefusal.TheVariants.{Syntax, Order, Target, TwoSources}
-use Rattle.bn_netlist_lines.specs.declared.refusal.NetlistRefusal.TheVariants.{StartFed}
-use Rattle.bn_netlist_lines.specs.declared.refusal.NetlistRefusal.TheVariants.{EndWired, LeftWired, TooMany, Spelling}
-use Rattle.bn_netlist_lines.specs.declared.refusal.NetlistRefusal.TheVariants.{NoMemory}
+use Rattle.bn_netlist.specs.declared.line_refusal.NetlistRefusal.{NetlistRefusal}
+use Rattle.bn_netlist.specs.declared.line_refusal.NetlistRefusal.TheVariants.{Syntax, Order, Target, TwoSources}
+use Rattle.bn_netlist.specs.declared.line_refusal.NetlistRefusal.TheVariants.{StartFed}
+use Rattle.bn_netlist.specs.declared.line_refusal.NetlistRefusal.TheVariants.{EndWired, LeftWired, TooMany, Spelling}
+use Rattle.bn_netlist.specs.declared.line_refusal.NetlistRefusal.TheVariants.{NoMemory}
 use Rattle.bn_rsm.specs.declared.refusal.RsmRefusal.TheVariants as clash
 use Rattle.bn_rsmtable.specs.declared.refusal.RsmTableRefusal.{RsmTableRefusal}
 use Rattle.bn_rsmtable.specs.declared.refusal.RsmTableRefusal.TheVariants as faults

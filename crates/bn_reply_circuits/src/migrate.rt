@@ -1,25 +1,28 @@
 //! The command `migrate`.
 
-ghost use Rattle.std.specs.Prelude.{[], IfOk};
+ghost use Rattle.std.specs.Prelude.{Option, List};
+ghost use Rattle.bn_circuits.specs.declared.place.Place.{Place};
+ghost use Rattle.bn_reply.specs.Outside.{outside};
+ghost use Rattle.bn_reply.specs.Streams.{StreamEnds};
 ghost use Rattle.bn_reply_circuits_laws.specs.MigrateReply.{MigrateReplies};
 
-use crate::refuse::refuse_config;
-use bn_netlist::{Version, read_packed, write_config};
-use bn_reply::{NoMemory, Reply, Status};
+use crate::config::{give_config, refuse_input};
+use bn_io::{Input, Sink};
+use bn_netlist::{PackedConfig, Version, read_text};
+use bn_reply::{MOST_INPUT_BYTES, Status};
 use std::alloc::Global;
 
-/// What `migrate` answers: the text in version 2 of the configuration that the text spells, in either
-/// version.
-pub fn reply_migrate(alloc: Global, bytes: &[u8]) -> Result<Reply, NoMemory>
-    ensures { IfOk result (λ r. MigrateReplies bytes.now r.status r.text.items []) }
+/// Answers `migrate`: reads a configuration text of either version and gives the sink that of the same configuration in
+/// version 2. It tells no watch anything.
+pub fn answer_migrate<I: Input, K: Sink>(alloc: Global, input: &mut I, sink: &mut K) -> Status
+    ensures { (told : Option (List Place)) → StreamEnds MigrateReplies result
+        (outside (I.left input.old) (K.taken sink.old) told (I.faults input.old) (K.faults sink.old))
+        (outside (I.left input.new) (K.taken sink.new) told (I.faults input.new) (K.faults sink.new)) }
 {
-    let mut read = match read_packed(alloc, bytes) {
+    let mut read: PackedConfig = match read_text(alloc, input, MOST_INPUT_BYTES) {
         Ok(read) => read,
-        Err(refusal) => return refuse_config(alloc, refusal),
+        Err(refusal) => return refuse_input(alloc, sink, refusal),
     };
     read.version = Version::Two;
-    Ok(Reply {
-        text: write_config(alloc, &read)?,
-        status: Status::Done,
-    })
+    give_config(alloc, sink, &read)
 }

@@ -1,30 +1,37 @@
 //! The command `plan`.
 
-ghost use Rattle.std.specs.Prelude.{◌≡◌, ◌≤◌, [], IfOk, length};
+ghost use Rattle.std.specs.Prelude.{◌≡◌, ◌≤◌, IfOk, List, Option, length};
+ghost use Rattle.bn_circuits.specs.declared.place.Place.{Place};
+ghost use Rattle.bn_reply.specs.Outside.{outside};
+ghost use Rattle.bn_reply.specs.Streams.{StreamEnds};
 ghost use Rattle.bn_reply_circuits.specs.PlanReply.{PlanIsSettled, PlanReplies, TellsPlan};
 
+use crate::config::refuse_input;
 use crate::plan_text::plan_text;
-use crate::refuse::refuse_config;
 use bn_element::Rotary;
+use bn_io::{Input, Sink};
 use bn_net::{MOST_ELEMENTS, Net};
-use bn_netlist::read_config;
+use bn_netlist::{NetConfig, read_text};
 use bn_plan::plan;
-use bn_reply::{NoMemory, Reply, Status};
+use bn_reply::{MOST_INPUT_BYTES, NoMemory, Reply, Status, give_reply};
 use std::alloc::Global;
 
-/// What `plan` answers to some bytes: the floor plan of the circuit that they spell, or the first
-/// fault of bytes that are no configuration text.
-pub fn reply_plan(alloc: Global, bytes: &[u8]) -> Result<Reply, NoMemory>
-    ensures { IfOk result (λ r. PlanReplies bytes.now r.status r.text.items []) }
+/// Answers `plan`: reads a configuration text of either version and gives the sink the floor plan of its circuit. It
+/// tells no watch anything.
+pub fn answer_plan<I: Input, K: Sink>(alloc: Global, input: &mut I, sink: &mut K) -> Status
+    ensures { (told : Option (List Place)) → StreamEnds PlanReplies result
+        (outside (I.left input.old) (K.taken sink.old) told (I.faults input.old) (K.faults sink.old))
+        (outside (I.left input.new) (K.taken sink.new) told (I.faults input.new) (K.faults sink.new)) }
 {
-    match read_config(alloc, bytes) {
-        Ok(read) => plan_net(alloc, &read.net),
-        Err(refusal) => refuse_config(alloc, refusal),
-    }
+    let read: NetConfig = match read_text(alloc, input, MOST_INPUT_BYTES) {
+        Ok(read) => read,
+        Err(refusal) => return refuse_input(alloc, sink, refusal),
+    };
+    give_reply(sink, plan_net(alloc, &read.net))
 }
 
 // What is answered of a net that was read.
-pub(crate) fn plan_net(alloc: Global, net: &Net<Rotary>) -> Result<Reply, NoMemory>
+fn plan_net(alloc: Global, net: &Net<Rotary>) -> Result<Reply, NoMemory>
     requires { length net.now.elements ≤ MOST_ELEMENTS }
     ensures status { IfOk result (λ r. r.status ≡ Status.Done) }
     ensures text { IfOk result (λ r. TellsPlan net.now.wires (length net.now.elements) r.text.items) }

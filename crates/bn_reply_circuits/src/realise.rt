@@ -1,6 +1,6 @@
 //! The command `realise`.
 
-ghost use Rattle.std.specs.Prelude.{◌≡◌, ◌≤◌, ◌<◌, List, [], IfOk, Option};
+ghost use Rattle.std.specs.Prelude.{◌≡◌, ◌≤◌, ◌<◌, List, IfOk, Option};
 ghost use Rattle.bn_circuits.specs.declared.place.Place.{Place};
 ghost use Rattle.bn_reply.specs.Streams.{AnswerEnds};
 ghost use Rattle.bn_rsm.specs.Machines.{machine_table};
@@ -21,19 +21,9 @@ use bn_rsm::Rsm;
 use bn_rsmtable::{RsmTableRefusal, read_rsm};
 use std::alloc::Global;
 
-/// What `realise` answers to a state, an input line, both counted from 1, and some bytes: whether they
-/// are the table of a machine that has both, and then the text of its bank, in version 2.
-pub fn reply_realise(alloc: Global, state: u32, line: u32, bytes: &[u8]) -> Result<Reply, NoMemory>
-    requires state { 1 ≤ state }
-    requires line { 1 ≤ line }
-    ensures { IfOk result (λ r. RealiseReplies state line bytes.now r.status r.text.items []) }
-{
-    let answer = bank_of(alloc, state, line, bytes)?;
-    answer.into_reply(alloc)
-}
-
-/// Gives a sink what `realise` answers, as `reply_realise` has it: the text of a bank in pieces.
-pub fn give_realise<K: Sink>(
+/// Answers `realise` to a state, an input line, both counted from 1, and some bytes: whether they are the table of a
+/// machine that has both, and then the text of its bank, in version 2 and in pieces.
+pub fn answer_realise<K: Sink>(
     alloc: Global,
     state: u32,
     line: u32,

@@ -8,7 +8,7 @@ use bn_reply::{NoMemory, Reply, Status};
 use std::alloc::Global;
 
 /// What is answered to bytes that are no configuration text, by their first fault.
-pub fn refuse_config(alloc: Global, refusal: NetlistRefusal) -> Result<Reply, NoMemory>
+pub(crate) fn refuse_config(alloc: Global, refusal: NetlistRefusal) -> Result<Reply, NoMemory>
     ensures { IfOk result (λ r. IsRefused refusal r.status r.text.items) }
 {
     match refusal {

@@ -1,14 +1,14 @@
 //! An answer that isn't written yet.
 
-ghost use Rattle.std.specs.Prelude.{◌≡◌, ◌≤◌, IfOk, Option, List, []};
+ghost use Rattle.std.specs.Prelude.{◌≡◌, ◌≤◌, Option, List, []};
 ghost use Rattle.bn_circuits.specs.declared.place.Place.{Place};
 ghost use Rattle.bn_reply.specs.Streams.{AnswerEnds};
 ghost use Rattle.bn_reply_circuits.specs.Unwritten.{IsWritable, IsWrittenAs};
 
-use crate::stream::give_config;
+use crate::config::give_config;
 use bn_io::Sink;
-use bn_netlist::{NetConfig, PackedConfig, write_config};
-use bn_reply::{NoMemory, Reply, Status, give_reply};
+use bn_netlist::{NetConfig, PackedConfig};
+use bn_reply::{Reply, Status, give_reply};
 use std::alloc::Global;
 
 /// An answer that isn't written yet: a reply, or the configuration whose text it is.
@@ -23,24 +23,6 @@ pub enum Unwritten {
 }
 
 impl Unwritten {
-    /// The whole reply.
-    pub fn into_reply(self, alloc: Global) -> Result<Reply, NoMemory>
-        requires { IsWritable self }
-        ensures { IfOk result (λ r. IsWrittenAs self r.status r.text.items) }
-    {
-        match self {
-            Unwritten::Line(reply) => Ok(reply),
-            Unwritten::Config(config) => Ok(Reply {
-                text: write_config(alloc, &config)?,
-                status: Status::Done,
-            }),
-            Unwritten::Packed(config) => Ok(Reply {
-                text: write_config(alloc, &config)?,
-                status: Status::Done,
-            }),
-        }
-    }
-
     /// Gives it to a sink, the text of a configuration in pieces, and answers its status; `WriteFault` where the
     /// sink failed, and `NoMemory` where memory was wanting.
     pub fn give<K: Sink>(self, alloc: Global, sink: &mut K) -> Status

@@ -1,16 +1,75 @@
-//! Walks of what was read.
+//! The commands `step` and `back`.
 
 ghost use Rattle.std.specs.Prelude.{◌≡◌};
 ghost use Rattle.bn_net.specs.Watching.{Hears};
 ghost use Rattle.bn_netlist.specs.PackedText.{spelling_of_packed};
-ghost use Rattle.bn_reply_circuits.specs.Walking.{walked_places, walked_to};
+ghost use Rattle.bn_reply.specs.Outside.{outside};
+ghost use Rattle.bn_reply.specs.Streams.{StreamEnds};
+ghost use Rattle.bn_reply_circuits.specs.Walking.{WalkReplies, walked_places, walked_to};
+ghost use Rattle.bn_reply_circuits_laws.specs.CircuitReply.{BackReplies, StepReplies};
 
+use crate::config::{give_config, refuse_input};
+use bn_io::{Input, Sink};
 use bn_net::Watch;
-use bn_netlist::PackedConfig;
+use bn_netlist::{PackedConfig, read_text};
 use bn_packed::Direction;
+use bn_reply::{MOST_INPUT_BYTES, Status};
+use std::alloc::Global;
+
+/// Answers `step`: reads a configuration text and gives the sink that of the configuration after at most `count` steps,
+/// in the version that was read. The watch is told the place after each step.
+pub fn answer_step<I: Input, K: Sink, W: Watch>(
+    alloc: Global,
+    count: u64,
+    input: &mut I,
+    sink: &mut K,
+    watch: &mut W,
+) -> Status
+    ensures { StreamEnds (StepReplies count) result
+        (outside (I.left input.old) (K.taken sink.old) (W.told watch.old) (I.faults input.old) (K.faults sink.old))
+        (outside (I.left input.new) (K.taken sink.new) (W.told watch.new) (I.faults input.new) (K.faults sink.new)) }
+{
+    answer_walk(alloc, Direction::Forward, count, input, sink, watch)
+}
+
+/// Answers `back`: as `answer_step`, after at most `count` steps back.
+pub fn answer_back<I: Input, K: Sink, W: Watch>(
+    alloc: Global,
+    count: u64,
+    input: &mut I,
+    sink: &mut K,
+    watch: &mut W,
+) -> Status
+    ensures { StreamEnds (BackReplies count) result
+        (outside (I.left input.old) (K.taken sink.old) (W.told watch.old) (I.faults input.old) (K.faults sink.old))
+        (outside (I.left input.new) (K.taken sink.new) (W.told watch.new) (I.faults input.new) (K.faults sink.new)) }
+{
+    answer_walk(alloc, Direction::Backward, count, input, sink, watch)
+}
+
+// Answers the one of them that makes its steps in this direction.
+fn answer_walk<I: Input, K: Sink, W: Watch>(
+    alloc: Global,
+    direction: Direction,
+    count: u64,
+    input: &mut I,
+    sink: &mut K,
+    watch: &mut W,
+) -> Status
+    ensures { StreamEnds (WalkReplies direction count) result
+        (outside (I.left input.old) (K.taken sink.old) (W.told watch.old) (I.faults input.old) (K.faults sink.old))
+        (outside (I.left input.new) (K.taken sink.new) (W.told watch.new) (I.faults input.new) (K.faults sink.new)) }
+{
+    let read = match read_text(alloc, input, MOST_INPUT_BYTES) {
+        Ok(read) => read,
+        Err(refusal) => return refuse_input(alloc, sink, refusal),
+    };
+    let moved = walk(direction, count, read, watch);
+    give_config(alloc, sink, &moved)
+}
 
 // What was read, after at most `count` steps in this direction. The watch is told the place after each step.
-pub(crate) fn walk<W: Watch>(
+fn walk<W: Watch>(
     direction: Direction,
     count: u64,
     read: PackedConfig,

@@ -17,7 +17,7 @@ use Rattle.bn_erase_laws.proofs.TheoremLemmas.{output_letters}
 use Rattle.bn_erase.specs.Joint.{IsJoint, Joint, joined}
 use Rattle.bn_erase.specs.Made.{Erasure, IsErasing}
 use Rattle.bn_erase.proofs.JoinedLemmas.{joined_are_judged_alike}
-use Rattle.bn_cut.specs.Cuts.{IsCut}
+use Rattle.bn_base.specs.Cuts.{IsCut}
 use Rattle.bn_reply.specs.Lines.{why_line}
 use Rattle.bn_reply.specs.TableReply as table_reply
 use Rattle.bn_reply.specs.Words.{IsLetterSymbol}

@@ -7,13 +7,13 @@ use Rattle.bn_table.specs.Rows.{Named}
 use Rattle.bn_standard.specs.Standard.{IsStandard}
 use Rattle.bn_reply.specs.Answering.{HasAnswer, IsOneAnswer, IsSettled}
 use Rattle.bn_reply.specs.Codes.{IsReplyStatus}
-use Rattle.bn_cut.specs.Cuts.{IsCut}
+use Rattle.bn_base.specs.Cuts.{IsCut}
 use Rattle.bn_reply.specs.TableReply.{JudgedReplies, TableReplies, TellsFault, TellsWhy}
 use Rattle.bn_reply.specs.TableReply as table_reply
 use Rattle.bn_reply.specs.declared.status.Status.{Status}
 use Rattle.bn_reply.specs.declared.status.Status.TheVariants as statuses
-use Rattle.bn_cut.proofs.CutLemmas.{cuts-never_both, cuts-one}
-use Rattle.bn_cut.proofs.CutOrNot.{cut_or_not}
+use Rattle.bn_base.proofs.CutLemmas.{cuts-never_both, cuts-one}
+use Rattle.bn_base.proofs.CutOrNot.{cut_or_not}
 use Rattle.bn_reply.proofs.SettledLemmas.{agree, judged_settled, table_settled}
 use Rattle.bn_reply.proofs.TableLemmas.{fault_once, one_table, standard_or_told, table_or_told, why_once}
 use Rattle.bn_reply_erase.specs.Pairs.{PairReplies, SecondJudged, SecondReplies, TwoReplies, no_second_line, with_second}

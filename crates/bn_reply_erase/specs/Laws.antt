@@ -7,7 +7,7 @@ use Rattle.bn_standard.specs.Standard.{IsStandard}
 use Rattle.bn_bennett_laws.specs.Laws.{HaltsAfter}
 use Rattle.bn_erase.specs.Joint.{joined}
 use Rattle.bn_erase.specs.declared.erasing.TheConstants.{MOST_QUADRUPLES}
-use Rattle.bn_cut.specs.Cuts.{IsCut}
+use Rattle.bn_base.specs.Cuts.{IsCut}
 use Rattle.bn_reply.specs.Words.{IsSpelledBy}
 use Rattle.bn_reply.specs.declared.status.Status.{Status}
 use Rattle.bn_reply.specs.declared.status.Status.TheVariants.{Done}

@@ -8,7 +8,7 @@ use Rattle.bn_standard.specs.Verdict.{IsStandardRefusal}
 use Rattle.bn_standard.specs.declared.why.Why.{Why}
 use Rattle.bn_standard.specs.declared.why.Why.TheVariants as whys
 use Rattle.bn_erase.specs.Joint.{Joint, joined}
-use Rattle.bn_cut.specs.Cuts.{IsCut}
+use Rattle.bn_base.specs.Cuts.{IsCut}
 use Rattle.bn_reply.specs.Lines.{why_line}
 use Rattle.bn_reply.specs.TableReply.{TellsFault}
 use Rattle.bn_reply.specs.declared.reply.Reply.{Reply}

@@ -6,7 +6,7 @@ use Rattle.bn_circuits.specs.declared.place.Place.{Place}
 use Rattle.bn_table.specs.Reading.{Reads}
 use Rattle.bn_table.specs.Rows.{Named}
 use Rattle.bn_standard.specs.Standard.{IsStandard}
-use Rattle.bn_cut.specs.Cuts.{IsCut, IsUncut}
+use Rattle.bn_base.specs.Cuts.{IsCut, IsUncut}
 use Rattle.bn_reply.specs.Lines.{line}
 use Rattle.bn_reply.specs.TableReply.{JudgedReplies, TableReplies, TellsFault, TellsWhy}
 use Rattle.bn_reply.specs.declared.status.Status.{Status}

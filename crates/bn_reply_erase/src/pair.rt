@@ -4,7 +4,7 @@ ghost use Rattle.std.specs.Prelude.{◌≡◌, ◌<◌, ◌==◌, Contains, IfOk
 ghost use Rattle.bn_reply_erase.specs.Opened.{AreOpened, IsJudgedPair, IsOpenedPair, IsOpenedSecond};
 ghost use Rattle.bn_reply_erase.specs.Pairs.{with_second};
 
-use bn_cut::cut_input;
+use bn_base::cut_input;
 use bn_erase::{Joined, join_letters};
 use bn_reply::{NoMemory, OpenedTable, Reply, Status, open_table, why_text};
 use bn_standard::{Standard, check};

@@ -75,7 +75,7 @@ run_fits room p zero c d m h run = subst (Fits p) run h
 run_fits room p (suc i) c d m h run = run_fits room p i run.0 d m (step_fits room p c run.0 m h run.1) run.2
 
 -- a table's machine
-table_machine : (t : Named) → IsTable t → IsMachine t.machine
+pub table_machine : (t : Named) → IsTable t → IsMachine t.machine
 table_machine t h = record {
   some = let rows : length (rows_of t) ≡ length t.machine.quints = simp length-map in omega (arith, h.some);
   few = let rows : length (rows_of t) ≡ length t.machine.quints = simp length-map in omega (arith, h.few);
@@ -83,7 +83,7 @@ table_machine t h = record {
       (subst (λ (z : ℕ). IsInRange (length t.names) z (get_or t.machine.quints k d)) (sym h.symbols) (h.spelled.in_range k d inside));
 }
 
-spelled_symbols : (t : Named) (word symbols : List ℕ) → IsTable t → IsSpelledBy t word symbols → AreSymbols t.machine symbols
+pub spelled_symbols : (t : Named) (word symbols : List ℕ) → IsTable t → IsSpelledBy t word symbols → AreSymbols t.machine symbols
 spelled_symbols t word symbols h s = record {
   each = λ k inside. let known : slice_index symbols k < length t.letters = (s.symbols_known k 0 inside).known in
       let count : t.machine.symbols ≡ length t.letters = h.symbols in omega arith;

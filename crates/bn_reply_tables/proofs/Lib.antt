@@ -1,10 +1,11 @@
 pub mod StandardLemmas
 pub mod CheckLemmas
 pub mod MachineLemmas
-mod RunLemmas
+pub mod RunLemmas
 pub mod OutputLemmas
-mod WholeRunLemmas
+pub mod WholeRunLemmas
 pub mod FitLemmas
 mod ClashOrNot
 pub mod ReversibleLemmas
 pub mod BennettLemmas
+pub mod InverseLemmas

@@ -29,17 +29,17 @@ most = GREATEST_SIDE
 
 -- A run of made steps, n at most, on the front of a word in a window that is wider than n on both sides, and the moment at which the run of the whole word then
 -- is.
-record Cuts (p : Program) (word : List ℕ) (made : ℕ) (c : Moment) (v : Windowed) : Type 0 where
-  whole : Moment
-  run : After p word made whole
-  agrees : AgreesUpTo (pos most) whole c
-  near : IsBetween made made c.tape.head
-  early : made ≤ most
-  left_room : made < v.left
-  right_room : made < v.right
-  right_side : v.right ≤ most
+pub record Cuts (p : Program) (word : List ℕ) (made : ℕ) (c : Moment) (v : Windowed) : Type 0 where
+  pub whole : Moment
+  pub run : After p word made whole
+  pub agrees : AgreesUpTo (pos most) whole c
+  pub near : IsBetween made made c.tape.head
+  pub early : made ≤ most
+  pub left_room : made < v.left
+  pub right_room : made < v.right
+  pub right_side : v.right ≤ most
 
-cuts : (p : Program) (word : List ℕ) (n left right made at : ℕ) (v : Windowed) → n ≤ MOST_COUNT → n < left → n < right → right ≤ most → made ≤ n →
+pub cuts : (p : Program) (word : List ℕ) (n left right made at : ℕ) (v : Windowed) → n ≤ MOST_COUNT → n < left → n < right → right ≤ most → made ≤ n →
     Reached p made (start_of p.quints) (new_window left right (take (min most (length word)) word)) at v → Cuts p word made (moment at v) v
 cuts p word n left right made at v few low high side early r =
     let front : After p (take (min most (length word)) word) made (moment at v) = run_anywhere (within left right) p made _ (moment at v) r.run in
@@ -57,7 +57,7 @@ cuts p word n left right made at v few low high side early r =
     }
 
 -- the head hasn't come so far that it could see the rest of the word
-seen : (p : Program) (word : List ℕ) (made : ℕ) (c : Moment) (v : Windowed) → Cuts p word made c v → c.tape.head ≤ℤ pos most
+pub seen : (p : Program) (word : List ℕ) (made : ℕ) (c : Moment) (v : Windowed) → Cuts p word made c v → c.tape.head ≤ℤ pos most
 seen p word made c v h = let high = h.near.below in let early = h.early in omega (arith, ints)
 
 -- the turn behind the run stays inside the window
@@ -150,7 +150,7 @@ pub record Starts (p : Program) (word : List ℕ) (n held right state : ℕ) (w 
   pub state_is : state ≡ start_of p.quints
   pub tape_is : w ≡ new_window (n + 1) right (take held word)
 
-reached_from : (p : Program) (word : List ℕ) (n held right state : ℕ) (w : Windowed) (made at : ℕ) (v : Windowed) → Starts p word n held right state w →
+pub reached_from : (p : Program) (word : List ℕ) (n held right state : ℕ) (w : Windowed) (made at : ℕ) (v : Windowed) → Starts p word n held right state w →
     Reached p made state w at v → Reached p made (start_of p.quints) (new_window (n + 1) right (take (min most (length word)) word)) at v
 reached_from p word n held right state w made at v s r =
     let tape : w ≡ new_window (n + 1) right (take (min most (length word)) word) = s.tape_is ∙ ap (λ (k : ℕ). new_window (n + 1) right (take k word)) s.front in

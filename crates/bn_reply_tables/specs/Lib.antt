@@ -4,3 +4,4 @@ pub mod MachineReply
 pub mod MachineRun
 pub mod ReversibleReply
 pub mod BennettReply
+pub mod InverseReply

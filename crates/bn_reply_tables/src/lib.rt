@@ -1,8 +1,10 @@
-//! The replies of the commands on one table: `check`, `machine`, `reversible`, `bennett` and `standard`.
+//! The replies of the commands on one table: `check`, `machine`, `reversible`, `bennett`,
+//! `inverse` and `standard`.
 #![tactic(auto)]
 
 mod bennett;
 mod check;
+mod inverse;
 mod machine;
 mod machine_run;
 mod reversible;
@@ -10,6 +12,7 @@ mod standard;
 
 pub use bennett::{bennett_has_one_reply, reply_bennett};
 pub use check::{check_has_one_reply, reply_check};
+pub use inverse::{inverse_reply_laws, reply_inverse};
 pub use machine::{machine_has_one_reply, reply_machine};
 pub use machine_run::letter_at;
 pub use reversible::{reply_reversible, reversible_has_one_reply};

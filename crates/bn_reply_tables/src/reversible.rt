@@ -30,7 +30,7 @@ pub fn reply_reversible(alloc: Global, bytes: &[u8]) -> Result<Reply, NoMemory>
 }
 
 // The line of a fault of the bytes.
-fn quad_fault_text(alloc: Global, refusal: QuadTableRefusal) -> Result<Vec<u8>, NoMemory>
+pub(crate) fn quad_fault_text(alloc: Global, refusal: QuadTableRefusal) -> Result<Vec<u8>, NoMemory>
     ensures { IfOk result (λ text. (refusal ≢ faults.NoMemory) × (text.items ≡ quad_fault_line refusal)) }
 {
     match refusal {

@@ -15,7 +15,7 @@ use Rattle.bn_netlist_laws.proofs.VersionLemmas.{spellings-move}
 use Rattle.bn_netlist_laws.specs.Spelling.{Spelling, Spelled, circuit_of, moved_to}
 use Rattle.bn_netlist_laws.specs.declared.version.Version.TheVariants.{Two}
 use Rattle.bn_table.specs.Rows.{Named}
-use Rattle.bn_board.specs.Flats.{Flat}
+use Rattle.bn_board_spec.specs.Flats.{Flat}
 use Rattle.bn_reply_circuits_laws.specs.CircuitReply.{walked}
 use Rattle.bn_reply.specs.TableReply.{WordReplies}
 use Rattle.bn_reply.specs.declared.status.Status.TheVariants.{Done}
@@ -29,10 +29,10 @@ use Rattle.bn_reply_boards_laws.proofs.WindowLemmas.{standard_machine}
 use Rattle.bn_reply_views.specs.ViewReply.{TellsView}
 use Rattle.bn_reply_views.specs.ViewText.{element_line}
 use Rattle.bn_table.proofs.MachineLemmas.{tables_machines}
-use Rattle.bn_cut.specs.Cuts.{IsCut}
-use Rattle.bn_cut.proofs.CutLemmas.{cuts-one}
-use Rattle.bn_board.specs.Flats.{flat_start}
-use Rattle.bn_board.specs.Layouts.{moment_at}
+use Rattle.bn_base.specs.Cuts.{IsCut}
+use Rattle.bn_base.proofs.CutLemmas.{cuts-one}
+use Rattle.bn_board_spec.specs.Flats.{flat_start}
+use Rattle.bn_board_spec.specs.Layouts.{moment_at}
 use Rattle.bn_network.specs.Limits.{AreSmall}
 use Rattle.bn_reply_boards_laws.specs.Windows.{ComesTo, WindowReplies}
 use Rattle.bn_reply_boards_laws.specs.Headline.{IsGiven}

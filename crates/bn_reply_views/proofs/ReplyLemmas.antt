@@ -6,15 +6,15 @@ use Rattle.bn_quad.specs.Names.{Naming}
 use Rattle.bn_table.specs.Rows.{Named}
 use Rattle.bn_bennett.specs.Printed.{translation_names}
 use Rattle.bn_bennett.specs.Translation.{Translation}
-use Rattle.bn_board.specs.Flats.{Flat, flat_start}
-use Rattle.bn_flat.specs.Flattened.{Flattened}
+use Rattle.bn_board_spec.specs.Flats.{Flat, flat_start}
+use Rattle.bn_board.specs.Flattened.{Flattened}
 use Rattle.bn_reply.specs.declared.reply.Reply.{Reply}
 use Rattle.bn_lists.specs.declared.memory.NoMemory.{NoMemory as WantOfMemory}
 use Rattle.bn_reply.specs.declared.status.Status.TheVariants as statuses
 use Rattle.bn_reply_boards_laws.specs.Windows.{WindowReplies}
 use Rattle.bn_reply_boards.specs.Opened.{IsBoardAsked}
 use Rattle.bn_reply_boards.proofs.AskedLemmas.{board_accepted, board_replies}
-use Rattle.bn_cut.specs.Cuts.{IsCut}
+use Rattle.bn_base.specs.Cuts.{IsCut}
 use Rattle.bn_session.specs.Scripts.{ScriptFault, IsFirstScriptFault, IsRefusalOf, IsScript, malformed, no_break, no_state, same_break}
 use Rattle.bn_session.specs.declared.command.Command.{Command}
 use Rattle.bn_session.specs.declared.refusal.ScriptRefusal.{ScriptRefusal}

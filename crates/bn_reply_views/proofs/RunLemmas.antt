@@ -7,8 +7,8 @@ use Rattle.bn_circuits.proofs.RunLemmas.{Reaches-run}
 use Rattle.bn_machine.specs.Machine.{Program}
 use Rattle.bn_machine.specs.Outcome.{Limits}
 use Rattle.bn_table.specs.Rows.{Named}
-use Rattle.bn_board.specs.Layouts.{moment_at}
-use Rattle.bn_board.specs.Flats.{Flat, IsFlatOf, flat_start}
+use Rattle.bn_board_spec.specs.Layouts.{moment_at}
+use Rattle.bn_board_spec.specs.Flats.{Flat, IsFlatOf, flat_start}
 use Rattle.bn_session.specs.Laws.{IsOnRun}
 use Rattle.bn_session.specs.Plays.{Session, label_that_holds, place_line}
 use Rattle.bn_session.specs.declared.command.Command.{Command}

@@ -20,9 +20,9 @@ use Rattle.bn_bennett.specs.Printed.{translation_names}
 use Rattle.bn_bennett.specs.Translation.{Translation}
 use Rattle.bn_bennett.proofs.Tables.{is_table}
 use Rattle.bn_board_laws.specs.ExistenceLaws.{FlatsAreThere}
-use Rattle.bn_board.specs.Layouts.{Layout, moment_at}
-use Rattle.bn_board.specs.Flats.{AreSameFlats, Flat, IsAccepted, IsFlatOf, flat_start}
-use Rattle.bn_board.specs.LayoutLaws.{FlatsAreOne}
+use Rattle.bn_board_spec.specs.Layouts.{Layout, moment_at}
+use Rattle.bn_board_spec.specs.Flats.{AreSameFlats, Flat, IsAccepted, IsFlatOf, flat_start}
+use Rattle.bn_board_spec.specs.LayoutLaws.{FlatsAreOne}
 use Rattle.bn_reply.specs.Answering.{AgreeInAll, HasAnswer, IsOneAnswer, IsSettled}
 use Rattle.bn_reply.specs.Codes.{IsReplyStatus}
 use Rattle.bn_reply.specs.declared.status.Status.{Status}
@@ -46,13 +46,13 @@ use Rattle.bn_session.specs.Laws.{IsOnRun}
 use Rattle.bn_session.specs.Plays.{Plays, Session, session}
 use Rattle.bn_session.specs.Scripts.{IsFirstScriptFault, IsScript}
 use Rattle.bn_session.specs.declared.command.Command.{Command}
-use Rattle.bn_cut.proofs.CutLemmas.{cuts-never_both, cuts-one}
+use Rattle.bn_base.proofs.CutLemmas.{cuts-never_both, cuts-one}
 use Rattle.bn_session.proofs.OneReading.{faults-one, faulty-none, scripts-one}
 use Rattle.bn_session.proofs.PlayedLemmas.{follow-all, on-by, one-all, there-all}
 use Rattle.bn_session.proofs.SomeReading.{read_or_fault}
 use Rattle.bn_reply_views.specs.SessionReply.{SessionIsSettled, SessionReplies, TellsSession, cut, script_fault_line, faulty, played, state_names_of, uncut, uncut_line}
 use Rattle.bn_reply_views.proofs.AlikeLemmas.{plays_alike}
-use Rattle.bn_cut.proofs.CutOrNot.{cut_or_not}
+use Rattle.bn_base.proofs.CutOrNot.{cut_or_not}
 
 -- the printed names of a translation's states are apart
 pub states_apart : TablesAreMachines → (bytes : List ℕ) (t : Named) (symbols : List ℕ) (l : Limits) (f : Flat) → ReadsStandard bytes t →

@@ -13,13 +13,13 @@ use Rattle.bn_quad.specs.Quadruples.{initial_of}
 use Rattle.bn_table.specs.Rows.{Named}
 use Rattle.bn_bennett.specs.Meaning.{machine_state_by, stage_by}
 use Rattle.bn_bennett.specs.Translation.{IsTranslation, Translation, name_of}
-use Rattle.bn_board.specs.declared.exit.Exit.{Exit}
-use Rattle.bn_board.specs.declared.exit.Exit.TheVariants.{End, Inside, Stuck, Unnamed, Window}
-use Rattle.bn_board.specs.Layouts.{IsExit, Layout, moment_at, spelled_by}
-use Rattle.bn_board.specs.Flats.{Flat, IsAccepted, flat_start}
-use Rattle.bn_board.specs.LayoutLaws.{ExitsAreOne}
+use Rattle.bn_board_spec.specs.declared.exit.Exit.{Exit}
+use Rattle.bn_board_spec.specs.declared.exit.Exit.TheVariants.{End, Inside, Stuck, Unnamed, Window}
+use Rattle.bn_board_spec.specs.Layouts.{IsExit, Layout, moment_at, spelled_by}
+use Rattle.bn_board_spec.specs.Flats.{Flat, IsAccepted, flat_start}
+use Rattle.bn_board_spec.specs.LayoutLaws.{ExitsAreOne}
 use Rattle.bn_board_laws.specs.HeadlineLaws.{BoardsRunToTheirExit}
-use Rattle.bn_flat.specs.Flattened.{Flattened, IsBoardKept, origin, origin_by}
+use Rattle.bn_board.specs.Flattened.{Flattened, IsBoardKept, origin, origin_by}
 use Rattle.bn_reply_boards_laws.specs.RunReply.{board_after}
 use Rattle.bn_reply_boards_laws.specs.RunText.{exit_line, stuck_line, state_text, tape_lines}
 use Rattle.bn_reply_boards.specs.Opened.{IsMade}

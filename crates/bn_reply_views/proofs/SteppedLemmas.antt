@@ -17,8 +17,8 @@ use Rattle.bn_netlist_laws.specs.declared.version.Version.TheVariants.{Two}
 use Rattle.bn_netlist_laws.proofs.EntryLemmas.{has-text}
 use Rattle.bn_table.specs.Laws.{TablesAreMachines}
 use Rattle.bn_table.specs.Rows.{Named}
-use Rattle.bn_board.specs.Flats.{Flat, IsFlatOf}
-use Rattle.bn_board.specs.LayoutLaws.{FlatsAreOne}
+use Rattle.bn_board_spec.specs.Flats.{Flat, IsFlatOf}
+use Rattle.bn_board_spec.specs.LayoutLaws.{FlatsAreOne}
 use Rattle.bn_reply_circuits_laws.specs.CircuitReply.{CircuitIsSettled, walked}
 use Rattle.bn_reply.specs.TableReply.{WordReplies, spelled}
 use Rattle.bn_reply.specs.declared.status.Status.TheVariants.{Done}

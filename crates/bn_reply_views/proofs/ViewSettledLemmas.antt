@@ -10,11 +10,11 @@ use Rattle.bn_table.specs.Rows.{Named}
 use Rattle.bn_bennett.specs.Meaning.{machine_state_by, stage_by}
 use Rattle.bn_bennett.specs.Translation.{Translation, name_of}
 use Rattle.bn_board_laws.specs.ExistenceLaws.{FlatsAreThere}
-use Rattle.bn_board.specs.declared.exit.Exit.{Exit}
-use Rattle.bn_board.specs.BoardMoments.{IsBoardMoment}
-use Rattle.bn_board.specs.Layouts.{IsExit, IsNamedExit, Layout, named, spelled_by, unnamed}
-use Rattle.bn_board.specs.Flats.{AreSameFlats, Flat, flat_start, machine_of}
-use Rattle.bn_board.specs.LayoutLaws.{FlatsAreOne}
+use Rattle.bn_board_spec.specs.declared.exit.Exit.{Exit}
+use Rattle.bn_board_spec.specs.BoardMoments.{IsBoardMoment}
+use Rattle.bn_board_spec.specs.Layouts.{IsExit, IsNamedExit, Layout, named, spelled_by, unnamed}
+use Rattle.bn_board_spec.specs.Flats.{AreSameFlats, Flat, flat_start, machine_of}
+use Rattle.bn_board_spec.specs.LayoutLaws.{FlatsAreOne}
 use Rattle.bn_reply.specs.Answering.{AgreeInAll, HasAnswer}
 use Rattle.bn_reply.specs.Codes.{IsReplyStatus}
 use Rattle.bn_reply.specs.declared.status.Status.{Status}

@@ -13,15 +13,15 @@ use Rattle.bn_bennett.specs.Printed.{translation_names, bennett_state_text}
 use Rattle.bn_bennett.specs.Translation.{IsTranslation, Translation, name_of}
 use Rattle.bn_bennett.specs.declared.translated.MachineState.{MachineState}
 use Rattle.bn_bennett.specs.declared.translated.MachineState.TheVariants.{AtState, Within}
-use Rattle.bn_board.specs.declared.spelled.Spelled.{Spelled}
-use Rattle.bn_board.specs.Layouts.{IsExit, symbol_count_at}
-use Rattle.bn_board.specs.Flats.{Flat, IsAccepted, IsFlatOf}
-use Rattle.bn_board.proofs.LetterLemmas.{symbols_are}
-use Rattle.bn_flat.specs.Flattened.{Flattened, IsBoardKept}
+use Rattle.bn_board_spec.specs.declared.spelled.Spelled.{Spelled}
+use Rattle.bn_board_spec.specs.Layouts.{IsExit, symbol_count_at}
+use Rattle.bn_board_spec.specs.Flats.{Flat, IsAccepted, IsFlatOf}
+use Rattle.bn_board_spec.proofs.LetterLemmas.{symbols_are}
+use Rattle.bn_board.specs.Flattened.{Flattened, IsBoardKept}
 use Rattle.bn_quad.specs.Names.{Naming}
 use Rattle.bn_reply_tables.proofs.FitLemmas.{AreSymbols, run_fits, start_fits}
 use Rattle.bn_reply_boards.specs.Shown.{HaveLetters}
-use Rattle.bn_reply_boards.proofs.PieceLemmas.{three_pieces}
+use Rattle.bn_reply.proofs.PieceLemmas.{three_pieces}
 use Rattle.bn_reply_boards.proofs.ShownLemmas.{line_within, shown_letters}
 use Rattle.bn_view.specs.Viewed.{IsBoardFor, IsViewOf, MachineIsAt, ShowsMachine}
 use Rattle.bn_view.specs.declared.layers.Layers.{Layers}

@@ -6,7 +6,7 @@ use Rattle.bn_machine.specs.Outcome.{Limits}
 use Rattle.bn_netlist_laws.specs.Spelling.{Spelling, Spelled}
 use Rattle.bn_netlist_laws.specs.declared.version.Version.TheVariants.{Two}
 use Rattle.bn_reply_circuits_laws.specs.CircuitReply.{StepReplies}
-use Rattle.bn_cut.specs.Cuts.{IsCut}
+use Rattle.bn_base.specs.Cuts.{IsCut}
 use Rattle.bn_reply.specs.declared.status.Status.{Status}
 use Rattle.bn_reply.specs.declared.status.Status.TheVariants.{Done}
 use Rattle.bn_reply_boards_laws.specs.CompileReply.{CompileReplies}

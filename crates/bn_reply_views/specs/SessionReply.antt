@@ -5,15 +5,15 @@ use Rattle.bn_circuits.specs.declared.place.Place.{Place}
 use Rattle.bn_machine.specs.Outcome.{Limits}
 use Rattle.bn_table.specs.Rows.{Named}
 use Rattle.bn_bennett.specs.Printed.{translation_names}
-use Rattle.bn_board.specs.Layouts.{moment_at}
-use Rattle.bn_board.specs.Flats.{Flat, flat_start}
+use Rattle.bn_board_spec.specs.Layouts.{moment_at}
+use Rattle.bn_board_spec.specs.Flats.{Flat, flat_start}
 use Rattle.bn_reply.specs.Answering.{IsSettled}
 use Rattle.bn_reply.specs.Lines.{line}
 use Rattle.bn_reply.specs.declared.status.Status.{Status}
 use Rattle.bn_reply.specs.declared.status.Status.TheVariants as statuses
 use Rattle.bn_network.specs.Limits.{AreSmall}
 use Rattle.bn_reply_boards_laws.specs.Windows.{WindowReplies}
-use Rattle.bn_cut.specs.Cuts.{IsCut, IsUncut}
+use Rattle.bn_base.specs.Cuts.{IsCut, IsUncut}
 use Rattle.bn_session.specs.Plays.{Plays, Session, session}
 use Rattle.bn_session.specs.Scripts.{ScriptFault, IsFirstScriptFault, IsScript, malformed, no_break, no_state}
 use Rattle.bn_session.specs.Scripts.{same_break}

@@ -7,10 +7,10 @@ use Rattle.bn_table.specs.Rows.{Named}
 use Rattle.bn_bennett.specs.Translation.{Translation, IsTranslation}
 use Rattle.bn_bennett.specs.declared.translated.MachineState.{MachineState}
 use Rattle.bn_bennett.specs.declared.translated.MachineState.TheVariants.{AtState, Within}
-use Rattle.bn_board.specs.declared.exit.Exit.{Exit}
-use Rattle.bn_board.specs.Layouts.{IsExit}
-use Rattle.bn_board.specs.Flats.{Flat}
-use Rattle.bn_flat.specs.Flattened.{Flattened}
+use Rattle.bn_board_spec.specs.declared.exit.Exit.{Exit}
+use Rattle.bn_board_spec.specs.Layouts.{IsExit}
+use Rattle.bn_board_spec.specs.Flats.{Flat}
+use Rattle.bn_board.specs.Flattened.{Flattened}
 use Rattle.bn_reply_boards.specs.Shown.{HasNames, HaveLetters}
 use Rattle.bn_view.specs.Viewed.{IsBoardFor, IsViewOf}
 use Rattle.bn_view.specs.declared.layers.Layers.{Layers}

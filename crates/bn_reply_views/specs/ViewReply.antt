@@ -4,8 +4,8 @@ use Rattle.std.specs.Prelude.{◌≡◌, ℕ, List, []}
 use Rattle.bn_circuits.specs.declared.place.Place.{Place}
 use Rattle.bn_machine.specs.Outcome.{Limits}
 use Rattle.bn_table.specs.Rows.{Named}
-use Rattle.bn_board.specs.Layouts.{IsNamedExit}
-use Rattle.bn_board.specs.Flats.{Flat}
+use Rattle.bn_board_spec.specs.Layouts.{IsNamedExit}
+use Rattle.bn_board_spec.specs.Flats.{Flat}
 use Rattle.bn_reply.specs.Answering.{IsSettled}
 use Rattle.bn_reply.specs.declared.status.Status.{Status}
 use Rattle.bn_reply.specs.declared.status.Status.TheVariants.{Done}

@@ -16,10 +16,10 @@ use Rattle.bn_bennett.specs.declared.translated.MachineState.TheVariants.{AtStat
 use Rattle.bn_network.specs.declared.cell_line.CellLine.{CellLine}
 use Rattle.bn_network.specs.declared.cell_line.CellLine.TheVariants as lines
 use Rattle.bn_network.specs.Controls.{lines_before}
-use Rattle.bn_board.specs.declared.exit.Exit.{Exit}
-use Rattle.bn_board.specs.Flats.{Flat}
-use Rattle.bn_reply.specs.Lines.{line}
-use Rattle.bn_reply_boards_laws.specs.RunText.{exit_line, position_text, tape_lines}
+use Rattle.bn_board_spec.specs.declared.exit.Exit.{Exit}
+use Rattle.bn_board_spec.specs.Flats.{Flat}
+use Rattle.bn_reply.specs.Lines.{line, position_text}
+use Rattle.bn_reply_boards_laws.specs.RunText.{exit_line, tape_lines}
 use Rattle.bn_view.specs.declared.layers.Layers.{Layers}
 use Rattle.bn_view.specs.declared.layers.ModuleAt.{ModuleAt}
 use Rattle.bn_view.specs.declared.layers.ModuleAt.TheVariants.{ControlLine, ControlInside}

@@ -7,10 +7,10 @@ use Rattle.bn_net.specs.RotaryNets.{rotary_circuit}
 use Rattle.bn_machine.specs.Outcome.{Limits}
 use Rattle.bn_table.specs.Rows.{Named}
 use Rattle.bn_bennett.specs.Translation.{Translation, IsTranslation}
-use Rattle.bn_board.specs.declared.exit.Exit.{Exit}
-use Rattle.bn_board.specs.Layouts.{IsExit, moment_at}
-use Rattle.bn_board.specs.Flats.{Flat, flat_start}
-use Rattle.bn_flat.specs.Flattened.{Flattened, origin}
+use Rattle.bn_board_spec.specs.declared.exit.Exit.{Exit}
+use Rattle.bn_board_spec.specs.Layouts.{IsExit, moment_at}
+use Rattle.bn_board_spec.specs.Flats.{Flat, flat_start}
+use Rattle.bn_board.specs.Flattened.{Flattened, origin}
 use Rattle.bn_reply.specs.Lines.{line}
 use Rattle.bn_reply.specs.declared.status.Status.{Status}
 use Rattle.bn_reply.specs.declared.status.Status.TheVariants as statuses

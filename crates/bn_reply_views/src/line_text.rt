@@ -10,8 +10,7 @@ use bn_base::push_u64;
 use bn_cell::CellLine;
 use bn_element::{EAST, NORTH, SOUTH};
 use bn_net::{Line, Place};
-use bn_reply::NoMemory;
-use bn_reply_boards::push;
+use bn_reply::{NoMemory, push};
 use bn_table::Table;
 
 // Appends a place: the line that the signal is about to enter, or the one by which it has left.

@@ -4,7 +4,7 @@ ghost use Rattle.std.specs.Prelude.{◌≡◌, ℕ, [], List, IfOk};
 ghost use Rattle.bn_network.specs.Limits.{AreSmall};
 ghost use Rattle.bn_assembly.specs.Assembled.{limits_of};
 ghost use Rattle.bn_machine.specs.Outcome.{Limits};
-ghost use Rattle.bn_board.specs.Flats.{Flat, flat_start};
+ghost use Rattle.bn_board_spec.specs.Flats.{Flat, flat_start};
 ghost use Rattle.bn_reply_boards_laws.specs.Windows.{WindowReplies};
 ghost use Rattle.bn_view.specs.Viewed.{IsBoardFor};
 ghost use Rattle.bn_reply_views.specs.SessionReply.{SessionReplies, TellsSession};
@@ -12,9 +12,9 @@ ghost use Rattle.bn_reply_views.specs.Viewing.{IsAnswerTo, IsScriptRefused, MayS
 
 use crate::viewer::Viewer;
 use bn_assembly::Windows;
+use bn_base::cut_input;
 use bn_bennett::{Translated, names};
-use bn_cut::cut_input;
-use bn_flat::Board;
+use bn_board::Board;
 use bn_reply::{NoMemory, Reply, Status};
 use bn_reply_boards::{OpenedInput, open_input};
 use bn_session::{Script, ScriptRefusal, play, read_script};

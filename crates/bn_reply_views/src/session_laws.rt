@@ -2,7 +2,7 @@
 ghost use Rattle.bn_reply_views.specs.SessionLaws.{GoesStopAtLeastHit, ToldPlacesAreOfTheRun, SessionsStayOnTheRun};
 ghost use Rattle.bn_reply_views.specs.SessionReply.{SessionIsSettled};
 
-use bn_cut::inputs_are_cut_once;
+use bn_base::inputs_are_cut_once;
 use bn_session::scripts_have_one_reading;
 use bn_table::tables_are_machines;
 use bn_view::views_are_one;

@@ -3,7 +3,7 @@
 ghost use Rattle.std.specs.Prelude.{◌≡◌, ℕ, ◌<◌, ◌++◌, ◌∷◌, [], List, codes, length, Some, IfOk, OnOk, slice_get};
 ghost use Rattle.bn_netlist_laws.specs.Sentences.{line_of_place};
 ghost use Rattle.bn_bennett.specs.Translation.{IsTranslation};
-ghost use Rattle.bn_board.specs.Flats.{Flat};
+ghost use Rattle.bn_board_spec.specs.Flats.{Flat};
 ghost use Rattle.bn_reply.specs.Lines.{line};
 ghost use Rattle.bn_reply_boards.specs.Shown.{HasNames};
 ghost use Rattle.bn_reply_views.specs.ViewText.{cell_text, element_line, machine_line, machine_text, module_line};
@@ -15,8 +15,8 @@ use bn_base::push_u64;
 use bn_bennett::{MachineState, Stage, Translated, names};
 use bn_net::Place;
 use bn_quad::QuadNames;
-use bn_reply::NoMemory;
-use bn_reply_boards::{push, push_exit, push_position, push_tapes};
+use bn_reply::{NoMemory, push, push_position};
+use bn_reply_boards::{push_exit, push_tapes};
 use bn_table::Table;
 use bn_view::{Layers, ModuleAt};
 use std::alloc::Global;
@@ -36,9 +36,9 @@ pub(crate) fn view_text(
     let names = names(alloc, table, translated)?;
     let mut text = Vec::new(alloc);
     push_element(&mut text, layers.place, layers.steps)?;
-    push_module(alloc, &mut text, table, translated, layers)?;
+    push_module(&mut text, table, translated, layers)?;
     push_state(&mut text, &names, layers.state)?;
-    push_tapes(alloc, &mut text, table, &layers.tapes)?;
+    push_tapes(&mut text, table, &layers.tapes)?;
     push_machine(&mut text, table, layers)?;
     Ok(text)
 }
@@ -57,7 +57,6 @@ fn push_element(text: &mut Vec<u8>, place: Place, steps: u64) -> Result<(), NoMe
 
 // Appends the line of the module in which the signal is, or by which exit it has left.
 fn push_module(
-    alloc: Global,
     text: &mut Vec<u8>,
     table: &Table,
     translated: &Translated,
@@ -80,13 +79,13 @@ fn push_module(
             position,
             line,
         } => {
-            push_cell(alloc, text, tape, position)?;
+            push_cell(text, tape, position)?;
             push(text, b" line ")?;
             push_cell_line(text, line)?;
             push(text, b"\n")
         }
         ModuleAt::CellInside { tape, position } => {
-            push_cell(alloc, text, tape, position)?;
+            push_cell(text, tape, position)?;
             push(text, b" inside\n")
         }
         ModuleAt::Outside => push_exit(text, table, translated, layers.place, layers.exit),
@@ -94,13 +93,13 @@ fn push_module(
 }
 
 // Appends where a cell is.
-fn push_cell(alloc: Global, text: &mut Vec<u8>, tape: u32, position: i64) -> Result<(), NoMemory>
+fn push_cell(text: &mut Vec<u8>, tape: u32, position: i64) -> Result<(), NoMemory>
     ensures { OnOk result (text.new.items ≡ text.old.items ++ cell_text tape position) }
 {
     push(text, b"module tape ")?;
     push_u64(text, u64::from(tape))?;
     push(text, b" cell ")?;
-    push_position(alloc, text, position)
+    push_position(text, position)
 }
 
 // Appends the line of a state of the machine of quadruples.

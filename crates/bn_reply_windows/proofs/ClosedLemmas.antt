@@ -1,7 +1,7 @@
 -- The laws on the search and its answers with the laws below them put in, for the proofs and the crates above that cite
 -- them as they are.
 use Rattle.bn_table.proofs.MachineLemmas.{tables_machines}
-use Rattle.bn_board.proofs.ExitLemmas.{exits-one}
+use Rattle.bn_board_spec.proofs.ExitLemmas.{exits-one}
 use Rattle.bn_reply_boards_laws.specs.Laws.{ExitsAreNamed, MomentsAreCounted}
 use Rattle.bn_reply_boards_laws.proofs.ClosedLemmas.{counted, run_settled}
 use Rattle.bn_board_laws.proofs.ClosedLemmas.{flats_one, flats_there, have_moments, run_to_exit}

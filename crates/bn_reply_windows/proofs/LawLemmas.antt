@@ -8,7 +8,7 @@ use Rattle.bn_machine.proofs.OutcomeLemmas.{outcome_exists}
 use Rattle.bn_machine.specs.declared.quint.Side.{Side}
 use Rattle.bn_net.specs.declared.net.TheConstants.{MOST_ELEMENTS}
 use Rattle.bn_table.specs.Rows.{Named}
-use Rattle.bn_board.specs.Boards.{size}
+use Rattle.bn_board_spec.specs.Boards.{size}
 use Rattle.bn_assembly.specs.Widening.{IsEnd, IsWhole, first_window, number_at}
 use Rattle.bn_windows_laws.specs.Searches.{Widens}
 use Rattle.bn_windows_laws.specs.Laws.{IsOnTheWay}

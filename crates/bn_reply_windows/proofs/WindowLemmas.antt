@@ -10,11 +10,11 @@ use Rattle.bn_net.proofs.WalkLemmas.{hears-nothing}
 use Rattle.bn_table.specs.Laws.{TablesAreMachines}
 use Rattle.bn_table.specs.Rows.{Named}
 use Rattle.bn_bennett.specs.Translation.{Translation}
-use Rattle.bn_board.specs.declared.exit.Exit.{Exit}
-use Rattle.bn_board.specs.declared.exit.Exit.TheVariants as exits
-use Rattle.bn_board.specs.Layouts.{IsExit}
-use Rattle.bn_board.specs.Flats.{Flat, IsAccepted, flat_start}
-use Rattle.bn_flat.specs.Flattened.{Flattened}
+use Rattle.bn_board_spec.specs.declared.exit.Exit.{Exit}
+use Rattle.bn_board_spec.specs.declared.exit.Exit.TheVariants as exits
+use Rattle.bn_board_spec.specs.Layouts.{IsExit}
+use Rattle.bn_board_spec.specs.Flats.{Flat, IsAccepted, flat_start}
+use Rattle.bn_board.specs.Flattened.{Flattened}
 use Rattle.bn_lists.specs.declared.memory.NoMemory.{NoMemory}
 use Rattle.bn_reply.specs.Replying.{IsUnfinished, told_some, untold}
 use Rattle.bn_reply.specs.declared.reply.Reply.{Reply}

@@ -7,9 +7,9 @@ use Rattle.bn_machine.specs.Outcome.{Limits}
 use Rattle.bn_machine.specs.declared.quint.Side.{Side}
 use Rattle.bn_net.specs.Watching.{Hears}
 use Rattle.bn_table.specs.Rows.{Named}
-use Rattle.bn_board.specs.declared.exit.Exit.TheVariants as exits
-use Rattle.bn_board.specs.Layouts.{IsExit, IsNamedExit}
-use Rattle.bn_board.specs.Flats.{Flat, flat_start}
+use Rattle.bn_board_spec.specs.declared.exit.Exit.TheVariants as exits
+use Rattle.bn_board_spec.specs.Layouts.{IsExit, IsNamedExit}
+use Rattle.bn_board_spec.specs.Flats.{Flat, flat_start}
 use Rattle.bn_lists.specs.declared.memory.NoMemory.{NoMemory}
 use Rattle.bn_reply.specs.Replying.{IsReplied, IsUnfinished}
 use Rattle.bn_reply.specs.declared.status.Status.{Status}

@@ -3,9 +3,9 @@
 ghost use Rattle.std.specs.Prelude.{◌≡◌, ◌++◌, ◌≤◌, length, IfOk, None};
 ghost use Rattle.bn_network.specs.Limits.{AreSmall};
 ghost use Rattle.bn_assembly.specs.Assembled.{limits_of};
-ghost use Rattle.bn_board.specs.Flats.{Flat};
-ghost use Rattle.bn_board.specs.Layouts.{IsExit, symbol_count_at};
-ghost use Rattle.bn_board.specs.declared.exit.Exit.{Exit};
+ghost use Rattle.bn_board_spec.specs.Flats.{Flat};
+ghost use Rattle.bn_board_spec.specs.Layouts.{IsExit, symbol_count_at};
+ghost use Rattle.bn_board_spec.specs.declared.exit.Exit.{Exit};
 ghost use Rattle.bn_reply_boards_laws.specs.RunText.{run_text};
 ghost use Rattle.bn_reply_boards.specs.Running.{IsAtStart, end_by};
 ghost use Rattle.bn_reply_boards.specs.Shown.{HasNames, IsShown};
@@ -15,11 +15,11 @@ ghost use Rattle.bn_reply_windows.specs.Rounds.{IsRun, LeavesBy, RanBy, TellsEnd
 
 use bn_assembly::Windows;
 use bn_bennett::Translated;
-use bn_flat::{Board, Exit};
+use bn_board::{Board, Exit};
 use bn_machine::Side;
 use bn_net::Watch;
-use bn_reply::{NoMemory, Reply};
-use bn_reply_boards::{OpenedWindow, Ran, open_window, push, run_to_exit, status_of, text_of_run};
+use bn_reply::{NoMemory, Reply, push};
+use bn_reply_boards::{OpenedWindow, Ran, open_window, run_to_exit, status_of, text_of_run};
 use bn_table::Table;
 use std::alloc::Global;
 

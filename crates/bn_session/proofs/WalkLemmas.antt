@@ -8,8 +8,8 @@ use Rattle.bn_circuits.proofs.RunLemmas.{run-zero, back-zero, run_composes, back
 use Rattle.bn_circuits.proofs.StepLemmas.{Goes-next, Goes-previous, next-IsConfig, previous-IsConfig}
 use Rattle.bn_circuits.specs.declared.config.Config.{Config}
 use Rattle.bn_net.specs.RotaryNets.{rotary_circuit}
-use Rattle.bn_board.specs.Layouts.{moment_at}
-use Rattle.bn_flat.specs.Flattened.{Flattened, IsSameBoard}
+use Rattle.bn_board_spec.specs.Layouts.{moment_at}
+use Rattle.bn_board.specs.Flattened.{Flattened, IsSameBoard}
 use Rattle.bn_packed.specs.Running.{GoesTo, IsAtEnd, run_along}
 use Rattle.bn_packed.specs.declared.direction.Direction.{Direction}
 use Rattle.bn_packed.specs.declared.direction.Direction.TheVariants.{Forward, Backward}

@@ -6,8 +6,8 @@ ghost use Rattle.bn_netlist_laws.specs.Sentences.{line_of_place, line_text, plac
 ghost use Rattle.bn_session.specs.Plays.{named_text, place_line, label_line};
 
 use bn_base::{NoMemory, push_u64};
+use bn_board::Board;
 use bn_element::{EAST, NORTH, SOUTH};
-use bn_flat::Board;
 use bn_net::Place;
 use std::alloc::Global;
 

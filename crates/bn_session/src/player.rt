@@ -1,7 +1,7 @@
 //! How a script is played.
 
 ghost use Rattle.std.specs.Prelude.{◌≡◌, ◌⊎◌, ◌++◌, ◌∷◌, [], false, codes, OnOk, OnErr};
-ghost use Rattle.bn_flat.specs.Flattened.{IsSameBoard};
+ghost use Rattle.bn_board.specs.Flattened.{IsSameBoard};
 ghost use Rattle.bn_session.specs.Labels.{stands, IsOrderly};
 ghost use Rattle.bn_session.specs.Breakpoints.{breakpoint, labels_of};
 ghost use Rattle.bn_session.specs.Plays.{session, label_line};
@@ -15,7 +15,7 @@ use crate::script::Script;
 use crate::shows::Shows;
 use crate::walk::{go, named};
 use bn_base::NoMemory;
-use bn_flat::Board;
+use bn_board::Board;
 use bn_packed::Direction;
 use std::alloc::Global;
 

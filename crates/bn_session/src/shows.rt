@@ -3,14 +3,14 @@
 ghost use Rattle.std.specs.Prelude.{OnOk, OnErr};
 
 use bn_base::NoMemory;
-use bn_flat::Board;
+use bn_board::Board;
 use std::alloc::Global;
 
 /// Someone who shows a board. It has two meanings: the texts that it may show of a board, and whether it may show one.
 /// The second doesn't depend on where the board is in its run.
 pub trait Shows {
     ghost use Rattle.std.specs.Prelude.{ℕ, List};
-    ghost use Rattle.bn_flat.specs.Flattened.{Flattened, IsSameBoard};
+    ghost use Rattle.bn_board.specs.Flattened.{Flattened, IsSameBoard};
     ghost use Rattle.bn_session.specs.Boards.{Grows, GrowsByFront};
 
     /// Whether this is a text of a board.

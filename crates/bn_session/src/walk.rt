@@ -2,15 +2,15 @@
 
 ghost use Rattle.std.specs.Prelude.{◌≡◌, None, Some, MatchOption};
 ghost use Rattle.bn_net.specs.RotaryNets.{rotary_circuit};
-ghost use Rattle.bn_board.specs.Layouts.{moment_at};
-ghost use Rattle.bn_flat.specs.Flattened.{IsSameBoard};
+ghost use Rattle.bn_board_spec.specs.Layouts.{moment_at};
+ghost use Rattle.bn_board.specs.Flattened.{IsSameBoard};
 ghost use Rattle.bn_packed.specs.Running.{run_along};
 ghost use Rattle.bn_session.specs.Plays.{IsStop, stops, label_that_holds};
 ghost use Rattle.bn_session.specs.Walks.{once_along, walk};
 ghost use Rattle.bn_circuits.specs.declared.config.Config.{Config};
 
 use crate::breaks::Breaks;
-use bn_flat::Board;
+use bn_board::Board;
 use bn_packed::Direction;
 
 // Steps in this direction until a breakpoint holds, none can be made, or so many are made.

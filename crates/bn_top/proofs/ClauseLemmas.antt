@@ -14,7 +14,7 @@ use Rattle.bn_reply.specs.declared.status.Status.TheVariants.{Usage, ReadFault, 
 use Rattle.bn_top.specs.Answers.{Answers, no_form, unread, too_long, replied, usage_text}
 use Rattle.bn_top.specs.Laws.{RequestsAreAnswered}
 use Rattle.bn_top.specs.Told as old
-use Rattle.bn_top.specs.Told.{EndsWithoutInput, NeedsNoInput, UsageEnds}
+use Rattle.bn_top.specs.Told.{EndsWithoutInput, UsageEnds}
 use Rattle.bn_top.proofs.EndLemmas.{by_told}
 use Rattle.bn_reply.specs.Outside.{Outside}
 use Rattle.bn_reply.specs.Streams.{unbegun, begun}

@@ -1,31 +1,40 @@
 -- What each command needs of proofs: the law that it has one answer and only one, and that its reply is the one to the request.
-use Rattle.std.specs.Prelude.{◌≡◌, ℕ, List, [], Option, Result, IfOk, OnErr}
+use Rattle.std.specs.Prelude.{◌≡◌, ℕ, true, List, [], Option, Result, IfOk, OnErr, refl}
 use Rattle.std.proofs.Common.{sym, subst}
 use Rattle.bn_circuits.specs.declared.place.Place.{Place}
-use Rattle.bn_words.specs.Requests.{HasForm, IsAllowed, Request, request_of}
-use Rattle.bn_words.specs.Requests.{Step, Back, Check, Machine, Reversible, Bennett, Realise, Standard, Compile, Run}
-use Rattle.bn_words.specs.Requests.{RunAuto, View, Session, Plan, Migrate, Mirror, Farm, Generate, Erase, EraseRun}
-use Rattle.bn_words.specs.declared.request.Request as declared
+use Rattle.bn_words.specs.Requests.{HasForm, IsAllowed, Request, of_configuration, of_whole, reads_input}
+use Rattle.bn_words.specs.Requests.{Step, Back, Check, Machine, Trace, Reversible, Inverse, Bennett, Realise, Standard}
+use Rattle.bn_words.specs.Requests.{Compile, Run, RunAuto, View, Session, Plan, Migrate, Mirror, Farm, Generate, Erase}
+use Rattle.bn_words.specs.Requests.{EraseRun}
+use Rattle.bn_words.specs.declared.request.ConfigurationRequest as configuration
+use Rattle.bn_words.specs.declared.request.ConfigurationRequest.TheVariants as configuration_variants
+use Rattle.bn_words.specs.declared.request.WholeRequest as whole
+use Rattle.bn_words.specs.declared.request.WholeRequest.TheVariants as whole_variants
 use Rattle.bn_reply_windows.proofs.ClosedLemmas.{auto_settled}
 use Rattle.bn_reply.specs.Answering.{IsSettled}
 use Rattle.bn_reply.specs.Replying.{IsReplied, IsUnfinished}
 use Rattle.bn_reply.specs.declared.reply.Reply.{Reply}
 use Rattle.bn_reply.specs.declared.status.Status.{Status}
 use Rattle.bn_lists.specs.declared.memory.NoMemory.{NoMemory as WantOfMemory}
-use Rattle.bn_reply.proofs.ReplyLemmas.{silent}
+use Rattle.bn_reply.specs.Ends.{FinishesReply}
+use Rattle.bn_reply.specs.Outside.{Outside}
+use Rattle.bn_reply.specs.Streams.{AnswerEnds, StreamEnds}
+use Rattle.bn_reply.proofs.ReplyLemmas.{given_ends, silent_ends}
 use Rattle.bn_reply_erase.proofs.SettledLemmas.{erase_settled, erase_run_settled}
 use Rattle.bn_reply_boards.proofs.GenerateLemmas.{generate_settled}
 use Rattle.bn_reply_circuits_laws.proofs.SettledLemmas.{back_settled, migrate_settled, step_settled}
-use Rattle.bn_reply_mirror.proofs.ReplyLemmas.{mirror_settled}
-use Rattle.bn_reply_farm.proofs.FarmReplyLemmas.{farm-settled}
+use Rattle.bn_reply_circuits.proofs.MirrorLemmas.{mirror_settled}
+use Rattle.bn_reply_circuits.proofs.FarmReplyLemmas.{farm-settled}
 use Rattle.bn_reply_circuits.proofs.RealiseLemmas.{realise_settled}
 use Rattle.bn_reply_tables.proofs.StandardLemmas.{standard_settled}
 use Rattle.bn_reply_circuits.proofs.PlanReplyLemmas.{plan_settled}
 use Rattle.bn_reply_tables.proofs.BennettLemmas.{bennett_settled}
 use Rattle.bn_reply_tables.proofs.CheckLemmas.{check_settled}
+use Rattle.bn_reply_tables.proofs.InverseLemmas.{inverse_settled}
 use Rattle.bn_reply_tables.proofs.MachineLemmas.{machine_settled}
 use Rattle.bn_reply_tables.proofs.ReversibleLemmas.{reversible_settled}
 use Rattle.bn_reply_boards_laws.proofs.ClosedLemmas.{compile_settled, run_settled}
+use Rattle.bn_reply_traces.proofs.TraceLemmas.{all_settled}
 use Rattle.bn_reply_views.proofs.SessionClosedLemmas.{session_settled}
 use Rattle.bn_reply_views.proofs.ViewClosedLemmas.{view_settled}
 use Rattle.bn_top.specs.Answers.{Replies}
@@ -37,7 +46,9 @@ settled_by (Step e) allowed = step_settled e
 settled_by (Back e) allowed = back_settled e
 settled_by Check allowed = check_settled
 settled_by (Machine word n) allowed = machine_settled word n
+settled_by (Trace word n) allowed = all_settled word n
 settled_by Reversible allowed = reversible_settled
+settled_by Inverse allowed = inverse_settled
 settled_by Bennett allowed = bennett_settled
 settled_by (Realise q i) allowed = λ bytes. realise_settled q i bytes allowed.0.0 allowed.1.0
 settled_by Standard allowed = standard_settled
@@ -58,29 +69,61 @@ settled_by (EraseRun word n) allowed = erase_run_settled word n
 pub settled : (words : List (List ℕ)) (request : Request) → HasForm words request → (bytes : List ℕ) → IsSettled (Replies request bytes)
 settled words request form = settled_by request form.allowed
 
--- ---- the replies, for the dispatch
+-- ---- the replies, for the match: what is answered to a request is answered to what was asked, where it is this one
 
--- the relations of a command's reply, by what it answers
-abbrev Silent : Result Reply WantOfMemory → (Status → List ℕ → List Place → Type 0) → Type 0
-Silent result answers = IfOk result (λ r. answers r.status r.text.items [])
+module _ (asked request : whole.WholeRequest) (is : asked ≡ request) (bytes : List ℕ) (result : Status)
+    (taken took : Option (List ℕ)) (before now : ℕ) where
+  pub given : (told heard : Option (List Place)) →
+      AnswerEnds (Replies (of_whole request) bytes) result taken took before now told heard →
+      AnswerEnds (Replies (of_whole asked) bytes) result taken took before now told heard
+  given told heard h =
+      subst (λ r. AnswerEnds (Replies (of_whole r) bytes) result taken took before now told heard) (sym is) h
 
-abbrev Replied : Result Reply WantOfMemory → Option (List Place) → Option (List Place) →
-    (Status → List ℕ → List Place → Type 0) → Type 0
-Replied result told heard answers = IfOk result (λ r. IsReplied answers r told heard)
+  -- a reply that tells a watch nothing, and one that does
+  pub silently : (reply : Result Reply WantOfMemory) (told : Option (List Place)) →
+      IfOk reply (λ r. Replies (of_whole request) bytes r.status r.text.items []) →
+      FinishesReply reply result taken took before now →
+      AnswerEnds (Replies (of_whole asked) bytes) result taken took before now told told
+  silently reply told right ends =
+      given told told (silent_ends (Replies (of_whole request) bytes) reply result taken took before now told right ends)
 
-abbrev Unfinished : Result Reply WantOfMemory → Option (List Place) → Option (List Place) → (Status → List ℕ → List Place → Type 0) → Type 0
-Unfinished result told heard answers = OnErr result (IsUnfinished answers told heard)
+  pub aloud : (reply : Result Reply WantOfMemory) (told heard : Option (List Place)) →
+      IfOk reply (λ r. IsReplied (Replies (of_whole request) bytes) r told heard) →
+      OnErr reply (IsUnfinished (Replies (of_whole request) bytes) told heard) →
+      FinishesReply reply result taken took before now →
+      AnswerEnds (Replies (of_whole asked) bytes) result taken took before now told heard
+  aloud reply told heard right unfinished ends =
+      given told heard
+      (given_ends (Replies (of_whole request) bytes) reply result taken took before now told heard right unfinished ends)
 
--- what is replied to a request is replied to what was asked, where it is this request
-module _ (asked request : declared.Request) (is : asked ≡ request) (bytes : List ℕ) (result : Result Reply WantOfMemory) where
-  pub replied_as : (told heard : Option (List Place)) → Replied result told heard (Replies (request_of request) bytes) →
-      Replied result told heard (Replies (request_of asked) bytes)
-  replied_as told heard h = subst (λ r. Replied result told heard (Replies (request_of r) bytes)) (sym is) h
+-- the same of what reads in pieces
+pub stream_as : (asked request : configuration.ConfigurationRequest) → asked ≡ request → (result : Status)
+    (b a : Outside) → StreamEnds (Replies (of_configuration request)) result b a →
+    StreamEnds (Replies (of_configuration asked)) result b a
+stream_as asked request is result b a h = subst (λ r. StreamEnds (Replies (of_configuration r)) result b a) (sym is) h
 
-  pub unfinished_as : (told heard : Option (List Place)) → Unfinished result told heard (Replies (request_of request) bytes) →
-      Unfinished result told heard (Replies (request_of asked) bytes)
-  unfinished_as told heard h = subst (λ r. Unfinished result told heard (Replies (request_of r) bytes)) (sym is) h
+-- both read an input
+pub configuration_reads : (asked : configuration.ConfigurationRequest) → reads_input (of_configuration asked) ≡ true
+configuration_reads (configuration_variants.Step e) = refl
+configuration_reads (configuration_variants.Back e) = refl
+configuration_reads configuration_variants.Plan = refl
+configuration_reads configuration_variants.Migrate = refl
+configuration_reads configuration_variants.Mirror = refl
 
-  pub silent_as : (told : Option (List Place)) → Silent result (Replies (request_of request) bytes) →
-      Replied result told told (Replies (request_of asked) bytes)
-  silent_as told h = replied_as told told (silent (Replies (request_of request) bytes) result told h)
+pub whole_reads : (asked : whole.WholeRequest) → reads_input (of_whole asked) ≡ true
+whole_reads whole_variants.Check = refl
+whole_reads (whole_variants.Machine word n) = refl
+whole_reads (whole_variants.Trace word n) = refl
+whole_reads whole_variants.Reversible = refl
+whole_reads whole_variants.Inverse = refl
+whole_reads whole_variants.Bennett = refl
+whole_reads (whole_variants.Realise q i) = refl
+whole_reads whole_variants.Standard = refl
+whole_reads (whole_variants.Compile word window) = refl
+whole_reads (whole_variants.Run word window given) = refl
+whole_reads (whole_variants.RunAuto word) = refl
+whole_reads (whole_variants.View word window e) = refl
+whole_reads (whole_variants.Session word window) = refl
+whole_reads whole_variants.Farm = refl
+whole_reads whole_variants.Erase = refl
+whole_reads (whole_variants.EraseRun word n) = refl

@@ -1,6 +1,6 @@
 -- How the top call ends.
 use Rattle.std.specs.Prelude.{◌≡◌, true, false, ℕ, List, [], Option, Some, None, IfSome, refl, ◌⊎◌}
-use Rattle.std.proofs.Common.{Bool, inl, inr, sym, subst, ◌∙◌}
+use Rattle.std.proofs.Common.{inl, inr, sym, subst, ◌∙◌}
 use Rattle.bn_circuits.specs.declared.place.Place.{Place}
 use Rattle.bn_io.specs.Faults.{Rose}
 use Rattle.bn_io.specs.Told.{Grows, GrowsByFront}
@@ -99,10 +99,6 @@ module _ (words : List (List ℕ)) (request : Request) (form : HasForm words req
   is_complete (ends_of.whole text places right grows hears) sound = inl (reply_answers result (replies result text places right))
   is_complete (ends_of.cut failed rose b) sound = absurd (sound rose)
   is_complete (ends_of.wanting none broken) sound = inr none
-
--- whether what is asked for reads an input, by the test on it
-pub reads_as : (request : Request) (tested is : Bool) → tested ≡ reads_input request → tested ≡ is → reads_input request ≡ is
-reads_as request tested is value test = sym value ∙ test
 
 -- how a reply ends, where a reply to the request is an answer
 module _ (words : List (List ℕ)) (request : Request) (form : HasForm words request) (bytes : List ℕ) (result : Status) (taken took : Option (List ℕ))

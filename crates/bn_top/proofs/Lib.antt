@@ -7,6 +7,6 @@ pub mod ClauseLemmas
 pub mod MachineHeadlineLemmas
 pub mod ClosedLemmas
 pub mod FoundLemmas
-pub mod MemoryLemmas
-pub mod GivenLemmas
 pub mod CommandClauseLemmas
+pub mod CallLemmas
+pub mod MemoryLemmas

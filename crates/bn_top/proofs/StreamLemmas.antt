@@ -5,8 +5,7 @@ use Rattle.bn_circuits.specs.declared.place.Place.{Place}
 use Rattle.bn_io.specs.Faults.{Rose}
 use Rattle.bn_io.specs.Told.{Grows}
 use Rattle.bn_net.specs.Watching.{Hears}
-use Rattle.bn_words.specs.Requests.{Request, HasForm, reads_input, request_of}
-use Rattle.bn_words.specs.declared.request.Request as declared
+use Rattle.bn_words.specs.Requests.{Request, HasForm, reads_input}
 use Rattle.bn_reply.specs.Codes.{IsAnswer, IsReplyStatus}
 use Rattle.bn_reply.specs.Ends as written
 use Rattle.bn_reply.specs.Outside.{Outside, GaveAll, GaveMore, IsLater}
@@ -230,8 +229,3 @@ module _ (words : List (List ℕ)) (request : Request) (form : HasForm words req
 pub stream_clauses : (words : List (List ℕ)) (request : Request) → HasForm words request → reads_input request ≡ true → (result : Status) (b a : Outside) →
     StreamEnds (Replies request) result b a → ClausesApart words result b a
 stream_clauses words request form reads result b a h = input_clauses words request form reads result b a h.later h.input h.gives h.ends
-
--- what is done for a request is done for what was asked, where it is this request
-pub stream_as : (asked request : declared.Request) → asked ≡ request → (result : Status) (b a : Outside) →
-    StreamEnds (Replies (request_of request)) result b a → StreamEnds (Replies (request_of asked)) result b a
-stream_as asked request is result b a h = subst (λ r. StreamEnds (Replies (request_of r)) result b a) (sym is) h

@@ -3,8 +3,9 @@
 use Rattle.std.specs.Prelude.{◌≡◌, ℕ, ◌<◌, ◌≤◌, List, [], ◌∷◌, ◌++◌, length, true, false, codes}
 use Rattle.bn_circuits.specs.declared.place.Place.{Place}
 use Rattle.bn_words.specs.Requests.{Request, HasForm, HasNoForm, reads_input}
-use Rattle.bn_words.specs.Requests.{Step, Back, Check, Machine, Reversible, Bennett, Realise, Standard, Compile, Run}
-use Rattle.bn_words.specs.Requests.{RunAuto, View, Session, Plan, Migrate, Mirror, Farm, Generate, Erase, EraseRun}
+use Rattle.bn_words.specs.Requests.{Step, Back, Check, Machine, Trace, Reversible, Inverse, Bennett, Realise, Standard}
+use Rattle.bn_words.specs.Requests.{Compile, Run, RunAuto, View, Session, Plan, Migrate, Mirror, Farm, Generate, Erase}
+use Rattle.bn_words.specs.Requests.{EraseRun}
 use Rattle.bn_reply_boards_laws.specs.CompileReply.{CompileReplies}
 use Rattle.bn_reply.specs.declared.limits.TheConstants.{MOST_INPUT_BYTES}
 use Rattle.bn_reply_boards_laws.specs.RunReply.{RunReplies}
@@ -15,13 +16,15 @@ use Rattle.bn_reply_circuits_laws.specs.CircuitReply.{BackReplies, StepReplies}
 use Rattle.bn_reply_circuits.specs.RealiseReply.{RealiseReplies}
 use Rattle.bn_reply_circuits.specs.PlanReply.{PlanReplies}
 use Rattle.bn_reply_circuits_laws.specs.MigrateReply.{MigrateReplies}
-use Rattle.bn_reply_mirror.specs.MirrorReply.{MirrorReplies}
-use Rattle.bn_reply_farm.specs.FarmReply.{FarmReplies}
+use Rattle.bn_reply_circuits.specs.MirrorReply.{MirrorReplies}
+use Rattle.bn_reply_circuits.specs.FarmReply.{FarmReplies}
 use Rattle.bn_reply_tables.specs.StandardReply.{StandardTableReplies}
 use Rattle.bn_reply_tables.specs.BennettReply.{BennettReplies}
 use Rattle.bn_reply_tables.specs.CheckReply.{CheckReplies}
+use Rattle.bn_reply_tables.specs.InverseReply.{InverseReplies}
 use Rattle.bn_reply_tables.specs.MachineReply.{MachineReplies}
 use Rattle.bn_reply_tables.specs.ReversibleReply.{ReversibleReplies}
+use Rattle.bn_reply_traces.specs.TraceReply.{TraceReplies}
 use Rattle.bn_reply_views.specs.SessionReply.{SessionReplies}
 use Rattle.bn_reply_views.specs.ViewReply.{ViewReplies}
 use Rattle.bn_reply.specs.Streams.{size_text}
@@ -38,7 +41,9 @@ Replies (Step e) = StepReplies e
 Replies (Back e) = BackReplies e
 Replies Check = CheckReplies
 Replies (Machine word n) = MachineReplies word n
+Replies (Trace word n) = TraceReplies word n
 Replies Reversible = ReversibleReplies
+Replies Inverse = InverseReplies
 Replies Bennett = BennettReplies
 Replies (Realise q i) = RealiseReplies q i
 Replies Standard = StandardTableReplies

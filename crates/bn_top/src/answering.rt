@@ -1,84 +1,195 @@
-//! How a request is answered on what the source gives: by the command that reads it in pieces, or with all of it in
-//! memory.
+//! The one way of every command: from its words to the text that it gives, and the match that names each command once.
 
-ghost use Rattle.std.specs.Prelude.{◌≤◌, length};
+ghost use Rattle.std.specs.Prelude.{◌≡◌, ℕ, ◌≤◌, [], Some, length, map};
+ghost use Rattle.std.specs.String.{string_bytes};
 ghost use Rattle.bn_reply.specs.Outside.{outside};
 ghost use Rattle.bn_reply.specs.Streams.{AnswerEnds, StreamEnds};
 ghost use Rattle.bn_reply.specs.declared.limits.TheConstants.{MOST_INPUT_BYTES};
-ghost use Rattle.bn_words.specs.Requests.{IsAllowed, request_of};
+ghost use Rattle.bn_words.specs.Requests.{IsAllowed, of_configuration, of_whole};
 ghost use Rattle.bn_top.specs.Answers.{Replies};
+ghost use Rattle.bn_top.specs.Clauses.{CallEnds};
+ghost use Rattle.bn_top.specs.Outside.{NeedNoInput};
 
-use crate::dispatch::reply_to;
-use bn_io::{ReadRefusal, Sink, Source, read_all};
+use bn_io::{Input, ReadRefusal, Sink, read_whole};
 use bn_net::Watch;
-use bn_reply::{MOST_INPUT_BYTES, Status, give_reply, tell_long_input, tell_read_fault};
-use bn_reply_boards::give_compile;
-use bn_reply_circuits::{back_stream, give_realise, migrate_stream, plan_stream, step_stream};
-use bn_reply_mirror::mirror_stream;
-use bn_words::Request;
+use bn_reply::{MOST_INPUT_BYTES, Status, finish, give_reply, tell_long_input, tell_read_fault};
+use bn_reply_boards::{answer_compile, reply_generate, reply_run};
+use bn_reply_circuits::{
+    answer_back, answer_migrate, answer_mirror, answer_plan, answer_realise, answer_step,
+    reply_farm,
+};
+use bn_reply_erase::{reply_erase, reply_erase_run};
+use bn_reply_tables::{
+    reply_bennett, reply_check, reply_inverse, reply_machine, reply_reversible, reply_standard,
+};
+use bn_reply_traces::answer_trace;
+use bn_reply_views::{reply_session, reply_view};
+use bn_reply_windows::reply_run_auto;
+use bn_words::{ConfigurationRequest, Request, WholeRequest, read_words};
 use std::alloc::Global;
 
-// Answers a request on the input that the source gives: in pieces, where the command takes it so, else whole.
-pub(crate) fn answer_input<S: Source, K: Sink, W: Watch>(
+// Answers the words of a command line: reads from the input what their command wants, and gives the sink the text.
+pub(crate) fn answer_words<I: Input, K: Sink, W: Watch>(
     alloc: Global,
-    request: &Request<'_>,
-    source: &mut S,
+    words: &[String],
+    input: &mut I,
     sink: &mut K,
     watch: &mut W,
 ) -> Status
-    requires { IsAllowed (request_of request.now) }
-    ensures { StreamEnds (Replies (request_of request.now)) result
-        (outside (S.left source.old) (K.taken sink.old) (W.told watch.old) (S.faults source.old) (K.faults sink.old))
-        (outside (S.left source.new) (K.taken sink.new) (W.told watch.new) (S.faults source.new) (K.faults sink.new)) }
+    ensures ends { CallEnds (map string_bytes words.now) result
+        (outside (I.left input.old) (K.taken sink.old) (W.told watch.old) (I.faults input.old) (K.faults sink.old))
+        (outside (I.left input.new) (K.taken sink.new) (W.told watch.new) (I.faults input.new) (K.faults sink.new)) }
+    ensures unread { NeedNoInput (map string_bytes words.now) → input.new ≡ input.old }
 {
-    match *request {
-        Request::Step { most_steps } => step_stream(alloc, most_steps, source, sink, watch),
-        Request::Back { most_steps } => back_stream(alloc, most_steps, source, sink, watch),
-        Request::Plan => plan_stream(alloc, source, sink),
-        Request::Migrate => migrate_stream(alloc, source, sink),
-        Request::Mirror => mirror_stream(alloc, source, sink),
-        _ => answer_whole(alloc, request, source, sink, watch),
+    match read_words(words) {
+        Some(Request::OnConfiguration(asked)) => {
+            answer_configuration(alloc, &asked, input, sink, watch)
+        }
+        Some(Request::OnWhole(asked)) => answer_whole(alloc, &asked, input, sink, watch),
+        Some(Request::Generate { increments }) => {
+            give_reply(sink, reply_generate(alloc, increments, watch))
+        }
+        None => finish(sink, b"usage\n", Status::Usage),
     }
 }
 
-// Answers a request on the input that the source gives, which stands whole in memory.
-fn answer_whole<S: Source, K: Sink, W: Watch>(
+// Answers what is asked of a configuration text, which is read in pieces.
+fn answer_configuration<I: Input, K: Sink, W: Watch>(
     alloc: Global,
-    request: &Request<'_>,
-    source: &mut S,
+    asked: &ConfigurationRequest,
+    input: &mut I,
     sink: &mut K,
     watch: &mut W,
 ) -> Status
-    requires { IsAllowed (request_of request.now) }
-    ensures { StreamEnds (Replies (request_of request.now)) result
-        (outside (S.left source.old) (K.taken sink.old) (W.told watch.old) (S.faults source.old) (K.faults sink.old))
-        (outside (S.left source.new) (K.taken sink.new) (W.told watch.new) (S.faults source.new) (K.faults sink.new)) }
+    ensures { StreamEnds (Replies (of_configuration asked.now)) result
+        (outside (I.left input.old) (K.taken sink.old) (W.told watch.old) (I.faults input.old) (K.faults sink.old))
+        (outside (I.left input.new) (K.taken sink.new) (W.told watch.new) (I.faults input.new) (K.faults sink.new)) }
 {
-    match read_all(alloc, source, MOST_INPUT_BYTES) {
-        Ok(bytes) => answer(alloc, request, bytes.as_slice(), sink, watch),
+    match *asked {
+        ConfigurationRequest::Step { most_steps } => {
+            answer_step(alloc, most_steps, input, sink, watch)
+        }
+        ConfigurationRequest::Back { most_steps } => {
+            answer_back(alloc, most_steps, input, sink, watch)
+        }
+        ConfigurationRequest::Plan => answer_plan(alloc, input, sink),
+        ConfigurationRequest::Migrate => answer_migrate(alloc, input, sink),
+        ConfigurationRequest::Mirror => answer_mirror(alloc, input, sink),
+    }
+}
+
+// Answers what is asked of a whole input: the bytes that are lent, or those that are read to the end.
+fn answer_whole<I: Input, K: Sink, W: Watch>(
+    alloc: Global,
+    asked: &WholeRequest<'_>,
+    input: &mut I,
+    sink: &mut K,
+    watch: &mut W,
+) -> Status
+    requires { IsAllowed (of_whole asked.now) }
+    ensures { StreamEnds (Replies (of_whole asked.now)) result
+        (outside (I.left input.old) (K.taken sink.old) (W.told watch.old) (I.faults input.old) (K.faults sink.old))
+        (outside (I.left input.new) (K.taken sink.new) (W.told watch.new) (I.faults input.new) (K.faults sink.new)) }
+{
+    let Some(bytes) = input.rest() else {
+        return answer_read(alloc, asked, input, sink, watch);
+    };
+    let status = answer_lent(alloc, asked, bytes, sink, watch);
+    input.take_rest();
+    status
+}
+
+// Answers what is asked of bytes that are lent, as of all that an input had left.
+fn answer_lent<K: Sink, W: Watch>(
+    alloc: Global,
+    asked: &WholeRequest<'_>,
+    bytes: &[u8],
+    sink: &mut K,
+    watch: &mut W,
+) -> Status
+    requires { IsAllowed (of_whole asked.now) }
+    ensures { (reads : ℕ) → StreamEnds (Replies (of_whole asked.now)) result
+        (outside (Some bytes.now) (K.taken sink.old) (W.told watch.old) reads (K.faults sink.old))
+        (outside (Some []) (K.taken sink.new) (W.told watch.new) reads (K.faults sink.new)) }
+{
+    if bytes.len() as u64 > MOST_INPUT_BYTES {
+        return tell_long_input(sink);
+    }
+    answer_bytes(alloc, asked, bytes, sink, watch)
+}
+
+// Answers what is asked of an input that is read to its end first.
+fn answer_read<I: Input, K: Sink, W: Watch>(
+    alloc: Global,
+    asked: &WholeRequest<'_>,
+    input: &mut I,
+    sink: &mut K,
+    watch: &mut W,
+) -> Status
+    requires { IsAllowed (of_whole asked.now) }
+    ensures { StreamEnds (Replies (of_whole asked.now)) result
+        (outside (I.left input.old) (K.taken sink.old) (W.told watch.old) (I.faults input.old) (K.faults sink.old))
+        (outside (I.left input.new) (K.taken sink.new) (W.told watch.new) (I.faults input.new) (K.faults sink.new)) }
+{
+    match read_whole(alloc, input, MOST_INPUT_BYTES) {
+        Ok(bytes) => answer_bytes(alloc, asked, bytes.as_slice(), sink, watch),
         Err(ReadRefusal::ReadFault) => tell_read_fault(sink),
         Err(ReadRefusal::TooLong) => tell_long_input(sink),
         Err(ReadRefusal::NoMemory) => Status::NoMemory,
     }
 }
 
-// Answers a request on an input within the limit. The text of a configuration is written in pieces.
-pub(crate) fn answer<K: Sink, W: Watch>(
+// Answers what is asked of these bytes, which are a whole input within the limit.
+fn answer_bytes<K: Sink, W: Watch>(
     alloc: Global,
-    request: &Request<'_>,
+    asked: &WholeRequest<'_>,
     bytes: &[u8],
     sink: &mut K,
     watch: &mut W,
 ) -> Status
-    requires allowed { IsAllowed (request_of request.now) }
+    requires allowed { IsAllowed (of_whole asked.now) }
     requires short { length bytes.now ≤ MOST_INPUT_BYTES }
-    ensures ends { AnswerEnds (Replies (request_of request.now) bytes.now) result (K.taken sink.old) (K.taken sink.new)
+    ensures ends { AnswerEnds (Replies (of_whole asked.now) bytes.now) result (K.taken sink.old) (K.taken sink.new)
         (K.faults sink.old) (K.faults sink.new) (W.told watch.old) (W.told watch.new) }
     ensures later { K.faults sink.old ≤ K.faults sink.new }
 {
-    match *request {
-        Request::Realise { state, line } => give_realise(alloc, state, line, bytes, sink),
-        Request::Compile { word, window } => give_compile(alloc, word, &window, bytes, sink),
-        _ => give_reply(sink, reply_to(alloc, request, bytes, watch)),
+    match *asked {
+        WholeRequest::Check => give_reply(sink, reply_check(alloc, bytes)),
+        WholeRequest::Machine { word, most_steps } => {
+            give_reply(sink, reply_machine(alloc, word, most_steps, bytes))
+        }
+        WholeRequest::Trace { word, most_steps } => {
+            answer_trace(alloc, word, most_steps, bytes, sink)
+        }
+        WholeRequest::Reversible => give_reply(sink, reply_reversible(alloc, bytes)),
+        WholeRequest::Inverse => give_reply(sink, reply_inverse(alloc, bytes)),
+        WholeRequest::Bennett => give_reply(sink, reply_bennett(alloc, bytes)),
+        WholeRequest::Realise { state, line } => answer_realise(alloc, state, line, bytes, sink),
+        WholeRequest::Standard => give_reply(sink, reply_standard(alloc, bytes)),
+        WholeRequest::Compile { word, window } => answer_compile(alloc, word, &window, bytes, sink),
+        WholeRequest::Run {
+            word,
+            window,
+            most_steps,
+        } => give_reply(
+            sink,
+            reply_run(alloc, word, &window, most_steps, bytes, watch),
+        ),
+        WholeRequest::RunAuto { word } => {
+            give_reply(sink, reply_run_auto(alloc, word, bytes, watch))
+        }
+        WholeRequest::View {
+            word,
+            window,
+            most_steps,
+        } => give_reply(sink, reply_view(alloc, word, &window, most_steps, bytes)),
+        WholeRequest::Session { word, window } => {
+            give_reply(sink, reply_session(alloc, word, &window, bytes))
+        }
+        WholeRequest::Farm => give_reply(sink, reply_farm(alloc, bytes)),
+        WholeRequest::Erase => give_reply(sink, reply_erase(alloc, bytes)),
+        WholeRequest::EraseRun { word, most_steps } => {
+            give_reply(sink, reply_erase_run(alloc, word, most_steps, bytes))
+        }
     }
 }

@@ -12,7 +12,7 @@ ghost use Rattle.bn_reply.specs.Outside.{outside};
 ghost use Rattle.bn_top.specs.Outside.{NeedNoInput};
 ghost use Rattle.bn_top.specs.Clauses.{CallEnds};
 
-use crate::top::answer_words;
+use crate::answering::answer_words;
 use bn_io::{Sink, Source};
 use bn_net::Watch;
 use bn_reply::Status;
@@ -76,5 +76,5 @@ pub fn workbench<S: Source, K: Sink, W: Watch>(
     // Words that need no input: the source is as it was.
     ensures unread { NeedNoInput (map string_bytes words.now.items) → source.new ≡ source.old }
 {
-    answer_words(alloc, words, source, sink, watch)
+    answer_words(alloc, words.as_slice(), source, sink, watch)
 }

@@ -3,10 +3,8 @@
 
 mod answering;
 mod call;
-mod dispatch;
 mod laws;
 mod memory;
-mod top;
 
 pub use bn_reply::{NoMemory, Reply, Status};
 pub use call::workbench;

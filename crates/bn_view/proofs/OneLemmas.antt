@@ -24,19 +24,19 @@ use Rattle.bn_bennett.specs.Translation.{name_of}
 use Rattle.bn_bennett.specs.Meaning.{machine_state_by, stage_by}
 use Rattle.bn_network.specs.Cells.{cell_line_count}
 use Rattle.bn_network.specs.Networks.{IsTape, cells_in, cell_size, left_of}
-use Rattle.bn_board.specs.Boards.{base, size, size_of}
-use Rattle.bn_board.specs.declared.exit.Exit.{Exit}
-use Rattle.bn_board.specs.declared.exit.Exit.TheVariants as exit
-use Rattle.bn_board.specs.declared.spelled.Spelled.{Spelled}
-use Rattle.bn_board.specs.Layouts.{IsExit, IsNamedExit, Layout, cell_element, elements_of, first_element, inside, symbol_count_at, lines_at, named, spelled_by, unnamed}
-use Rattle.bn_board.specs.Flats.{flat_start, machine_of}
-use Rattle.bn_board.specs.LayoutLaws.{BoardsRead, ExitsAreOne}
+use Rattle.bn_board_spec.specs.Boards.{base, size, size_of}
+use Rattle.bn_board_spec.specs.declared.exit.Exit.{Exit}
+use Rattle.bn_board_spec.specs.declared.exit.Exit.TheVariants as exit
+use Rattle.bn_board_spec.specs.declared.spelled.Spelled.{Spelled}
+use Rattle.bn_board_spec.specs.Layouts.{IsExit, IsNamedExit, Layout, cell_element, elements_of, first_element, inside, symbol_count_at, lines_at, named, spelled_by, unnamed}
+use Rattle.bn_board_spec.specs.Flats.{flat_start, machine_of}
+use Rattle.bn_board_spec.specs.LayoutLaws.{BoardsRead, ExitsAreOne}
 use Rattle.bn_board_laws.specs.Headline.{RunsToExit}
 use Rattle.bn_board_laws.specs.HeadlineLaws.{BoardsRunToTheirExit}
 use Rattle.bn_board_laws.proofs.CountLemmas.{before_end}
-use Rattle.bn_flat.specs.Locations.{IsInputLine, IsLocated, in_cell, in_control, left}
-use Rattle.bn_flat.specs.declared.located.Located.{Located}
-use Rattle.bn_flat.specs.declared.located.Located.TheVariants as located
+use Rattle.bn_board.specs.Locations.{IsInputLine, IsLocated, in_cell, in_control, left}
+use Rattle.bn_board.specs.declared.located.Located.{Located}
+use Rattle.bn_board.specs.declared.located.Located.TheVariants as located
 use Rattle.bn_view.specs.Shown.{IsShown}
 use Rattle.bn_view.specs.Modules.{module_by}
 use Rattle.bn_view.specs.Viewed.{Comes}

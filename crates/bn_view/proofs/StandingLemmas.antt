@@ -28,12 +28,12 @@ use Rattle.bn_network.specs.Moments.{HasLetters}
 use Rattle.bn_network.specs.Networks.{ShowsTapes}
 use Rattle.bn_network_laws.proofs.ShownLemmas.{all_cells, shown_beside}
 use Rattle.bn_network_laws.specs.NetworkLaws.{FirstMoment}
-use Rattle.bn_board.proofs.LetterLemmas.{letters_are, some_letters}
-use Rattle.bn_board.proofs.ReadingLemmas.{own_accepted, own_flat}
-use Rattle.bn_board.specs.Flats.{Flat, IsAccepted, IsFlatOf, flat_start, machine_of, situation_at_start}
-use Rattle.bn_board.specs.LayoutLaws.{BoardsRead}
-use Rattle.bn_board.specs.Layouts.{spelled_config}
-use Rattle.bn_board.proofs.ShownHeadLemmas.{shown_inside}
+use Rattle.bn_board_spec.proofs.LetterLemmas.{letters_are, some_letters}
+use Rattle.bn_board_spec.proofs.ReadingLemmas.{own_accepted, own_flat}
+use Rattle.bn_board_spec.specs.Flats.{Flat, IsAccepted, IsFlatOf, flat_start, machine_of, situation_at_start}
+use Rattle.bn_board_spec.specs.LayoutLaws.{BoardsRead}
+use Rattle.bn_board_spec.specs.Layouts.{spelled_config}
+use Rattle.bn_board_spec.proofs.ShownHeadLemmas.{shown_inside}
 use Rattle.bn_board_laws.specs.Headline.{RunsToExit, BoardSpells}
 use Rattle.bn_board_laws.specs.HeadlineLaws.{BoardsRunToTheirExit}
 use Rattle.bn_board_laws.specs.Moments.{BoardsHaveMoments, HasMoments}

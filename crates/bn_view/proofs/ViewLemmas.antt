@@ -17,12 +17,12 @@ use Rattle.bn_bennett.specs.Translation.{Translation, name_of}
 use Rattle.bn_bennett.specs.Meaning.{machine_state_by, stage_by}
 use Rattle.bn_network.specs.Controls.{symbol_count}
 use Rattle.bn_network_laws.proofs.RangeLemmas.{rule_range}
-use Rattle.bn_board.specs.Layouts.{IsExit, Layout, is_sent, symbol_count_at, spelled_by, spelled_config}
-use Rattle.bn_board.specs.Flats.{Flat, flat_start, machine_of}
-use Rattle.bn_board.specs.declared.spelled.Spelled.{Spelled}
-use Rattle.bn_board.proofs.FirstLemmas.{position_holds}
-use Rattle.bn_board.proofs.LetterLemmas.{letters_are}
-use Rattle.bn_flat.specs.Flattened.{Flattened, IsBoardKept, IsSameBoard, origin}
+use Rattle.bn_board_spec.specs.Layouts.{IsExit, Layout, is_sent, symbol_count_at, spelled_by, spelled_config}
+use Rattle.bn_board_spec.specs.Flats.{Flat, flat_start, machine_of}
+use Rattle.bn_board_spec.specs.declared.spelled.Spelled.{Spelled}
+use Rattle.bn_board_spec.proofs.FirstLemmas.{position_holds}
+use Rattle.bn_board_spec.proofs.LetterLemmas.{letters_are}
+use Rattle.bn_board.specs.Flattened.{Flattened, IsBoardKept, IsSameBoard, origin}
 use Rattle.bn_view.specs.Shown.{IsShown, moment, start}
 use Rattle.bn_view.specs.Modules.{IsModuleAt}
 use Rattle.bn_view.specs.Viewed.{Comes, Finds, IsBoardFor, IsBoardOf, IsLastMoment, IsView, IsViewOf, MachineIsAt, ShowsMachine}

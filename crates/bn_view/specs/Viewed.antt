@@ -16,10 +16,10 @@ use Rattle.bn_bennett.specs.Translation.{Translation, name_of}
 use Rattle.bn_bennett.specs.Meaning.{stage_by, machine_state_by}
 use Rattle.bn_bennett.specs.declared.translated.MachineState.{MachineState}
 use Rattle.bn_bennett.specs.declared.translated.MachineState.TheVariants.{AtState, Within}
-use Rattle.bn_board.specs.Layouts.{IsExit, Layout, moment_at, spelled_by, spelled_config}
-use Rattle.bn_board.specs.BoardMoments.{IsBoardMoment}
-use Rattle.bn_board.specs.Flats.{Flat, IsAccepted, IsFlatOf, flat_start, machine_of}
-use Rattle.bn_flat.specs.Flattened.{Flattened, origin}
+use Rattle.bn_board_spec.specs.Layouts.{IsExit, Layout, moment_at, spelled_by, spelled_config}
+use Rattle.bn_board_spec.specs.BoardMoments.{IsBoardMoment}
+use Rattle.bn_board_spec.specs.Flats.{Flat, IsAccepted, IsFlatOf, flat_start, machine_of}
+use Rattle.bn_board.specs.Flattened.{Flattened, origin}
 use Rattle.bn_view.specs.declared.layers.Layers.{Layers}
 use Rattle.bn_view.specs.declared.viewer.LastMoment.{LastMoment}
 use Rattle.bn_view.specs.Shown.{IsShown}

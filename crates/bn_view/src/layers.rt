@@ -1,8 +1,8 @@
 //! What a view says.
 
 use bn_bennett::{MachineState, Stage};
+use bn_board::{Exit, Spelled};
 use bn_cell::CellLine;
-use bn_flat::{Exit, Spelled};
 use bn_net::Place;
 
 /// The module in which the signal of a board is (this project's own profile). It enters a module where it comes to an

@@ -3,12 +3,12 @@
 ghost use Rattle.std.specs.Prelude.{◌≡◌, ℕ};
 ghost use Rattle.bn_network.specs.Controls.{symbol_count};
 ghost use Rattle.bn_network.specs.Networks.{IsTape};
-ghost use Rattle.bn_board.specs.Layouts.{symbol_count_at};
+ghost use Rattle.bn_board_spec.specs.Layouts.{symbol_count_at};
 ghost use Rattle.bn_view.specs.Modules.{IsModuleAt};
 
 use crate::layers::ModuleAt;
+use bn_board::{Board, Located};
 use bn_cell::line_of;
-use bn_flat::{Board, Located};
 use bn_quad::QuadMachine;
 
 // The module in which the signal of a board of this machine is.

@@ -5,8 +5,8 @@ ghost use Rattle.bn_circuits.specs.Stepping.{run};
 ghost use Rattle.bn_net.specs.RotaryNets.{rotary_circuit};
 ghost use Rattle.bn_machine.specs.Machine.{Program};
 ghost use Rattle.bn_machine.specs.Outcome.{Limits};
-ghost use Rattle.bn_board.specs.Flats.{Flat};
-ghost use Rattle.bn_flat.specs.Flattened.{IsBoardKept, IsSameBoard, origin};
+ghost use Rattle.bn_board_spec.specs.Flats.{Flat};
+ghost use Rattle.bn_board.specs.Flattened.{IsBoardKept, IsSameBoard, origin};
 ghost use Rattle.bn_view.specs.Shown.{IsShown};
 ghost use Rattle.bn_view.specs.Viewed.{Finds, IsBoardFor, IsBoardOf, IsLastMoment, IsView, IsViewOf, ShowsMachine};
 
@@ -14,7 +14,7 @@ use crate::laws::{shown_is_found, views_stand};
 use crate::layers::Layers;
 use crate::module_at::module_at;
 use bn_bennett::Translated;
-use bn_flat::{Board, NoMemory, Spelled, SpelledTape};
+use bn_board::{Board, NoMemory, Spelled, SpelledTape};
 use std::alloc::Global;
 
 // The last moment of a board: its state, and what the cells showed then.

@@ -8,8 +8,8 @@ use Rattle.bn_machine.specs.Machine.{Program}
 use Rattle.bn_machine.specs.Outcome.{Limits, Outcome, HasOutcome}
 use Rattle.bn_net.specs.declared.net.TheConstants.{MOST_ELEMENTS}
 use Rattle.bn_table.specs.Rows.{Named}
-use Rattle.bn_board.specs.Boards.{size}
-use Rattle.bn_board.specs.Flats.{Flat}
+use Rattle.bn_board_spec.specs.Boards.{size}
+use Rattle.bn_board_spec.specs.Flats.{Flat}
 use Rattle.bn_board_laws.specs.Headline.{RunsToExit}
 use Rattle.bn_reply.specs.TableReply.{JudgedReplies, WordReplies, faulty, fit, foreign, read, spelled, unfit}
 use Rattle.bn_standard.specs.Standard.{IsStandard}

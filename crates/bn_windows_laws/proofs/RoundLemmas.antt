@@ -17,13 +17,13 @@ use Rattle.bn_machine.specs.declared.quint.Side.{Side}
 use Rattle.bn_bennett_laws.specs.Stages.{IsStandardMachine}
 use Rattle.bn_table.specs.Laws.{TablesAreMachines}
 use Rattle.bn_table.specs.Rows.{FitsTable, Named}
-use Rattle.bn_board.specs.Boards.{size}
-use Rattle.bn_board.specs.declared.exit.Exit.TheVariants as exits
-use Rattle.bn_board.specs.Layouts.{IsNamedExit}
-use Rattle.bn_board.specs.Flats.{Flat, IsAccepted, flat_start}
-use Rattle.bn_board.specs.LayoutLaws.{ExitsAreOne, FlatsAreOne}
+use Rattle.bn_board_spec.specs.Boards.{size}
+use Rattle.bn_board_spec.specs.declared.exit.Exit.TheVariants as exits
+use Rattle.bn_board_spec.specs.Layouts.{IsNamedExit}
+use Rattle.bn_board_spec.specs.Flats.{Flat, IsAccepted, flat_start}
+use Rattle.bn_board_spec.specs.LayoutLaws.{ExitsAreOne, FlatsAreOne}
 use Rattle.bn_board_laws.specs.ExistenceLaws.{FlatsAreThere}
-use Rattle.bn_board.specs.Costs.{bound_of}
+use Rattle.bn_board_spec.specs.Costs.{bound_of}
 use Rattle.bn_board_laws.specs.Headline.{IsExitFor, RunsToExit}
 use Rattle.bn_board_laws.specs.HeadlineLaws.{BoardsRunToTheirExit}
 use Rattle.bn_board_laws.proofs.CountLemmas.{places_stop}

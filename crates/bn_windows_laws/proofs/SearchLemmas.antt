@@ -10,7 +10,7 @@ use Rattle.bn_machine.specs.Outcome.{Limits, Outcome, Halted, Stuck, Outside, Ha
 use Rattle.bn_machine.proofs.OutcomeLemmas.{outcome_once, outcome_exists, run_goes_on}
 use Rattle.bn_machine.specs.declared.quint.Side.{Side}
 use Rattle.bn_bennett_laws.specs.Stages.{IsStandardMachine}
-use Rattle.bn_board.specs.Boards.{size}
+use Rattle.bn_board_spec.specs.Boards.{size}
 use Rattle.bn_board_laws.specs.ExistenceLaws.{FlatsAreThere}
 use Rattle.bn_reply_boards_laws.specs.Windows.{CountsElements}
 use Rattle.bn_reply_boards_laws.specs.Laws.{BoardsAreCounted}

@@ -7,8 +7,8 @@ use Rattle.bn_circuits.specs.declared.place.Place.{Place}
 use Rattle.bn_machine.specs.Machine.{Program}
 use Rattle.bn_machine.specs.Outcome.{Limits}
 use Rattle.bn_table.specs.Rows.{Named}
-use Rattle.bn_board.specs.Flats.{Flat, flat_start}
-use Rattle.bn_board.specs.Costs.{HasCost}
+use Rattle.bn_board_spec.specs.Flats.{Flat, flat_start}
+use Rattle.bn_board_spec.specs.Costs.{HasCost}
 use Rattle.bn_reply.specs.declared.limits.TheConstants.{MOST_INPUT_BYTES}
 use Rattle.bn_reply.specs.declared.status.Status.{Status}
 use Rattle.bn_reply.specs.declared.status.Status.TheVariants as statuses

@@ -11,9 +11,9 @@ use Rattle.bn_machine.specs.Outcome.{Limits}
 use Rattle.bn_machine.specs.declared.quint.Side.{Side}
 use Rattle.bn_net.specs.declared.net.TheConstants.{MOST_ELEMENTS}
 use Rattle.bn_table.specs.Rows.{Named}
-use Rattle.bn_board.specs.declared.exit.Exit.TheVariants as exits
-use Rattle.bn_board.specs.Layouts.{IsNamedExit}
-use Rattle.bn_board.specs.Flats.{Flat, flat_start}
+use Rattle.bn_board_spec.specs.declared.exit.Exit.TheVariants as exits
+use Rattle.bn_board_spec.specs.Layouts.{IsNamedExit}
+use Rattle.bn_board_spec.specs.Flats.{Flat, flat_start}
 use Rattle.bn_reply.specs.Answering.{IsSettled}
 use Rattle.bn_reply.specs.Lines.{line}
 use Rattle.bn_reply.specs.TableReply.{StandardReplies, WordReplies}

@@ -5,8 +5,8 @@ use Rattle.bn_base.specs.declared.limits.TheConstants.{MOST_COUNT}
 use Rattle.bn_io.specs.Told.{Grows}
 use Rattle.bn_machine.specs.Outcome.{Limits, Outcome, HasOutcome}
 use Rattle.bn_table.specs.Rows.{Named}
-use Rattle.bn_board.specs.Boards.{size}
-use Rattle.bn_board.specs.Flats.{Flat}
+use Rattle.bn_board_spec.specs.Boards.{size}
+use Rattle.bn_board_spec.specs.Flats.{Flat}
 use Rattle.bn_board_laws.specs.Headline.{RunsToExit}
 use Rattle.bn_reply.specs.TableReply.{ReadsStandard}
 use Rattle.bn_reply.specs.Words.{IsSpelledBy}

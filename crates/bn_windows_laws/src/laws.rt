@@ -6,8 +6,8 @@ ghost use Rattle.bn_windows_laws.specs.AutoReply.{AutoIsSettled};
 ghost use Rattle.bn_windows_laws.specs.Laws.{CellsGrow, ElementsGrow, EndsAreFour, FoundComesOut, LargeIsTooLarge};
 ghost use Rattle.bn_windows_laws.specs.Laws.{NumbersStayLow, SearchEnds, SearchIsOne, SearchIsShort, WindowsAreWhole};
 
-use bn_board::{exits_are_one, flats_are_one};
 use bn_board_laws::{boards_run_to_their_exit, flats_are_there};
+use bn_board_spec::{exits_are_one, flats_are_one};
 use bn_reply_boards_laws::{boards_are_counted, run_has_one_reply, runs_tell_outcomes};
 use bn_table::tables_are_machines;
 

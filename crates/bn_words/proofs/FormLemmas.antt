@@ -7,8 +7,8 @@ use Rattle.bn_base.specs.declared.numbers.Digits.{Digits}
 use Rattle.bn_machine.specs.Outcome.{Limits}
 use Rattle.bn_network.specs.Limits.{AreSmall}
 use Rattle.bn_words.specs.Requests.{HasForm, IsAllowed, Request, words_of}
-use Rattle.bn_words.specs.Requests.{Step, Back, Check, Machine, Reversible, Bennett, Realise, Standard, Compile, Run, RunAuto, View, Session}
-use Rattle.bn_words.specs.Requests.{Plan, Migrate, Mirror, Farm, Generate, Erase, EraseRun}
+use Rattle.bn_words.specs.Requests.{Step, Back, Check, Machine, Trace, Reversible, Inverse, Bennett, Realise, Standard, Compile, Run, RunAuto}
+use Rattle.bn_words.specs.Requests.{View, Session, Plan, Migrate, Mirror, Farm, Generate, Erase, EraseRun}
 use Rattle.bn_words.proofs.Numbers.{read-whole}
 
 -- ---- what one word would say
@@ -44,6 +44,7 @@ abbrev alone : List ℕ → Option Request
 alone name =
     if bytes_eq name (codes "check") then Some Check
     else if bytes_eq name (codes "reversible") then Some Reversible
+    else if bytes_eq name (codes "inverse") then Some Inverse
     else if bytes_eq name (codes "bennett") then Some Bennett
     else if bytes_eq name (codes "standard") then Some Standard
     else if bytes_eq name (codes "plan") then Some Plan
@@ -64,6 +65,7 @@ with_pair name a b =
     if bytes_eq name (codes "realise") then Some (Realise (value a) (value b))
     else if bytes_eq name (codes "run") then Some (RunAuto (letters a))
     else if bytes_eq name (codes "machine") then Some (Machine (letters a) (value b))
+    else if bytes_eq name (codes "trace") then Some (Trace (letters a) (value b))
     else Some (EraseRun (letters a) (value b))
 
 abbrev with_window : List ℕ → List ℕ → Limits → Option Request
@@ -90,6 +92,7 @@ again : (r : Request) → IsAllowed r → only (words_of r) ≡ Some r
 again (Step e) h = ap (λ n. Some (Step n)) (value_again e h)
 again (Back e) h = ap (λ n. Some (Back n)) (value_again e h)
 again (Machine w n) h = ap (λ m. Some (Machine w m)) (value_again n (omega (arith, h)))
+again (Trace w n) h = ap (λ m. Some (Trace w m)) (value_again n (omega (arith, h)))
 again (Realise q i) h =
     let state = value_again q (omega (arith, h.0.1)) in
     let line = value_again i (omega (arith, h.1.1)) in

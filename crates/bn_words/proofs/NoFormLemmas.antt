@@ -7,7 +7,7 @@ use Rattle.bn_base.specs.declared.limits.TheConstants.{MOST_COUNT}
 use Rattle.bn_base.proofs.NumberLemmas.{decimal-once}
 use Rattle.bn_gen.specs.declared.machine.TheConstants.{MOST_INCREMENTS}
 use Rattle.bn_words.specs.Requests.{HasForm, HasNoForm}
-use Rattle.bn_words.specs.Requests.{Step, Back, Machine, Realise, Compile, Run, RunAuto, View, Session}
+use Rattle.bn_words.specs.Requests.{Step, Back, Machine, Trace, Realise, Compile, Run, RunAuto, View, Session}
 use Rattle.bn_words.specs.Requests.{Generate, EraseRun}
 use Rattle.bn_words.specs.Words.{IsCount, IsNoCount, IsNumber}
 use Rattle.bn_words.proofs.FormLemmas.{only_form, value}
@@ -70,6 +70,7 @@ no_length : (words : List (List ℕ)) → length words ≢ 1 → length words �
 no_length words a b c d e (Step n) h = b (ap length h.words_are)
 no_length words a b c d e (Back n) h = b (ap length h.words_are)
 no_length words a b c d e (Machine w n) h = c (ap length h.words_are)
+no_length words a b c d e (Trace w n) h = c (ap length h.words_are)
 no_length words a b c d e (Realise q i) h = c (ap length h.words_are)
 no_length words a b c d e (Compile w l) h = d (ap length h.words_are)
 no_length words a b c d e (Run w l None) h = d (ap length h.words_are)

@@ -7,7 +7,11 @@ use Rattle.bn_gen.specs.Increments.{IsRoundCount}
 use Rattle.bn_network.specs.Limits.{AreSmall}
 use Rattle.bn_assembly.specs.Assembled.{limits_of}
 use Rattle.bn_words.specs.declared.request.Request as declared
+use Rattle.bn_words.specs.declared.request.ConfigurationRequest as declared_configuration
+use Rattle.bn_words.specs.declared.request.WholeRequest as declared_whole
 use Rattle.bn_words.specs.declared.request.Request.TheVariants as variants
+use Rattle.bn_words.specs.declared.request.ConfigurationRequest.TheVariants as config
+use Rattle.bn_words.specs.declared.request.WholeRequest.TheVariants as whole
 
 -- What is asked for, a case a form: numbers, the letters of a word, the limits of a window, and a greatest number of
 -- steps where there may be none.
@@ -16,7 +20,9 @@ pub data Request : Type 0 where
   Back : ℕ → Request
   Check : Request
   Machine : List ℕ → ℕ → Request
+  Trace : List ℕ → ℕ → Request
   Reversible : Request
+  Inverse : Request
   Bennett : Request
   Realise : ℕ → ℕ → Request
   Standard : Request
@@ -52,7 +58,9 @@ words_of (Step e) = codes "step" ∷ decimal e ∷ []
 words_of (Back e) = codes "back" ∷ decimal e ∷ []
 words_of Check = codes "check" ∷ []
 words_of (Machine word n) = codes "machine" ∷ (61 ∷ word) ∷ decimal n ∷ []
+words_of (Trace word n) = codes "trace" ∷ (61 ∷ word) ∷ decimal n ∷ []
 words_of Reversible = codes "reversible" ∷ []
+words_of Inverse = codes "inverse" ∷ []
 words_of Bennett = codes "bennett" ∷ []
 words_of (Realise q i) = codes "realise" ∷ decimal q ∷ decimal i ∷ []
 words_of Standard = codes "standard" ∷ []
@@ -81,6 +89,7 @@ abbrev pub IsAllowed : Request → Type 0
 IsAllowed (Step e) = e ≤ greatest
 IsAllowed (Back e) = e ≤ greatest
 IsAllowed (Machine word n) = n ≤ MOST_COUNT
+IsAllowed (Trace word n) = n ≤ MOST_COUNT
 IsAllowed (Realise q i) = IsOrdinal q × IsOrdinal i
 IsAllowed (Compile word l) = AreSmall l
 IsAllowed (Run word l given) = AreSmall l × IfSome given (λ e. e ≤ greatest)
@@ -106,25 +115,33 @@ abbrev pub reads_input : Request → Bool
 reads_input (Generate k) = false
 reads_input _ = true
 
--- what the program's request asks for
+-- what the program's request asks for: of a configuration text, of an input that is wanted whole, and in all
+abbrev pub of_configuration : declared_configuration.ConfigurationRequest → Request
+of_configuration (config.Step e) = Step e
+of_configuration (config.Back e) = Back e
+of_configuration config.Plan = Plan
+of_configuration config.Migrate = Migrate
+of_configuration config.Mirror = Mirror
+
+abbrev pub of_whole : declared_whole.WholeRequest → Request
+of_whole whole.Check = Check
+of_whole (whole.Machine word n) = Machine word.now n
+of_whole (whole.Trace word n) = Trace word.now n
+of_whole whole.Reversible = Reversible
+of_whole whole.Inverse = Inverse
+of_whole whole.Bennett = Bennett
+of_whole (whole.Realise q i) = Realise q i
+of_whole whole.Standard = Standard
+of_whole (whole.Compile word window) = Compile word.now (limits_of window)
+of_whole (whole.Run word window given) = Run word.now (limits_of window) given
+of_whole (whole.RunAuto word) = RunAuto word.now
+of_whole (whole.View word window e) = View word.now (limits_of window) e
+of_whole (whole.Session word window) = Session word.now (limits_of window)
+of_whole whole.Farm = Farm
+of_whole whole.Erase = Erase
+of_whole (whole.EraseRun word n) = EraseRun word.now n
+
 abbrev pub request_of : declared.Request → Request
-request_of (variants.Step e) = Step e
-request_of (variants.Back e) = Back e
-request_of variants.Check = Check
-request_of (variants.Machine word n) = Machine word.now n
-request_of variants.Reversible = Reversible
-request_of variants.Bennett = Bennett
-request_of (variants.Realise q i) = Realise q i
-request_of variants.Standard = Standard
-request_of (variants.Compile word window) = Compile word.now (limits_of window)
-request_of (variants.Run word window given) = Run word.now (limits_of window) given
-request_of (variants.RunAuto word) = RunAuto word.now
-request_of (variants.View word window e) = View word.now (limits_of window) e
-request_of (variants.Session word window) = Session word.now (limits_of window)
-request_of variants.Plan = Plan
-request_of variants.Migrate = Migrate
-request_of variants.Mirror = Mirror
-request_of variants.Farm = Farm
+request_of (variants.OnConfiguration asked) = of_configuration asked
+request_of (variants.OnWhole asked) = of_whole asked
 request_of (variants.Generate k) = Generate k
-request_of variants.Erase = Erase
-request_of (variants.EraseRun word n) = EraseRun word.now n

@@ -5,7 +5,7 @@ ghost use Rattle.std.specs.String.{string_bytes};
 ghost use Rattle.bn_words.specs.Requests.{HasForm, HasNoForm, request_of};
 ghost use Rattle.bn_words.specs.Words.{AreRead};
 
-use crate::request::Request;
+use crate::request::{ConfigurationRequest, Request, WholeRequest};
 use crate::word::{count_of, letters_of, number_of, window_of};
 use bn_gen::MOST_INCREMENTS;
 
@@ -44,15 +44,16 @@ fn read_name(name: &str) -> Option<Request<'_>>
     ensures { AreRead (name.now ∷ []) result }
 {
     match name {
-        "check" => Some(Request::Check),
-        "reversible" => Some(Request::Reversible),
-        "bennett" => Some(Request::Bennett),
-        "standard" => Some(Request::Standard),
-        "plan" => Some(Request::Plan),
-        "migrate" => Some(Request::Migrate),
-        "mirror" => Some(Request::Mirror),
-        "farm" => Some(Request::Farm),
-        "erase" => Some(Request::Erase),
+        "check" => Some(Request::OnWhole(WholeRequest::Check)),
+        "reversible" => Some(Request::OnWhole(WholeRequest::Reversible)),
+        "inverse" => Some(Request::OnWhole(WholeRequest::Inverse)),
+        "bennett" => Some(Request::OnWhole(WholeRequest::Bennett)),
+        "standard" => Some(Request::OnWhole(WholeRequest::Standard)),
+        "plan" => Some(Request::OnConfiguration(ConfigurationRequest::Plan)),
+        "migrate" => Some(Request::OnConfiguration(ConfigurationRequest::Migrate)),
+        "mirror" => Some(Request::OnConfiguration(ConfigurationRequest::Mirror)),
+        "farm" => Some(Request::OnWhole(WholeRequest::Farm)),
+        "erase" => Some(Request::OnWhole(WholeRequest::Erase)),
         _ => None,
     }
 }
@@ -63,8 +64,8 @@ fn read_number<'a>(name: &str, number: &'a str) -> Option<Request<'a>>
 {
     let number = number_of(number)?;
     match name {
-        "step" => Some(Request::Step { most_steps: number }),
-        "back" => Some(Request::Back { most_steps: number }),
+        "step" => Some(Request::OnConfiguration(ConfigurationRequest::Step { most_steps: number })),
+        "back" => Some(Request::OnConfiguration(ConfigurationRequest::Back { most_steps: number })),
         "generate" => {
             if number < 1 || number > MOST_INCREMENTS as u64 {
                 return None;
@@ -94,7 +95,7 @@ fn read_auto<'a>(first: &'a str, second: &str) -> Option<Request<'a>>
 {
     let word = letters_of(first)?;
     match second {
-        "auto" => Some(Request::RunAuto { word }),
+        "auto" => Some(Request::OnWhole(WholeRequest::RunAuto { word })),
         _ => None,
     }
 }
@@ -108,8 +109,9 @@ fn read_word_and_count<'a>(name: &str, first: &'a str, second: &str) -> Option<R
     let word = letters_of(first)?;
     let most_steps = count_of(second)?;
     match name {
-        "machine" => Some(Request::Machine { word, most_steps }),
-        "erase" => Some(Request::EraseRun { word, most_steps }),
+        "machine" => Some(Request::OnWhole(WholeRequest::Machine { word, most_steps })),
+        "trace" => Some(Request::OnWhole(WholeRequest::Trace { word, most_steps })),
+        "erase" => Some(Request::OnWhole(WholeRequest::EraseRun { word, most_steps })),
         _ => None,
     }
 }
@@ -123,7 +125,7 @@ fn read_realise<'a>(first: &'a str, second: &str) -> Option<Request<'a>>
     if state < 1 || line < 1 {
         return None;
     }
-    Some(Request::Realise { state, line })
+    Some(Request::OnWhole(WholeRequest::Realise { state, line }))
 }
 
 // The forms of a name, a word and a window.
@@ -140,13 +142,13 @@ fn read_window<'a>(
     let word = letters_of(word)?;
     let window = window_of(left, right, steps, output)?;
     match name {
-        "compile" => Some(Request::Compile { word, window }),
-        "run" => Some(Request::Run {
+        "compile" => Some(Request::OnWhole(WholeRequest::Compile { word, window })),
+        "run" => Some(Request::OnWhole(WholeRequest::Run {
             word,
             window,
             most_steps: None,
-        }),
-        "session" => Some(Request::Session { word, window }),
+        })),
+        "session" => Some(Request::OnWhole(WholeRequest::Session { word, window })),
         _ => None,
     }
 }
@@ -168,16 +170,16 @@ fn read_window_and_steps<'a>(
     let window = window_of(left, right, steps, output)?;
     let most_steps = number_of(most_steps)?;
     match name {
-        "run" => Some(Request::Run {
+        "run" => Some(Request::OnWhole(WholeRequest::Run {
             word,
             window,
             most_steps: Some(most_steps),
-        }),
-        "view" => Some(Request::View {
+        })),
+        "view" => Some(Request::OnWhole(WholeRequest::View {
             word,
             window,
             most_steps,
-        }),
+        })),
         _ => None,
     }
 }

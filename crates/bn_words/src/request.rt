@@ -5,11 +5,25 @@ ghost use Rattle.bn_words.specs.Requests.{reads_input, request_of};
 
 use bn_assembly::Windows;
 
-/// What the words of a command line ask for, a variant a form. A word W stands behind the byte `=`, and a window is
-/// four words l1 r1 n r3: tape 1 reaches from -l1 to r1, the history holds n steps, and the output tape reaches from 0
-/// to r3.
+/// What the words of a command line ask for, by what their command does with an input. A word W stands behind the byte
+/// `=`, and a window is four words l1 r1 n r3: tape 1 reaches from -l1 to r1, the history holds n steps, and the output
+/// tape reaches from 0 to r3.
 #[derive(Clone, Copy, Debug)]
 pub enum Request<'a> {
+    /// A command that reads a configuration text, in pieces.
+    OnConfiguration(ConfigurationRequest),
+    /// A command that wants its input whole.
+    OnWhole(WholeRequest<'a>),
+    /// `generate k`: the run of the machine of k increments. It reads no input.
+    Generate {
+        /// The number of increments.
+        increments: u32,
+    },
+}
+
+/// What is asked of a configuration text, a variant a form.
+#[derive(Clone, Copy, Debug)]
+pub enum ConfigurationRequest {
     /// `step E`: at most E steps of a circuit.
     Step {
         /// The greatest number of steps.
@@ -20,6 +34,17 @@ pub enum Request<'a> {
         /// The greatest number of steps.
         most_steps: u64,
     },
+    /// `plan`: the floor plan of a circuit, with the least number of tracks.
+    Plan,
+    /// `migrate`: a configuration text in version 2.
+    Migrate,
+    /// `mirror`: a circuit whose steps are the steps back of the first.
+    Mirror,
+}
+
+/// What is asked of an input that is wanted whole, a variant a form.
+#[derive(Clone, Copy, Debug)]
+pub enum WholeRequest<'a> {
     /// `check`: the verdict on standard form.
     Check,
     /// `machine =W n`: a machine's own run from the word W, of at most n steps.
@@ -29,8 +54,17 @@ pub enum Request<'a> {
         /// The greatest number of steps.
         most_steps: u32,
     },
+    /// `trace =W n`: each moment of that run.
+    Trace {
+        /// The letters of the word.
+        word: &'a [u8],
+        /// The greatest number of steps.
+        most_steps: u32,
+    },
     /// `reversible`: the two verdicts on quadruples.
     Reversible,
+    /// `inverse`: the table of the machine that takes the steps of one of quadruples back.
+    Inverse,
     /// `bennett`: the table of Bennett's reversible machine.
     Bennett,
     /// `realise Q I`: the text of a bank in state Q with the signal at line I.
@@ -79,19 +113,8 @@ pub enum Request<'a> {
         /// The window.
         window: Windows,
     },
-    /// `plan`: the floor plan of a circuit, with the least number of tracks.
-    Plan,
-    /// `migrate`: a configuration text in version 2.
-    Migrate,
-    /// `mirror`: a circuit whose steps are the steps back of the first.
-    Mirror,
     /// `farm`: several circuits under a schedule, and the schedule that undoes it.
     Farm,
-    /// `generate k`: the run of the machine of k increments. It reads no input.
-    Generate {
-        /// The number of increments.
-        increments: u32,
-    },
     /// `erase`: the machine of two tables that leaves only its output.
     Erase,
     /// `erase =W n`: the run of that machine from the word W, of at most n steps.

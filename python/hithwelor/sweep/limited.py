@@ -127,7 +127,7 @@ def exactly(pipe, count):
 
 
 def serve(parent):
-    """Answers one call after another, framed as python/hithwelor/serve.cjs has them; a first byte says that it is ready."""
+    """Answers one call after another, framed as `serve` of js/command.mjs has them; a first byte says that it is ready."""
     end_with(parent)
     source, sink, way = sys.stdin.buffer, sys.stdout.buffer, answers.way()
     sink.write(b".")

@@ -85,17 +85,22 @@ class Local:
         self.pool.shutdown(wait=True, cancel_futures=True)
 
     def kill(self):
-        """Kills the pool's processes, and closes the pipes by which its own thread may still be reading from them or
-        writing to them: it would wait for ever, and Python's end for it. From 3.11.5 on Python sees to the writing."""
+        """Kills the pool's processes, and closes the pipes by which its own threads may still be reading from them or
+        writing to them: they would wait for ever, and Python's end for them. From 3.11.5 on Python sees to the writing."""
         for process in multiprocessing.active_children():
             kill_group(process.pid)
             process.kill()
-        ends = [self.pool._result_queue._writer]
+        with contextlib.suppress(OSError):
+            self.pool._result_queue._writer.close()
         if sys.version_info < (3, 11, 5):
-            ends.append(self.pool._call_queue._reader)
-        for end in ends:
-            with contextlib.suppress(OSError):
-                end.close()
+            let_go(self.pool._call_queue._reader)
+
+
+def let_go(end):
+    """Closes the pipe behind this end of it, and leaves its number open, on nothing: a thread of the pool closes the number
+    itself, perhaps at this moment, and would fall over one that is closed."""
+    with contextlib.suppress(OSError), open(os.devnull, "rb") as nothing:
+        os.dup2(nothing.fileno(), end.fileno(), inheritable=False)
 
 
 def keep_memory():

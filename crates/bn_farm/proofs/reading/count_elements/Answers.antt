@@ -1,5 +1,5 @@
 use Rattle.std.proofs.Common.{◌+◌, length, sym, ap, subst, ◌∙◌}
-use Rattle.bn_netlist_lines.specs.declared.net_config.NetConfig.{NetConfig}
+use Rattle.bn_netlist.specs.declared.net_config.NetConfig.{NetConfig}
 use Rattle.bn_farm.proofs.FarmReadLemmas.{HasCounted, one_counted}
 use Rattle.bn_farm.proofs.reading.count_elements.Goals as goal
 

@@ -1,7 +1,7 @@
 use Rattle.std.proofs.Common.{◌∷◌, [], sym, subst}
 use Rattle.bn_farm.specs.Farms.{IsAdmitted, board_of}
 use Rattle.bn_farm.specs.Writing.{HasWritten}
-use Rattle.bn_netlist_lines.specs.declared.net_config.NetConfig.{NetConfig}
+use Rattle.bn_netlist.specs.declared.net_config.NetConfig.{NetConfig}
 use Rattle.bn_farm.proofs.WriteLemmas.{board_good, one_written}
 use Rattle.bn_farm.proofs.write.push_boards.Goals as goal
 

@@ -6,8 +6,8 @@ use Rattle.bn_io.proofs.reading.read_onto.Given as goal
 abbrev pub invariant-loop : goal.invariant-loop
 invariant-loop g l =
     (vec_len l.bytes ≤ l.limit)
-    × Loses (g.S.Source.left l.fn.source) (g.S.Source.left l.source) l.bytes.items
-    × (g.S.Source.faults l.fn.source ≤ g.S.Source.faults l.source)
+    × Loses (g.I.Input.left l.fn.input) (g.I.Input.left l.input) l.bytes.items
+    × (g.I.Input.faults l.fn.input ≤ g.I.Input.faults l.input)
 
 abbrev pub decreases-loop : goal.decreases-loop
 decreases-loop g l = l.limit + 1 - vec_len l.bytes

@@ -1,5 +1,5 @@
 use Rattle.std.proofs.Common.{◌+◌, ◌*◌, refl, sym, subst}
-use Rattle.bn_netlist_lines.proofs.NetLemmas.{output_there}
+use Rattle.bn_netlist.proofs.NetLemmas.{output_there}
 use Rattle.bn_mirror.specs.Listing.{IsListing}
 use Rattle.bn_mirror.proofs.ListingLemmas.{none_more, one_more}
 use Rattle.bn_mirror.proofs.make.push_wire.Goals as goal

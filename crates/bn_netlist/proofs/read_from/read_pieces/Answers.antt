@@ -13,8 +13,8 @@ returns-in_err-count-clause-taken g c =
     let i = c.loop-pieces.invariant in
     rw (p.1, p.2) (i.0 ++ t.0, reads-behind _ _ _ _ _ _ _ _ _ i.1 i.2 i.3 (λ e. cc) (λ e. cc) t.1, tt)
 
-pub returns-in_default-push-clause-taken : goal.returns-in_default-push-clause-taken
-returns-in_default-push-clause-taken g c =
+pub returns-in_default-clause-taken : goal.returns-in_default-clause-taken
+returns-in_default-clause-taken g c =
     let t = c.in_ok-count.ensures.taken in
     let i = c.loop-pieces.invariant in
     (i.0 ++ t.0, reads-behind _ _ _ _ _ _ _ _ _ i.1 i.2 i.3 (λ e. cc) (λ e. cc) t.1, tt)
@@ -23,7 +23,7 @@ pub loop-pieces-preserved : goal.loop-pieces-preserved
 loop-pieces-preserved g c =
     let t = c.in_ok-count.ensures.taken in
     let i = c.loop-pieces.invariant in
-    let come = c.in-Ok-push.ensures in
+    let come = c.in-Ok.ensures in
     let e = c.in_ok-count.ensures in
     let bound : c.in_ok-count.count ≤ length c.read_piece.new.buffer = omega (arith, e.bound) in
     let size = length-take-le c.in_ok-count.count c.read_piece.new.buffer bound in
@@ -33,6 +33,6 @@ loop-pieces-preserved g c =
       omega (arith, length-append i.0 t.0),
       omega (arith, e.within),
       omega arith,
-      subst (λ (z : List ℕ). HaveCome c.in-Ok-push.next (i.0 ++ z)) (sym t.2) (come i.0 i.5),
+      subst (λ (z : List ℕ). HaveCome c.in-Ok.next (i.0 ++ z)) (sym t.2) (come i.0 i.5),
       omega (arith, e.later),
     )

@@ -7,12 +7,12 @@ use Rattle.bn_netlist.proofs.read_from.read_pieces.Given as goal
 abbrev pub invariant-loop-pieces : goal.invariant-loop-pieces
 invariant-loop-pieces g l =
     (given : List ℕ)
-    × Loses (g.S.Source.left l.fn.source) (g.S.Source.left l.source) given
+    × Loses (g.I.Input.left l.fn.input) (g.I.Input.left l.input) given
     × (l.taken ≡ length given)
     × (l.taken ≤ l.limit)
     × (0 < length l.buffer)
     × HaveCome l.pieces given
-    × (g.S.Source.faults l.fn.source ≤ g.S.Source.faults l.source)
+    × (g.I.Input.faults l.fn.input ≤ g.I.Input.faults l.input)
 
 abbrev pub decreases-loop-pieces : goal.decreases-loop-pieces
 decreases-loop-pieces g l = l.limit - l.taken

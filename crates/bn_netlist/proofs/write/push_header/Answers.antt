@@ -1,5 +1,5 @@
 use Rattle.std.proofs.Common.{[], ◌∷◌, ◌++◌, ◌≡◌, ◌∙◌, sym, append-nil, arith}
-use Rattle.bn_netlist_lines.proofs.NetLemmas.{on_ok}
+use Rattle.bn_netlist.proofs.NetLemmas.{on_ok}
 use Rattle.bn_netlist_laws.specs.Sentences.{Title, Count, Start, End, Steps, At, lines_text}
 use Rattle.bn_netlist.proofs.WritingLemmas.{line_more}
 use Rattle.bn_netlist.proofs.write.push_header.Goals as goal

@@ -1,5 +1,4 @@
 use Rattle.std.proofs.Common.{◌≡◌, ◌<◌, arith, subst}
-use Rattle.std.proofs.lemmas.Result.{err_from_is_err_and, on_ok_weaker, on_err_weaker}
 use Rattle.bn_io.specs.Told.{Grows, GrowsByFront}
 use Rattle.bn_netlist.proofs.GivingLemmas.{given_none, given_more, given_front, given_front_more, given_whole, given_last}
 use Rattle.bn_netlist.proofs.write_to.give_entries.Goals as goal
@@ -14,15 +13,18 @@ pub returns-in_default-clause-front : goal.returns-in_default-clause-front
 returns-in_default-clause-front g c =
     let v = g.C.Spellable.version c.args.config.now in
     let s = g.C.Spellable.spelling c.args.config.now in
-    given_front v s (g.K.Sink.taken c.args.sink.now) (g.K.Sink.taken c.loop-line.sink) c.loop-line.text.items c.loop-line.line c.loop-line.place.element c.loop-line.place.rows c.requires.admitted c.loop-line.invariant.0
+    given_front v s (g.K.Sink.taken c.args.sink.now) (g.K.Sink.taken c.loop-line.sink) c.loop-line.text.items
+    c.loop-line.line c.loop-line.place.element c.loop-line.place.rows c.requires.admitted c.loop-line.invariant.0
 
-pub returns-in_err-give_pieces-clause-front : goal.returns-in_err-give_pieces-clause-front
-returns-in_err-give_pieces-clause-front g c =
+pub returns-in-Err-clause-front : goal.returns-in-Err-clause-front
+returns-in-Err-clause-front g c =
     let v = g.C.Spellable.version c.args.config.now in
     let s = g.C.Spellable.spelling c.args.config.now in
     let short : c.loop-line.line < s.elements = omega (arith, c.loop-line-test.true, c.len-line-end.ensures) in
-    let p = err_from_is_err_and c.from_residual.result c.from_residual.ensures.1 in
-    rw p.1 (given_front_more v s (g.K.Sink.taken c.args.sink.now) (g.K.Sink.taken c.loop-line.sink) (g.K.Sink.taken c.give_pieces.new.sink) c.loop-line.text.items c.push_line.new.text.items c.loop-line.line c.loop-line.place.element c.loop-line.place.rows c.in-Ok.next.element c.in-Ok.next.rows short c.requires.admitted c.loop-line.invariant.0 c.in-Ok.ensures c.in_err-give_pieces.ensures.front)
+    given_front_more v s (g.K.Sink.taken c.args.sink.now) (g.K.Sink.taken c.loop-line.sink)
+    (g.K.Sink.taken c.give_pieces.new.sink) c.loop-line.text.items c.push_line.new.text.items c.loop-line.line
+    c.loop-line.place.element c.loop-line.place.rows c.in-Ok.next.element c.in-Ok.next.rows short c.requires.admitted
+    c.loop-line.invariant.0 c.in-Ok.ensures c.in-Err.ensures.front
 
 pub loop-line-preserved : goal.loop-line-preserved
 loop-line-preserved g c =
@@ -30,20 +32,33 @@ loop-line-preserved g c =
     let s = g.C.Spellable.spelling c.args.config.now in
     let short : c.loop-line.line < s.elements = omega (arith, c.loop-line-test.true, c.len-line-end.ensures) in
     let i = c.loop-line.invariant in (
-      given_more v s (g.K.Sink.taken c.args.sink.now) (g.K.Sink.taken c.loop-line.sink) (g.K.Sink.taken c.give_pieces.new.sink) c.loop-line.text.items c.push_line.new.text.items c.give_pieces.new.text.items c.loop-line.line c.loop-line.place.element c.loop-line.place.rows c.in-Ok.next.element c.in-Ok.next.rows short i.0 c.in-Ok.ensures c.in_ok-give_pieces.ensures.given,
+      given_more v s (g.K.Sink.taken c.args.sink.now) (g.K.Sink.taken c.loop-line.sink)
+          (g.K.Sink.taken c.give_pieces.new.sink) c.loop-line.text.items c.push_line.new.text.items
+          c.give_pieces.new.text.items c.loop-line.line c.loop-line.place.element c.loop-line.place.rows
+          c.in-Ok.next.element c.in-Ok.next.rows short i.0 c.in-Ok.ensures c.in-Ok-give_pieces.ensures.given,
       omega (arith, i.1, c.give_pieces.ensures.later),
     )
 
-pub returns-clause-whole : goal.returns-clause-whole
-returns-clause-whole g c =
+pub returns-in-Ok-write_all-clause-whole : goal.returns-in-Ok-write_all-clause-whole
+returns-in-Ok-write_all-clause-whole g c =
     let v = g.C.Spellable.version c.args.config.now in
     let s = g.C.Spellable.spelling c.args.config.now in
-    let all : c.loop-line.line ≡ s.elements = omega (arith, c.loop-line-test.false, c.loop-line.auto.line-end, c.len-line-end.ensures) in
-    on_ok_weaker c.give.result (λ grows. given_whole v s (g.K.Sink.taken c.args.sink.now) (g.K.Sink.taken c.loop-line.sink) (g.K.Sink.taken c.give.new.sink) c.loop-line.text.items c.loop-line.line c.loop-line.place.element c.loop-line.place.rows c.requires.admitted c.loop-line.invariant.0 all (subst (Grows (g.K.Sink.taken c.loop-line.sink) (g.K.Sink.taken c.give.new.sink)) c.as_slice.ensures.value grows)) c.give.ensures.whole
+    let all : c.loop-line.line ≡ s.elements =
+    omega (arith, c.loop-line-test.false, c.loop-line.auto.line-end, c.len-line-end.ensures) in
+    given_whole v s (g.K.Sink.taken c.args.sink.now) (g.K.Sink.taken c.loop-line.sink)
+    (g.K.Sink.taken c.write_all.new.sink) c.loop-line.text.items c.loop-line.line c.loop-line.place.element
+    c.loop-line.place.rows c.requires.admitted c.loop-line.invariant.0 all
+    (subst (Grows (g.K.Sink.taken c.loop-line.sink) (g.K.Sink.taken c.write_all.new.sink)) c.as_slice.ensures.value
+    c.in-Ok-write_all.ensures.whole)
 
-pub returns-clause-front : goal.returns-clause-front
-returns-clause-front g c =
+pub returns-in-Err-write_all-clause-front : goal.returns-in-Err-write_all-clause-front
+returns-in-Err-write_all-clause-front g c =
     let v = g.C.Spellable.version c.args.config.now in
     let s = g.C.Spellable.spelling c.args.config.now in
-    let all : c.loop-line.line ≡ s.elements = omega (arith, c.loop-line-test.false, c.loop-line.auto.line-end, c.len-line-end.ensures) in
-    on_err_weaker c.give.result (λ grows. given_last v s (g.K.Sink.taken c.args.sink.now) (g.K.Sink.taken c.loop-line.sink) (g.K.Sink.taken c.give.new.sink) c.loop-line.text.items c.loop-line.line c.loop-line.place.element c.loop-line.place.rows c.requires.admitted c.loop-line.invariant.0 all (subst (GrowsByFront (g.K.Sink.taken c.loop-line.sink) (g.K.Sink.taken c.give.new.sink)) c.as_slice.ensures.value grows)) c.give.ensures.front
+    let all : c.loop-line.line ≡ s.elements =
+    omega (arith, c.loop-line-test.false, c.loop-line.auto.line-end, c.len-line-end.ensures) in
+    given_last v s (g.K.Sink.taken c.args.sink.now) (g.K.Sink.taken c.loop-line.sink)
+    (g.K.Sink.taken c.write_all.new.sink) c.loop-line.text.items c.loop-line.line c.loop-line.place.element
+    c.loop-line.place.rows c.requires.admitted c.loop-line.invariant.0 all
+    (subst (GrowsByFront (g.K.Sink.taken c.loop-line.sink) (g.K.Sink.taken c.write_all.new.sink))
+    c.as_slice.ensures.value c.in-Err-write_all.ensures.front)

@@ -1,7 +1,7 @@
 use Rattle.std.proofs.Common.{◌≤◌, [], ℕ, List, length, rules, subst}
 use Rattle.bn_circuits.specs.declared.place.Place.{Place}
 use Rattle.bn_table.specs.Rows.{Named}
-use Rattle.bn_board.specs.Flats.{Flat}
+use Rattle.bn_board_spec.specs.Flats.{Flat}
 use Rattle.bn_assembly.specs.Assembled.{limits_of}
 use Rattle.bn_reply.specs.declared.status.Status.{Status}
 use Rattle.bn_reply_boards_laws.specs.Windows.{BoardReplies}

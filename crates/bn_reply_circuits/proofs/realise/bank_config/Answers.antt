@@ -1,8 +1,8 @@
 -- The bank's net with its start spells the bank.
 use Rattle.std.proofs.Common.{◌∙◌, sym, refl}
-use Rattle.bn_netlist_lines.specs.NetText.{spelling_of}
+use Rattle.bn_netlist.specs.NetText.{spelling_of}
 use Rattle.bn_netlist_laws.specs.declared.version.Version.TheVariants.{Two}
-use Rattle.bn_netlist_lines.specs.declared.net_config.NetConfig.{NetConfig}
+use Rattle.bn_netlist.specs.declared.net_config.NetConfig.{NetConfig}
 use Rattle.bn_reply_circuits.proofs.BankLemmas.{bank-Admits, net_circuit, net_spelling}
 use Rattle.bn_reply_circuits.proofs.realise.bank_config.Goals as goal
 

@@ -1,6 +1,6 @@
 use Rattle.std.proofs.Common.{[], subst}
 use Rattle.bn_assembly.specs.Assembled.{limits_of}
-use Rattle.bn_board.proofs.ExitLemmas.{exits-one}
+use Rattle.bn_board_spec.proofs.ExitLemmas.{exits-one}
 use Rattle.bn_board_laws.proofs.ClosedLemmas.{run_to_exit}
 use Rattle.bn_reply.specs.declared.status.Status.TheVariants.{Done}
 use Rattle.bn_reply_boards_laws.proofs.RunLemmas.{exits-named}

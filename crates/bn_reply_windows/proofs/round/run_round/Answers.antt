@@ -1,11 +1,11 @@
 use Rattle.std.specs.Prelude.{None}
 use Rattle.std.proofs.Common.{subst}
 use Rattle.bn_assembly.specs.Assembled.{limits_of}
-use Rattle.bn_board.specs.Flats.{Flat, IsAccepted}
+use Rattle.bn_board_spec.specs.Flats.{Flat, IsAccepted}
 use Rattle.bn_reply_boards.specs.Opened.{IsMade, IsOpenedWindow}
 use Rattle.bn_reply_boards.proofs.RunLemmas.{made_letters, made_names, made_start}
 use Rattle.bn_table.proofs.MachineLemmas.{tables_machines}
-use Rattle.bn_board.proofs.ExitLemmas.{exits-one}
+use Rattle.bn_board_spec.proofs.ExitLemmas.{exits-one}
 use Rattle.bn_board_laws.proofs.ClosedLemmas.{run_to_exit}
 use Rattle.bn_reply_windows.proofs.ClosedLemmas.{moments, named}
 use Rattle.bn_reply_windows.proofs.WindowLemmas.{asked_accepted, large_ends, run_as}

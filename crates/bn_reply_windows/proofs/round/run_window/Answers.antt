@@ -1,7 +1,7 @@
 use Rattle.std.proofs.Common.{ap, ◌∙◌}
 use Rattle.std.proofs.lemmas.Result.{err_from_is_err_and}
 use Rattle.bn_assembly.specs.Assembled.{limits_of}
-use Rattle.bn_board.specs.Layouts.{Layout, symbol_count_at}
+use Rattle.bn_board_spec.specs.Layouts.{Layout, symbol_count_at}
 use Rattle.bn_reply_windows.proofs.WindowLemmas.{ran_ended, ran_short, ran_wanting}
 use Rattle.bn_reply_windows.proofs.round.run_window.Goals as goal
 

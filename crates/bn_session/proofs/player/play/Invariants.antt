@@ -1,6 +1,6 @@
 -- The commands before this one were played, and those from here on are in order.
 use Rattle.std.proofs.Common.{take, drop}
-use Rattle.bn_flat.specs.Flattened.{IsSameBoard}
+use Rattle.bn_board.specs.Flattened.{IsSameBoard}
 use Rattle.bn_session.specs.Labels.{AreOrderly}
 use Rattle.bn_session.specs.Breakpoints.{labels_of}
 use Rattle.bn_session.specs.Plays.{session}

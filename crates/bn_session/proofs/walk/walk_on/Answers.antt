@@ -1,8 +1,8 @@
 -- Where the way ends, and how it goes on.
 use Rattle.std.proofs.Common.{ap, ◌∙◌, true, false}
 use Rattle.bn_net.specs.RotaryNets.{rotary_circuit}
-use Rattle.bn_board.specs.Layouts.{moment_at}
-use Rattle.bn_flat.proofs.CountingLemmas.{same_again}
+use Rattle.bn_board_spec.specs.Layouts.{moment_at}
+use Rattle.bn_board.proofs.CountingLemmas.{same_again}
 use Rattle.bn_session.specs.Plays.{stops}
 use Rattle.bn_session.specs.Walks.{once_along}
 use Rattle.bn_session.proofs.WalkLemmas.{ends_still, ends_last, ends_hit, goes_on, tested_on, stays_once, goes_once, goes_once-good}

@@ -2,8 +2,8 @@
 use Rattle.std.proofs.Common.{◌≡◌, ◌-◌}
 use Rattle.bn_circuits.specs.Circuits.{IsConfig}
 use Rattle.bn_net.specs.RotaryNets.{rotary_circuit}
-use Rattle.bn_board.specs.Layouts.{moment_at}
-use Rattle.bn_flat.specs.Flattened.{IsSameBoard}
+use Rattle.bn_board_spec.specs.Layouts.{moment_at}
+use Rattle.bn_board.specs.Flattened.{IsSameBoard}
 use Rattle.bn_session.specs.Plays.{stops}
 use Rattle.bn_session.specs.Walks.{once_along, walk}
 use Rattle.bn_session.proofs.walk.walk_on.Given as goal

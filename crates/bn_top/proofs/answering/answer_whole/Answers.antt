@@ -1,52 +1,26 @@
-use Rattle.std.proofs.Common.{◌≡◌, ◌≤◌, [], length, Some, Err, IfSome, ap, arith, refl, subst, sym}
-use Rattle.bn_net.proofs.WalkLemmas.{hears-nothing}
-use Rattle.bn_reply.specs.Streams.{Whole, TooLong, Failed, Unread}
-use Rattle.bn_reply.specs.declared.limits.TheConstants.{MOST_INPUT_BYTES}
-use Rattle.bn_reply.proofs.ReplyLemmas.{grows_nothing}
-use Rattle.bn_reply.proofs.StreamLemmas.{gave_more, gave_read}
+use Rattle.std.proofs.Common.{[], Some, subst, sym}
+use Rattle.bn_reply.specs.Outside.{outside}
+use Rattle.bn_reply.specs.Streams.{StreamEnds}
+use Rattle.bn_words.specs.Requests.{of_whole}
+use Rattle.bn_top.specs.Answers.{Replies}
 use Rattle.bn_top.proofs.answering.answer_whole.Goals as goal
 
-pub returns-in-Ok : goal.returns-in-Ok
-returns-in-Ok g c =
-    let bytes = c.as_slice.result.now in
-    let left = g.S.Source.left c.args.source.now in
-    let after = g.S.Source.left c.read_all.new.source in
-    let within : length bytes ≤ MOST_INPUT_BYTES = omega (arith, c.as_slice.ensures.len, c.in-Ok.ensures.within) in
-    let read = subst (λ z. IfSome left (λ xs. (z ≡ xs) × (after ≡ Some []))) (sym c.as_slice.ensures.value) c.in-Ok.ensures.whole in
-    record {
-      input = Whole bytes;
-      gives = (gave_read left after bytes read, within);
-      ends = c.answer.ensures.ends;
-      later = record { read = c.in-Ok.ensures.later; write = c.answer.ensures.later };
-    }
-
-pub returns-in-Err-ReadFault : goal.returns-in-Err-ReadFault
-returns-in-Err-ReadFault g c =
-    record {
-      input = Failed;
-      gives = c.in-Err-ReadFault.ensures.read_fault (ap (λ e. Err e) c.in-Err-ReadFault.field-0-is);
-      ends = (c.tell_read_fault.ensures.ends, hears-nothing (g.W.Watch.told c.args.watch.now));
-      later = record { read = c.in-Err-ReadFault.ensures.later; write = c.tell_read_fault.ensures.later };
-    }
-
-pub returns-in-Err-TooLong : goal.returns-in-Err-TooLong
-returns-in-Err-TooLong g c =
-    let left = g.S.Source.left c.args.source.now in
-    let after = g.S.Source.left c.read_all.new.source in
-    let taken = c.in-Err-TooLong.ensures.taken in
-    record {
-      input = TooLong;
-      gives = gave_more left after MOST_INPUT_BYTES _ taken.0 taken.1 (ap (λ e. Err e) c.in-Err-TooLong.field-0-is);
-      ends = (c.tell_long_input.ensures.ends, hears-nothing (g.W.Watch.told c.args.watch.now));
-      later = record { read = c.in-Err-TooLong.ensures.later; write = c.tell_long_input.ensures.later };
-    }
-
-pub returns-in-Err-NoMemory : goal.returns-in-Err-NoMemory
-returns-in-Err-NoMemory g c =
+pub returns : goal.returns
+returns g c =
+    let replies = Replies (of_whole c.args.asked.now) in
+    let lent = c.in-Some.ensures in
+    let ended = c.take_rest.ensures.ended lent.0 in
     let taken = g.K.Sink.taken c.args.sink.now in
-    record {
-      input = Unread;
-      gives = tt;
-      ends = (refl, grows_nothing taken taken refl, hears-nothing (g.W.Watch.told c.args.watch.now));
-      later = record { read = c.in-Err-NoMemory.ensures.later; write = omega arith };
-    }
+    let took = g.K.Sink.taken c.answer_lent-status.new.sink in
+    let told = g.W.Watch.told c.args.watch.now in
+    let heard = g.W.Watch.told c.answer_lent-status.new.watch in
+    let before = g.K.Sink.faults c.args.sink.now in
+    let now = g.K.Sink.faults c.answer_lent-status.new.sink in
+    let reads = g.I.Input.faults c.args.input.now in
+    let status = c.answer_lent-status.result in
+    let same = subst (λ f. StreamEnds replies status (outside (Some c.in-Some.bytes.now) taken told reads before)
+    (outside (Some []) took heard f now)) (sym c.take_rest.ensures.faultless) (c.answer_lent-status.ensures reads) in
+    let after = subst (λ l. StreamEnds replies status (outside (Some c.in-Some.bytes.now) taken told reads before)
+    (outside l took heard (g.I.Input.faults c.take_rest.new.self) now)) (sym ended) same in
+    subst (λ l. StreamEnds replies status (outside l taken told reads before)
+    (outside (g.I.Input.left c.take_rest.new.self) took heard (g.I.Input.faults c.take_rest.new.self) now)) (sym lent.1) after

@@ -1,63 +1,43 @@
-use Rattle.std.proofs.Common.{◌≡◌, ◌<◌, ◌≤◌, map, length, Global, arith}
+use Rattle.std.proofs.Common.{[], map, Global, Some, subst, sym}
 use Rattle.std.specs.String.{string_bytes}
-use Rattle.std.proofs.lemmas.Result.{IfOk-weaker, on_err_weaker}
-use Rattle.bn_words.specs.Requests.{request_of}
-use Rattle.bn_reply.specs.Replying.{IsReplied, IsUnfinished}
-use Rattle.bn_reply.specs.declared.limits.TheConstants.{MOST_INPUT_BYTES}
-use Rattle.bn_reply.specs.declared.status.Status.TheVariants.{Usage, Size}
-use Rattle.bn_reply.specs.Streams.{size_text}
-use Rattle.bn_top.specs.Answers.{Answers, Replies, usage_text}
-use Rattle.bn_top.specs.Headlines.{IsReplyTo}
-use Rattle.bn_top.proofs.MemoryLemmas.{command_reply, command_unfinished, for_both, in_any_case, long_reply, unfinished_line, usage_reply}
+use Rattle.bn_reply.specs.Outside.{outside}
+use Rattle.bn_top.specs.Clauses.{CallEnds}
+use Rattle.bn_top.proofs.MemoryLemmas.{answer_otherwise, in_memory, unfinished_at}
 use Rattle.bn_top.proofs.memory.reply_in_memory.Goals as goal
 
-pub returns-in_default-clause-replied : goal.returns-in_default-clause-replied
-returns-in_default-clause-replied g c =
+pub returns-in-WriteFault-clause-no_memory : goal.returns-in-WriteFault-clause-no_memory
+returns-in-WriteFault-clause-no_memory g c =
     let words = map (string_bytes {Z = Global}) c.args.words.now in
     let told = g.W.Watch.told c.args.watch.now in
-    for_both c.usage.result (λ r. r.status ≡ Usage) (λ r. r.text.items ≡ usage_text) (λ r. IsReplyTo words c.args.input.now r told told)
-    (λ r is text. usage_reply words c.args.input.now r told c.in_default.ensures is text) c.usage.ensures.status c.usage.ensures.text
+    let heard = g.W.Watch.told c.answer_words.new.watch in
+    let after = outside (Some c.answer_words.new.input.rest.now) (Some c.answer_words.new.sink.0) heard 0 c.answer_words.new.sink.1 in
+    let ends = subst (λ s. CallEnds words c.answer_words.result (outside (Some c.new-input.result.rest.now) (Some s.0) told 0 s.1) after)
+    c.new-sink.ensures c.answer_words.ensures.ends
+    in
+    let lent = subst (λ bytes. CallEnds words c.answer_words.result (outside (Some bytes) (Some []) told 0 0) after)
+    c.new-input.ensures ends
+    in
+    unfinished_at words c.args.input.now (Some c.answer_words.new.input.rest.now) (Some c.answer_words.new.sink.0) told heard
+    0 c.answer_words.new.sink.1 c.answer_words.result lent c.in-WriteFault.is
 
-pub returns-in_default-clause-no_memory : goal.returns-in_default-clause-no_memory
-returns-in_default-clause-no_memory g c =
+pub returns-in_default : goal.returns-in_default
+returns-in_default g c =
     let words = map (string_bytes {Z = Global}) c.args.words.now in
     let told = g.W.Watch.told c.args.watch.now in
-    in_any_case c.usage.result (IsUnfinished (Answers words c.args.input.now) told told) (unfinished_line words c.args.input.now told)
-
-pub returns-then-count-gt-MOST_INPUT_BYTES-clause-replied : goal.returns-then-count-gt-MOST_INPUT_BYTES-clause-replied
-returns-then-count-gt-MOST_INPUT_BYTES-clause-replied g c =
-    let words = map (string_bytes {Z = Global}) c.args.words.now in
-    let told = g.W.Watch.told c.args.watch.now in
-    let bytes = c.bytes_read-bytes.result.now in
-    let long : MOST_INPUT_BYTES < length bytes = omega (arith, c.if-count-gt-MOST_INPUT_BYTES.true) in
-    for_both c.too_long.result (λ r. r.status ≡ Size) (λ r. r.text.items ≡ size_text) (λ r. IsReplyTo words c.args.input.now r told told)
-    (λ r is text. long_reply words c.args.input.now bytes (request_of c.in-Some.request) c.in-Some.ensures c.bytes_read-bytes.ensures r told long is text)
-    c.too_long.ensures.status c.too_long.ensures.text
-
-pub returns-then-count-gt-MOST_INPUT_BYTES-clause-no_memory : goal.returns-then-count-gt-MOST_INPUT_BYTES-clause-no_memory
-returns-then-count-gt-MOST_INPUT_BYTES-clause-no_memory g c =
-    let words = map (string_bytes {Z = Global}) c.args.words.now in
-    let told = g.W.Watch.told c.args.watch.now in
-    in_any_case c.too_long.result (IsUnfinished (Answers words c.args.input.now) told told) (unfinished_line words c.args.input.now told)
-
-pub returns-clause-replied : goal.returns-clause-replied
-returns-clause-replied g c =
-    let words = map (string_bytes {Z = Global}) c.args.words.now in
-    let told = g.W.Watch.told c.args.watch.now in
-    let heard = g.W.Watch.told c.reply_to.new.watch in
-    let bytes = c.bytes_read-bytes.result.now in
-    let within : length bytes ≤ MOST_INPUT_BYTES = omega (arith, c.if-count-gt-MOST_INPUT_BYTES.false) in
-    IfOk-weaker c.reply_to.result (λ r. IsReplied (Replies (request_of c.in-Some.request) bytes) r told heard) (λ r. IsReplyTo words c.args.input.now r told heard)
-    (λ r h. command_reply words c.args.input.now bytes (request_of c.in-Some.request) c.in-Some.ensures c.bytes_read-bytes.ensures r told heard within h)
-    c.reply_to.ensures.replied
-
-pub returns-clause-no_memory : goal.returns-clause-no_memory
-returns-clause-no_memory g c =
-    let words = map (string_bytes {Z = Global}) c.args.words.now in
-    let told = g.W.Watch.told c.args.watch.now in
-    let heard = g.W.Watch.told c.reply_to.new.watch in
-    let bytes = c.bytes_read-bytes.result.now in
-    let within : length bytes ≤ MOST_INPUT_BYTES = omega (arith, c.if-count-gt-MOST_INPUT_BYTES.false) in
-    on_err_weaker c.reply_to.result
-    (λ h. command_unfinished words c.args.input.now bytes (request_of c.in-Some.request) c.in-Some.ensures c.bytes_read-bytes.ensures told heard within h)
-    c.reply_to.ensures.interrupted
+    let heard = g.W.Watch.told c.answer_words.new.watch in
+    let left = Some c.answer_words.new.input.rest.now in
+    let status = c.answer_words.result in
+    let faults = c.answer_words.new.sink.1 in
+    let after = outside left (Some c.answer_words.new.sink.0) heard 0 faults in
+    let ends = subst (λ s. CallEnds words status (outside (Some c.new-input.result.rest.now) (Some s.0) told 0 s.1) after)
+    c.new-sink.ensures c.answer_words.ensures.ends
+    in
+    let lent = subst (λ bytes. CallEnds words status (outside (Some bytes) (Some []) told 0 0) after) c.new-input.ensures ends in
+    let taken = subst (λ text. CallEnds words status (outside (Some c.args.input.now) (Some []) told 0 0)
+    (outside left (Some text) heard 0 faults)) (sym c.into_bytes.ensures) lent
+    in
+    record {
+      replied = in_memory words c.args.input.now left (record { text = c.into_bytes.result; status = status }) told heard
+          0 faults taken (answer_otherwise status c.in_default.not-ReadFault c.in_default.not-WriteFault c.in_default.not-NoMemory);
+      no_memory = tt;
+    }

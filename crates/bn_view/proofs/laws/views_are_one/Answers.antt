@@ -1,5 +1,5 @@
 use Rattle.bn_view.proofs.OneLemmas.{views-one, views-there}
-use Rattle.bn_board.proofs.ExitLemmas.{exits-one}
+use Rattle.bn_board_spec.proofs.ExitLemmas.{exits-one}
 use Rattle.bn_board_laws.proofs.ClosedLemmas.{read_off, run_to_exit}
 use Rattle.bn_view.proofs.laws.views_are_one.Goals as goal
 

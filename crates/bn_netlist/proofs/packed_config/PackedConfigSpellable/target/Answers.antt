@@ -1,4 +1,4 @@
-use Rattle.bn_netlist_lines.proofs.NetLemmas.{output_there, end_inside, end_low}
+use Rattle.bn_netlist.proofs.NetLemmas.{output_there, end_inside, end_low}
 use Rattle.bn_netlist.proofs.packed_config.PackedConfigSpellable.target.Goals as goal
 
 pub target-requires : goal.target-requires

@@ -1,6 +1,6 @@
 use Rattle.std.proofs.Common.{List, ℕ, [], subst, append-nil}
 use Rattle.bn_netlist.specs.Coming.{HaveCome}
-use Rattle.bn_netlist_lines.specs.NetText.{IsTextRefusal}
+use Rattle.bn_netlist.specs.NetText.{IsTextRefusal}
 use Rattle.bn_netlist.specs.declared.pieces.Pieces.{Pieces}
 use Rattle.bn_netlist.proofs.pieces.Pieces.finish.Goals as goal
 

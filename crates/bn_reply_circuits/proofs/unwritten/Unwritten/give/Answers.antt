@@ -1,6 +1,6 @@
 use Rattle.std.proofs.Common.{subst}
 use Rattle.bn_netlist.specs.PackedText.{spelling_of_packed}
-use Rattle.bn_netlist_lines.specs.NetText.{spelling_of}
+use Rattle.bn_netlist.specs.NetText.{spelling_of}
 use Rattle.bn_reply_circuits.specs.Unwritten.{IsWritable}
 use Rattle.bn_reply_circuits.proofs.UnwrittenLemmas.{config_ends, line_ends}
 use Rattle.bn_reply_circuits.proofs.unwritten.Unwritten.give.Goals as goal

@@ -1,0 +1,191 @@
+"""What is understood at a glance: few sizes of type, one primary button a panel, colours that say one thing, tapes that stand
+still, the lens, the marked column in sight, names in words, the skip link, lecture mode, and a window at 200 %.
+"""
+import json
+
+from shown import PAGE
+from shown_editor import many_states, settle
+from shown_kept import comes
+from shown_places import link
+
+MOST_SIZES = 6
+# The sizes of all text that is seen, with a sample of each.
+SIZES = """(() => {
+  const found = {}, walker = document.createTreeWalker(document.body, NodeFilter.SHOW_TEXT);
+  while (walker.nextNode()) {
+    const it = walker.currentNode.parentElement, words = walker.currentNode.textContent.trim();
+    if (!words || it.closest("script,style,title,noscript,option,.visually-hidden") || !it.checkVisibility()) continue;
+    found[parseFloat(getComputedStyle(it).fontSize)] ??= `${it.tagName}.${it.getAttribute("class")}: ${words.slice(0, 20)}`;
+  }
+  return found;
+})()"""
+PRIMARY = """[...document.querySelectorAll(".panel,dialog[open]")].map(it => [it.id,
+  [...it.querySelectorAll("button.main,#play")].filter(one => one.checkVisibility()).length]).filter(it => it[1] > 1)"""
+HUES = """["signal", "fault"].map(name => getComputedStyle(document.documentElement).getPropertyValue("--" + name))"""
+TOPS = """(async () => {
+  const {goTo, step, state, render} = bench, tops = new Set(), cut = [];
+  state.layer = "%s";
+  goTo(%d);
+  for (let k = 0; k < %d; k++) {
+    await step(1);
+    render(false);
+    tops.add(Math.round(document.getElementById("three").getBoundingClientRect().top));
+    const rule = document.getElementById("rule");
+    if (rule.scrollHeight > rule.clientHeight + 1) cut.push(rule.textContent.slice(0, 80));
+  }
+  return [[...tops], cut];
+})()"""
+MIDDLE = "(it => { const box = it.getBoundingClientRect(); return [box.left + box.width / 2, box.top + box.height / 2]; })(document.querySelector(%s))"
+LENS = "(document.getElementById('lens')?.innerText ?? '')"
+MARKED = """(() => {
+  const room = document.getElementById("bankbox").getBoundingClientRect();
+  return [...document.querySelectorAll("#bank .column.marked")].some(it => {
+    const box = it.getBoundingClientRect();
+    return box.left >= room.left && box.right <= room.right + 1 && box.width > 4;
+  });
+})()"""
+
+
+def press(page, selector):
+    """A click of the mouse on what a selector finds."""
+    x, y = page.ask(MIDDLE % json.dumps(selector))
+    for kind in ("mousePressed", "mouseReleased"):
+        page.call("Input.dispatchMouseEvent", type=kind, x=x, y=y, button="left", clickCount=1)
+
+
+def size(page, width, height):
+    page.call("Emulation.setDeviceMetricsOverride", width=width, height=height, deviceScaleFactor=1, mobile=False)
+
+
+def check_sizes(page, count):
+    for width, height in ((1680, 1050), (1280, 800), (390, 844)):
+        size(page, width, height)
+        for fragment in ("#m=increment&e=700000", "#m=complement", "#x=15"):
+            page.visit(f"file://{PAGE}{fragment}")
+            settle(page, 200)
+            given = page.ask(SIZES)
+            count.hold(len(given) <= MOST_SIZES, f"{fragment}, {width} wide: {len(given)} sizes of type, {json.dumps(given)}")
+            count.hold(not page.ask(PRIMARY), f"{fragment}, {width} wide: more than one primary button in {page.ask(PRIMARY)}")
+    signal, fault = page.ask(HUES)
+    count.hold(signal != fault, "signal and error have one colour")
+
+
+def check_still(page, count):
+    """The tapes stand where they are, whatever the rule's words are, and these are seen whole."""
+    for width, height in ((1680, 1050), (1280, 800), (1024, 768)):
+        size(page, width, height)
+        page.visit(f"file://{PAGE}#m=increment")
+        for layer, start, many in (("quadruple", 0, 64), ("module", 690000, 40)):
+            tops, cut = page.wait(TOPS % (layer, start, many))
+            count.hold(len(tops) == 1, f"{width} wide, {layer}: the tapes stand at {tops}")
+            count.hold(not cut, f"{width} wide, {layer}: cut off is {cut[:2]}")
+
+
+def check_lens(page, count):
+    size(page, 1280, 800)
+    page.visit(f"file://{PAGE}#m=increment&e=700000")
+    comes(page, "document.querySelector('#bank .element.now') !== null")
+    number = page.ask("document.querySelector('#bank .element.now').dataset.element")
+    press(page, "#bank .element.now")
+    comes(page, f"{LENS}.includes('It comes next at')")
+    said = page.ask(LENS)
+    count.hold(f"Element {int(number):,}" in said and "The signal is about to come in." in said and "Its bar" in said and "row " in said,
+               f"the lens says of an element {said[:200]!r}")
+    box = page.ask("document.getElementById('lens').getBoundingClientRect().toJSON()")
+    count.hold(box["left"] >= 0 and box["top"] >= 0 and box["right"] <= 1280 and box["bottom"] <= 800, f"the lens stands at {box}")
+    count.hold(page.ask("bench.state.breaks.length") == 0, "a click on an element sets a breakpoint")
+    before = page.ask("bench.state.e")
+    page.ask("document.getElementById('lensnext').click(); 0")
+    comes(page, f"bench.state.e > {before}")
+    count.hold(page.ask("bench.state.e") > before and page.ask(f"bench.current.run.placeAt(bench.state.e) ? bench.current.run.placeAt(bench.state.e).place >> 2 : {number}") == int(number),
+               "the lens doesn't lead to the next time")
+    press(page, "#diagram [data-state=Add]")
+    said = page.ask(LENS)
+    count.hold("State Add" in said and "write 0, go left" in said and "3 times" in said, f"the lens says of a state {said[:200]!r}")
+    page.ask("document.getElementById('lensstop').click(); 0")
+    count.hold(page.ask("bench.state.breaks.map(it => it.state)") == ["Add"] and not page.ask(LENS), "Stop here doesn't stop there")
+    press(page, "#diagram [data-state=Go]")
+    page.strike("Escape", 27)
+    count.hold(not page.ask(LENS), "Escape leaves the lens open")
+
+
+def check_marked(page, count):
+    """In a control of 174 columns the marked one is in sight at every step that has one."""
+    size(page, 1280, 800)
+    page.visit(f"file://{PAGE}#m=increment")
+    given = page.wait("""(async () => {
+      const {goTo, state, render, current} = bench, {run} = current, missing = [];
+      const inSight = () => %s;
+      for (const e of [0, 5000, 9000, 40000, 300000, 700000, 1200000, 2000000]) {
+        goTo(e);
+        await run.ready(e);
+        render(false);
+        const bank = run.bankOf(run.placeAt(e).place >> 2), marked = run.markedColumn(bank, e);
+        if (marked !== null && marked >= 0 && !inSight()) missing.push([e, marked]);
+      }
+      goTo(700000);
+      await run.ready(700000);
+      render(false);
+      return [run.banks[0].columns, missing];
+    })()""" % MARKED)
+    count.hold(given[0] == 174 and not given[1], f"of {given[0]} columns the marked one is out of sight at {given[1]}")
+    names = page.ask("[...document.querySelectorAll('#bank text title')].map(it => it.textContent)")
+    count.hold(any(it.startswith("row ") and ("written" in it or "answers" in it) for it in names) and any(it.startswith("state ") for it in names),
+               f"names aren't told in words: {names[:4]}")
+
+
+def check_diagram(page, count):
+    """The diagram is at least 150 pixels high for machines of up to 14 states, the table gives way; and all of it is in sight."""
+    for width, height in ((1280, 800), (1024, 768)):
+        size(page, width, height)
+        for number in (4, 6, 9, 13):
+            page.visit(f"file://{PAGE}{link(t=many_states(number), w='01')}")
+            settle(page, 150)
+            high, low, floor = page.ask("(it => [it.height, it.bottom, document.getElementById('machine').getBoundingClientRect().bottom])(document.querySelector('#diagram svg')?.getBoundingClientRect() ?? {height: 0, bottom: 0})")
+            count.hold(high >= 149, f"{width} wide, {number} states: the diagram is {high:.0f} high")
+            count.hold(width < 1100 or low <= floor, f"{width} wide, {number} states: the diagram ends at {low:.0f}, its panel at {floor:.0f}")
+
+
+def check_reached(page, count):
+    """Play is one Tab key away; lecture mode fills a projector; at 200 % the tapes are in sight; pictures of exercises."""
+    size(page, 1280, 800)
+    page.visit(f"file://{PAGE}#m=increment")
+    page.ask("localStorage.setItem('hithwelor hints', 'seen'); document.activeElement?.blur?.(); 0")
+    page.visit(f"file://{PAGE}#m=increment")
+    page.strike("Tab", 9)
+    first = page.ask("document.activeElement.id")
+    page.strike("Enter", 13, "\r")
+    count.hold(first == "skip" and page.ask("document.activeElement.id") == "play", f"the Tab key comes first to {first}, and from there to {page.ask('document.activeElement.id')}")
+    size(page, 1920, 1080)
+    page.visit(f"file://{PAGE}#m=increment&e=700000")
+    for panel in ("tapes", "circuit", "machine"):
+        plain = page.ask("parseFloat(getComputedStyle(document.querySelector('#rule .more')).fontSize)")
+        if not page.ask("document.body.classList.contains('lecture')"):
+            page.ask("document.getElementById('lecture').click(); 0")
+        page.ask(f"document.querySelector('[data-panel={panel}]').click(); 0")
+        settle(page, 250)
+        box, zoom, others = page.ask(f"""(it => [it.getBoundingClientRect().toJSON(), Number(getComputedStyle(it).zoom),
+          [...document.querySelectorAll('main>.panel')].filter(one => one !== it && one.checkVisibility()).length])(document.getElementById('{panel}'))""")
+        count.hold(box["width"] > 1880 and box["height"] > 700 and zoom == 1.6 and others == 0 and plain >= 14,
+                   f"lecture, {panel}: {box['width']:.0f} by {box['height']:.0f}, {zoom} times, {others} others")
+    page.ask("document.getElementById('lecture').click(); 0")
+    count.hold(page.ask("[...document.querySelectorAll('main>.panel')].every(it => it.checkVisibility())"), "lecture mode doesn't end")
+    for width, height in ((640, 400), (960, 540)):
+        size(page, width, height)
+        page.visit(f"file://{PAGE}#m=increment&e=700000")
+        low, top = page.ask("[document.querySelectorAll('#three .tape')[1].getBoundingClientRect().bottom, document.getElementById('time').getBoundingClientRect().top]")
+        count.hold(low <= top + 1, f"{width} by {height}: the history ends at {low:.0f}, and the time line begins at {top:.0f}")
+    size(page, 1280, 800)
+    page.visit(f"file://{PAGE}#x=1")
+    letters = comes(page, "['n', 'e', 's', 'w'].every(it => [...document.querySelectorAll('#e-picture text')].some(one => one.textContent === it))", 10)
+    count.hold(letters, "exercise 1's picture lacks the letters of the sides")
+    page.visit(f"file://{PAGE}#x=15")
+    low, top = page.ask("[document.getElementById('map').getBoundingClientRect().bottom, document.getElementById('sheet').getBoundingClientRect().top]")
+    count.hold(low <= top, f"exercise 15: the map ends at {low:.0f}, and the sheet begins at {top:.0f}")
+
+
+def check_glance(page, program, count):
+    for check in (check_sizes, check_still, check_lens, check_marked, check_diagram, check_reached):
+        check(page, count)
+    size(page, 1680, 1050)
+    count.hold(not page.faults(), f"{page.faults()}")

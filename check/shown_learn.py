@@ -1,0 +1,202 @@
+"""The lesson, walked whole: each step's picture, what is to be tried there, playing on and back at the same moment of one run, the
+trail, its links; with the first machine and with one that was pasted; and how it is laid out. `--pictures FOLDER` keeps
+photographs.
+"""
+import os
+
+from shown import PAGE
+from shown_editor import settle
+from shown_kept import comes
+from shown_layout import LAID
+from shown_pasted import machines
+from shown_places import link
+
+STEPS = ["machine", "past", "history", "stages", "row", "column", "element", "out"]
+# What is seen at a step's level.
+PICTURES = {"machine": ".l-tape svg", "past": ".l-tape svg", "history": ".l-tapes .tape:nth-child(3) svg", "stages": ".l-stages .now",
+            "row": ".l-moves .now", "column": ".l-bank .element.now", "element": ".rotary .bar", "out": ".l-tape svg"}
+TRIED = {"machine": ["learnplay"], "past": ["learntake"], "history": ["learnplay", "learntake"], "stages": [], "row": ["learnforth"],
+         "column": ["learnplay", "learntake"], "element": ["learnforth", "learnback"], "out": []}
+WIDTHS = [(1920, 1080), (1280, 800), (1024, 768), (768, 1024), (390, 844), (640, 400)]
+MOST_TASK, MOST_FIRST = 400, 4000
+SAID, SEEN = "document.getElementById('learnsaid').innerText", "document.querySelector('#learnpicture %s') !== null"
+WATCHED = """(window.longest = 0, new PerformanceObserver(list => {
+  for (const it of list.getEntries()) window.longest = Math.max(window.longest, it.duration);
+}).observe({type: "longtask"}), 0)"""
+
+
+# What is marked lies within the room of its picture.
+IN_SIGHT = """(it => {
+  const box = it.getBoundingClientRect(), room = document.getElementById("learnpicture").getBoundingClientRect();
+  return box.top >= room.top - 1 && box.bottom <= room.bottom + 1 && box.left >= room.left - 1 && box.right <= room.right + 1;
+})(document.querySelector("%s"))"""
+
+
+def click(page, name):
+    page.ask(f"document.getElementById('{name}').click(); 0")
+
+
+def open_step(page, step, machine):
+    page.visit(f"file://{PAGE}{machine}&learn={step}")
+    return comes(page, SEEN % PICTURES[step], 30)
+
+
+def play_a_while(page, name, e):
+    """Plays until another step is shown, and stops."""
+    click(page, name)
+    moved = comes(page, f"bench.state.e !== {e}", 30)
+    page.ask("bench.pause(); 0")
+    settle(page)
+    return moved
+
+
+def check_walk(page, name, machine, count):
+    """From the first step to the last by Next; what is to be tried is ticked off, and the moment stays."""
+    count.hold(open_step(page, "machine", machine), f"{name}: the first picture isn't seen")
+    page.ask(WATCHED)
+    for step in STEPS:
+        where = f"{name}, {step}"
+        count.hold(comes(page, SEEN % PICTURES[step], 30), f"{where}: its picture isn't seen: {page.ask('document.getElementById(`learnpicture`).innerText')[:90]!r}")
+        count.hold(page.ask("bench.state.lesson") == step, f"{where}: the step is {page.ask('bench.state.lesson')}")
+        for act in TRIED[step]:
+            before = page.ask("bench.state.e")
+            if step == "past":
+                click(page, act)
+                told = comes(page, "document.querySelectorAll('.l-pasts figure').length > 0", 20)
+                pasts = page.ask("document.querySelectorAll('.l-pasts figure').length")
+                count.hold(told and (pasts >= 2 or "one rule alone" in page.ask("document.querySelector('.l-pasts').innerText")), f"{where}: {pasts} pasts are drawn")
+                count.hold(page.ask("bench.state.playing") == 0, f"{where}: the machine alone is taken back")
+            elif act in ("learnplay", "learntake"):
+                count.hold(play_a_while(page, act, before), f"{where}: {act} moves nothing")
+            else:
+                click(page, act)
+                count.hold(comes(page, f"bench.state.e !== {before}", 30), f"{where}: {act} moves nothing")
+                settle(page)
+        if step == "stages":
+            page.ask("bench.goTo(bench.current.run.end); 0")
+            settle(page, 300)
+            count.hold("✓" in page.ask(SAID) or not page.ask("bench.current.found.own.outcome === 'halted'"), f"{where}: its end isn't ticked off")
+            page.ask("bench.goTo(bench.current.run.starts[7]); 0")
+            settle(page, 200)
+        elif TRIED[step]:
+            count.hold(comes(page, f"{SAID}.includes('✓')", 5), f"{where}: what was tried isn't ticked off")
+        e, kept = page.ask("bench.state.e"), page.ask("document.getElementById('learntrail').innerText")
+        if step in ("history", "row", "column"):
+            click(page, "learnnext")
+            count.hold(page.ask("bench.state.e") == e, f"{where}: behind Next another moment is shown")
+        elif step != "out":
+            click(page, "learnnext")
+        settle(page, 150)
+        count.hold("machine" in kept, f"{where}: the trail says {kept!r}")
+    longest = page.ask("longest")
+    count.hold(longest < MOST_TASK, f"{name}: while it was walked the page stood still for {longest:.0f} ms")
+    print(f"Learn, {name}: longest task {longest:.0f} ms", flush=True)
+    check_trail(page, name, count)
+    count.hold(not page.faults(), f"{name}: {page.faults()}")
+
+
+def check_trail(page, name, count):
+    """Each part of the trail leads to its level, at the same moment."""
+    page.ask("bench.goTo(bench.current.run.starts[5]); 0")
+    settle(page, 200)
+    e = page.ask("bench.state.e")
+    for level, picture in (("element", PICTURES["element"]), ("column", PICTURES["column"]), ("row", PICTURES["row"]), ("history", PICTURES["history"]), ("machine", PICTURES["machine"])):
+        page.ask(f"document.querySelector('#learntrail [data-level={level}]').click(); 0")
+        count.hold(comes(page, SEEN % picture, 20) and page.ask("bench.state.e") == e, f"{name}: the trail's {level} shows step {page.ask('bench.state.e')}, and not {e}")
+    count.hold("✓" in page.ask(SAID), f"{name}: that the trail was walked isn't ticked off")
+    click(page, "learnnext")
+    count.hold(page.ask("bench.state.lesson") is None and page.ask("document.getElementById('tapes').checkVisibility()"), f"{name}: behind the last step isn't the workbench")
+    settle(page, 200)
+    count.hold(page.ask("document.querySelectorAll('#three svg').length") == 3, f"{name}: the workbench shows no tapes")
+
+
+def check_ways(page, count):
+    """Two ways in: at a first visit, and by a link; a reload keeps the step, and Back leaves it."""
+    page.visit(f"file://{PAGE}#m=least")
+    page.ask("localStorage.clear(); 0")
+    page.visit(f"file://{PAGE}")
+    count.hold(page.ask("bench.state.lesson") == "machine" and page.ask("document.getElementById('hint') === null"), f"at a first visit the lesson is {page.ask('bench.state.lesson')}")
+    click(page, "learnnext")
+    settle(page, 700)
+    page.visit(f"file://{PAGE}")
+    count.hold(page.ask("bench.state.lesson") is None, "at a second visit it isn't the workbench")
+    page.visit(f"file://{PAGE}#learn")
+    count.hold(page.ask("bench.state.lesson") == "past", f"the lesson is gone on with at {page.ask('bench.state.lesson')}, where it was left at the second step")
+    page.visit(f"file://{PAGE}#m=complement&w=01&learn=history")
+    settle(page, 700)
+    asked = page.ask("location.hash")
+    count.hold("learn=history" in asked, f"the address is {asked[:80]}")
+    page.visit(f"file://{PAGE}{asked}")
+    count.hold(page.ask("[bench.state.lesson, bench.state.word]") == ["history", "01"], "the address doesn't keep the lesson")
+    page.visit(f"file://{PAGE}#m=increment&w=11")
+    settle(page, 700)
+    click(page, "openlearn")
+    count.hold(comes(page, "bench.state.lesson !== null", 10), "Learn isn't opened by its button")
+    page.ask("history.back(); 0")
+    count.hold(comes(page, "bench.state.lesson === null && document.getElementById('learn').hidden", 10), "Back leaves the lesson open")
+
+
+def check_keys(page, count):
+    """By the keyboard alone: space plays, the arrows step, Tab and Enter go on."""
+    open_step(page, "history", "#m=increment&w=1011")
+    page.ask("document.activeElement?.blur?.(); 0")
+    page.strike("ArrowRight", 39)
+    count.hold(comes(page, "bench.state.e > 0", 20), "→ makes no step in the lesson")
+    page.strike(" ", 32, " ")
+    comes(page, "bench.state.playing > 0 && bench.state.e > 0", 10)
+    page.strike(" ", 32, " ", shift=True)
+    count.hold(comes(page, f"{SAID}.includes('✓')", 10), "by keys alone what was tried isn't ticked off")
+    page.ask("bench.pause(); 0")
+    for _ in range(40):
+        page.strike("Tab", 9)
+        if page.ask("document.activeElement.id") == "learnnext":
+            break
+    count.hold(page.ask("document.activeElement.id") == "learnnext", "the Tab key doesn't come to Next")
+    page.strike("Enter", 13, "\r")
+    count.hold(comes(page, "bench.state.lesson === 'stages'", 10), "Enter on Next doesn't go on")
+
+
+def check_laid(page, pictures, count):
+    for width, height in WIDTHS:
+        page.call("Emulation.setDeviceMetricsOverride", width=width, height=height, deviceScaleFactor=1, mobile=False)
+        for step in STEPS:
+            e = {"machine": 0, "past": 0}.get(step, 500500)
+            seen = open_step(page, step, f"#m=increment&w=1011&e={e}")
+            if step == "past":
+                click(page, "learntake")
+            settle(page, 250)
+            where = f"Learn, {step}, {width} by {height}"
+            for shade in ("light", "dark"):
+                page.call("Emulation.setEmulatedMedia", features=[{"name": "prefers-color-scheme", "value": shade}])
+                page.wait("new Promise(done => setTimeout(done, 60))")
+                if pictures:
+                    page.screenshot(os.path.join(pictures, f"learn-{width}-{shade}-{step}.png"))
+            given = page.ask(LAID)
+            count.hold(seen and given["count"] > 8 and not given["many"], f"{where}: of {given['count']} texts {given['many']} lie over others: {'; '.join(given['over'])}")
+            count.hold(given["wide"] <= width, f"{where}: the page is {given['wide']} wide")
+            low = page.ask("['learnplay', 'learnpicture'].map(id => document.getElementById(id).getBoundingClientRect()).some(it => it.top > innerHeight - 20 || it.height < 20)")
+            count.hold(not low, f"{where}: the picture or Play is out of sight")
+            marked = {"element": ".l-cases tr.now", "row": ".l-moves .now", "column": ".l-bank .element.now"}.get(step)
+            if marked and height > 600:
+                count.hold(page.ask(IN_SIGHT % marked), f"{where}: what is marked is out of sight")
+    page.call("Emulation.setEmulatedMedia", features=[])
+    page.call("Emulation.setDeviceMetricsOverride", width=1280, height=800, deviceScaleFactor=1, mobile=False)
+
+
+def check_first(page, count):
+    page.visit(f"file://{PAGE}#m=increment&learn=machine")
+    took = page.ask("performance.getEntriesByName('shown')[0]?.startTime ?? -1")
+    count.hold(0 < took < MOST_FIRST, f"the first picture took {took:.0f} ms")
+    print(f"Learn: the first picture after {took:.0f} ms", flush=True)
+
+
+def check_learn(page, pictures, count):
+    page.call("Emulation.setDeviceMetricsOverride", width=1280, height=800, deviceScaleFactor=1, mobile=False)
+    check_first(page, count)
+    check_walk(page, "Add one", "#m=increment&w=1011", count)
+    text = machines()["adder"]["texts"]["latex"]
+    check_walk(page, "a pasted adder", link(t=text, w="1011"), count)
+    check_walk(page, "a machine that is stuck", link(t="S,_,_,+,A\nA,1,1,+,A\nA,0,0,-,B\nB,1,0,-,B\nA,_,_,0,F\n", w="1101"), count)
+    check_ways(page, count)
+    check_keys(page, count)
+    check_laid(page, pictures, count)

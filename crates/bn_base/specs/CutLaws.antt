@@ -1,0 +1,16 @@
+-- What the laws say on inputs of two parts, each the contract of a function with an empty body.
+use Rattle.std.specs.Prelude.{◌≡◌, ℕ, List, ◌⊎◌}
+use Rattle.bn_base.specs.Cuts.{IsCut, IsUncut}
+
+-- an input is cut in one way, or not at all
+abbrev pub CutsAreOne : Type 0
+CutsAreOne =
+    (bytes first second front rest : List ℕ) → IsCut bytes first second → IsCut bytes front rest
+    → (first ≡ front) × (second ≡ rest)
+
+abbrev pub CutsAreNotUncut : Type 0
+CutsAreNotUncut = (bytes first second : List ℕ) → IsCut bytes first second → IsUncut bytes → ⊥
+
+-- and one of the two holds of it
+abbrev pub CutsOrNot : Type 0
+CutsOrNot = (bytes : List ℕ) → ((first : List ℕ) × (second : List ℕ) × IsCut bytes first second) ⊎ IsUncut bytes

@@ -1,0 +1,6 @@
+use Rattle.std.proofs.Common.{◌≡◌}
+use Rattle.bn_board_spec.specs.Layouts.{first_element}
+use Rattle.bn_board.proofs.layout.Layout.first_element.Given as goal
+
+abbrev pub invariant-loop-before : goal.invariant-loop-before
+invariant-loop-before l = record { counted : l.first ≡ first_element l.self l.before }

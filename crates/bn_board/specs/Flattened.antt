@@ -1,0 +1,130 @@
+-- A board: a net of rotary elements in a configuration that was reached from its start, with the layout by which it
+-- is read (this project's own profile).
+use Rattle.std.specs.Prelude.{◌≡◌, ℕ, ◌+◌, ◌-◌, ◌<◌, ◌≤◌, ◌^◌, List, All, length, Option, Some, None, slice_get}
+use Rattle.bn_element.specs.Tables.{Table}
+use Rattle.bn_circuits.specs.Situations.{Situation}
+use Rattle.bn_network.specs.Cells.{cell_table}
+use Rattle.bn_network.specs.Networks.{IsTape, cells_in, first_cell}
+use Rattle.bn_board_spec.specs.Boards.{AreModules, StandsFor, base}
+use Rattle.bn_board_spec.specs.Layouts.{symbol_count_at, cell_element}
+use Rattle.bn_lists.specs.Runs.{Reaches}
+use Rattle.bn_circuits.specs.Circuits.{Circuit, Goes, IsCircuit, IsConfig}
+use Rattle.bn_circuits.specs.Stepping.{back}
+use Rattle.bn_circuits.specs.declared.line.Line.{Line}
+use Rattle.bn_circuits.specs.declared.config.Config.{Config}
+use Rattle.bn_element.specs.declared.rotary.Rotary.{Rotary}
+use Rattle.bn_net.specs.Parts.{Parts}
+use Rattle.bn_net.specs.Order.{AreInOrder}
+use Rattle.bn_net.specs.RotaryNets.{rotary_circuit}
+use Rattle.bn_quad.specs.Quadruples.{Quadruples}
+use Rattle.bn_realise.specs.Banks.{bank_input_line, column_at}
+use Rattle.bn_element.specs.Rotary.{east}
+use Rattle.bn_circuits.specs.Circuits.{line_at}
+use Rattle.bn_network.specs.declared.limits.TheConstants.{MOST_SYMBOLS}
+use Rattle.bn_control.specs.Controlled.{IsTapeAwaited}
+use Rattle.bn_network.specs.Controls.{ControlState}
+use Rattle.bn_network.specs.Networks.{network_start}
+use Rattle.bn_board_spec.specs.Boards.{IsBoard, board_start}
+use Rattle.bn_board_spec.specs.Layouts.{Layout, IsLayout, lines_at, elements_of}
+use Rattle.bn_network.specs.Limits.{AreSmall}
+use Rattle.bn_assembly.specs.Assembled.{Assembled, IsAssembled, network_of}
+use Rattle.bn_net.specs.declared.net.TheConstants.{MOST_ELEMENTS}
+
+-- a net, a configuration of it, the line by which the signal enters at the start, the line by which it leaves at the
+-- end, and the layout
+pub record Flattened : Type 0 where
+  pub net : Parts Rotary
+  pub config : Config
+  pub start : Line
+  pub end : Line
+  pub layout : Layout
+
+-- ---- where a board comes from
+
+-- the configuration from which this one was reached: as many steps back as were made
+abbrev pub origin_by : Circuit → Config → Config
+origin_by k c = back k c c.steps
+
+abbrev pub origin : Flattened → Config
+origin b = origin_by (rotary_circuit b.net) b.config
+
+-- the configuration is one of the circuit's, and it is reached from its origin in its number of steps
+pub record IsReached (k : Circuit) (c : Config) : Type 0 where
+  pub good : IsConfig k c
+  pub reaches : Reaches (Goes k) c.steps (origin_by k c) c
+
+-- the second board has the net, the start, the end, the layout and the origin of the first
+pub record IsSameBoard (a b : Flattened) : Type 0 where
+  pub net : b.net ≡ a.net
+  pub start : b.start ≡ a.start
+  pub end : b.end ≡ a.end
+  pub layout : b.layout ≡ a.layout
+  pub origin_is : origin b ≡ origin a
+
+-- ---- what a layout keeps
+
+-- a first command is given by an output line to a tape, and a state of the control awaits its answer
+abbrev pub IsFirstWithin : ℕ → ℕ → Option (ℕ × ℕ) → Type 0
+IsFirstWithin states lines None = Unit {0}
+IsFirstWithin states lines (Some f) = (f.0 < states) × (1 ≤ f.1) × (f.1 < lines)
+
+-- The window isn't too large, each tape has a symbol and not too many, the control has a state, the board hasn't too
+-- many elements, and first commands and awaited reads are within these numbers.
+pub record IsLayoutKept (b : Layout) : Type 0 where
+  pub small : AreSmall b.limits
+  pub tapes : length b.symbols ≡ 3
+  pub some_symbols : All (λ z. 1 ≤ z) b.symbols
+  pub few_symbols : All (λ z. z ≤ MOST_SYMBOLS) b.symbols
+  pub some_states : 0 < b.states
+  pub few_elements : elements_of b ≤ MOST_ELEMENTS
+  pub few_firsts : length b.firsts < 2 ^ 32
+  pub firsts_within : All (IsFirstWithin b.states (lines_at b)) b.firsts
+  pub awaited_counted : length b.awaited ≡ b.states
+  pub awaited_tapes : All IsTapeAwaited b.awaited
+
+-- A net is the board of a network whose modules lie as the layout says, and this configuration of it stands for a
+-- situation of the network.
+pub record IsOnNetwork (net : Parts Rotary) (c : Config) (b : Layout) : Type 0 where
+  pub network : Circuit
+  pub modules : AreModules network
+  pub board : IsBoard network (rotary_circuit net)
+  pub situation : Situation
+  pub stands : StandsFor network situation c
+  pub control : Table
+  pub has_control : slice_get network.tables 0 ≡ Some control
+  pub control_states : b.states ≡ control.states
+  pub control_lines : lines_at b ≡ control.inputs
+  pub cells : (t p : ℕ) → IsTape t → p < cells_in b.limits t
+      → slice_get network.tables (first_cell b.limits t + p) ≡ Some (cell_table (symbol_count_at b t))
+  pub bases : (t p : ℕ) → IsTape t → p < cells_in b.limits t
+      → base network.tables (first_cell b.limits t + p) ≡ cell_element b t p
+
+-- what every board keeps
+pub record IsBoardKept (b : Flattened) : Type 0 where
+  pub circuit : IsCircuit (rotary_circuit b.net)
+  pub order : AreInOrder b.net.wires
+  pub reached : IsReached (rotary_circuit b.net) b.config
+  pub layout : IsLayoutKept b.layout
+  pub elements : length b.net.elements ≡ elements_of b.layout
+  pub network : IsOnNetwork b.net (origin b) b.layout
+
+-- ---- the board of a network
+
+-- the line by which the signal enters at the start: the control's from outside; and the one by which it leaves at
+-- the end: the control's to the outside
+abbrev pub start_line : Line
+start_line = bank_input_line 0 0
+
+abbrev pub end_line : Layout → Line
+end_line b = line_at (column_at 0 (lines_at b) (b.states - 1)) east
+
+-- The board of an assembled network: for the machine, window and word for which the network was assembled, it is the
+-- network's board at the start, and the layout is the machine's.
+pub record IsFlattened (a : Assembled) (b : Flattened) : Type 0 where
+  pub board : IsBoard (network_of a) (rotary_circuit b.net)
+  pub layout : (m : Quadruples) (word : List ℕ) (names : List ControlState) → IsAssembled m a.limits word names a
+      → IsLayout m a.limits names b.layout
+  pub config : (m : Quadruples) (word : List ℕ) (names : List ControlState) → IsAssembled m a.limits word names a
+      → b.config ≡ board_start (network_of a).tables (network_start m a.limits word)
+  pub start : b.start ≡ start_line
+  pub end : b.end ≡ end_line b.layout

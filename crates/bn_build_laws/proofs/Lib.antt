@@ -1,0 +1,11 @@
+pub mod NetworkRuns
+pub mod ComingLemmas
+pub mod StuckLemmas
+pub mod TravelLemmas
+pub mod LeavingLemmas
+pub mod RunLemmas
+pub mod ConverseLemmas
+pub mod ThereLemmas
+pub mod BackLemmas
+pub mod StartLemmas
+pub mod InverseLemmas

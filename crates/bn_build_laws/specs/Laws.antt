@@ -1,0 +1,128 @@
+-- What holds of the build of any uniform machine of quadruples. `Laws` at the end is the contract of this crate's one
+-- function.
+use Rattle.std.specs.Prelude.{◌≡◌, ℕ, ◌+◌, ◌*◌, ◌≤◌, List, []}
+use Rattle.bn_lists.specs.Runs.{Reaches}
+use Rattle.bn_circuits.specs.Circuits.{clock, Goes, IsStuck}
+use Rattle.bn_circuits.specs.Situations.{Situation}
+use Rattle.bn_circuits.specs.Stepping.{back, run}
+use Rattle.bn_circuits.specs.declared.config.Config.{Config}
+use Rattle.bn_machine.specs.Outcome.{Limits}
+use Rattle.bn_quad.specs.Quadruples.{Configuration, Quadruples, IsQuadMachine, initial_of, inverse_of}
+use Rattle.bn_quad.specs.Calls.{IsUniformMachine}
+use Rattle.bn_bennett_laws.specs.Steps.{Exit, Finished}
+use Rattle.bn_network.specs.Moments.{HasLetters}
+use Rattle.bn_network.specs.Networks.{network_start}
+use Rattle.bn_board_spec.specs.Boards.{board_start}
+use Rattle.bn_board_laws.specs.NetworkMoments.{machine_start}
+use Rattle.bn_build_laws.specs.Builds.{Build, IsBuild, IsStart, build_elements}
+use Rattle.bn_build_laws.specs.Starts.{AreInputs, FitsWindow, start_from, words_on}
+use Rattle.bn_build_laws.specs.Runs.{EndsInWindow, BuildRunsTo}
+
+-- ---- builds and their starts
+
+abbrev pub BuildsAreThere : Type 0
+BuildsAreThere =
+    (m : Quadruples) (l : Limits) → IsQuadMachine m → IsUniformMachine m → HasLetters m
+    → (f : Build) × (f.machine ≡ m) × (f.limits ≡ l) × IsBuild f
+
+abbrev pub BuildsStartAnywhere : Type 0
+BuildsStartAnywhere =
+    (f : Build) → IsBuild f → (c : Configuration ℕ) → c.state ≡ initial_of f.machine.rules
+    → FitsWindow f.machine f.limits c
+    → IsStart f c (start_from f.machine f.limits c)
+    (board_start f.network.tables (start_from f.machine f.limits c))
+
+abbrev pub WordsFit : Type 0
+WordsFit = (f : Build) → IsBuild f → (one two three : List ℕ) → AreInputs f.machine f.limits one two three
+    → FitsWindow f.machine f.limits (words_on f.machine one two three)
+
+abbrev pub BuildsStartWithWords : Type 0
+BuildsStartWithWords =
+    (f : Build) → IsBuild f → (one two three : List ℕ) → AreInputs f.machine f.limits one two three
+    → IsStart f (words_on f.machine one two three) (start_from f.machine f.limits (words_on f.machine one two three))
+    (board_start f.network.tables (start_from f.machine f.limits (words_on f.machine one two three)))
+
+abbrev pub OneWordStarts : Type 0
+OneWordStarts = (m : Quadruples) (l : Limits) (word : List ℕ)
+    → (words_on m word [] [] ≡ machine_start m word)
+    × (start_from m l (words_on m word [] []) ≡ network_start m l word)
+
+-- ---- runs
+
+-- the clock has room for as many element steps as the machine's steps bound them
+abbrev pub BuildsRunToTheirExit : Type 0
+BuildsRunToTheirExit =
+    (f : Build) → IsBuild f → (c : Configuration ℕ) (s : Situation) (at_start : Config) → IsStart f c s at_start
+    → (n : ℕ) (d : Configuration ℕ) (e : Exit) → EndsInWindow f c n d e
+    → 4 * build_elements f + 48 * build_elements f * (n + 1) ≤ clock
+    → BuildRunsTo f s at_start n d e
+
+-- r + j of the run's steps, and j of them back
+abbrev pub BuildsRunBack : Type 0
+BuildsRunBack =
+    (f : Build) → IsBuild f → (s : Situation) (at_start : Config) (n : ℕ) (d : Configuration ℕ) (e : Exit)
+    → (ran : BuildRunsTo f s at_start n d e) → (j r : ℕ) → r + j ≤ ran.cost
+    → back f.circuit (run f.circuit at_start (r + j)) j ≡ run f.circuit at_start r
+
+-- What a board tells that has stopped at x after t steps: the machine's own run has ended, so and there, and the
+-- board's run is the one to that end, in as many steps.
+pub record Told (f : Build) (c : Configuration ℕ) (s : Situation) (at_start : Config) (t : ℕ)
+    (x : Config) : Type 0 where
+  pub steps : ℕ
+  pub final : Configuration ℕ
+  pub exit : Exit
+  pub ends : EndsInWindow f c steps final exit
+  pub ran : BuildRunsTo f s at_start steps final exit
+  pub cost : ran.cost ≡ t
+  pub there : run f.circuit at_start ran.cost ≡ x
+
+-- the clock has room for the t steps and those of one more step of the machine
+abbrev pub BuildsTellTheirMachine : Type 0
+BuildsTellTheirMachine =
+    (f : Build) → IsBuild f → (c : Configuration ℕ) (s : Situation) (at_start : Config) → IsStart f c s at_start
+    → (t : ℕ) (x : Config) → Reaches (Goes f.circuit) t at_start x → IsStuck f.circuit x
+    → t + 48 * build_elements f ≤ clock → Told f c s at_start t x
+
+abbrev pub BuildsEndOnce : Type 0
+BuildsEndOnce =
+    ((f : Build) → IsBuild f → (c : Configuration ℕ) (m n : ℕ) (d b : Configuration ℕ) (e g : Exit)
+    → EndsInWindow f c m d e → EndsInWindow f c n b g → (m ≡ n) × (d ≡ b) × (e ≡ g))
+    × ((f : Build) (s : Situation) (at_start : Config) (m n : ℕ) (d b : Configuration ℕ) (e g : Exit)
+    → (h : BuildRunsTo f s at_start m d e) → (k : BuildRunsTo f s at_start n b g)
+    → (h.cost ≡ k.cost) × (run f.circuit at_start h.cost ≡ run f.circuit at_start k.cost))
+
+abbrev pub InverseBuildsRunBack : Type 0
+InverseBuildsRunBack =
+    (f g : Build) → IsBuild f → IsBuild g → g.machine ≡ inverse_of f.machine → g.limits ≡ f.limits
+    → (c : Configuration ℕ) (s : Situation) (at_start : Config) → IsStart f c s at_start
+    → (n : ℕ) (d : Configuration ℕ) → EndsInWindow f c n d Finished
+    → IsStart g d (start_from g.machine g.limits d) (board_start g.network.tables (start_from g.machine g.limits d))
+    × EndsInWindow g d n c Finished
+
+-- ---- the laws
+
+pub record Laws : Type 0 where
+  -- A uniform machine with a symbol on each tape has a build in every window.
+  pub builds_are_there : BuildsAreThere
+  -- A build starts with each configuration in the initial state that stands in its window.
+  pub builds_start_anywhere : BuildsStartAnywhere
+  -- Three words of the tapes' symbols, none longer than its tape's right side, stand in the window.
+  pub words_fit : WordsFit
+  -- So a build starts with a word on each tape, from cell 1 on, all heads at 0.
+  pub builds_start_with_words : BuildsStartWithWords
+  -- With a word on tape 1 alone that is the start with this word as it is of the machines that the program translates.
+  pub one_word_starts : OneWordStarts
+  -- For every uniform machine, window and start: whatever the machine's own run in the window comes to, its board runs
+  -- in exactly its cost to that exit, and spells its tapes there.
+  pub builds_run_to_their_exit : BuildsRunToTheirExit
+  -- Steps taken back from within such a run restore it, all of them the start.
+  pub builds_run_back : BuildsRunBack
+  -- The converse: where the board makes t steps and then no more, the machine's own run has ended, and the board has
+  -- run to that exit.
+  pub builds_tell_their_machine : BuildsTellTheirMachine
+  -- The machine's own run in the window ends once, so there is one exit; and the board's run to an exit has one cost,
+  -- and ends in one configuration.
+  pub builds_end_once : BuildsEndOnce
+  -- Where the machine runs from a start in n steps to its end, a build of its inverse in the same window starts with
+  -- what is left there, and the inverse runs from it in n steps to its own end, which is the start.
+  pub inverse_builds_run_back : InverseBuildsRunBack

@@ -1,0 +1,5 @@
+pub mod Builds
+pub mod Starts
+pub mod Exits
+pub mod Runs
+pub mod Laws

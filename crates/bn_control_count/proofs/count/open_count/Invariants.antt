@@ -1,6 +1,0 @@
-use Rattle.std.proofs.Common.{◌≤◌}
-use Rattle.bn_control_count.specs.Shown.{IsCount, IsOpenBelow}
-use Rattle.bn_control_count.proofs.count.open_count.Given as goal
-
-abbrev pub invariant-loop-state : goal.invariant-loop-state
-invariant-loop-state l = IsCount (IsOpenBelow l.machine l.state) l.count × (l.count ≤ l.state)

@@ -1,6 +1,0 @@
-use Rattle.bn_network.specs.Controls.{Reads}
-use Rattle.bn_control_count.specs.Shown.{listed, IsShownBefore}
-use Rattle.bn_control_count.proofs.shown.is_read_before.Given as goal
-
-abbrev pub invariant-loop-index : goal.invariant-loop-index
-invariant-loop-index l = IsShownBefore l.quads l.index (Reads l.from (listed l.before)) → ⊥

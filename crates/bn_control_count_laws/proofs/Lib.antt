@@ -1,9 +1,0 @@
-pub mod Told
-pub mod AlongLemmas
-pub mod PrefixLemmas
-pub mod ToldLemmas
-pub mod StateLemmas
-pub mod SumLemmas
-pub mod CountLemmas
-pub mod NameLemmas
-pub mod TotalLemmas

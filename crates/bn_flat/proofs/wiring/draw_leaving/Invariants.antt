@@ -1,6 +1,0 @@
-use Rattle.bn_board.specs.Boards.{size}
-use Rattle.bn_flat.specs.BoardWires.{IsDrawn, IsWireBefore, module_circuit}
-use Rattle.bn_flat.proofs.wiring.draw_leaving.Given as goal
-
-abbrev pub invariant-loop-line : goal.invariant-loop-line
-invariant-loop-line l = record { drawn : IsDrawn (IsWireBefore (module_circuit l.net) l.fn.number l.line) (size (module_circuit l.net).tables) l.draft }

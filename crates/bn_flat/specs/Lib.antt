@@ -1,5 +1,0 @@
-pub mod Flattened
-pub mod BoardWires
-pub mod Locations
-pub mod Starts
-pub mod Moments

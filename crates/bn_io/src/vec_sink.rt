@@ -1,0 +1,57 @@
+//! A sink into memory that grows.
+ghost use Rattle.std.specs.Prelude.{◌≡◌, ℕ, ◌<◌, ◌≤◌, List, [], length, take, Some, IfOk, OnErr};
+ghost use Rattle.bn_io.specs.Faults.{HasCause};
+ghost use Rattle.bn_io.specs.Told.{Grows};
+
+use crate::sinks::{Sink, SinkFailed};
+use std::alloc::Global;
+use std::marker::Model;
+
+/// A sink into memory that grows with what it takes, and takes all that it is given. It fails only for want of memory,
+/// and callers see it as the bytes taken and the count of its failures.
+#[derive(Drop)]
+pub struct VecSink {
+    bytes: Vec<u8>,
+    faults: u64,
+}
+
+impl Model for VecSink {
+    ghost Value = { List ℕ × ℕ };
+
+    ghost view = { λ s. (s.bytes.items, s.faults) };
+}
+
+impl VecSink {
+    /// An empty sink that has counted no fault. It takes no memory yet.
+    pub fn new(alloc: Global) -> VecSink
+        ensures { result ≡ ([], 0) }
+    {
+        VecSink {
+            bytes: Vec::new(alloc),
+            faults: 0,
+        }
+    }
+
+    /// The bytes taken, in their order.
+    pub fn into_bytes(self) -> Vec<u8>
+        ensures { result.items ≡ self.0 }
+    {
+        self.bytes
+    }
+}
+
+impl Sink for VecSink {
+    ghost taken = { λ s. Some s.0 };
+
+    ghost faults = { λ s. s.1 };
+
+    fn give(&mut self, bytes: &[u8]) -> Result<usize, SinkFailed> {
+        match self.bytes.extend_from_slice(bytes) {
+            Ok(()) => Ok(bytes.len()),
+            Err(_) => {
+                self.faults = self.faults.saturating_add(1);
+                Err(SinkFailed)
+            }
+        }
+    }
+}

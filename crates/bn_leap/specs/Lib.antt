@@ -1,0 +1,4 @@
+pub mod Leaps
+pub mod Laws
+pub mod Inside
+pub mod Entries

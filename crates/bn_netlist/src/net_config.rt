@@ -1,0 +1,91 @@
+//! What a configuration text spells.
+
+use crate::from_wires::FromWires;
+use crate::spellable::Spellable;
+use bn_circuits::{Config, Line, Place, States, Wire};
+use bn_element::Rotary;
+use bn_lists::NoMemory;
+use bn_net::Net;
+use bn_netlist_laws::{Header, Version};
+use std::alloc::Global;
+
+/// A net of rotary elements in a configuration, with the two lines that its text names, and the
+/// version of that text. Elements and lines are counted from 0. (This project's own profile.)
+#[derive(Debug, Drop)]
+pub struct NetConfig {
+    /// The version of its text.
+    pub version: Version,
+    /// The net.
+    pub net: Net<Rotary>,
+    /// Its configuration.
+    pub config: Config,
+    /// The start, an input line into which no wire leads.
+    pub start: Line,
+    /// The end, an output line from which no wire leads.
+    pub end: Line,
+}
+
+impl Spellable for NetConfig {
+    ghost use Rattle.bn_netlist.specs.NetText.{spelling_of};
+
+    ghost version = { λ c. c.version };
+
+    ghost spelling = { spelling_of };
+
+    fn version(&self) -> Version {
+        self.version
+    }
+
+    fn len(&self) -> u32 {
+        self.net.len()
+    }
+
+    fn start(&self) -> Line {
+        self.start
+    }
+
+    fn end(&self) -> Line {
+        self.end
+    }
+
+    fn steps(&self) -> u64 {
+        self.config.steps
+    }
+
+    fn place(&self) -> Place {
+        self.config.place
+    }
+
+    fn bar(&self, element: u32) -> u32 {
+        self.config.states.get(element as usize)
+    }
+
+    fn target(&self, from: Line) -> Option<Line> {
+        // (for the prover: the contract of this call tells what the type keeps.)
+        let _elements = self.net.len();
+        self.net.target(from)
+    }
+}
+
+impl FromWires for NetConfig {
+    fn from_wires(
+        alloc: Global,
+        header: &Header,
+        wires: Vec<Wire>,
+        states: Vec<u32>,
+    ) -> Result<NetConfig, NoMemory> {
+        let elements = vec![in alloc; Rotary; header.count as usize]?;
+        let net = Net::new(alloc, elements, &wires)?;
+        Ok(NetConfig {
+            version: header.version,
+            net,
+            config: Config {
+                states: States::new(states),
+                place: header.place,
+                steps: header.steps,
+            },
+            start: header.start,
+            end: header.end,
+        })
+    }
+}

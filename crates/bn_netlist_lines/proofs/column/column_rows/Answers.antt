@@ -1,7 +1,0 @@
-use Rattle.bn_netlist_lines.proofs.ColumnTests.{column_answer}
-use Rattle.bn_netlist_lines.proofs.column.column_rows.Goals as goal
-
-pub returns : goal.returns
-returns g c =
-    let s = g.C.Spellable.spelling c.args.config.now in
-    column_answer s.elements s.wires s.config.states c.args.element c.rows_at.result c.rows_at.ensures

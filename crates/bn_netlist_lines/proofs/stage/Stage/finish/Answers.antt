@@ -1,5 +1,0 @@
-use Rattle.bn_netlist_lines.proofs.StageLemmas.{header_missing}
-use Rattle.bn_netlist_lines.proofs.stage.Stage.finish.Goals as goal
-
-pub returns-in_default-clause-refused : goal.returns-in_default-clause-refused
-returns-in_default-clause-refused g c = λ lines taken. header_missing c.args.self c.next_line-line.result lines c.in_default.not-Entries c.next_line-line.ensures taken

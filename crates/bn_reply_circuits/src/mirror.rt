@@ -1,0 +1,31 @@
+//! The command `mirror`: neither text stands whole in memory.
+
+ghost use Rattle.std.specs.Prelude.{Option, List};
+ghost use Rattle.bn_circuits.specs.declared.place.Place.{Place};
+ghost use Rattle.bn_reply.specs.Outside.{outside};
+ghost use Rattle.bn_reply.specs.Streams.{StreamEnds};
+ghost use Rattle.bn_reply_circuits.specs.MirrorReply.{MirrorReplies};
+
+use crate::config::{give_config, refuse_input};
+use bn_io::{Input, Sink};
+use bn_mirror::mirror;
+use bn_netlist::{NetConfig, read_text};
+use bn_reply::{MOST_INPUT_BYTES, Status};
+use std::alloc::Global;
+
+/// Answers `mirror`: reads a configuration text of either version and gives the sink that of its mirror, in the version
+/// that was read; or tells the first fault of bytes that are no configuration text. It tells no watch anything.
+pub fn answer_mirror<I: Input, K: Sink>(alloc: Global, input: &mut I, sink: &mut K) -> Status
+    ensures { (told : Option (List Place)) → StreamEnds MirrorReplies result
+        (outside (I.left input.old) (K.taken sink.old) told (I.faults input.old) (K.faults sink.old))
+        (outside (I.left input.new) (K.taken sink.new) told (I.faults input.new) (K.faults sink.new)) }
+{
+    let read: NetConfig = match read_text(alloc, input, MOST_INPUT_BYTES) {
+        Ok(read) => read,
+        Err(refusal) => return refuse_input(alloc, sink, refusal),
+    };
+    match mirror(alloc, &read) {
+        Ok(image) => give_config(alloc, sink, &image),
+        Err(_) => Status::NoMemory,
+    }
+}

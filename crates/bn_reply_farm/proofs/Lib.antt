@@ -1,3 +1,0 @@
-pub mod FarmReplyLemmas
-pub mod ComeBackLemmas
-pub mod FarmAnswerLemmas

@@ -1,2 +1,0 @@
-pub mod FarmReply
-pub mod FarmRefused

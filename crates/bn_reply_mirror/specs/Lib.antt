@@ -1,2 +1,0 @@
-pub mod MirrorReply
-pub mod Laws

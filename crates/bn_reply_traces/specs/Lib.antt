@@ -1,0 +1,4 @@
+pub mod Extents
+pub mod MomentText
+pub mod TraceReply
+pub mod Stages

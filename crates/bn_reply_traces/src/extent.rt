@@ -1,0 +1,75 @@
+//! The cells of a tape that are shown.
+
+ghost use Rattle.std.specs.Prelude.{◌≡◌, ◌<◌, ◌≤◌, ◌^◌, ◌≢◌, length, All, ℕ, List, pos, ◌+ℤ◌, ◌-ℤ◌, ◌≤ℤ◌};
+ghost use Rattle.bn_machine.specs.Tape.{Tape, word_tape};
+ghost use Rattle.bn_reply_traces.specs.Extents.{IsFirst, IsLast};
+ghost use Rattle.bn_reply_traces.specs.Stages.{IsMoved};
+
+/// The positions of the first and of the last cell of a tape that isn't blank or has the head.
+#[derive(Clone, Copy, PartialEq, Eq, Debug)]
+pub(crate) struct Extent {
+    pub(crate) first: i64,
+    pub(crate) last: i64,
+}
+
+impl Extent {
+    // That of a word of so many letters at 1 and on, with the head at 0.
+    pub(crate) fn of_word(letters: usize) -> Extent
+        requires { letters < 2 ^ 62 }
+        ensures first { (word : List ℕ) → letters ≡ length word → IsFirst (word_tape word) result.first }
+        ensures last { (word : List ℕ) → letters ≡ length word → All (λ s. s ≢ 0) word →
+            IsLast (word_tape word) result.last }
+    {
+        Extent {
+            first: 0,
+            last: letters as i64,
+        }
+    }
+
+    // How many cells there are.
+    pub(crate) fn cells(self) -> u64
+        requires ordered { self.first ≤ℤ self.last }
+        requires low { (pos 0 -ℤ pos (2 ^ 32)) ≤ℤ self.first }
+        requires high { self.last ≤ℤ pos (2 ^ 62) }
+        ensures { (self.first +ℤ pos result) ≡ (self.last +ℤ pos 1) }
+    {
+        (self.last - self.first) as u64 + 1
+    }
+
+    // That of the tape after a step that took the head from `left` to `head`, and left a blank there or not.
+    pub(crate) fn after(self, left: i64, is_blank: bool, head: i64) -> Extent
+        ensures first { (t u : Tape) → IsMoved t u left is_blank head → IsFirst t self.first → IsFirst u result.first }
+        ensures last { (t u : Tape) → IsMoved t u left is_blank head → IsLast t self.last → IsLast u result.last }
+    {
+        Extent {
+            first: first_after(self.first, left, is_blank, head),
+            last: last_after(self.last, left, is_blank, head),
+        }
+    }
+}
+
+// The first such cell after a step: where the head was at the first one and left a blank, it is the head's.
+fn first_after(first: i64, left: i64, is_blank: bool, head: i64) -> i64
+    ensures { (t u : Tape) → IsMoved t u left is_blank head → IsFirst t first → IsFirst u result }
+{
+    if is_blank && first == left {
+        return head;
+    }
+    if head < first {
+        return head;
+    }
+    first
+}
+
+// The last such cell after a step: where the head was at the last one and left a blank, it is the head's.
+fn last_after(last: i64, left: i64, is_blank: bool, head: i64) -> i64
+    ensures { (t u : Tape) → IsMoved t u left is_blank head → IsLast t last → IsLast u result }
+{
+    if is_blank && last == left {
+        return head;
+    }
+    if last < head {
+        return head;
+    }
+    last
+}

@@ -1,0 +1,244 @@
+// The workbench from JavaScript: the proved program as a WebAssembly module, in node, in browsers and in workers. `load`
+// gives `answer`, which hands words and an input to the program, and `Machine`, whose calls read what it prints. Nothing
+// is computed here; names are given to parts.
+import {Workbench} from "./core.mjs";
+
+const STATUSES = {
+  2: "usage", 3: "text", 4: "machine", 5: "word", 6: "size", 7: "read fault", 8: "write fault", 9: "no memory",
+};
+const DONE = 0, MACHINE = 4, NO_MEMORY = 9, STUCK = 10, WINDOW = 11, INSIDE = 12;
+const MOST_STEPS = 1048576;
+const coder = new TextEncoder(), decoder = new TextDecoder();
+
+// The program refused the words or the input: `status` is its exit code, `text` the line that it printed.
+export class Refused extends Error {
+  constructor(status, text) {
+    super(`${text.trim()} (status ${status}, ${STATUSES[status] ?? "unknown"})`);
+    Object.assign(this, {name: "Refused", status, text});
+  }
+}
+
+// The program was in want of memory (status 9), or its memory or its stack was at its end; the next answer begins anew.
+export class NoMemory extends Error {
+  constructor(why = "the program was in want of memory", options) {
+    super(why, options);
+    this.name = "NoMemory";
+  }
+}
+
+function bytesOf(data, what) {
+  if (typeof data === "string") return coder.encode(data);
+  if (data instanceof Uint8Array) return data;
+  if (data instanceof ArrayBuffer) return new Uint8Array(data);
+  throw new TypeError(`${what} is a string or bytes, and not ${data === null ? "null" : typeof data}`);
+}
+
+// The words as bytes with a byte 0 between them.
+function joined(words) {
+  if (typeof words === "string" || typeof words?.[Symbol.iterator] !== "function") {
+    throw new TypeError("words is a sequence of words, and not one text");
+  }
+  const listed = Array.from(words, word => bytesOf(word, "a word"));
+  if (listed.some(word => word.includes(0))) throw new RangeError("a word has no byte 0");
+  const all = new Uint8Array(listed.reduce((sum, word) => sum + word.length + 1, -1 + (listed.length === 0)));
+  let at = 0;
+  for (const word of listed) {
+    all.set(word, at);
+    at += word.length + 1;
+  }
+  return all;
+}
+
+// A number as a word. One that is no longer exact is refused: it would be spelled as another.
+function spelled(number) {
+  if (typeof number === "bigint" || Number.isSafeInteger(number)) return String(number);
+  throw new RangeError(`${number} is no whole number up to 2^53 - 1; give a greater one as a BigInt`);
+}
+
+// A number of a text, where it is exact.
+function counted(text) {
+  const number = Number(text);
+  if (!Number.isSafeInteger(number)) throw new RangeError(`${text} is above 2^53 - 1; the text has it`);
+  return number;
+}
+
+const windowWords = window => {
+  const numbers = Array.from(window);
+  if (numbers.length !== 4) throw new RangeError(`a window is four numbers, l1, r1, n and r3, and not ${numbers.length}`);
+  return numbers.map(spelled);
+};
+const behind = (text, front) => text.startsWith(front) ? text.slice(front.length) : text;
+const linesOf = text => text.split("\n").slice(0, -1);
+
+function readTape(line) {
+  const found = /^tape ([123]) from (-?\d+) head (-?\d+|\?):((?: \S+)*)$/.exec(line);
+  if (!found) throw new Error(`${JSON.stringify(line)} isn't the line of a tape`);
+  const symbols = found[4].split(" ").slice(1), single = symbols.every(it => it.length === 1);
+  const word = single ? symbols.join("").replace(/^_+|_+$/g, "") : symbols.join(" ").replace(/^[_ ]+|[_ ]+$/g, "");
+  const first = Number(found[2]);
+  return {number: Number(found[1]), first, head: found[3] === "?" ? null : Number(found[3]), symbols, word,
+          at: place => {
+            if (place < first || place >= first + symbols.length) {
+              throw new RangeError(`tape ${found[1]} is shown from ${first} to ${first + symbols.length - 1}`);
+            }
+            return symbols[place - first];
+          }};
+}
+
+function readOutcome(text) {
+  const [first, second] = text.split("\n"), words = first.split(" ");
+  if (words[0] === "stuck") {
+    return {kind: "stuck", steps: counted(words[3]), output: null, state: words[1], letter: words[2], text};
+  }
+  const output = words[0] === "halted" ? behind(second, "output =") : null;
+  return {kind: words[0], steps: counted(words[1]), output, state: null, letter: null, text};
+}
+
+function readExit(words) {
+  const [kind, ...rest] = words.split(" ");
+  const none = {kind, state: null, letter: null, tape: null, side: null};
+  if (kind === "stuck") return {...none, state: rest[0], letter: rest[1]};
+  if (kind === "window") return {...none, tape: Number(rest[0]), side: rest[1]};
+  return none;
+}
+
+function readRun(text, window) {
+  const told = new Map(), tapes = [];
+  for (const line of linesOf(text)) {
+    if (line.startsWith("tape ")) tapes.push(readTape(line));
+    else told.set(line.split(" ", 1)[0], line.slice(line.indexOf(" ") + 1));
+  }
+  if (told.has("window")) window = told.get("window").split(" ").map(Number);
+  const quadruple = told.get("quadruple"), output = told.get("output");
+  return {window, elements: counted(told.get("elements")), exit: readExit(told.get("exit") ?? "inside"),
+          steps: counted(told.get("steps")), quadrupleSteps: quadruple ? counted(behind(quadruple, "steps ")) : null, tapes,
+          output: output === undefined ? null : behind(output, "="), text};
+}
+
+function readView(lines) {
+  const element = /^element (at|left) (\S+) steps (\d+)$/.exec(lines[0]);
+  const layer = behind(lines[6], "machine "), cut = layer.indexOf(" ");
+  return {place: element[2], hasLeft: element[1] === "left", steps: counted(element[3]), module: lines[1],
+          quadruple: behind(lines[2], "quadruple "), tapes: lines.slice(3, 6).map(readTape),
+          stage: cut < 0 ? layer : layer.slice(0, cut), machine: cut < 0 ? "" : layer.slice(cut + 1),
+          text: lines.slice(0, 7).map(line => `${line}\n`).join("")};
+}
+
+// The answers to a script, one an entry, in order: read as they are asked for.
+function* readSession(text) {
+  const lines = linesOf(text);
+  for (let at = 0; at < lines.length; at++) {
+    if (!lines[at].startsWith("element ")) yield lines[at];
+    else {
+      yield readView(lines.slice(at, at + 7));
+      at += 6;
+    }
+  }
+}
+
+// The class of machines whose calls this `answer` answers.
+function machineClass(answer) {
+  return class Machine {
+    constructor(table) {
+      this.table = typeof table === "string" ? table : decoder.decode(table);
+    }
+
+    // The program's answer as text; a status that isn't one of these is Refused.
+    ask(words, statuses = [DONE], input = this.table) {
+      const {status, text} = answer(words, input);
+      if (!statuses.includes(status)) throw new Refused(status, text);
+      return text;
+    }
+
+    check() {
+      return this.ask(["check"]).trim();
+    }
+
+    get isStandard() {
+      try {
+        this.check();
+        return true;
+      } catch (refused) {
+        if (refused instanceof Refused && refused.status === MACHINE) return false;
+        throw refused;
+      }
+    }
+
+    standard() {
+      return new Machine(this.ask(["standard"]));
+    }
+
+    bennett() {
+      return this.ask(["bennett"]);
+    }
+
+    byItself(word, steps = MOST_STEPS) {
+      return readOutcome(this.ask(["machine", `=${word}`, spelled(steps)], [DONE, STUCK, INSIDE]));
+    }
+
+    run(word, window = "auto", steps = null) {
+      if (window === "auto") {
+        if (steps !== null) throw new TypeError("a run of so many steps needs a window");
+        return readRun(this.ask(["run", `=${word}`, "auto"], [DONE, STUCK, WINDOW]), null);
+      }
+      const words = ["run", `=${word}`, ...windowWords(window), ...(steps === null ? [] : [spelled(steps)])];
+      return readRun(this.ask(words, [DONE, STUCK, WINDOW, INSIDE]), words.slice(2, 6).map(Number));
+    }
+
+    view(word, window, steps) {
+      return readView(linesOf(this.ask(["view", `=${word}`, ...windowWords(window), spelled(steps)])));
+    }
+
+    // The answers to a script: its commands as a sequence, or as one text.
+    session(word, window, script) {
+      const lines = typeof script === "string" ? script : Array.from(script, line => `${line}\n`).join("");
+      const table = this.table.endsWith("\n") ? this.table : `${this.table}\n`;
+      return [...readSession(this.ask(["session", `=${word}`, ...windowWords(window)], [DONE], `${table}%\n${lines}`))];
+    }
+
+    compile(word, window) {
+      return this.ask(["compile", `=${word}`, ...windowWords(window)]);
+    }
+  };
+}
+
+// The module: a compiled one, its bytes, a Response, or where it stands.
+async function moduleOf(source) {
+  if (source instanceof WebAssembly.Module) return source;
+  if (source instanceof Uint8Array || source instanceof ArrayBuffer) return WebAssembly.compile(source);
+  if (typeof source === "string" || source instanceof URL) {
+    const url = new URL(source, import.meta.url);
+    if (url.protocol === "file:") {
+      const {readFile} = await import(/* @vite-ignore */ /* webpackIgnore: true */ "node:fs/promises");
+      return WebAssembly.compile(await readFile(url));
+    }
+    source = await fetch(url);
+    if (!source.ok) throw new Error(`${url}: ${source.status} ${source.statusText}`);
+  }
+  return WebAssembly.compile(await source.arrayBuffer());
+}
+
+// The workbench, by the module beside this file, or by the one that is given.
+export async function load({module = new URL("hithwelor.wasm", import.meta.url)} = {}) {
+  const compiled = await moduleOf(module), bench = new Workbench(compiled);
+
+  // Status and text, as bytes, of the program's answer to words and an input.
+  function answerBytes(words, input = "") {
+    const list = joined(words), given = bytesOf(input, "the input");
+    let answered;
+    try {
+      answered = bench.answer(list, given);
+    } catch (fault) {
+      throw new NoMemory(`the answer was cut off: ${fault.message ?? fault}`, {cause: fault});
+    }
+    if (answered.status === NO_MEMORY) throw new NoMemory();
+    return answered;
+  }
+
+  function answer(words, input = "") {
+    const {status, text} = answerBytes(words, input);
+    return {status, text: decoder.decode(text)};
+  }
+
+  return {answer, answerBytes, Machine: machineClass(answer), module: compiled, memory: () => bench.memory()};
+}

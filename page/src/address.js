@@ -1,0 +1,18 @@
+// The address holds the machine, the word, the window and the step as they change, so that a reload keeps them, and a bookmark.
+// An exercise keeps the address that began it.
+import {linkOf} from "./links.js";
+import {taskAtHand} from "./sheet.js";
+import {state} from "./state.js";
+
+const ADDRESS_REST = 400, MOST_ADDRESS = 100000;
+let later = 0;
+
+// Writes it once all has come to rest. What is too long for an address isn't kept, and nothing else is in its place.
+export function keepAddress() {
+  clearTimeout(later);
+  later = setTimeout(() => {
+    if (state.playing || taskAtHand() !== null) return;
+    const link = state.text.length > MOST_ADDRESS ? state.lesson === null ? "#" : `#learn=${state.lesson}` : linkOf();
+    if (link !== location.hash) history.replaceState(null, "", link);
+  }, ADDRESS_REST);
+}

@@ -1,0 +1,41 @@
+// The steps of the lesson: for each its level, two sentences, and a thing to try. `done` says whether that was tried, so that it
+// is ticked off. What is said is of the machine that runs, whichever it is.
+const isHalting = ({found}) => found?.own.outcome === "halted";
+
+/** @type {LessonStep[]} */
+export const STEPS = [
+  {key: "machine", level: "machine", title: "A machine",
+   words: () => ["A Turing machine has a tape, a head that reads one cell, and a state; each step follows one rule, which writes a symbol, moves the head and names the next state.",
+     "Here it runs by itself: the picture shows its states, and the thick arrow is the rule that was followed."],
+   ask: "Press Play.", done: ({seen}) => seen.has("played")},
+  {key: "past", level: "machine", title: "Can it be taken back?",
+   words: () => ["You see what stands there now, and nothing else: where two rules fit, it has two pasts, and the machine has forgotten which was its own.",
+     "A step that forgets can't be taken back, and it can't be free either, since to forget costs heat."],
+   ask: "Press Take it back.", done: ({seen}) => seen.has("refused")},
+  {key: "history", level: "history", title: "A history",
+   words: () => ["A second tape keeps a history: each rule that is followed leaves its number there, and nothing is forgotten.",
+     "The last number says which rule was followed last, so that step is undone, and its number is taken away."],
+   ask: "Press Play for a while, and then Take it back.", done: ({seen}) => seen.has("took")},
+  {key: "stages", level: "stages", title: "Compute, copy, retrace",
+   words: shown => ["A history is rubbish in the end, so the output is copied onto a third tape, and then every step is taken back until the history is empty again.",
+     isHalting(shown) ? "That is Bennett's machine of 1973: the hill is the history, which grows, stands while the output is copied, and goes."
+       : "That is Bennett's machine of 1973; on this word the machine doesn't halt, so nothing is copied, and its history is all that you see."],
+   ask: "Play it to its end, or draw along the hill.", done: ({shown, e}) => e >= shown.run.end || !isHalting(shown)},
+  {key: "row", level: "row", title: "A row opens",
+   words: () => ["One row of Bennett's table is done by one signal in a circuit, from the control to the cells of the three tapes, and back with their answers.",
+     "Each line of the list is a move, into which module it goes and what it says there; each can be undone, since the module is made so."],
+   ask: "Step on, move by move.", done: ({seen}) => seen.has("stepped")},
+  {key: "column", level: "column", title: "A move opens",
+   words: () => ["A module is a bank of columns, and the one on amber is marked: it is the module's state, as a cell's symbol.",
+     "The signal comes in by a row, which is a question, looks for the marked column and marks another; the line by which it comes out is the answer."],
+   ask: "Play it, on and back.", done: ({seen}) => seen.has("played") || seen.has("took")},
+  {key: "element", level: "element", title: "One element",
+   words: () => ["All of it is made of one thing, the rotary element: along its bar the signal goes straight on, across it the signal turns right and turns the bar.",
+     "Of the eight cases no two end alike, so the line out and the bar tell what was before, and that is why every layer above can be taken back."],
+   ask: "Step on and back, and find the row of the table each time.", done: ({seen}) => seen.has("stepped")},
+  {key: "out", level: "machine", title: "Out again",
+   words: () => ["You came down from a machine to one element, and all levels stand at the same moment: the trail above leads in and out.",
+     "In the workbench all of it is seen at once, and a machine of your own is pasted there; Learn then tells of that one."],
+   ask: "Walk the trail, or go on to the workbench.", done: ({seen}) => seen.has("walked")},
+];
+export const stepOf = key => STEPS.find(it => it.key === key) ?? STEPS[0];

@@ -1,0 +1,136 @@
+// The lens: what an element or a state is that was clicked, what it has done so far, and the way to stop there. All of it is
+// looked up in the answers; when the signal came to an element last, and when it comes next, is asked of the program.
+import {sameBreak, toggleBreak} from "./breaks.js";
+import {controlInFull, controlStates} from "./control.js";
+import {frame} from "./frame.js";
+import {goTo, pause} from "./play.js";
+import {byId, current, escaped, nameOf, state} from "./state.js";
+import {SHIFT_WORDS, symbolWord} from "./table.js";
+import {bankName, lineOf, number} from "./words.js";
+
+const GAP = 12, MOST_RULES = 6;
+/** @type {{what: Break | null, came: (() => void) | null, at: number[]}} */
+const lens = {what: null, came: null, at: [0, 0]};
+
+const times = it => it === 1 ? "once" : it === 2 ? "twice" : `${number(it)} times`;
+
+// Opens at a place of the window; the same again closes it.
+/** @param {Break} what @param {number[]} place */
+export function openLens(what, [x, y]) {
+  const isSame = lens.what !== null && sameBreak(lens.what, what), came = document.activeElement;
+  closeLens();
+  if (isSame || !current.run) return;
+  pause();
+  lens.what = what;
+  lens.came = () => /** @type {HTMLElement | null} */ (came)?.focus();
+  const box = document.createElement("aside");
+  box.id = "lens";
+  box.setAttribute("role", "dialog");
+  document.body.append(box);
+  lens.at = [x, y];
+  fill(box);
+  placeLens();
+  byId("lensstop").focus();
+}
+// Beside what was clicked, within the window; anew where more is told.
+function placeLens() {
+  const box = byId("lens"), {width, height} = box.getBoundingClientRect(), room = GAP / 2, [x, y] = lens.at;
+  const below = y + GAP + height < innerHeight - room ? y + GAP : y - height - GAP;
+  box.style.left = `${Math.max(room, Math.min(innerWidth - width - room, x + GAP))}px`;
+  box.style.top = `${Math.max(room, Math.min(innerHeight - height - room, below))}px`;
+}
+export function closeLens() {
+  if (!lens.what) return;
+  const {came} = lens;
+  lens.what = lens.came = null;
+  byId("lens")?.remove();
+  came?.();
+}
+export const isLensOpen = () => lens.what !== null;
+
+function fill(box) {
+  const what = /** @type {Break} */ (lens.what), {title, words} = what.kind === "state" ? stateWords(what.state) : elementWords(/** @type {any} */ (what));
+  box.setAttribute("aria-label", title);
+  box.innerHTML = `<p class="row top"><b>${escaped(title)}</b><button id="lensclose" class="plain" aria-label="close">×</button></p>`
+    + words.map(it => `<p>${it}</p>`).join("") + '<p id="lenslater"></p><p class="row" id="lensacts"></p>';
+  const add = (id, text, act) => {
+    const made = Object.assign(document.createElement("button"), {id, textContent: text, onclick: act});
+    box.querySelector("#lensacts").append(made);
+    return made;
+  };
+  const isBreak = state.breaks.some(it => sameBreak(it, what));
+  add("lensstop", isBreak ? "Don't stop here" : "Stop here", () => {
+    toggleBreak(what);
+    closeLens();
+  }).className = "main";
+  box.querySelector("#lensclose").onclick = closeLens;
+  box.onkeydown = event => {
+    if (event.key !== "Escape") return;
+    event.stopPropagation();
+    closeLens();
+  };
+  if (what.kind === "element") addVisits(what, add);
+  else if (what.kind === "state") addMoments(what.state, add);
+}
+
+// ---- a state
+
+function stateWords(name) {
+  const {run} = current, rules = run.rules.filter(it => it.state === name), shown = rules.slice(0, MOST_RULES).map(it => {
+    const write = it.write === it.read ? "" : `write ${symbolWord(it.write)}, `, then = it.next === name ? "and stay in it" : `then ${nameOf(it.next)}`;
+    return `on <b>${escaped(symbolWord(it.read))}</b>: ${escaped(`${write}${SHIFT_WORDS[it.shift]}, ${then}`)}`;
+  });
+  const more = rules.length > MOST_RULES ? [`and ${number(rules.length - MOST_RULES)} rules more`] : [];
+  const into = new Set(run.rules.filter(it => it.next === name && it.state !== name).map(it => nameOf(it.state)));
+  const ways = into.size ? `It is come to from ${escaped([...into].join(", "))}.` : "The machine starts in it.";
+  return {title: `State ${nameOf(name)}`, words: [...(shown.length ? shown : ["No rule leaves it: here the machine halts."]), ...more, ways]};
+}
+const isIn = (it, name) => it.state === name && it.stage !== "copy" && it.rule === null;
+function addMoments(name, add) {
+  const {run} = current, e = state.e, at = run.moments.map((it, q) => ({it, q})).filter(({it}) => isIn(it, name));
+  const done = at.filter(({q}) => run.starts[q] <= e), last = done.findLast(({q}) => run.starts[q] < e), next = at.find(({q}) => run.starts[q] > e);
+  const forth = done.filter(({it}) => it.stage === "compute").length, back = done.length - forth;
+  byId("lenslater").textContent = `So far the machine was in it ${times(forth)}${back ? `, and ${times(back)} on the way back` : ""}.`;
+  if (last) add("lenslast", "◂ The time before", () => { closeLens(); goTo(run.starts[last.q]); });
+  if (next) add("lensnext", "The next time ▸", () => { closeLens(); goTo(run.starts[next.q]); });
+}
+
+// ---- an element
+
+// Where an element stands in its module: the column's state and the row's line, in words.
+export function elementPlace(run, element) {
+  const bank = run.bankOf(element), at = element - bank.base, column = Math.floor(at / (bank.rows + 1)), row = at % (bank.rows + 1);
+  return {bank, column, row, isMark: row === bank.rows};
+}
+export function columnWords(run, bank, column) {
+  if (bank.kind === "cell") {
+    const z = run.symbols[bank.tape - 1], symbol = symbolWord(run.symbolOf(bank.tape, column % z));
+    return `“the cell holds ${symbol}${column >= z ? ", and the head is here" : ""}”`;
+  }
+  const it = controlStates(run)[column];
+  return it ? `“${controlInFull(it)}”` : `state ${column + 1}`;
+}
+function elementWords({element}) {
+  const {run} = current, {bank, column, row, isMark} = elementPlace(run, element), bars = run.bankBars(bank, state.e);
+  const bar = bars?.[element - bank.base], lies = bar === undefined ? "" : bar ? "lies, west to east" : "stands, north to south";
+  const column_ = `column ${column + 1} of ${bank.columns}, for ${escaped(columnWords(run, bank, column))}`;
+  const row_ = isMark ? "the mark below it: where its bar lies, that is the module's state"
+    : `row ${row + 1} of ${bank.rows}: <b>${escaped(lineOf(run, bank, row).words)}</b>`;
+  const before = run.circuit.bars[element], changed = bar === undefined ? "" : bar === before ? "as at the start" : "turned since the start";
+  return {title: `Element ${number(element)}`, words: [`A rotary element of the module ${escaped(bankName(bank))}: ${column_}, ${row_}.`,
+    lies ? `Its bar ${lies}, ${changed}. Along it the signal goes straight on; across it, it turns right and turns the bar.` : ""].filter(Boolean)};
+}
+// When the signal was there last, and when it comes next.
+async function addVisits(what, add) {
+  const {run} = current, e = state.e, isOpen = () => lens.what === what && run === current.run;
+  byId("lenslater").textContent = "When the signal came to it is asked …";
+  const last = await run.runTo(e, -1, [what]), next = isOpen() ? await run.runTo(e, 1, [what]) : null;
+  if (!isOpen() || !next) return;
+  const isNow = frame().at?.place !== undefined && !frame().at?.hasLeft && (frame().at?.place ?? 0) >> 2 === what.element;
+  const told = [isNow ? "The signal is about to come in." : "", last.hit ? `It came last at element step ${number(last.step)}.` : isNow ? "" : "The signal hasn't been here yet.",
+    next.hit ? `It comes next at ${number(next.step)}.` : "It doesn't come again."];
+  byId("lenslater").textContent = told.filter(Boolean).join(" ");
+  if (last.hit) add("lenslast", "◂ The time before", () => { closeLens(); goTo(last.step); });
+  if (next.hit) add("lensnext", "The next time ▸", () => { closeLens(); goTo(next.step); });
+  placeLens();
+}

@@ -1,0 +1,140 @@
+"""What the tests share: clean clones, machines that have this and lack that, and the proved program where it stands.
+
+What isn't there is skipped by its name, with what would bring it.
+"""
+import os
+import shutil
+import sys
+
+import pytest
+
+sys.dont_write_bytecode = True
+sys.path.insert(0, os.path.dirname(os.path.abspath(__file__)))
+
+import places
+
+LACKING = "{} isn't installed: tools/setup"
+
+
+def pytest_generate_tests(metafunc):
+    """A test that wants `node` is run with each node, and one that wants `python` with each Python from 3.9 on."""
+    for name, found, told in (("node", places.nodes(), "node {}"), ("python", places.pythons(), "Python {}")):
+        if name in metafunc.fixturenames:
+            names = [told.format(".".join(map(str, it)) if isinstance(it, tuple) else it) for it in found]
+            kinds = [pytest.param(path, id=one) for one, path in zip(names, found.values())]
+            none = pytest.param(None, marks=pytest.mark.skip(reason=LACKING.format(name)), id=f"no {name}")
+            metafunc.parametrize(name, kinds or [none])
+
+
+@pytest.fixture(scope="session")
+def clone(tmp_path_factory):
+    """A clean clone of the repository, as a stranger has it; it is read and not changed."""
+    wanted("git")
+    return places.clone_to(str(tmp_path_factory.mktemp("clone") / "it's a clone"))
+
+
+@pytest.fixture
+def own_clone(clone, tmp_path):
+    """A clean clone that a test may change."""
+    to = str(tmp_path / "own clone")
+    shutil.copytree(clone, to, symlinks=True)
+    yield to
+    shutil.rmtree(to, ignore_errors=True)
+
+
+@pytest.fixture(scope="session")
+def any_node():
+    """The path of the first node that is found."""
+    found = places.nodes()
+    if not found:
+        pytest.skip(LACKING.format("node"))
+    return next(iter(found.values()))
+
+
+@pytest.fixture(scope="session")
+def system(tmp_path_factory):
+    """`system("rt", "node")` is a PATH of the system's commands without those."""
+    made = {}
+
+    def path(*lacks):
+        if lacks not in made:
+            made[lacks] = places.commands_without(str(tmp_path_factory.mktemp("system") / "bin"), *lacks)
+        return made[lacks]
+
+    return path
+
+
+@pytest.fixture
+def machine(system, tmp_path):
+    """Makes the PATH of a machine: `machine(lacks=["rt"], node=PATH, python=PATH, rt=SCRIPT)`. What is named by a path
+    or as a script stands first on it."""
+    count = [0]
+
+    def made(lacks=("rt", "node", "python"), **programs):
+        path = system(*lacks)
+        if not programs:
+            return path
+        count[0] += 1
+        room = str(tmp_path / f"machine{count[0]}")
+        for name, what in programs.items():
+            name = "python3" if name == "python" else name
+            script = what if what.startswith("#!") else f'#!/bin/sh\nexec "{what}" "$@"\n'
+            places.write(os.path.join(room, name), script, is_run=True)
+        return os.pathsep.join([room, path])
+
+    return made
+
+
+def pytest_addoption(parser):
+    parser.addoption("--drawn", metavar="N", type=int, help="how many runs are drawn where a test draws them")
+    parser.addoption("--seed", metavar="S", type=int, default=1, help="other runs are drawn")
+    parser.addoption("--program", metavar="PATH", help="a program in place of the proved one, as one that was proved elsewhere")
+
+
+def pytest_configure(config):
+    """The tools' own tests ask the program that is named, or the proved one: a module answers them too, and takes minutes
+    to, since the tools call once a step."""
+    found = config.getoption("--program") or places.told_program()
+    if found:
+        os.environ["WORKBENCH_PROGRAM"] = os.path.abspath(found)
+
+
+@pytest.fixture(scope="session")
+def proved_program(pytestconfig):
+    """The path of the program that is named by --program; else of the proved one, where it is that of these sources."""
+    found = pytestconfig.getoption("--program") or places.told_program()
+    if not found:
+        pytest.skip("the proved program isn't built: ./workbench, or tools/prove")
+    return os.path.abspath(found)
+
+
+@pytest.fixture(scope="session")
+def program(pytestconfig):
+    """The path of what answers: the proved program, else the same code under node."""
+    found = pytestconfig.getoption("--program") or places.told_program() or places.told_program("--module")
+    if not found:
+        pytest.skip("neither the proved program nor the module under node can answer: ./workbench, or node 18 or later")
+    return os.path.abspath(found)
+
+
+@pytest.fixture(scope="session")
+def answering():
+    """What answers the package of Python: the shared library, or one process of node."""
+    from hithwelor import answers
+    try:
+        return answers.way()
+    except answers.Unavailable as fault:
+        pytest.skip(str(fault))
+
+
+def wanted(*commands):
+    """Skips the test where a command isn't here."""
+    for it in commands:
+        if not shutil.which(it):
+            pytest.skip(LACKING.format(it))
+
+
+@pytest.fixture(scope="session")
+def needs():
+    """`needs("zsh")` skips the test where that command isn't here."""
+    return wanted

@@ -1,0 +1,201 @@
+"""The forms of the words are told alike wherever they are told.
+
+The program's own table is `words_of` in crates/bn_words/specs/Requests.antt, with the limits of `IsAllowed` there; contracts
+cite both. With it are compared: the table of tools/front.sh, from which ./workbench and ./try help, with its numbers' limits
+and the commands that read nothing; what these say to words that have no form; the names that tools/completion.bash
+completes; the first column of docs/FORMATS.md's table of commands; and the synopsis and the list of commands of the man page.
+"""
+import re
+import subprocess
+
+import pytest
+from places import TOP, text_of
+
+TABLE = "crates/bn_words/specs/Requests.antt"
+INCREMENTS = "crates/bn_gen/src/machine.rt"
+FRONT = "tools/front.sh"
+FORMATS = "docs/FORMATS.md"
+MAN_PAGE = "docs/workbench.1"
+# The kind of word that stands for each letter of a form.
+KINDS = {"=W": "Letters", "auto": "Auto", "E": "Count greatest", "Q": "Ordinal MOST_COUNT", "I": "Ordinal MOST_COUNT", "k": "Ordinal MOST_INCREMENTS",
+         **dict.fromkeys(["l1", "r1", "n", "r3"], "Count MOST_COUNT")}
+# Words that have no form, and what is said to them in one line.
+FAULTS = [
+    ([], "no command is named"),
+    (["check", "examples/least.csv"], "examples/least.csv is a file: write < examples/least.csv"),
+    (["examples/least.csv"], "examples/least.csv is a file: name a command first, and give it the file by < examples/least.csv"),
+    (["generate", "examples/least.csv"], "examples/least.csv is a file, and generate reads none"),
+    (["generate", "examples"], "examples is a folder, and generate reads none"),
+    (["check", "."], ". is a folder: check reads a file, by < FILE"),
+    (["examples"], "examples is a folder: name a command first, and give it a file by < FILE"),
+    (["check", "nofile.csv"], "there is no file nofile.csv here; one that is there is given by < FILE"),
+    (["generate", "nofile.csv"], "nofile.csv is no word of generate, which reads no file either"),
+    (["Check"], "commands are written in small letters: check"),
+    (["chek"], "there is no command chek; check is one"),
+    (["hceck"], "there is no command hceck; check is one"),
+    (["cheeck"], "there is no command cheeck; check is one"),
+    (["chuck"], "there is no command chuck; check is one"),
+    (["walk"], "there is no command walk"),
+    (["machine", "1011", "20"], "the word needs a = before it: =1011"),
+    (["machine", "=1011", "020"], "a number has no zero in front: write 20 for 020"),
+    (["machine", "=1011", "+20"], "a number has no sign: n can't be +20"),
+    (["machine", "=1011", "x"], "n is a number, and x is none"),
+    (["machine", "=1011", ""], "n is a number, and the empty word is none"),
+    (["machine", "=1011", "1048577"], "n is at most 1048576"),
+    (["step", "4611686018427387905"], "E is at most 4611686018427387904"),
+    (["step", "99999999999999999999"], "E is at most 4611686018427387904"),
+    (["run", "=1011", "0"], "auto is the one word that may stand for 0"),
+    (["realise", "0", "1"], "Q is at least 1"),
+    (["generate", "5"], "k is at most 4"),
+    (["machine", "=1011"], "as many words are wanted as in `machine =W n`"),
+    (["erase", "=1"], "as many words are wanted as in `erase` or `erase =W n`"),
+]
+GREATEST = {"greatest": 2 ** 62, "MOST_COUNT": 2 ** 20}
+
+
+def kind_of(number, allowed):
+    """The kind of a number's word, by the limits of what is allowed."""
+    for limit, kind in [(rf"\bIsOrdinal {number}\b", "Ordinal MOST_COUNT"), (rf"\bIsRoundCount {number}\b", "Ordinal MOST_INCREMENTS")]:
+        if re.search(limit, allowed):
+            return kind
+    return "Count " + re.search(rf"\b{number} ≤ (\w+)", allowed)[1]
+
+
+def cases():
+    """The cases of the program's table: each with its command's name, the words behind it, and what is allowed."""
+    text = text_of(TABLE)
+    allowed = dict(re.findall(r"^IsAllowed \(?(\w+)\b.*? = (.*)$", text, flags=re.M))
+    for case, name, words in re.findall(r'^words_of \(?(\w+).*? = codes "(\w+)" ∷ (.*)$', text, flags=re.M):
+        yield case, name, words, allowed.get(case, "")
+
+
+def rows():
+    """The forms of the program's table: each a name and the kinds of the words behind it."""
+    limits = " ∷ ".join(f"decimal l.{it}" for it in ("left", "right", "steps", "output"))
+    found = []
+    for _, name, words, allowed in cases():
+        if "AreSmall l" in allowed:
+            allowed += "".join(f" × (l.{it} ≤ MOST_COUNT)" for it in ("left", "right", "steps", "output"))
+        words = re.sub(r"window_words word l \(?(.*?)\)?$", rf"(61 ∷ word) ∷ {limits} ∷ \1", words)
+        given = re.sub(r"steps_words given$", "decimal e ∷ []", words)
+        for form in dict.fromkeys([re.sub(r"\(?steps_words given$", "[]", words), given]):
+            kinds = []
+            for mark, number in re.findall(r'(\(61 ∷ word\)|codes "auto"|decimal ([\w.]+))', form):
+                kinds.append(kind_of(re.escape(number), allowed) if number else "Letters" if mark[0] == "(" else "Auto")
+            found.append((name, *kinds))
+    return found
+
+
+def forms_of(words):
+    """The forms that one line of words tells: a word in [ ] may be left out."""
+    words, may_lack = re.sub(r"\s*\[.*\]", "", words).split(), re.findall(r"\[(\w+)\]", words)
+    form = (words[0], *(KINDS.get(it, it) for it in words[1:]))
+    return [form] + [(*form, KINDS.get(it, it)) for it in may_lack]
+
+
+def told(lines):
+    """The forms that lines of words tell."""
+    return sorted(form for line in lines for form in forms_of(line))
+
+
+def unquoted(macro, rest):
+    """The text of a man page's macro line: the alternating ones join their words."""
+    words = [it.strip('"') for it in re.findall(r'"[^"]*"|\S+', rest)]
+    text = ("" if macro in ("BI", "BR", "IB", "IR", "RB", "RI") else " ").join(words)
+    return re.sub(r"\\f.", "", text)
+
+
+def synopsis(page):
+    """The lines of the man page's synopsis."""
+    part = re.search(r"^\.SH SYNOPSIS\n(.*?)^\.SH", page, flags=re.M | re.S)[1]
+    for form in part.split(".br\n"):
+        yield " ".join(unquoted(*it) for it in re.findall(r"^\.(\w+) (.*)$", form, flags=re.M)).replace("./workbench ", "")
+
+
+def described(page):
+    """The names of the commands that the man page describes."""
+    part = re.search(r"^\.SH DESCRIPTION\n(.*?)^\.SH", page, flags=re.M | re.S)[1]
+    heads = re.findall(r"^\.TP\n\.(B\w?) (.*)$", part, flags=re.M)
+    return {word for macro, rest in heads for word in re.findall(r"[a-z]{2,}", unquoted(macro, rest.split(" =")[0]))}
+
+
+def front_forms():
+    """The table of tools/front.sh: the words of each form, and what it does."""
+    table = re.search(r"^forms=\(\n(.*?)^\)", text_of(FRONT), flags=re.M | re.S)[1]
+    return re.findall(r'^    "([^"|]+)\|([^"]+)"$', table, flags=re.M)
+
+
+WANTED = sorted(rows())
+NAMES = {row[0] for row in WANTED}
+FRONT_TEXT = text_of(FRONT)
+
+
+def test_the_table_of_the_scripts_is_the_programs():
+    assert told([words for words, _ in front_forms()]) == WANTED
+
+
+def limit_of(letter):
+    """The greatest number of this letter, by the program's own limits."""
+    most = int(re.search(r"^pub const MOST_INCREMENTS: u32 = (\d+);$", text_of(INCREMENTS), flags=re.M)[1])
+    return {**GREATEST, "MOST_INCREMENTS": most}[KINDS[letter].split()[1]]
+
+
+def numbers_of(name):
+    """The numbers of a table of tools/front.sh by their letters."""
+    table = re.search(rf"^declare -A {name}=\((.*?)\)", FRONT_TEXT, flags=re.M | re.S)[1]
+    return dict(re.findall(r"\[(\w+)\]=(\d+)", table))
+
+
+@pytest.mark.parametrize("letter", [it for it, kind in KINDS.items() if kind.split()[0] in ("Count", "Ordinal")])
+def test_the_greatest_number_is_the_programs(letter):
+    assert numbers_of("greatest").get(letter) == str(limit_of(letter))
+
+
+def test_the_least_numbers_are_the_programs():
+    assert numbers_of("least") == {it: "1" for it, kind in KINDS.items() if kind.startswith("Ordinal")}
+
+
+def test_the_commands_that_read_nothing_are_the_programs():
+    names = {case: name for case, name, _, _ in cases()}
+    inputless = [names[it] for it in re.findall(r"^reads_input \((\w+) \w+\) = false$", text_of(TABLE), flags=re.M)]
+    assert re.search(r'^inputless="(.*)"$', FRONT_TEXT, flags=re.M)[1].split() == inputless
+
+
+def said_by_bash(script, *words):
+    """What a line of bash prints, from the top."""
+    ran = subprocess.run(["bash", "-c", script, "-", *words], cwd=TOP, stdout=subprocess.PIPE, stderr=subprocess.STDOUT, text=True)
+    return ran.stdout.rstrip("\n")
+
+
+@pytest.mark.parametrize("words, wanted", FAULTS, ids=[" ".join(words) or "no words" for words, _ in FAULTS])
+def test_words_that_have_no_form_are_told_what_is_wrong(words, wanted):
+    find = 'top=$PWD script=try; . tools/built.sh; . tools/front.sh; shopt -s extglob; fault=; find_fault "$@"; echo "$fault"'
+    assert said_by_bash(find, *words) == wanted
+
+
+@pytest.mark.parametrize("script", ["./workbench", "./try"])
+def test_words_that_ask_for_help_are_told_the_forms(script):
+    ran = subprocess.run([script, "--help"], cwd=TOP, stdin=subprocess.DEVNULL, capture_output=True, text=True)
+    assert (ran.returncode, ran.stdout) == (0, "usage\n") and f"{TOP}/docs/workbench.1" in ran.stderr
+
+
+@pytest.mark.parametrize("begin", ["", "re", "s", "x"])
+@pytest.mark.parametrize("script, own", [("./workbench", []), ("/usr/bin/hithwelor", ["sweep", "plot"])])
+def test_the_names_are_completed(script, own, begin):
+    """Behind `hithwelor` the words of the Python package too."""
+    complete = 'source tools/completion.bash; COMP_WORDS=("$1" "$2") COMP_CWORD=1; _hithwelor; echo "${COMPREPLY[*]}"'
+    wanted = sorted(it for it in [*NAMES, "help", *own] if it.startswith(begin))
+    assert sorted(said_by_bash(complete, script, begin).split()) == wanted
+
+
+def test_the_table_of_the_formats_is_the_programs():
+    table = text_of(FORMATS).split("\n## Commands\n")[1]
+    assert told(re.findall(r"^\| `([^`]+)` \|", table, flags=re.M)) == WANTED
+
+
+def test_the_synopsis_of_the_man_page_is_the_programs():
+    assert told(synopsis(text_of(MAN_PAGE))) == WANTED
+
+
+def test_the_man_page_describes_each_command():
+    assert described(text_of(MAN_PAGE)) == NAMES

@@ -1,0 +1,115 @@
+"""What is installed, by its answers: the command, its words, its pages and its completions, on a machine without the
+toolchain; with the Python package; taken away again. The version and its date are told alike."""
+import os
+import re
+
+import places
+import pytest
+from places import RUN, RUN_ANSWER, run
+
+INSTALL = os.path.join(places.TOP, "tools", "install")
+COMPLETIONS = ("share/zsh/site-functions/_hithwelor", "share/fish/vendor_completions.d/hithwelor.fish")
+
+
+def told_version():
+    return re.search(r"^## (\d+\.\d+\.\d+) \((\S+)\)", places.text_of("CHANGELOG.md"), flags=re.M).groups()
+
+
+def test_the_version_and_its_date_are_told_alike():
+    citation = places.text_of("CITATION.cff")
+    told = [re.search(rf"^{name}: (\S+)", citation, flags=re.M)[1] for name in ("version", "date-released")]
+    assert tuple(told) == told_version()
+
+
+@pytest.fixture(scope="module")
+def path(system):
+    """A PATH without the toolchain."""
+    return system("rt")
+
+
+def installed(room, path, *words):
+    prefix = str(room / "prefix")
+    ran = run([INSTALL, "--prefix", prefix, *words], path=path, cwd="/")
+    if "isn't built" in ran.stderr or "nothing to install" in ran.stderr:
+        pytest.skip(ran.stderr.strip())
+    assert ran.returncode == 0, ran.stderr
+    return prefix
+
+
+@pytest.fixture(scope="module")
+def prefix(tmp_path_factory, path):
+    return installed(tmp_path_factory.mktemp("installed"), path)
+
+
+@pytest.fixture(scope="module")
+def prefix_with_package(tmp_path_factory, path):
+    return installed(tmp_path_factory.mktemp("with package"), path, "--python")
+
+
+def text_in(prefix, name):
+    with open(os.path.join(prefix, name), encoding="utf-8") as file:
+        return file.read()
+
+
+def called(prefix, path, *words, data=""):
+    return run([os.path.join(prefix, "bin", "hithwelor"), *words], path=path, cwd="/", input=data)
+
+
+def test_it_answers(prefix, path):
+    ran = called(prefix, path, *RUN, data=text_in(prefix, "share/doc/hithwelor/examples/increment.csv"))
+    assert (ran.returncode, ran.stdout) == (0, RUN_ANSWER)
+
+
+def test_words_without_a_form(prefix, path):
+    ran = called(prefix, path, "step")
+    assert (ran.returncode, ran.stdout) == (2, "usage\n") and "hithwelor: " in ran.stderr
+
+
+def test_it_tells_its_version_and_its_forms(prefix, path):
+    assert called(prefix, path, "--version").stdout == f"hithwelor {told_version()[0]}\n"
+    ran = called(prefix, path, "--help")
+    assert ran.returncode == 0 and "run =W auto" in ran.stderr
+
+
+def test_the_man_page_is_there(prefix):
+    assert "./workbench" not in text_in(prefix, "share/man/man1/hithwelor.1")
+
+
+def completed(prefix, path, begin):
+    """What the installed completion of bash makes of a beginning."""
+    script = (f". {prefix}/share/bash-completion/completions/hithwelor; COMP_WORDS=(hithwelor {begin}) COMP_CWORD=1; "
+              "_hithwelor; echo ${COMPREPLY[@]}")
+    return run(["bash", "-c", script], path=path).stdout.strip()
+
+
+@pytest.mark.parametrize("begin, wanted", [("mig", "migrate"), ("sw", "")])
+def test_bash_completes_commands_alone(prefix, path, begin, wanted):
+    assert completed(prefix, path, begin) == wanted
+
+
+@pytest.mark.parametrize("name", COMPLETIONS)
+def test_the_words_of_the_package_arent_completed_without_it(prefix, name):
+    told = text_in(prefix, name)
+    assert "migrate" in told and "sweep" not in told
+
+
+@pytest.mark.parametrize("begin, wanted", [("sw", "sweep"), ("pl", "plan plot")])
+def test_bash_completes_the_words_of_the_package(prefix_with_package, path, begin, wanted):
+    assert completed(prefix_with_package.replace(" ", "\\ "), path, begin) == wanted
+
+
+@pytest.mark.parametrize("name", COMPLETIONS)
+def test_the_words_of_the_package_are_completed_with_it(prefix_with_package, name):
+    told = text_in(prefix_with_package, name)
+    assert "sweep" in told and "plot" in told
+
+
+def test_taken_away_it_leaves_nothing(tmp_path, path):
+    prefix = installed(tmp_path, path)
+    assert run([INSTALL, "--prefix", prefix, "--uninstall"], path=path, cwd="/").returncode == 0
+    assert not os.path.exists(prefix)
+
+
+def test_a_prefix_that_cant_be_written(path):
+    ran = run([INSTALL, "--prefix", "/proc/none"], path=path, cwd="/")
+    assert ran.returncode == 1 and ran.stderr.count("\n") == 1
