@@ -12,6 +12,8 @@ forms=(
     "check|is the machine of this table in standard form?"
     "machine =W n|its own run from the word W, of at most n steps"
     "trace =W n|each moment of that run, a line a moment"
+    "moments =W n|the same of a machine of quadruples, on three tapes"
+    "moments =W1 =W2 =W3 n|with a word on each tape"
     "standard|a machine that starts on the first letter, in standard form"
     "bennett|Bennett's reversible machine of this machine"
     "reversible|are the quadruples of this table deterministic, and reversible?"

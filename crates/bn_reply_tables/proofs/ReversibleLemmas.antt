@@ -33,7 +33,7 @@ neither_below i j low high = by_order (cases_lt i j) (cases_lt j i)
     by_order (inr h) (inl k) = absurd (high k)
     by_order (inr h) (inr k) = omega arith
 
-clash_once : (clash : Clash) (rs : List (Rule ℕ)) (i j m n : ℕ) → IsLeastClash clash rs i j → IsLeastClash clash rs m n → (i ≡ m) × (j ≡ n)
+pub clash_once : (clash : Clash) (rs : List (Rule ℕ)) (i j m n : ℕ) → IsLeastClash clash rs i j → IsLeastClash clash rs m n → (i ≡ m) × (j ≡ n)
 clash_once clash rs i j m n a b =
     let first : i ≡ m = neither_below i m (λ h. b.least_first i j h a.holds) (λ h. a.least_first m n h b.holds) in
     let there : IsClash clash rs m j = subst (λ (k : ℕ). IsClash clash rs k j) first a.holds in
@@ -54,7 +54,7 @@ verdicts_once rs a b h k =
 
 -- ---- an answer
 
-verdict_of : (clash : Clash) → ((r s : Rule ℕ) → QuadruplesClash clash r s ⊎ (QuadruplesClash clash r s → ⊥)) → (rs : List (Rule ℕ)) →
+pub verdict_of : (clash : Clash) → ((r s : Rule ℕ) → QuadruplesClash clash r s ⊎ (QuadruplesClash clash r s → ⊥)) → (rs : List (Rule ℕ)) →
     (found : Option (ℕ × ℕ)) × IsVerdict clash rs found
 verdict_of clash test rs = elim (clash_or_none clash test rs) [
   | inl none ↦ (None, none)

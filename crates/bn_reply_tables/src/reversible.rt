@@ -29,8 +29,8 @@ pub fn reply_reversible(alloc: Global, bytes: &[u8]) -> Result<Reply, NoMemory>
     }
 }
 
-// The line of a fault of the bytes.
-pub(crate) fn quad_fault_text(alloc: Global, refusal: QuadTableRefusal) -> Result<Vec<u8>, NoMemory>
+/// The line of a fault of the bytes as a table of quadruples.
+pub fn quad_fault_text(alloc: Global, refusal: QuadTableRefusal) -> Result<Vec<u8>, NoMemory>
     ensures { IfOk result (λ text. (refusal ≢ faults.NoMemory) × (text.items ≡ quad_fault_line refusal)) }
 {
     match refusal {

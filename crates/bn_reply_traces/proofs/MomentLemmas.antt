@@ -41,7 +41,7 @@ whole_fits t word n i s table h at =
     run_fits anywhere t.machine i (start t.machine word) at.whole m (start_fits t.machine word m (word_symbols t word h)) at.run
 
 -- where the first and the last cell are
-begins_within : (w : Windowed) (word : List ℕ) (t : Tape) (p : ℤ) → IsWindowed w → StandsFor w word t → IsMarked t p →
+pub begins_within : (w : Windowed) (word : List ℕ) (t : Tape) (p : ℤ) → IsWindowed w → StandsFor w word t → IsMarked t p →
     (pos 0 -ℤ pos w.left) ≤ℤ p
 begins_within w word t p windowed s (inr e) =
     let low = windowed.head.above in let h : p ≡ w.tape.head = e ∙ s.head in omega (arith, ints, low, h)
@@ -57,7 +57,7 @@ ends_on_word w word t (pos (suc k)) s beyond h =
     let inside : k < length word = letter_within word k (λ e. h (s.far (pos (suc k)) beyond ∙ e)) in
     omega (arith, ints, inside)
 
-ends_within : (w : Windowed) (word : List ℕ) (t : Tape) (p : ℤ) → IsWindowed w → StandsFor w word t → IsMarked t p →
+pub ends_within : (w : Windowed) (word : List ℕ) (t : Tape) (p : ℤ) → IsWindowed w → StandsFor w word t → IsMarked t p →
     p ≤ℤ pos (max w.right (length word))
 ends_within w word t p windowed s (inr e) =
     let high = windowed.head.below in let h : p ≡ w.tape.head = e ∙ s.head in omega (arith, ints, high, h)
@@ -66,7 +66,7 @@ ends_within w word t p windowed s (inl h) =
     (λ beyond. let high = ends_on_word w word t p s beyond h in omega (arith, ints, high))
     (λ inside. omega (arith, ints, inside))
 
-cells_below : (bound : ℕ) (w : Windowed) (word : List ℕ) (t : Tape) → IsWindowed w → StandsFor w word t →
+pub cells_below : (bound : ℕ) (w : Windowed) (word : List ℕ) (t : Tape) → IsWindowed w → StandsFor w word t →
     ((q : ℤ) → cell t q < bound) → (q : ℤ) → cell w.tape q < bound
 cells_below bound w word t windowed s each q =
     by_lt_z (pos w.right) q (λ beyond. outside beyond (cases_eq (cell w.tape q) 0))

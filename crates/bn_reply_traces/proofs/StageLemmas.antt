@@ -145,7 +145,7 @@ one_step p word i c d first second =
     subst (MachineRunsTo anywhere p c) same goes.1
 
 -- the cell that the head left is blank
-blank_there : (found : Option ℕ) (is_none : Bool) (w : Windowed) (t : Tape) (word : List ℕ) (left : ℤ) →
+pub blank_there : (found : Option ℕ) (is_none : Bool) (w : Windowed) (t : Tape) (word : List ℕ) (left : ℤ) →
     is_some found ≡ not is_none → MatchOption found (cell w.tape left ≡ 0) (IsLetterAt w left) →
     StandsFor w word t → left ≤ℤ pos w.right → (is_none ≡ true) ↔ (cell t left ≡ 0)
 blank_there None true w t word left is h s inside = (λ _. s.near left inside ∙ h, λ _. refl)

@@ -34,13 +34,13 @@ use Rattle.bn_reply_traces.proofs.StageLemmas.{moves}
 
 -- ---- each moment has a first and a last cell that is shown
 
-record Shown (t : Tape) : Type 0 where
-  first : ℤ
-  last : ℤ
-  begins : IsFirst t first
-  ends : IsLast t last
+pub record Shown (t : Tape) : Type 0 where
+  pub first : ℤ
+  pub last : ℤ
+  pub begins : IsFirst t first
+  pub ends : IsLast t last
 
-first_again : (t u : Tape) (first left head : ℤ) (is_blank : Bool) → IsMoved t u left is_blank head → IsFirst t first →
+pub first_again : (t u : Tape) (first left head : ℤ) (is_blank : Bool) → IsMoved t u left is_blank head → IsFirst t first →
     (f : ℤ) × IsFirst u f
 first_again t u first left head true m f = by (same_or_not first left)
   where
@@ -53,7 +53,7 @@ first_again t u first left head false m f =
     by_lt_z head first (λ before. (head, first_before t u first left head false m f before))
     (λ low. (first, first_stays t u first left head false m f (inl refl) low))
 
-last_again : (t u : Tape) (last left head : ℤ) (is_blank : Bool) → IsMoved t u left is_blank head → IsLast t last →
+pub last_again : (t u : Tape) (last left head : ℤ) (is_blank : Bool) → IsMoved t u left is_blank head → IsLast t last →
     (f : ℤ) × IsLast u f
 last_again t u last left head true m f = by (same_or_not last left)
   where
@@ -66,7 +66,7 @@ last_again t u last left head false m f =
     by_lt_z last head (λ behind. (head, last_behind t u last left head false m f behind))
     (λ high. (last, last_stays t u last left head false m f (inl refl) high))
 
-blank_or_not : (s : ℕ) → (b : Bool) × ((b ≡ true) ↔ (s ≡ 0))
+pub blank_or_not : (s : ℕ) → (b : Bool) × ((b ≡ true) ↔ (s ≡ 0))
 blank_or_not zero = (true, (λ _. refl, λ _. refl))
 blank_or_not (suc s) = (false, (λ e. absurd (cc), λ e. absurd (cc)))
 
@@ -162,7 +162,7 @@ one_last t p q a b =
     let high : q ≤ℤ p = a.greatest q b.stands in
     omega (arith, ints, low, high)
 
-one_tape_text : (name : ℕ → List ℕ) (t : Tape) (a b : List ℕ) → IsTapeText name t a → IsTapeText name t b → a ≡ b
+pub one_tape_text : (name : ℕ → List ℕ) (t : Tape) (a b : List ℕ) → IsTapeText name t a → IsTapeText name t b → a ≡ b
 one_tape_text name t a b x y =
     let first = one_first t x.first y.first x.begins y.begins in
     let last = one_last t x.last y.last x.ends y.ends in

@@ -2,3 +2,7 @@ pub mod Extents
 pub mod MomentText
 pub mod TraceReply
 pub mod Stages
+pub mod ConfigurationText
+pub mod QuadReply
+pub mod MomentsReply
+pub mod QuadStages

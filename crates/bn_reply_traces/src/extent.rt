@@ -1,9 +1,14 @@
 //! The cells of a tape that are shown.
 
 ghost use Rattle.std.specs.Prelude.{◌≡◌, ◌<◌, ◌≤◌, ◌^◌, ◌≢◌, length, All, ℕ, List, pos, ◌+ℤ◌, ◌-ℤ◌, ◌≤ℤ◌};
-ghost use Rattle.bn_machine.specs.Tape.{Tape, word_tape};
+ghost use Rattle.bn_machine.specs.Tape.{Tape as Endless, word_tape};
+ghost use Rattle.bn_machine.specs.Window.{IsWindowed};
 ghost use Rattle.bn_reply_traces.specs.Extents.{IsFirst, IsLast};
-ghost use Rattle.bn_reply_traces.specs.Stages.{IsMoved};
+ghost use Rattle.bn_reply_traces.specs.QuadStages.{IsStepped};
+ghost use Rattle.bn_reply_traces.specs.Stages.{IsMoved, StandsFor};
+
+use bn_machine::Tape;
+use bn_reply_tables::letter_at;
 
 /// The positions of the first and of the last cell of a tape that isn't blank or has the head.
 #[derive(Clone, Copy, PartialEq, Eq, Debug)]
@@ -36,10 +41,24 @@ impl Extent {
         (self.last - self.first) as u64 + 1
     }
 
+    // That of the tape behind a step that took the head away from `left`.
+    pub(crate) fn follow(self, left: i64, tape: &Tape) -> Extent
+        ensures first { (t u : Endless) (word : List ℕ) → StandsFor tape.now word u → left ≤ℤ pos tape.now.right →
+            IsStepped t u left → IsFirst t self.first → IsFirst u result.first }
+        ensures last { (t u : Endless) (word : List ℕ) → StandsFor tape.now word u → left ≤ℤ pos tape.now.right →
+            IsStepped t u left → IsLast t self.last → IsLast u result.last }
+        ensures windowed { IsWindowed tape.now }
+    {
+        let head = tape.head();
+        let is_blank = letter_at(tape, left).is_none();
+        self.after(left, is_blank, head)
+    }
+
     // That of the tape after a step that took the head from `left` to `head`, and left a blank there or not.
     pub(crate) fn after(self, left: i64, is_blank: bool, head: i64) -> Extent
-        ensures first { (t u : Tape) → IsMoved t u left is_blank head → IsFirst t self.first → IsFirst u result.first }
-        ensures last { (t u : Tape) → IsMoved t u left is_blank head → IsLast t self.last → IsLast u result.last }
+        ensures first { (t u : Endless) → IsMoved t u left is_blank head → IsFirst t self.first →
+            IsFirst u result.first }
+        ensures last { (t u : Endless) → IsMoved t u left is_blank head → IsLast t self.last → IsLast u result.last }
     {
         Extent {
             first: first_after(self.first, left, is_blank, head),
@@ -50,7 +69,7 @@ impl Extent {
 
 // The first such cell after a step: where the head was at the first one and left a blank, it is the head's.
 fn first_after(first: i64, left: i64, is_blank: bool, head: i64) -> i64
-    ensures { (t u : Tape) → IsMoved t u left is_blank head → IsFirst t first → IsFirst u result }
+    ensures { (t u : Endless) → IsMoved t u left is_blank head → IsFirst t first → IsFirst u result }
 {
     if is_blank && first == left {
         return head;
@@ -63,7 +82,7 @@ fn first_after(first: i64, left: i64, is_blank: bool, head: i64) -> i64
 
 // The last such cell after a step: where the head was at the last one and left a blank, it is the head's.
 fn last_after(last: i64, left: i64, is_blank: bool, head: i64) -> i64
-    ensures { (t u : Tape) → IsMoved t u left is_blank head → IsLast t last → IsLast u result }
+    ensures { (t u : Endless) → IsMoved t u left is_blank head → IsLast t last → IsLast u result }
 {
     if is_blank && last == left {
         return head;

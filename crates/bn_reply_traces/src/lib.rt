@@ -3,10 +3,17 @@
 
 mod extent;
 mod laws;
+mod moments;
 mod outcome;
+mod quad_opening;
+mod quad_run;
+mod quad_stage;
+mod quad_text;
 mod stage;
+mod tape_names;
 mod tape_text;
 mod trace;
 
-pub use laws::trace_has_one_reply;
+pub use laws::{moments_have_one_reply, trace_has_one_reply};
+pub use moments::{answer_moments, answer_three_moments};
 pub use trace::answer_trace;

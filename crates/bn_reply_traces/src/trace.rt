@@ -42,9 +42,9 @@ pub(crate) enum Unfinished {
 #[derive(Clone, Copy)]
 pub(crate) struct Ended {
     /// The steps made.
-    steps: u32,
-    /// The number, counted from 1, of the quintuple that is applied next, if one is.
-    rule: Option<u32>,
+    pub(crate) steps: u32,
+    /// The number, counted from 1, of the rule that is applied next, if one is.
+    pub(crate) rule: Option<u32>,
 }
 
 /// Answers `trace` to a word, a greatest number of steps and some bytes: whether they are a table with a machine in
@@ -233,7 +233,7 @@ fn push_moment(
 }
 
 // Appends the number of the rule that is applied next, if one is.
-fn push_rule(text: &mut Vec<u8>, rule: Option<u32>) -> Result<(), NoMemory>
+pub(crate) fn push_rule(text: &mut Vec<u8>, rule: Option<u32>) -> Result<(), NoMemory>
     ensures { OnOk result (text.new.items ≡ text.old.items ++ rule_text rule) }
 {
     match rule {

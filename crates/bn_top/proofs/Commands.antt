@@ -3,7 +3,8 @@ use Rattle.std.specs.Prelude.{◌≡◌, ℕ, true, List, [], Option, Result, If
 use Rattle.std.proofs.Common.{sym, subst}
 use Rattle.bn_circuits.specs.declared.place.Place.{Place}
 use Rattle.bn_words.specs.Requests.{HasForm, IsAllowed, Request, of_configuration, of_whole, reads_input}
-use Rattle.bn_words.specs.Requests.{Step, Back, Check, Machine, Trace, Reversible, Inverse, Bennett, Realise, Standard}
+use Rattle.bn_words.specs.Requests.{Step, Back, Check, Machine, Trace, Moments, ThreeMoments, Reversible, Inverse}
+use Rattle.bn_words.specs.Requests.{Bennett, Realise, Standard}
 use Rattle.bn_words.specs.Requests.{Compile, Run, RunAuto, View, Session, Plan, Migrate, Mirror, Farm, Generate, Erase}
 use Rattle.bn_words.specs.Requests.{EraseRun}
 use Rattle.bn_words.specs.declared.request.ConfigurationRequest as configuration
@@ -34,6 +35,7 @@ use Rattle.bn_reply_tables.proofs.InverseLemmas.{inverse_settled}
 use Rattle.bn_reply_tables.proofs.MachineLemmas.{machine_settled}
 use Rattle.bn_reply_tables.proofs.ReversibleLemmas.{reversible_settled}
 use Rattle.bn_reply_boards_laws.proofs.ClosedLemmas.{compile_settled, run_settled}
+use Rattle.bn_reply_traces.proofs.MomentsSettled.{moments_are_settled}
 use Rattle.bn_reply_traces.proofs.TraceLemmas.{all_settled}
 use Rattle.bn_reply_views.proofs.SessionClosedLemmas.{session_settled}
 use Rattle.bn_reply_views.proofs.ViewClosedLemmas.{view_settled}
@@ -47,6 +49,8 @@ settled_by (Back e) allowed = back_settled e
 settled_by Check allowed = check_settled
 settled_by (Machine word n) allowed = machine_settled word n
 settled_by (Trace word n) allowed = all_settled word n
+settled_by (Moments word n) allowed = moments_are_settled.one_word word n
+settled_by (ThreeMoments first second third n) allowed = moments_are_settled.three_words first second third n
 settled_by Reversible allowed = reversible_settled
 settled_by Inverse allowed = inverse_settled
 settled_by Bennett allowed = bennett_settled
@@ -114,6 +118,8 @@ pub whole_reads : (asked : whole.WholeRequest) → reads_input (of_whole asked) 
 whole_reads whole_variants.Check = refl
 whole_reads (whole_variants.Machine word n) = refl
 whole_reads (whole_variants.Trace word n) = refl
+whole_reads (whole_variants.Moments word n) = refl
+whole_reads (whole_variants.ThreeMoments first second third n) = refl
 whole_reads whole_variants.Reversible = refl
 whole_reads whole_variants.Inverse = refl
 whole_reads whole_variants.Bennett = refl

@@ -3,7 +3,8 @@
 use Rattle.std.specs.Prelude.{◌≡◌, ℕ, ◌<◌, ◌≤◌, List, [], ◌∷◌, ◌++◌, length, true, false, codes}
 use Rattle.bn_circuits.specs.declared.place.Place.{Place}
 use Rattle.bn_words.specs.Requests.{Request, HasForm, HasNoForm, reads_input}
-use Rattle.bn_words.specs.Requests.{Step, Back, Check, Machine, Trace, Reversible, Inverse, Bennett, Realise, Standard}
+use Rattle.bn_words.specs.Requests.{Step, Back, Check, Machine, Trace, Moments, ThreeMoments, Reversible, Inverse}
+use Rattle.bn_words.specs.Requests.{Bennett, Realise, Standard}
 use Rattle.bn_words.specs.Requests.{Compile, Run, RunAuto, View, Session, Plan, Migrate, Mirror, Farm, Generate, Erase}
 use Rattle.bn_words.specs.Requests.{EraseRun}
 use Rattle.bn_reply_boards_laws.specs.CompileReply.{CompileReplies}
@@ -24,6 +25,7 @@ use Rattle.bn_reply_tables.specs.CheckReply.{CheckReplies}
 use Rattle.bn_reply_tables.specs.InverseReply.{InverseReplies}
 use Rattle.bn_reply_tables.specs.MachineReply.{MachineReplies}
 use Rattle.bn_reply_tables.specs.ReversibleReply.{ReversibleReplies}
+use Rattle.bn_reply_traces.specs.MomentsReply.{MomentsReplies, ThreeMomentsReplies}
 use Rattle.bn_reply_traces.specs.TraceReply.{TraceReplies}
 use Rattle.bn_reply_views.specs.SessionReply.{SessionReplies}
 use Rattle.bn_reply_views.specs.ViewReply.{ViewReplies}
@@ -42,6 +44,8 @@ Replies (Back e) = BackReplies e
 Replies Check = CheckReplies
 Replies (Machine word n) = MachineReplies word n
 Replies (Trace word n) = TraceReplies word n
+Replies (Moments word n) = MomentsReplies word n
+Replies (ThreeMoments first second third n) = ThreeMomentsReplies first second third n
 Replies Reversible = ReversibleReplies
 Replies Inverse = InverseReplies
 Replies Bennett = BennettReplies

@@ -22,7 +22,7 @@ use bn_reply_erase::{reply_erase, reply_erase_run};
 use bn_reply_tables::{
     reply_bennett, reply_check, reply_inverse, reply_machine, reply_reversible, reply_standard,
 };
-use bn_reply_traces::answer_trace;
+use bn_reply_traces::{answer_moments, answer_three_moments, answer_trace};
 use bn_reply_views::{reply_session, reply_view};
 use bn_reply_windows::reply_run_auto;
 use bn_words::{ConfigurationRequest, Request, WholeRequest, read_words};
@@ -161,6 +161,15 @@ fn answer_bytes<K: Sink, W: Watch>(
         WholeRequest::Trace { word, most_steps } => {
             answer_trace(alloc, word, most_steps, bytes, sink)
         }
+        WholeRequest::Moments { word, most_steps } => {
+            answer_moments(alloc, word, most_steps, bytes, sink)
+        }
+        WholeRequest::ThreeMoments {
+            first,
+            second,
+            third,
+            most_steps,
+        } => answer_three_moments(alloc, first, second, third, most_steps, bytes, sink),
         WholeRequest::Reversible => give_reply(sink, reply_reversible(alloc, bytes)),
         WholeRequest::Inverse => give_reply(sink, reply_inverse(alloc, bytes)),
         WholeRequest::Bennett => give_reply(sink, reply_bennett(alloc, bytes)),

@@ -1,4 +1,4 @@
-//! `reversible` on tables of quadruples.
+//! `reversible` and `moments` on tables of quadruples.
 
 use crate::desk::hold;
 use std::test::Fail;
@@ -63,4 +63,36 @@ fn refuses_a_table_of_quadruples_at_its_first_fault(rt: HostRuntime) -> Result<(
         ("A,_,/,/,_,0,0,\n", 3, "text: record 1 field 8 name\n"),
     ];
     hold(&rt, rt.alloc(), &["reversible"], &rows)
+}
+
+#[test]
+fn tells_each_moment_on_three_tapes(rt: HostRuntime) -> Result<(), Fail> {
+    let rows = [
+        (
+            "A,/,_,/,+,2,0,B\n",
+            0,
+            "0 A tape 1 from 0 head 0 cells 1: _ tape 2 from 0 head 0 cells 1: _ \
+             tape 3 from 0 head 0 cells 1: _ rule 1\n\
+             1 B tape 1 from 1 head 1 cells 1: _ tape 2 from 0 head 0 cells 1: 2 \
+             tape 3 from 0 head 0 cells 1: _\nhalted 1\n",
+        ),
+        (
+            "A,1,_,/,1,2,0,B\n",
+            10,
+            "0 A tape 1 from 0 head 0 cells 1: _ tape 2 from 0 head 0 cells 1: _ \
+             tape 3 from 0 head 0 cells 1: _\nstuck A _ _ _ 0\n",
+        ),
+        (
+            "A,_,/,/,_,0,0,B\nA,/,_,/,0,_,0,C\n",
+            4,
+            "machine: domain 1 2\n",
+        ),
+        (
+            "A,/,_,/,+,1,0,B\nC,_,_,/,_,1,+,B\n",
+            4,
+            "machine: range 1 2\n",
+        ),
+        ("", 3, "text: empty\n"),
+    ];
+    hold(&rt, rt.alloc(), &["moments", "=", "5"], &rows)
 }

@@ -11,7 +11,7 @@ use Rattle.bn_machine.specs.Outcome.{Limits}
 use Rattle.bn_network.specs.Limits.{AreSmall}
 use Rattle.bn_words.specs.Laws.{WordsHaveAFormOrNone}
 use Rattle.bn_words.specs.Requests.{HasForm, HasNoForm, IsAllowed, IsOrdinal, Request, words_of}
-use Rattle.bn_words.specs.Requests.{Step, Back, Machine, Trace, Realise, Compile, Run, View, Session, Generate, EraseRun}
+use Rattle.bn_words.specs.Requests.{Step, Back, Machine, Trace, Moments, ThreeMoments, Realise, Compile, Run, View, Session, Generate, EraseRun}
 use Rattle.bn_words.proofs.FormLemmas.{only, only_form}
 
 -- ---- whether words are the same
@@ -83,6 +83,8 @@ allowed_or_not (Step e) = low_or_not e greatest
 allowed_or_not (Back e) = low_or_not e greatest
 allowed_or_not (Machine w n) = low_or_not n MOST_COUNT
 allowed_or_not (Trace w n) = low_or_not n MOST_COUNT
+allowed_or_not (Moments w n) = low_or_not n MOST_COUNT
+allowed_or_not (ThreeMoments a b c n) = low_or_not n MOST_COUNT
 allowed_or_not (Realise q i) = both (IsOrdinal q) (IsOrdinal i) (ordinal_or_not q MOST_COUNT) (ordinal_or_not i MOST_COUNT)
 allowed_or_not (Compile w l) = small_or_not l
 allowed_or_not (Run w l None) = both (AreSmall l) (Unit {0}) (small_or_not l) (inl tt)

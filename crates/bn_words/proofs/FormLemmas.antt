@@ -7,7 +7,8 @@ use Rattle.bn_base.specs.declared.numbers.Digits.{Digits}
 use Rattle.bn_machine.specs.Outcome.{Limits}
 use Rattle.bn_network.specs.Limits.{AreSmall}
 use Rattle.bn_words.specs.Requests.{HasForm, IsAllowed, Request, words_of}
-use Rattle.bn_words.specs.Requests.{Step, Back, Check, Machine, Trace, Reversible, Inverse, Bennett, Realise, Standard, Compile, Run, RunAuto}
+use Rattle.bn_words.specs.Requests.{Step, Back, Check, Machine, Trace, Moments, ThreeMoments, Reversible, Inverse, Bennett, Realise, Standard}
+use Rattle.bn_words.specs.Requests.{Compile, Run, RunAuto}
 use Rattle.bn_words.specs.Requests.{View, Session, Plan, Migrate, Mirror, Farm, Generate, Erase, EraseRun}
 use Rattle.bn_words.proofs.Numbers.{read-whole}
 
@@ -66,6 +67,7 @@ with_pair name a b =
     else if bytes_eq name (codes "run") then Some (RunAuto (letters a))
     else if bytes_eq name (codes "machine") then Some (Machine (letters a) (value b))
     else if bytes_eq name (codes "trace") then Some (Trace (letters a) (value b))
+    else if bytes_eq name (codes "moments") then Some (Moments (letters a) (value b))
     else Some (EraseRun (letters a) (value b))
 
 abbrev with_window : List ℕ → List ℕ → Limits → Option Request
@@ -83,6 +85,7 @@ abbrev pub only : List (List ℕ) → Option Request
 only (name ∷ []) = alone name
 only (name ∷ a ∷ []) = with_number name a
 only (name ∷ a ∷ b ∷ []) = with_pair name a b
+only (name ∷ a ∷ b ∷ c ∷ d ∷ []) = Some (ThreeMoments (letters a) (letters b) (letters c) (value d))
 only (name ∷ a ∷ b ∷ c ∷ d ∷ e ∷ []) = with_window name a (limits b c d e)
 only (name ∷ a ∷ b ∷ c ∷ d ∷ e ∷ f ∷ []) = with_window_and_steps name a (limits b c d e) f
 only _ = None
@@ -93,6 +96,8 @@ again (Step e) h = ap (λ n. Some (Step n)) (value_again e h)
 again (Back e) h = ap (λ n. Some (Back n)) (value_again e h)
 again (Machine w n) h = ap (λ m. Some (Machine w m)) (value_again n (omega (arith, h)))
 again (Trace w n) h = ap (λ m. Some (Trace w m)) (value_again n (omega (arith, h)))
+again (Moments w n) h = ap (λ m. Some (Moments w m)) (value_again n (omega (arith, h)))
+again (ThreeMoments a b c n) h = ap (λ m. Some (ThreeMoments a b c m)) (value_again n (omega (arith, h)))
 again (Realise q i) h =
     let state = value_again q (omega (arith, h.0.1)) in
     let line = value_again i (omega (arith, h.1.1)) in

@@ -7,7 +7,7 @@ use Rattle.bn_base.specs.declared.limits.TheConstants.{MOST_COUNT}
 use Rattle.bn_base.proofs.NumberLemmas.{decimal-once}
 use Rattle.bn_gen.specs.declared.machine.TheConstants.{MOST_INCREMENTS}
 use Rattle.bn_words.specs.Requests.{HasForm, HasNoForm}
-use Rattle.bn_words.specs.Requests.{Step, Back, Machine, Trace, Realise, Compile, Run, RunAuto, View, Session}
+use Rattle.bn_words.specs.Requests.{Step, Back, Machine, Trace, Moments, ThreeMoments, Realise, Compile, Run, RunAuto, View, Session}
 use Rattle.bn_words.specs.Requests.{Generate, EraseRun}
 use Rattle.bn_words.specs.Words.{IsCount, IsNoCount, IsNumber}
 use Rattle.bn_words.proofs.FormLemmas.{only_form, value}
@@ -66,28 +66,36 @@ no_ordinals name first second q i is state line out request h =
 
 -- ---- the words of a slice
 
-no_length : (words : List (List ℕ)) → length words ≢ 1 → length words ≢ 2 → length words ≢ 3 → length words ≢ 6 → length words ≢ 7 → HasNoForm words
-no_length words a b c d e (Step n) h = b (ap length h.words_are)
-no_length words a b c d e (Back n) h = b (ap length h.words_are)
-no_length words a b c d e (Machine w n) h = c (ap length h.words_are)
-no_length words a b c d e (Trace w n) h = c (ap length h.words_are)
-no_length words a b c d e (Realise q i) h = c (ap length h.words_are)
-no_length words a b c d e (Compile w l) h = d (ap length h.words_are)
-no_length words a b c d e (Run w l None) h = d (ap length h.words_are)
-no_length words a b c d e (Run w l (Some n)) h = e (ap length h.words_are)
-no_length words a b c d e (RunAuto w) h = c (ap length h.words_are)
-no_length words a b c d e (View w l n) h = e (ap length h.words_are)
-no_length words a b c d e (Session w l) h = d (ap length h.words_are)
-no_length words a b c d e (Generate k) h = b (ap length h.words_are)
-no_length words a b c d e (EraseRun w n) h = c (ap length h.words_are)
-no_length words a b c d e r h = a (ap length h.words_are)
+no_length : (words : List (List ℕ)) → length words ≢ 1 → length words ≢ 2 → length words ≢ 3 → length words ≢ 5 → length words ≢ 6 → length words ≢ 7 → HasNoForm words
+no_length words a b c k d e (Step n) h = b (ap length h.words_are)
+no_length words a b c k d e (Back n) h = b (ap length h.words_are)
+no_length words a b c k d e (Machine w n) h = c (ap length h.words_are)
+no_length words a b c k d e (Trace w n) h = c (ap length h.words_are)
+no_length words a b c k d e (Moments w n) h = c (ap length h.words_are)
+no_length words a b c k d e (ThreeMoments x y z n) h = k (ap length h.words_are)
+no_length words a b c k d e (Realise q i) h = c (ap length h.words_are)
+no_length words a b c k d e (Compile w l) h = d (ap length h.words_are)
+no_length words a b c k d e (Run w l None) h = d (ap length h.words_are)
+no_length words a b c k d e (Run w l (Some n)) h = e (ap length h.words_are)
+no_length words a b c k d e (RunAuto w) h = c (ap length h.words_are)
+no_length words a b c k d e (View w l n) h = e (ap length h.words_are)
+no_length words a b c k d e (Session w l) h = d (ap length h.words_are)
+no_length words a b c k d e (Generate n) h = b (ap length h.words_are)
+no_length words a b c k d e (EraseRun w n) h = c (ap length h.words_are)
+no_length words a b c k d e r h = a (ap length h.words_are)
 
 module _ {S : Type 0} (text : S → List ℕ) where
   -- another number of words
-  pub other_length : (ws : List S) → length ws ≢ 1 → length ws ≢ 2 → length ws ≢ 3 → length ws ≢ 6 → length ws ≢ 7 → HasNoForm (map text ws)
-  other_length ws a b c d e =
+  pub other_length : (ws : List S) → length ws ≢ 1 → length ws ≢ 2 → length ws ≢ 3 → length ws ≢ 5 → length ws ≢ 6 → length ws ≢ 7 → HasNoForm (map text ws)
+  other_length ws a b c k d e =
       let all : length (map text ws) ≡ length ws = simp length-map in
-      no_length (map text ws) (λ n. a (sym all ∙ n)) (λ n. b (sym all ∙ n)) (λ n. c (sym all ∙ n)) (λ n. d (sym all ∙ n)) (λ n. e (sym all ∙ n))
+      no_length (map text ws) (λ n. a (sym all ∙ n)) (λ n. b (sym all ∙ n)) (λ n. c (sym all ∙ n)) (λ n. k (sym all ∙ n))
+      (λ n. d (sym all ∙ n)) (λ n. e (sym all ∙ n))
+
+  pub five_texts : (ws : List S) (a b c d e : S) → length ws ≡ 5 → a ≡ get_or ws 0 a → b ≡ get_or ws 1 b → c ≡ get_or ws 2 c →
+      d ≡ get_or ws 3 d → e ≡ get_or ws 4 e → map text ws ≡ text a ∷ text b ∷ text c ∷ text d ∷ text e ∷ []
+  five_texts (u ∷ v ∷ w ∷ x ∷ y ∷ []) a b c d e n p q r s t = cc
+  five_texts ws a b c d e n p q r s t = absurd (omega (arith, n))
 
   pub six_texts : (ws : List S) (a b c d e f : S) → length ws ≡ 6 → a ≡ get_or ws 0 a → b ≡ get_or ws 1 b → c ≡ get_or ws 2 c →
       d ≡ get_or ws 3 d → e ≡ get_or ws 4 e → f ≡ get_or ws 5 f → map text ws ≡ text a ∷ text b ∷ text c ∷ text d ∷ text e ∷ text f ∷ []

@@ -21,6 +21,8 @@ pub data Request : Type 0 where
   Check : Request
   Machine : List ℕ → ℕ → Request
   Trace : List ℕ → ℕ → Request
+  Moments : List ℕ → ℕ → Request
+  ThreeMoments : List ℕ → List ℕ → List ℕ → ℕ → Request
   Reversible : Request
   Inverse : Request
   Bennett : Request
@@ -59,6 +61,9 @@ words_of (Back e) = codes "back" ∷ decimal e ∷ []
 words_of Check = codes "check" ∷ []
 words_of (Machine word n) = codes "machine" ∷ (61 ∷ word) ∷ decimal n ∷ []
 words_of (Trace word n) = codes "trace" ∷ (61 ∷ word) ∷ decimal n ∷ []
+words_of (Moments word n) = codes "moments" ∷ (61 ∷ word) ∷ decimal n ∷ []
+words_of (ThreeMoments first second third n) =
+    codes "moments" ∷ (61 ∷ first) ∷ (61 ∷ second) ∷ (61 ∷ third) ∷ decimal n ∷ []
 words_of Reversible = codes "reversible" ∷ []
 words_of Inverse = codes "inverse" ∷ []
 words_of Bennett = codes "bennett" ∷ []
@@ -90,6 +95,8 @@ IsAllowed (Step e) = e ≤ greatest
 IsAllowed (Back e) = e ≤ greatest
 IsAllowed (Machine word n) = n ≤ MOST_COUNT
 IsAllowed (Trace word n) = n ≤ MOST_COUNT
+IsAllowed (Moments word n) = n ≤ MOST_COUNT
+IsAllowed (ThreeMoments first second third n) = n ≤ MOST_COUNT
 IsAllowed (Realise q i) = IsOrdinal q × IsOrdinal i
 IsAllowed (Compile word l) = AreSmall l
 IsAllowed (Run word l given) = AreSmall l × IfSome given (λ e. e ≤ greatest)
@@ -127,6 +134,8 @@ abbrev pub of_whole : declared_whole.WholeRequest → Request
 of_whole whole.Check = Check
 of_whole (whole.Machine word n) = Machine word.now n
 of_whole (whole.Trace word n) = Trace word.now n
+of_whole (whole.Moments word n) = Moments word.now n
+of_whole (whole.ThreeMoments first second third n) = ThreeMoments first.now second.now third.now n
 of_whole whole.Reversible = Reversible
 of_whole whole.Inverse = Inverse
 of_whole whole.Bennett = Bennett

@@ -18,6 +18,13 @@ pub fn read_words(words: &[String]) -> Option<Request<'_>>
         [name] => read_name(name.as_str()),
         [name, number] => read_number(name.as_str(), number.as_str()),
         [name, first, second] => read_pair(name.as_str(), first.as_str(), second.as_str()),
+        [name, first, second, third, number] => read_three_words(
+            name.as_str(),
+            first.as_str(),
+            second.as_str(),
+            third.as_str(),
+            number.as_str(),
+        ),
         [name, word, left, right, steps, output] => read_window(
             name.as_str(),
             word.as_str(),
@@ -111,6 +118,7 @@ fn read_word_and_count<'a>(name: &str, first: &'a str, second: &str) -> Option<R
     match name {
         "machine" => Some(Request::OnWhole(WholeRequest::Machine { word, most_steps })),
         "trace" => Some(Request::OnWhole(WholeRequest::Trace { word, most_steps })),
+        "moments" => Some(Request::OnWhole(WholeRequest::Moments { word, most_steps })),
         "erase" => Some(Request::OnWhole(WholeRequest::EraseRun { word, most_steps })),
         _ => None,
     }
@@ -126,6 +134,31 @@ fn read_realise<'a>(first: &'a str, second: &str) -> Option<Request<'a>>
         return None;
     }
     Some(Request::OnWhole(WholeRequest::Realise { state, line }))
+}
+
+// The form of a name, three words and a greatest number of steps.
+fn read_three_words<'a>(
+    name: &str,
+    first: &'a str,
+    second: &'a str,
+    third: &'a str,
+    most_steps: &str,
+) -> Option<Request<'a>>
+    ensures { AreRead (name.now ∷ first.now ∷ second.now ∷ third.now ∷ most_steps.now ∷ []) result }
+{
+    let first = letters_of(first)?;
+    let second = letters_of(second)?;
+    let third = letters_of(third)?;
+    let most_steps = count_of(most_steps)?;
+    match name {
+        "moments" => Some(Request::OnWhole(WholeRequest::ThreeMoments {
+            first,
+            second,
+            third,
+            most_steps,
+        })),
+        _ => None,
+    }
 }
 
 // The forms of a name, a word and a window.

@@ -61,6 +61,24 @@ pub enum WholeRequest<'a> {
         /// The greatest number of steps.
         most_steps: u32,
     },
+    /// `moments =W n`: each moment of the run of a machine of quadruples from the word W on tape 1, of at most n steps.
+    Moments {
+        /// The letters of the word.
+        word: &'a [u8],
+        /// The greatest number of steps.
+        most_steps: u32,
+    },
+    /// `moments =W1 =W2 =W3 n`: each moment of its run from a word on each tape.
+    ThreeMoments {
+        /// The letters of the word on tape 1.
+        first: &'a [u8],
+        /// Those on tape 2.
+        second: &'a [u8],
+        /// Those on tape 3.
+        third: &'a [u8],
+        /// The greatest number of steps.
+        most_steps: u32,
+    },
     /// `reversible`: the two verdicts on quadruples.
     Reversible,
     /// `inverse`: the table of the machine that takes the steps of one of quadruples back.

@@ -21,6 +21,21 @@ returns-in-Trace-clause-ends g c =
     (g.W.Watch.told c.args.watch.now) (g.W.Watch.told c.args.watch.now)
     (c.answer_trace.ensures.ends (g.W.Watch.told c.args.watch.now))
 
+pub returns-in-Moments-clause-ends : goal.returns-in-Moments-clause-ends
+returns-in-Moments-clause-ends g c =
+    given c.args.asked.now _ c.in-Moments.is c.args.bytes.now c.answer_moments.result (g.K.Sink.taken c.args.sink.now)
+    (g.K.Sink.taken c.answer_moments.new.sink) (g.K.Sink.faults c.args.sink.now) (g.K.Sink.faults c.answer_moments.new.sink)
+    (g.W.Watch.told c.args.watch.now) (g.W.Watch.told c.args.watch.now)
+    (c.answer_moments.ensures.ends (g.W.Watch.told c.args.watch.now))
+
+pub returns-in-ThreeMoments-clause-ends : goal.returns-in-ThreeMoments-clause-ends
+returns-in-ThreeMoments-clause-ends g c =
+    given c.args.asked.now _ c.in-ThreeMoments.is c.args.bytes.now c.answer_three_moments.result (g.K.Sink.taken c.args.sink.now)
+    (g.K.Sink.taken c.answer_three_moments.new.sink) (g.K.Sink.faults c.args.sink.now)
+    (g.K.Sink.faults c.answer_three_moments.new.sink)
+    (g.W.Watch.told c.args.watch.now) (g.W.Watch.told c.args.watch.now)
+    (c.answer_three_moments.ensures.ends (g.W.Watch.told c.args.watch.now))
+
 pub returns-in-Reversible-clause-ends : goal.returns-in-Reversible-clause-ends
 returns-in-Reversible-clause-ends g c =
     silently c.args.asked.now _ c.in-Reversible.is c.args.bytes.now c.give_reply-in-Reversible.result (g.K.Sink.taken c.args.sink.now)

@@ -2,9 +2,18 @@ use Rattle.std.proofs.Common.{◌≡◌, ◌<◌, ◌≤◌, length, arith, subs
 use Rattle.std.specs.String.{string_bytes}
 use Rattle.std.proofs.lemmas.Bool.Decides.{nat_tests}
 use Rattle.bn_words.specs.Words.{AreRead}
-use Rattle.bn_words.proofs.NoFormLemmas.{other_length, six_texts, seven_texts}
+use Rattle.bn_words.proofs.NoFormLemmas.{five_texts, other_length, six_texts, seven_texts}
 use Rattle.bn_words.proofs.read.read_words.Goals as goal
-use Rattle.bn_words.proofs.read.read_words.Goals.{in_default-via-then-words-lt1, in_default-via-else-words-lt1+else-words-lt2+else-words-lt3+else-words-lt4+then-words-lt6, in_default-via-else-words-lt1+else-words-lt2+else-words-lt3+else-words-lt4+else-words-lt6+else-words-lt7+else-words-lt8}
+use Rattle.bn_words.proofs.read.read_words.Goals.{in_default-via-then-words-lt1, in_default-via-else-words-lt1+else-words-lt2+else-words-lt3+else-words-lt4+then-words-lt5, in_default-via-else-words-lt1+else-words-lt2+else-words-lt3+else-words-lt4+else-words-lt5+else-words-lt6+else-words-lt7+else-words-lt8}
+
+pub returns-in-len5 : goal.returns-in-len5
+returns-in-len5 c =
+    let n : length c.args.words.now ≡ 5 = omega (arith, c.in-len5.len_at_least, c.in-len5.len_below) in
+    let texts = five_texts (string_bytes {Z = Global}) c.args.words.now c.name-item-then-words-lt6.result
+    c.first-item-then-words-lt6.result c.second-item-then-words-lt6.result c.third-item.result c.number-item-then-words-lt6.result
+    n c.name-item-then-words-lt6.is c.first-item-then-words-lt6.is c.second-item-then-words-lt6.is c.third-item.is
+    c.number-item-then-words-lt6.is in
+    subst (λ ws. AreRead ws c.read_three_words.result) (let t = texts in cc) c.read_three_words.ensures
 
 pub returns-in-len6 : goal.returns-in-len6
 returns-in-len6 c =
@@ -27,12 +36,12 @@ pub returns-in_default : goal.returns-in_default
 returns-in_default c = elim c.in_default.branch [
   | in_default-via-then-words-lt1 w ↦
       let none : length c.args.words.now < 1 = grind (arith, nat_tests) in
-      other_length (string_bytes {Z = Global}) c.args.words.now (omega arith) (omega arith) (omega arith) (omega arith) (omega arith)
-  | in_default-via-else-words-lt1+else-words-lt2+else-words-lt3+else-words-lt4+then-words-lt6 w ↦
+      other_length (string_bytes {Z = Global}) c.args.words.now (omega arith) (omega arith) (omega arith) (omega arith) (omega arith) (omega arith)
+  | in_default-via-else-words-lt1+else-words-lt2+else-words-lt3+else-words-lt4+then-words-lt5 w ↦
       let some : 4 ≤ length c.args.words.now = grind (arith, nat_tests) in
-      let few : length c.args.words.now < 6 = grind (arith, nat_tests) in
-      other_length (string_bytes {Z = Global}) c.args.words.now (omega arith) (omega arith) (omega arith) (omega arith) (omega arith)
-  | in_default-via-else-words-lt1+else-words-lt2+else-words-lt3+else-words-lt4+else-words-lt6+else-words-lt7+else-words-lt8 w ↦
+      let few : length c.args.words.now < 5 = grind (arith, nat_tests) in
+      other_length (string_bytes {Z = Global}) c.args.words.now (omega arith) (omega arith) (omega arith) (omega arith) (omega arith) (omega arith)
+  | in_default-via-else-words-lt1+else-words-lt2+else-words-lt3+else-words-lt4+else-words-lt5+else-words-lt6+else-words-lt7+else-words-lt8 w ↦
       let many : 8 ≤ length c.args.words.now = grind (arith, nat_tests) in
-      other_length (string_bytes {Z = Global}) c.args.words.now (omega arith) (omega arith) (omega arith) (omega arith) (omega arith)
+      other_length (string_bytes {Z = Global}) c.args.words.now (omega arith) (omega arith) (omega arith) (omega arith) (omega arith) (omega arith)
 ]

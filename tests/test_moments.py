@@ -1,0 +1,148 @@
+"""Holds what `moments` prints against a small program that was written from the rules alone.
+
+Of drawn machines in standard form the reversible machine is run that `bennett` prints; of drawn tables of quadruples those
+that pass both tests, from a word on each tape, and the inverse of what has halted, which leads back. Each line is compared:
+the state, the cells of each tape from the first to the last that isn't blank or has the head, the number of the quadruple that
+comes next, and how the run comes out.
+
+The answers are the library's, or those of node by bin/hithwelor; where neither is here all is skipped. `--drawn N` draws so
+many, and `--seed S` others.
+"""
+import random
+
+import pytest
+from hithwelor import answers
+
+from test_ends import BLANK, SHIFTS
+from test_traces import drawn_quadruples, drawn_run, table_of, turned
+
+# How many machines and tables are drawn by themselves.
+NUMBER = 150
+
+
+def shown(cells, head):
+    """What is told of a tape."""
+    places = [place for place, symbol in cells.items() if symbol != BLANK] + [head]
+    first, last = min(places), max(places)
+    symbols = " ".join(cells.get(place, BLANK) for place in range(first, last + 1))
+    return f"from {first} head {head} cells {last - first + 1}: {symbols}"
+
+
+def applies(row, state, tapes, heads):
+    """Whether a quadruple applies."""
+    return row[0] == state and all(read in ("/", cells.get(head, BLANK)) for read, cells, head in zip(row[1:4], tapes, heads))
+
+
+def told(rows, words, most):
+    """The status and the lines of the moments of a run."""
+    tapes = [dict(enumerate(word, 1)) for word in words]
+    state, heads, lines = rows[0][0], [0, 0, 0], []
+    for step in range(most + 1):
+        final = state == rows[-1][7]
+        rule = None if final else next((number for number, row in enumerate(rows, 1) if applies(row, state, tapes, heads)), None)
+        told_tapes = " ".join(f"tape {number} {shown(*tape)}" for number, tape in enumerate(zip(tapes, heads), 1))
+        lines.append(f"{step} {state} {told_tapes}" + (f" rule {rule}" if rule else ""))
+        if final:
+            return 0, [*lines, f"halted {step}"]
+        if rule is None:
+            scanned = " ".join(cells.get(head, BLANK) for cells, head in zip(tapes, heads))
+            return 10, [*lines, f"stuck {state} {scanned} {step}"]
+        if step == most:
+            return 12, [*lines, f"running {step}"]
+        row = rows[rule - 1]
+        for number, (read, act) in enumerate(zip(row[1:4], row[4:7])):
+            if read == "/":
+                heads[number] += SHIFTS[act]
+            else:
+                tapes[number][heads[number]] = act
+        state = row[7]
+    raise AssertionError("the last turn ends every run")
+
+
+def rows_of(text):
+    return [line.split(",") for line in text.decode().splitlines()]
+
+
+def drawn_words(draw):
+    """A table that may pass both tests, words of its letters, and a greatest number of steps."""
+    rows = drawn_quadruples(draw)
+    words = ["".join(draw.choice("ab") for _ in range(draw.randrange(4))) for _ in range(3)]
+    return rows, words, draw.choice([0, 1, 2, 5, 30])
+
+
+def pytest_generate_tests(metafunc):
+    draw = random.Random(metafunc.config.getoption("--seed"))
+    for name, drawn in (("run", drawn_run), ("words_of_three", drawn_words)):
+        if name in metafunc.fixturenames:
+            cases = [drawn(draw) for _ in range(metafunc.config.getoption("--drawn") or NUMBER)]
+            metafunc.parametrize(name, cases, ids=[f"{number}" for number in range(1, len(cases) + 1)])
+
+
+@pytest.mark.engine
+def test_the_reversible_machine_is_told_moment_by_moment(run, answering):
+    rows, word, most = run
+    status, table = answers.answer(["bennett"], table_of(rows).encode())
+    assert status == 0
+    status, text = answers.answer(["moments", f"={word}", str(4 * most)], table)
+    assert (status, text.decode().splitlines()) == told(rows_of(table), [word, "", ""], 4 * most)
+
+
+@pytest.mark.engine
+def test_words_on_three_tapes(words_of_three, answering):
+    rows, words, most = words_of_three
+    table = table_of(rows).encode()
+    status, text = answers.answer(["moments", *(f"={word}" for word in words), str(most)], table)
+    verdicts = answers.answer(["reversible"], table)[1].decode().splitlines()
+    failing = next((line.split() for line in verdicts if " no " in line), None)
+    if failing:
+        test = "domain" if failing[0] == "deterministic" else "range"
+        assert (status, text.decode()) == (4, f"machine: {test} {failing[2]} {failing[3]}\n")
+        return
+    known = [{row[number] for row in rows if row[1 + tape] != "/" for number in (1 + tape, 4 + tape)} for tape in range(3)]
+    foreign = next(((tape + 1, place) for tape, word in enumerate(words) for place, letter in enumerate(word, 1)
+                    if letter not in known[tape]), None)
+    if foreign:
+        assert (status, text.decode()) == (5, f"word: {foreign[0]} {foreign[1]}\n")
+        return
+    assert (status, text.decode().splitlines()) == told(rows, words, most)
+
+
+@pytest.mark.engine
+def test_what_has_halted_is_led_back_by_the_inverse(answering):
+    """A machine that writes its word's mirror on tape 2 and leaves tape 1 blank; its inverse brings the word back."""
+    table = b"S,/,/,/,+,+,0,A\nA,1,_,/,_,1,0,B\nB,/,/,/,+,+,0,A\nA,_,_,/,_,_,0,H\n"
+    status, text = answers.answer(["moments", "=11", "50"], table)
+    lines = text.decode().splitlines()
+    assert status == 0 and lines[-2] == "6 H tape 1 from 3 head 3 cells 1: _ tape 2 from 1 head 3 cells 3: 1 1 _ tape 3 from 0 head 0 cells 1: _"
+    assert answers.answer(["inverse"], table)[1] == table_of([turned(row) for row in reversed(rows_of(table))]).encode()
+
+
+@pytest.mark.engine
+@pytest.mark.parametrize("words, table, status, text", [
+    (["moments", "=", "5"], b"", 3, b"text: empty\n"),
+    (["moments", "=", "5"], b"A,/,_,/,+,2,9,B\n", 3, b"text: record 1 field 7 shift\n"),
+    (["moments", "=2", "5"], b"A,/,_,/,+,2,0,B\nA,_,/,/,_,+,0,B\n", 4, b"machine: domain 1 2\n"),
+    (["moments", "=2", "5"], b"A,/,_,/,+,1,0,B\nC,/,_,/,+,1,0,B\n", 4, b"machine: range 1 2\n"),
+    (["moments", "=2", "5"], b"A,1,_,/,1,2,0,B\n", 5, b"word: 1\n"),
+    (["moments", "=1_", "5"], b"A,1,_,/,1,2,0,B\n", 5, b"word: 2\n"),
+    (["moments", "=", "=12", "=", "5"], b"A,1,_,/,1,22,0,B\n", 5, b"word: 2 1\n"),
+    (["moments", "=11", "=", "=1", "5"], b"A,1,_,/,1,22,0,B\n", 5, b"word: 3 1\n"),
+    (["moments", "=3", "=3", "=1", "5"], b"A,1,_,/,1,22,0,B\n", 5, b"word: 1 1\n"),
+    (["moments", "=", "0"], b"A,/,_,/,+,2,0,B\n", 12,
+     b"0 A tape 1 from 0 head 0 cells 1: _ tape 2 from 0 head 0 cells 1: _ tape 3 from 0 head 0 cells 1: _ rule 1\nrunning 0\n"),
+    (["moments", "=1", "5"], b"A,1,_,/,1,22,0,B\n", 10,
+     b"0 A tape 1 from 0 head 0 cells 2: _ 1 tape 2 from 0 head 0 cells 1: _ tape 3 from 0 head 0 cells 1: _\nstuck A _ _ _ 0\n"),
+    (["moments", "=", "1048577"], b"A,/,_,/,+,2,0,B\n", 2, b"usage\n"),
+    (["moments", "=", "=", "5"], b"A,/,_,/,+,2,0,B\n", 2, b"usage\n"),
+    (["moments", "5"], b"", 2, b"usage\n"),
+])
+def test_what_is_refused_and_the_smallest(words, table, status, text, answering):
+    assert answers.answer(words, table) == (status, text)
+
+
+@pytest.mark.engine
+def test_a_long_run_has_a_line_each_moment(answering):
+    status, text = answers.answer(["moments", "=", "100000"], b"A,/,_,/,+,_,-,B\nB,_,/,/,_,0,0,A\nC,_,_,_,_,_,_,F\n")
+    lines = text.decode().splitlines()
+    assert status == 12 and len(lines) == 100_002 and lines[-1] == "running 100000"
+    assert lines[-2].startswith("100000 A tape 1 from 50000 head 50000 cells 1: _ tape 2 from 0 head 0 cells 1: _ tape 3 from -50000")
