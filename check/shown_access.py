@@ -5,9 +5,11 @@ its middle. The least is 4.5; controls that can't be used are passed over.
 """
 import json
 
-from shown import PAGE
+from shown import PAGE, comes, settle
 
 LEAST = 4.5
+# For how many milliseconds a picture stands, at the least, where less motion is asked for.
+LEAST_STANDS = 399
 CONTRAST = """(() => {
   const free = document.createElement("style");
   free.textContent = "*{pointer-events:auto!important;transition:none!important}";
@@ -98,8 +100,8 @@ SCENES = [("the start", "#m=least", ""),
 
 def scene(page, fragment, act):
     page.visit(f"file://{PAGE}{fragment}")
-    page.wait(f"(async () => {{ {act}; await new Promise(done => setTimeout(done, 450)); await bench.inTurn(() => "
-              f"{{}}); }})()")
+    page.ask(f"{{ {act} }}; 0")
+    settle(page, 450)
 
 
 def size(page, width, height):
@@ -183,8 +185,7 @@ def check_keyboard(page, count):
                    f"{name}: the Tab key doesn't come to {missed}, and no mark is seen on {unmarked}")
     scene(page, "#m=increment", "")
     page.strike("ArrowRight", 39)
-    page.wait("new Promise(done => setTimeout(done, 200))")
-    count.hold(page.ask("bench.state.e === bench.current.run.stops.quadruple[1]"), "→ doesn't make a step")
+    count.hold(comes(page, "bench.state.e === bench.current.run.stops.quadruple[1]"), "→ doesn't make a step")
     page.ask("document.getElementById('addstop').focus(); 0")
     page.strike("Enter", 13, "\r")
     page.ask("document.getElementById('stopcell').focus(); 0")
@@ -194,7 +195,7 @@ def check_keyboard(page, count):
     breaks = page.ask("JSON.stringify(bench.state.breaks)")
     page.ask("document.activeElement.blur(); 0")
     page.strike("ArrowRight", 39, shift=True)
-    page.wait("new Promise(done => setTimeout(done, 900))")
+    comes(page, "bench.state.e === bench.current.run.cellChange(1, 4, bench.current.run.stops.quadruple[1], 1)")
     e, right = page.ask("[bench.state.e, bench.current.run.cellChange(1, 4, bench.current.run.stops.quadruple[1], 1)]")
     count.hold(breaks == json.dumps([{"kind": "cell", "tape": 1, "cell": 4}], separators=(",", ":")) and e == right,
                f"by keys the breakpoints are {breaks}, and shift → comes to {e}, not {right}")
@@ -219,13 +220,11 @@ def check_motion(page, count):
     }).map(it => it.id || it.tagName)""")
     count.hold(not gliding and page.ask("bench.state.e === 0 && bench.state.playing === 0"),
                f"with less motion {gliding} glide, or it plays by itself")
-    drawn = page.wait("""(async () => {
-      bench.state.layer = "module"; bench.state.speed = 100; bench.frames.length = 0; bench.play(1);
-      await new Promise(done => setTimeout(done, 2000));
-      bench.pause();
-      return bench.frames.length;
-    })()""")
-    count.hold(1 <= drawn <= 6, f"with less motion {drawn} pictures are drawn in two seconds of play")
+    # How long each picture stood, by the times at which it was drawn, so that a slow machine is none the worse.
+    page.ask("bench.state.layer = 'module'; bench.state.speed = 100; bench.frames.length = 0; bench.play(1); 0")
+    came = comes(page, "bench.frames.length >= 4")
+    stood = page.ask("(bench.pause(), bench.frames.slice(1).map((it, k) => it.at - bench.frames[k].at))")
+    count.hold(came and min(stood, default=0) >= LEAST_STANDS, f"with less motion a picture stands for {stood} ms")
     scheme(page, None)
 
 

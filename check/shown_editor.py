@@ -9,24 +9,18 @@ import subprocess
 import urllib.parse
 
 from counting import TOP, text_of
-from shown import PAGE
+from shown import PAGE, settle
 from shown_places import INCREMENT, SUM, link
 
 PARITY = "S,_,_,+,Even\nEven,0,0,+,Even\nEven,1,1,+,Odd\nOdd,0,0,+,Odd\nOdd,1,1,+,Even\nEven,_,_,0,Yes\nOdd,_,_,0,No\n"
 BOOK = "q_0,1,1,+,q_1\nq_1,1,1,+,q_0\nq_1,0,0,0,q_1\nq_0,_,_,0,q_yes\nq_1,_,_,0,q_no\n"
 BOOK_NAMES = {"q-0": "q_0", "q-1": "q_1", "q-yes": "q_yes", "q-no": "q_no"}
 MOST_OWN_STEPS = "100000"
-SETTLED = """(async () => {
-  const rest = ms => new Promise(done => setTimeout(done, ms));
-  await rest(%d);
-  for (let calm = 0; calm < 3;) { await rest(25); calm = document.getElementById("busy").textContent.includes("…") ? 0 : calm + 1; }
-  await bench.inTurn(() => {});
-})()"""
 TRIED = """(async () => {
   document.getElementById("v-words").value = %s;
   document.getElementById("v-try").click();
   const rows = () => [...document.querySelectorAll("#v-table tbody tr")];
-  for (let k = 0; k < 800 && (rows().length < %d || !document.getElementById("v-said").textContent); k++) await new Promise(done => setTimeout(done, 25));
+  for (let k = 0; k < 6000 && (rows().length < %d || !document.getElementById("v-said").textContent); k++) await new Promise(done => setTimeout(done, 25));
   return {rows: rows().map(row => [...row.cells].map(it => it.textContent)), said: document.getElementById("v-said").textContent};
 })()"""
 DIAGRAM = """(() => {
@@ -41,10 +35,6 @@ FIELD = """(([line, field, value]) => {
   it.value = value;
   it.dispatchEvent(new Event("change", {bubbles: true}));
 })(%s)"""
-
-
-def settle(page, delay=60):
-    page.wait(SETTLED % delay)
 
 
 def set_value(page, name, value, kind="input"):

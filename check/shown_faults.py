@@ -5,11 +5,10 @@ answer that never comes into the workers that are begun after a stop.
 import json
 import os
 import tempfile
-import time
 
 from counting import text_of
-from shown import PAGE
-from shown_editor import set_value, settle
+from shown import PAGE, comes, settle
+from shown_editor import set_value
 from shown_places import INCREMENT
 
 # The module answers otherwise where its words and its input are of a pattern: it traps, has no memory, breaks its worker, or
@@ -41,6 +40,16 @@ WebAssembly.Instance = function (module, imports) {
 };
 }
 """
+# The word that comes by itself, before its time and behind it: its animation is set there, so that nothing hangs on the clock.
+AT_TIMES = """(it => {
+  const seen = it.getAnimations()[0], {delay, duration} = seen.effect.getComputedTiming(), found = [];
+  seen.pause();
+  for (const at of [Math.min(delay, 1500), delay + duration]) {
+    seen.currentTime = at;
+    found.push(getComputedStyle(it).visibility);
+  }
+  return [...found, it.innerText];
+})(document.getElementById('tooold'))"""
 TOO_OLD = "const Old = Blob; Blob = function (parts, how) { return new Old(['self.WebAssembly = undefined;\\n', ...parts], how); };"
 # By which words a call of a run is known, where its word is 101 and a state's name is Adding.
 CALLS = {"check": "^check[^]*Adding", "machine": "^machine =101 ", "run": "^run =101 auto", "bennett": "^bennett[^]*Adding",
@@ -60,17 +69,16 @@ def goes_on(page, program, name, count):
     set_value(page, "table", INCREMENT)
     set_value(page, "word", "11")
     settle(page, 500)
-    outcome, stale = page.ask("[document.getElementById('outcome').textContent, document.body.classList.contains('stale')]")
     steps = program.text(["machine", "=11", "100"], INCREMENT).split()[1]
+    comes(page, f"document.getElementById('outcome').textContent.startsWith('{steps} steps → ') && !document.body.classList.contains('stale')")
+    outcome, stale = page.ask("[document.getElementById('outcome').textContent, document.body.classList.contains('stale')]")
     count.hold(outcome.startswith(f"{steps} steps → ") and not stale, f"behind {name} the page says {outcome!r}, and it takes {steps} steps")
 
 
 def comes_to(page, expression, words):
     """A text of the page, once it begins with these words; on a busy machine that takes its time."""
-    until = time.monotonic() + 20
-    while not (said := page.ask(expression)).startswith(words) and time.monotonic() < until:
-        time.sleep(0.1)
-    return said
+    comes(page, f"{expression}.startsWith({json.dumps(words)})")
+    return page.ask(expression)
 
 
 def check_cut(page, program, count):
@@ -116,6 +124,11 @@ def check_cut_elsewhere(page, program, count):
     page.call("Page.removeScriptToEvaluateOnNewDocument", identifier=script)
 
 
+# What is told in passing goes by itself, and a slow machine may be looked at too late: it is kept.
+KEEP_TOASTS = """(window.toasts = "", new MutationObserver(list => {
+  for (const it of list.flatMap(one => [...one.addedNodes])) if (it.id === "toast") window.toasts = it.textContent;
+}).observe(document.body, {childList: true}))"""
+TOASTS = "window.toasts"
 # A word of which the run is never answered, so that the wait for it is as long on any machine.
 WAITED_FOR = "1" * 24
 
@@ -128,14 +141,13 @@ def check_stopped(page, program, count, browser=""):
     page.ask(f"(() => {{ document.getElementById('stop').click(); {source} return 0; }})()")
     # So that the whole run of a long word is waited for.
     page.ask("(bench.longRuns.above = Infinity, 0)")
+    page.ask(f"({KEEP_TOASTS}, 0)")
     set_value(page, "table", INCREMENT)
     set_value(page, "word", WAITED_FOR)
-    until = time.monotonic() + 40
-    while not (came := page.ask("!document.getElementById('stop').hidden")) and time.monotonic() < until:
-        time.sleep(0.05)
-    early = page.ask("document.getElementById('toast')?.textContent ?? ''")
+    came = comes(page, "!document.getElementById('stop').hidden")
+    early = page.ask(TOASTS)
     page.ask("(document.getElementById('stop').click(), 0)")
-    said = comes_to(page, "document.getElementById('toast')?.textContent ?? ''", "Stopped. Make the word shorter")
+    said = comes_to(page, TOASTS, "Stopped. Make the word shorter")
     stale, busy = page.ask("[document.body.classList.contains('stale'), document.getElementById('busy').textContent]")
     is_told = came and said.startswith("Stopped. Make the word shorter") and stale and busy.startswith("still shown")
     count.hold(is_told, f"{browser}stopped: the button came: {came}; it says {said!r} behind {early!r}, {busy!r}")
@@ -147,15 +159,13 @@ def check_old(page, count):
     with tempfile.NamedTemporaryFile("w", suffix=".html", encoding="utf-8", delete=False) as file:
         file.write(text_of("page", "hithwelor.html").replace('"use strict";\n', '"use strict";\nconst new syntax;\n', 1))
     page.call("Page.navigate", url=f"file://{file.name}")
-    time.sleep(1)
-    early = page.ask("getComputedStyle(document.getElementById('tooold')).visibility")
-    time.sleep(3.5)
-    seen, words = page.ask("[getComputedStyle(document.getElementById('tooold')).visibility, document.getElementById('tooold').innerText]")
+    comes(page, "document.readyState === 'complete' && document.getElementById('tooold') !== null")
+    early, seen, words = page.ask(AT_TIMES)
     count.hold((early, seen) == ("hidden", "visible") and "2023" in words, f"where the script doesn't run, {words!r} is {early} and then {seen}")
     os.remove(file.name)
     script = page.call("Page.addScriptToEvaluateOnNewDocument", source=TOO_OLD)["identifier"]
     page.call("Page.navigate", url=f"file://{PAGE}#m=least")
-    time.sleep(2)
+    comes(page, "document.getElementById('verdict')?.textContent.startsWith(\"This browser can't run it\")")
     said, gone = page.ask("[document.getElementById('verdict').textContent, document.getElementById('tooold') === null]")
     count.hold(said.startswith("This browser can't run it") and gone, f"without WebAssembly the page says {said!r}")
     page.call("Page.removeScriptToEvaluateOnNewDocument", identifier=script)

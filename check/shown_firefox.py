@@ -4,9 +4,9 @@ import json
 import os
 import time
 
-from shown import PAGE, PATIENCE
+from shown import PAGE, RUNS, comes
 from shown_faults import check_stopped
-from shown_layout import LAID
+from shown_layout import LAID, LAID_PATIENCE
 from shown_learn import PICTURES, SEEN
 from shown_pasted import machines
 from shown_places import FIXED, look_at
@@ -16,7 +16,6 @@ from firefox import Firefox, firefox_at_hand
 MACHINES_TRIED = ["Add one", "Turn each letter", "The least machine", "names of a book", "running on", "stuck", "its window ends it"]
 FAULTS = ("(window.seenFaults = [], addEventListener('error', it => seenFaults.push(String(it.message))), "
           "addEventListener('unhandledrejection', it => seenFaults.push(String(it.reason))), 0)")
-READY = "typeof bench === 'object' && Boolean(bench.current.run) && !document.getElementById('busy').textContent.includes('…')"
 
 
 class ShownFirefox(Firefox):
@@ -26,11 +25,8 @@ class ShownFirefox(Firefox):
         self.go("about:blank")
         self.go(address)
         self.ask(FAULTS)
-        until = time.monotonic() + PATIENCE
-        while not self.ask(READY):
-            if time.monotonic() > until:
-                raise OSError(f"{address[:80]}: no run is shown; the page says {self.ask('document.body.innerText')[:200]!r}")
-            time.sleep(0.05)
+        if not comes(self, RUNS):
+            raise OSError(f"{address[:80]}: no run is shown; the page says {self.ask('document.body.innerText')[:200]!r}")
 
     def faults(self):
         return self.ask("window.seenFaults ?? []")
@@ -43,22 +39,13 @@ def check_new(page, count):
         for notation in ("latex", "lines"):
             page.visit(f"file://{PAGE}#m=least")
             page.ask(f"(it => {{ it.value = {json.dumps(it['texts'][notation])}; it.dispatchEvent(new Event('input')); }})(document.getElementById('table')), 0")
-            count.hold(holds(page, f"{said}.startsWith('Read as ')"), f"Firefox: {name}, {notation}: it says {page.ask(said)[:90]!r}")
+            count.hold(comes(page, f"{said}.startsWith('Read as ')"), f"Firefox: {name}, {notation}: it says {page.ask(said)[:90]!r}")
     for step, picture in PICTURES.items():
         page.visit(f"file://{PAGE}#m=increment&w=1011&learn={step}")
-        count.hold(holds(page, SEEN % picture), f"Firefox: the lesson's {step} isn't seen")
+        count.hold(comes(page, SEEN % picture), f"Firefox: the lesson's {step} isn't seen")
         e = page.ask("bench.state.e")
         page.ask("document.getElementById('learnforth').click(), 0")
-        count.hold(holds(page, f"bench.state.e !== {e}"), f"Firefox: the lesson's {step} isn't gone on with")
-
-
-def holds(page, expression):
-    until = time.monotonic() + 20
-    while not page.ask(expression):
-        if time.monotonic() > until:
-            return False
-        time.sleep(0.05)
-    return True
+        count.hold(comes(page, f"bench.state.e !== {e}"), f"Firefox: the lesson's {step} isn't gone on with")
 
 
 def check_firefox(program, answers, draw, places, pictures, count):
@@ -84,7 +71,7 @@ def check_firefox(program, answers, draw, places, pictures, count):
         for width, height in ((1300, 900), (520, 900)):
             page.resize(width, height)
             page.visit(f"file://{PAGE}#m=increment&e=700000")
-            page.wait("new Promise(done => setTimeout(done, 400))")
+            comes(page, f"({LAID}).many === 0", LAID_PATIENCE)
             given, inner = page.ask(LAID), page.ask("innerWidth")
             count.hold(given["count"] > 15 and not given["many"] and given["wide"] <= inner,
                        f"Firefox, {inner} wide: {given['wide']} wide, of {given['count']} texts {json.dumps(given['over'])} lie over one another")

@@ -3,9 +3,8 @@ still, the lens, the marked column in sight, names in words, the skip link, lect
 """
 import json
 
-from shown import PAGE
-from shown_editor import many_states, settle
-from shown_kept import comes
+from shown import PAGE, comes, settle
+from shown_editor import many_states
 from shown_places import link
 
 MOST_SIZES = 6
@@ -141,7 +140,9 @@ def check_diagram(page, count):
         for number in (4, 6, 9, 13):
             page.visit(f"file://{PAGE}{link(t=many_states(number), w='01')}")
             settle(page, 150)
-            high, low, floor = page.ask("(it => [it.height, it.bottom, document.getElementById('machine').getBoundingClientRect().bottom])(document.querySelector('#diagram svg')?.getBoundingClientRect() ?? {height: 0, bottom: 0})")
+            seen = "(it => [it.height, it.bottom, document.getElementById('machine').getBoundingClientRect().bottom])(document.querySelector('#diagram svg')?.getBoundingClientRect() ?? {height: 0, bottom: 0})"
+            comes(page, f"{seen}[0] >= 149")
+            high, low, floor = page.ask(seen)
             count.hold(high >= 149, f"{width} wide, {number} states: the diagram is {high:.0f} high")
             count.hold(width < 1100 or low <= floor, f"{width} wide, {number} states: the diagram ends at {low:.0f}, its panel at {floor:.0f}")
 
@@ -164,6 +165,7 @@ def check_reached(page, count):
             page.ask("document.getElementById('lecture').click(); 0")
         page.ask(f"document.querySelector('[data-panel={panel}]').click(); 0")
         settle(page, 250)
+        comes(page, f"document.getElementById('{panel}').getBoundingClientRect().width > 1880")
         box, zoom, others = page.ask(f"""(it => [it.getBoundingClientRect().toJSON(), Number(getComputedStyle(it).zoom),
           [...document.querySelectorAll('main>.panel')].filter(one => one !== it && one.checkVisibility()).length])(document.getElementById('{panel}'))""")
         count.hold(box["width"] > 1880 and box["height"] > 700 and zoom == 1.6 and others == 0 and plain >= 14,
@@ -173,14 +175,18 @@ def check_reached(page, count):
     for width, height in ((640, 400), (960, 540)):
         size(page, width, height)
         page.visit(f"file://{PAGE}#m=increment&e=700000")
-        low, top = page.ask("[document.querySelectorAll('#three .tape')[1].getBoundingClientRect().bottom, document.getElementById('time').getBoundingClientRect().top]")
+        ends = "[document.querySelectorAll('#three .tape')[1].getBoundingClientRect().bottom, document.getElementById('time').getBoundingClientRect().top]"
+        comes(page, f"(([low, top]) => low <= top + 1)({ends})")
+        low, top = page.ask(ends)
         count.hold(low <= top + 1, f"{width} by {height}: the history ends at {low:.0f}, and the time line begins at {top:.0f}")
     size(page, 1280, 800)
     page.visit(f"file://{PAGE}#x=1")
-    letters = comes(page, "['n', 'e', 's', 'w'].every(it => [...document.querySelectorAll('#e-picture text')].some(one => one.textContent === it))", 10)
+    letters = comes(page, "['n', 'e', 's', 'w'].every(it => [...document.querySelectorAll('#e-picture text')].some(one => one.textContent === it))")
     count.hold(letters, "exercise 1's picture lacks the letters of the sides")
     page.visit(f"file://{PAGE}#x=15")
-    low, top = page.ask("[document.getElementById('map').getBoundingClientRect().bottom, document.getElementById('sheet').getBoundingClientRect().top]")
+    ends = "[document.getElementById('map').getBoundingClientRect().bottom, document.getElementById('sheet').getBoundingClientRect().top]"
+    comes(page, f"(([low, top]) => low <= top)({ends})")
+    low, top = page.ask(ends)
     count.hold(low <= top, f"exercise 15: the map ends at {low:.0f}, and the sheet begins at {top:.0f}")
 
 

@@ -1,8 +1,10 @@
 """What a reader of the screen hears: in the accessibility tree each panel with its parts, their roles, names and values; and
 what is told as a step is made and as the program has judged. What is told is compared with the program.
 """
-from shown import PAGE
-from shown_editor import set_value, settle
+import json
+
+from shown import PAGE, comes, settle
+from shown_editor import set_value
 from workbench_text import read_tape
 
 WORDS = {"_": "blank"}
@@ -123,11 +125,13 @@ def check_told(page, program, count):
     count.hold(polite == "busy status, live polite, outcome output, verdict status", f"told by itself are {polite}")
     for key, number in (("ArrowRight", 39), ("ArrowRight", 39), ("ArrowLeft", 37), ("End", 35), ("Home", 36)):
         page.ask("document.activeElement.blur(); 0")
+        before = page.ask("bench.state.e")
         page.strike(key, number)
-        page.wait("new Promise(done => setTimeout(done, 900))")
-        e, said = page.ask("[bench.state.e, document.getElementById('live').textContent]")
-        lacking = [it for it in spoken(program, table, words, e) if it not in " ".join(said.split())]
-        count.hold(not lacking, f"at step {e} {lacking} isn't told: {said[:300]!r}")
+        comes(page, f"bench.state.e !== {before}")
+        e = page.ask("bench.state.e")
+        right, told = spoken(program, table, words, e), "document.getElementById('live').textContent.replace(/\\s+/g, ' ')"
+        count.hold(e != before and comes(page, f"{json.dumps(right)}.every(it => {told}.includes(it))"),
+                   f"from {before} to step {e} {right} isn't told: {page.ask(told)[:300]!r}")
     set_value(page, "word", "111")
     settle(page, 400)
     steps = program.text(["machine", "=111", "100"], table).split()

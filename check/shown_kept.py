@@ -1,38 +1,16 @@
 """What the page keeps: machine, word and step over a reload, what Back closes, and what is seen while a run is sought."""
 import json
-import time
 
-from shown import PAGE, RUNS
-from shown_editor import set_value, settle
+from shown import PAGE, RUNS, comes, holds_time, reload, settle
+from shown_editor import set_value
+from shown_faults import broken
 from shown_places import INCREMENT
 
-PATIENCE = 30
-# A word whose run takes a while to be found, and what is seen meanwhile: whether the old one is pale, and for how long it isn't.
-LONG_WORD, LONG_ENOUGH = "abaabbbaaba", 600
-# How long one task may take on a busy machine; 100 ms is wanted on an idle one.
-MOST_TASK = 250
-WATCH = """(() => {
-  const seen = window.watched = {longest: 0, from: null, was: false};
-  const look = () => {
-    const isSought = bench.state.isMaking && Boolean(bench.current.run);
-    const isPlain = isSought && !document.body.classList.contains("sought") && !document.body.classList.contains("stale");
-    seen.was ||= isSought && !isPlain;
-    seen.from = isPlain ? seen.from ?? performance.now() : null;
-    if (seen.from !== null) seen.longest = Math.max(seen.longest, performance.now() - seen.from);
-    if (!seen.isOver) requestAnimationFrame(look);
-  };
-  look();
-})()"""
-
-
-def comes(page, expression, patience=PATIENCE):
-    """Whether an expression comes to hold."""
-    until = time.monotonic() + patience
-    while not page.ask(expression):
-        if time.monotonic() > until:
-            return False
-        time.sleep(0.05)
-    return True
+LONG_WORD = "abaabbbaaba"
+# The longest task that is wanted on an idle machine, in milliseconds.
+TASK = 100
+# The address has the word and the step that are shown.
+IN_ADDRESS = "(it => it.get('w') === bench.state.word && Number(it.get('e')) === bench.state.e)(new URLSearchParams(location.hash.slice(1)))"
 
 
 def check_reload(page, count):
@@ -41,19 +19,15 @@ def check_reload(page, count):
     set_value(page, "word", "110")
     settle(page, 600)
     page.ask("document.getElementById('forth').click(); 0")
-    settle(page, 800)
+    count.hold(comes(page, f"bench.state.e > 0 && {IN_ADDRESS}"), f"the address is {page.ask('location.hash')[:90]}")
     before = page.ask("[document.getElementById('table').value, document.getElementById('word').value, bench.state.e]")
-    page.call("Page.reload")
-    time.sleep(1)
-    count.hold(comes(page, RUNS), "after a reload no run is shown")
+    count.hold(reload(page), "after a reload no run is shown")
     settle(page, 300)
     after = page.ask("[document.getElementById('table').value, document.getElementById('word').value, bench.state.e]")
     count.hold(before == after and before[2] > 0, f"a reload makes of {json.dumps(before)[:120]} {json.dumps(after)[:120]}")
     page.visit(f"file://{PAGE}#m=complement")
-    settle(page, 800)
-    page.call("Page.reload")
-    time.sleep(1)
-    count.hold(comes(page, RUNS), "after a reload of an example no run is shown")
+    count.hold(comes(page, f"location.hash.includes('m=complement') && {IN_ADDRESS}"), "the address doesn't hold an example")
+    count.hold(reload(page), "after a reload of an example no run is shown")
     kept = page.ask("document.getElementById('examples').value")
     count.hold(kept == "complement", f"a reload of an example makes it {kept!r}")
 
@@ -68,20 +42,21 @@ def check_back(page, count):
     count.hold(comes(page, "document.querySelector('#sheet h2')?.textContent.startsWith('Exercise 7') ?? false"), "#x=7 opens no exercise")
     page.ask("history.back(); 0")
     closed = "document.querySelector('dialog[open]') === null && document.getElementById('sheet').hidden"
-    count.hold(comes(page, closed, 10), "Back leaves the exercise, or a dialog, open")
+    count.hold(comes(page, closed), "Back leaves the exercise, or a dialog, open")
     count.hold(comes(page, f"{RUNS} && document.getElementById('word').value === '11'"), "Back doesn't lead to the machine that was there")
 
 
 def check_sought(page, count):
-    """While the run of a longer word is sought, the old one isn't shown as if it were its."""
+    """While the run of another word is sought, the old one isn't shown as if it were its. It is never found here, so that what is seen
+    meanwhile doesn't hang on how fast the machine is."""
+    script = broken(page, (f"^(machine|run) ={LONG_WORD} ", "endless"))
     page.visit(f"file://{PAGE}#m=palindrome")
-    page.ask(f"{WATCH}; 0")
     set_value(page, "word", LONG_WORD)
-    time.sleep(0.5)
-    count.hold(comes(page, RUNS, 120), "the long word has no run")
-    longest, was = page.ask("(watched.isOver = true, [watched.longest, watched.was])")
-    count.hold(was or longest < LONG_ENOUGH, f"the old run stood beside the new word for {longest:.0f} ms as if it were its")
-    print(f"sought: seen pale {was}, plain for at most {longest:.0f} ms", flush=True)
+    pale = "['sought', 'stale'].some(it => document.body.classList.contains(it))"
+    count.hold(comes(page, f"bench.state.isMaking && {pale}"), "the old run stands beside the new word as if it were its")
+    page.ask("document.getElementById('stop').click(); 0")
+    count.hold(comes(page, "!document.getElementById('busy').textContent.includes('…')") and page.ask(pale), "behind Stop the old run stands as if it were the word's")
+    page.call("Page.removeScriptToEvaluateOnNewDocument", identifier=script)
 
 
 def check_end(page, count):
@@ -89,8 +64,7 @@ def check_end(page, count):
     page.visit(f"file://{PAGE}#m=palindrome")
     page.ask("bench.limits.quick = 0; bench.limits.first = 2; bench.longRuns.above = Infinity; 0")
     set_value(page, "word", LONG_WORD)
-    time.sleep(0.5)
-    count.hold(comes(page, RUNS, 120), "the long word has no run")
+    count.hold(comes(page, f"{RUNS} && bench.current.run.word === '{LONG_WORD}'"), "the long word has no run")
     page.ask("document.getElementById('last').click(); 0")
     told = page.ask("[bench.current.run.isKnown(bench.state.e), document.querySelector('#layers [data-layer=machine] span').textContent]")
     count.hold(told[0] or told[1].startswith("… of "), f"at the end, which isn't known, the machine's step is told as {told[1]!r}")
@@ -109,19 +83,21 @@ def paste_long(page, text):
 
 def check_too_long(page, count):
     """A million characters are pasted: the verdict comes, with a word that they are too many, and nothing stands still."""
-    page.visit(f"file://{PAGE}#m=least")
-    page.ask("""window.longest = 0; new PerformanceObserver(list => {
-      for (const it of list.getEntries()) window.longest = Math.max(window.longest, it.duration);
-    }).observe({type: "longtask"}); window.million = "state,1,0,+,other\\n".repeat(55556); window.began = performance.now(); 0""")
-    paste_long(page, "million")
     said, box = "document.getElementById('verdict').textContent", "document.getElementById('table')"
-    count.hold(comes(page, f"{said}.includes('too long to edit here')"), f"of a million characters the page says {page.ask(said)[:120]!r}")
-    took = page.ask("performance.now() - began")
-    settle(page, 300)
-    longest, lines, shown, is_closed = page.ask(f"[longest, document.getElementById('lines').children.length, {box}.value.length, {box}.readOnly]")
-    count.hold(longest < MOST_TASK and lines == 0 and shown < 10000 and is_closed,
-               f"the page stood still for {longest:.0f} ms, with {lines} numbers of lines and {shown} characters")
-    print(f"a million characters: the verdict after {took:.0f} ms, stood still for at most {longest:.0f} ms", flush=True)
+
+    def measure():
+        page.visit(f"file://{PAGE}#m=least")
+        page.ask("""window.longest = 0; new PerformanceObserver(list => {
+          for (const it of list.getEntries()) window.longest = Math.max(window.longest, it.duration);
+        }).observe({type: "longtask"}); window.million = "state,1,0,+,other\\n".repeat(55556); 0""")
+        paste_long(page, "million")
+        comes(page, f"{said}.includes('too long to edit here')")
+        settle(page, 300)
+        return page.ask("longest"), ""
+    holds_time(page, count, "a million characters, the longest task", TASK, measure)
+    told, lines, shown, is_closed = page.ask(f"[{said}, document.getElementById('lines').children.length, {box}.value.length, {box}.readOnly]")
+    count.hold("too long to edit here" in told and lines == 0 and shown < 10000 and is_closed,
+               f"of a million characters the page says {told[:120]!r}, with {lines} numbers of lines and {shown} characters")
     paste_long(page, json.dumps(INCREMENT))
     set_value(page, "word", "11")
     count.hold(comes(page, f"{RUNS} && document.getElementById('outcome').textContent.includes('→')"), "behind it no run is shown")

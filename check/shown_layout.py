@@ -4,8 +4,8 @@ nothing is to be scrolled sideways. `--pictures FOLDER` of check/page keeps a ph
 import json
 import os
 
-from shown import PAGE
-from shown_editor import many_states, settle
+from shown import PAGE, settle, soon
+from shown_editor import many_states
 from shown_places import link
 
 SIZES = [(1280, 800), (1024, 768), (768, 1024), (390, 844)]
@@ -30,6 +30,8 @@ SCENES_LAID = [
 ]
 # What has to be in sight without scrolling, where the page is wide; and at least to be reached by scrolling down elsewhere.
 NEEDED = ["table", "word", "outcome", "verdict", "rule", "three", "map", "bank", "film", "play", "forth", "back", "layers", "help", "openworkshop", "tasks", "share"]
+# For how many seconds what is laid out may come to rest: where a text lies over another then, it stays so.
+LAID_PATIENCE = 20
 LAID = """(() => {
   const free = Object.assign(document.createElement("style"), {textContent: "*{pointer-events:auto!important;transition:none!important}"});
   document.head.append(free);
@@ -97,13 +99,16 @@ def check_layout(page, pictures, count):
                 page.wait("new Promise(done => setTimeout(done, 60))")
                 if pictures:
                     page.screenshot(os.path.join(pictures, f"{width}-{shade}-{name.replace(' ', '-')}.png"))
+            soon(lambda: not page.ask(LAID)["many"], LAID_PATIENCE)
             given, where = page.ask(LAID), f"{name}, {width} wide"
             count.hold(given["count"] > 15 and not given["many"], f"{where}: of {given['count']} texts {given['many']} lie over others: {'; '.join(given['over'])}")
             count.hold(given["wide"] <= width, f"{where}: the page is {given['wide']} wide")
             cut = page.ask(CUT)
             count.hold(not cut, f"{where}: cut off are {cut}")
             if not page.ask("Boolean(document.querySelector('dialog[open]'))"):
-                missing = page.ask(OUT_OF_SIGHT % (json.dumps(width > 1100), json.dumps(NEEDED)))
+                sought = OUT_OF_SIGHT % (json.dumps(width > 1100), json.dumps(NEEDED))
+                soon(lambda: not page.ask(sought), LAID_PATIENCE)
+                missing = page.ask(sought)
                 count.hold(not missing, f"{where}: out of sight are {missing}")
     page.call("Emulation.setEmulatedMedia", features=[])
     page.call("Emulation.setDeviceMetricsOverride", width=1280, height=800, deviceScaleFactor=1, mobile=False)

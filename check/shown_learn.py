@@ -4,10 +4,8 @@ photographs.
 """
 import os
 
-from shown import PAGE
-from shown_editor import settle
-from shown_kept import comes
-from shown_layout import LAID
+from shown import PAGE, comes, holds_time, settle, soon
+from shown_layout import LAID, LAID_PATIENCE
 from shown_pasted import machines
 from shown_places import link
 
@@ -18,11 +16,30 @@ PICTURES = {"machine": ".l-tape svg", "past": ".l-tape svg", "history": ".l-tape
 TRIED = {"machine": ["learnplay"], "past": ["learntake"], "history": ["learnplay", "learntake"], "stages": [], "row": ["learnforth"],
          "column": ["learnplay", "learntake"], "element": ["learnforth", "learnback"], "out": []}
 WIDTHS = [(1920, 1080), (1280, 800), (1024, 768), (768, 1024), (390, 844), (640, 400)]
-MOST_TASK, MOST_FIRST = 400, 4000
+# What is wanted on an idle machine, in milliseconds: the longest task while it plays, and the first picture. And how many pieces the
+# picture of a bank has at most, which every frame of its play makes anew.
+TASK, FIRST, MOST_PIECES = 100, 1000, 260
 SAID, SEEN = "document.getElementById('learnsaid').innerText", "document.querySelector('#learnpicture %s') !== null"
-WATCHED = """(window.longest = 0, new PerformanceObserver(list => {
-  for (const it of list.getEntries()) window.longest = Math.max(window.longest, it.duration);
-}).observe({type: "longtask"}), 0)"""
+# Each step of the lesson by Next, played on and back for a while: the longest task, and at which step that was.
+PLAYED = """(async () => {
+  const rest = ms => new Promise(done => setTimeout(done, ms)), found = [0, ""];
+  const taken = list => { for (const it of list) if (it.duration > found[0]) found.splice(0, 2, it.duration, bench.state.lesson); };
+  const watch = new PerformanceObserver(list => taken(list.getEntries()));
+  watch.observe({type: "longtask"});
+  for (const step of %s) {
+    bench.state.e = bench.current.run.starts[5];
+    for (const name of ["learnplay", "learntake"]) {
+      document.getElementById(name).click();
+      await rest(500);
+      bench.pause();
+      await rest(100);
+    }
+    taken(watch.takeRecords());
+    if (step !== "out") document.getElementById("learnnext").click();
+  }
+  watch.disconnect();
+  return found;
+})()"""
 
 
 # What is marked lies within the room of its picture.
@@ -38,13 +55,13 @@ def click(page, name):
 
 def open_step(page, step, machine):
     page.visit(f"file://{PAGE}{machine}&learn={step}")
-    return comes(page, SEEN % PICTURES[step], 30)
+    return comes(page, SEEN % PICTURES[step])
 
 
 def play_a_while(page, name, e):
     """Plays until another step is shown, and stops."""
     click(page, name)
-    moved = comes(page, f"bench.state.e !== {e}", 30)
+    moved = comes(page, f"bench.state.e !== {e}")
     page.ask("bench.pause(); 0")
     settle(page)
     return moved
@@ -53,16 +70,15 @@ def play_a_while(page, name, e):
 def check_walk(page, name, machine, count):
     """From the first step to the last by Next; what is to be tried is ticked off, and the moment stays."""
     count.hold(open_step(page, "machine", machine), f"{name}: the first picture isn't seen")
-    page.ask(WATCHED)
     for step in STEPS:
         where = f"{name}, {step}"
-        count.hold(comes(page, SEEN % PICTURES[step], 30), f"{where}: its picture isn't seen: {page.ask('document.getElementById(`learnpicture`).innerText')[:90]!r}")
+        count.hold(comes(page, SEEN % PICTURES[step]), f"{where}: its picture isn't seen: {page.ask('document.getElementById(`learnpicture`).innerText')[:90]!r}")
         count.hold(page.ask("bench.state.lesson") == step, f"{where}: the step is {page.ask('bench.state.lesson')}")
         for act in TRIED[step]:
             before = page.ask("bench.state.e")
             if step == "past":
                 click(page, act)
-                told = comes(page, "document.querySelectorAll('.l-pasts figure').length > 0", 20)
+                told = comes(page, "document.querySelectorAll('.l-pasts figure').length > 0")
                 pasts = page.ask("document.querySelectorAll('.l-pasts figure').length")
                 count.hold(told and (pasts >= 2 or "one rule alone" in page.ask("document.querySelector('.l-pasts').innerText")), f"{where}: {pasts} pasts are drawn")
                 count.hold(page.ask("bench.state.playing") == 0, f"{where}: the machine alone is taken back")
@@ -70,7 +86,7 @@ def check_walk(page, name, machine, count):
                 count.hold(play_a_while(page, act, before), f"{where}: {act} moves nothing")
             else:
                 click(page, act)
-                count.hold(comes(page, f"bench.state.e !== {before}", 30), f"{where}: {act} moves nothing")
+                count.hold(comes(page, f"bench.state.e !== {before}"), f"{where}: {act} moves nothing")
                 settle(page)
         if step == "stages":
             page.ask("bench.goTo(bench.current.run.end); 0")
@@ -79,7 +95,7 @@ def check_walk(page, name, machine, count):
             page.ask("bench.goTo(bench.current.run.starts[7]); 0")
             settle(page, 200)
         elif TRIED[step]:
-            count.hold(comes(page, f"{SAID}.includes('✓')", 5), f"{where}: what was tried isn't ticked off")
+            count.hold(comes(page, f"{SAID}.includes('✓')"), f"{where}: what was tried isn't ticked off")
         e, kept = page.ask("bench.state.e"), page.ask("document.getElementById('learntrail').innerText")
         if step in ("history", "row", "column"):
             click(page, "learnnext")
@@ -88,11 +104,19 @@ def check_walk(page, name, machine, count):
             click(page, "learnnext")
         settle(page, 150)
         count.hold("machine" in kept, f"{where}: the trail says {kept!r}")
-    longest = page.ask("longest")
-    count.hold(longest < MOST_TASK, f"{name}: while it was walked the page stood still for {longest:.0f} ms")
-    print(f"Learn, {name}: longest task {longest:.0f} ms", flush=True)
     check_trail(page, name, count)
     count.hold(not page.faults(), f"{name}: {page.faults()}")
+
+
+def check_played(page, name, machine, count):
+    """While it plays, the page never stands still for long; and what each frame of a bank makes anew is little."""
+    def measure():
+        open_step(page, "machine", machine)
+        return page.wait(PLAYED % STEPS)
+    holds_time(page, count, f"Learn, {name}: the longest task while it plays", TASK, measure)
+    open_step(page, "column", machine)
+    pieces = page.ask("document.querySelectorAll('.l-bank svg *').length")
+    count.hold(20 < pieces <= MOST_PIECES, f"{name}: the picture of a bank has {pieces} pieces")
 
 
 def check_trail(page, name, count):
@@ -102,7 +126,7 @@ def check_trail(page, name, count):
     e = page.ask("bench.state.e")
     for level, picture in (("element", PICTURES["element"]), ("column", PICTURES["column"]), ("row", PICTURES["row"]), ("history", PICTURES["history"]), ("machine", PICTURES["machine"])):
         page.ask(f"document.querySelector('#learntrail [data-level={level}]').click(); 0")
-        count.hold(comes(page, SEEN % picture, 20) and page.ask("bench.state.e") == e, f"{name}: the trail's {level} shows step {page.ask('bench.state.e')}, and not {e}")
+        count.hold(comes(page, SEEN % picture) and page.ask("bench.state.e") == e, f"{name}: the trail's {level} shows step {page.ask('bench.state.e')}, and not {e}")
     count.hold("✓" in page.ask(SAID), f"{name}: that the trail was walked isn't ticked off")
     click(page, "learnnext")
     count.hold(page.ask("bench.state.lesson") is None and page.ask("document.getElementById('tapes').checkVisibility()"), f"{name}: behind the last step isn't the workbench")
@@ -123,17 +147,16 @@ def check_ways(page, count):
     page.visit(f"file://{PAGE}#learn")
     count.hold(page.ask("bench.state.lesson") == "past", f"the lesson is gone on with at {page.ask('bench.state.lesson')}, where it was left at the second step")
     page.visit(f"file://{PAGE}#m=complement&w=01&learn=history")
-    settle(page, 700)
+    count.hold(comes(page, "location.hash.includes('learn=history') && location.hash.includes('w=01')"), f"the address is {page.ask('location.hash')[:80]}")
     asked = page.ask("location.hash")
-    count.hold("learn=history" in asked, f"the address is {asked[:80]}")
     page.visit(f"file://{PAGE}{asked}")
     count.hold(page.ask("[bench.state.lesson, bench.state.word]") == ["history", "01"], "the address doesn't keep the lesson")
     page.visit(f"file://{PAGE}#m=increment&w=11")
     settle(page, 700)
     click(page, "openlearn")
-    count.hold(comes(page, "bench.state.lesson !== null", 10), "Learn isn't opened by its button")
+    count.hold(comes(page, "bench.state.lesson !== null"), "Learn isn't opened by its button")
     page.ask("history.back(); 0")
-    count.hold(comes(page, "bench.state.lesson === null && document.getElementById('learn').hidden", 10), "Back leaves the lesson open")
+    count.hold(comes(page, "bench.state.lesson === null && document.getElementById('learn').hidden"), "Back leaves the lesson open")
 
 
 def check_keys(page, count):
@@ -141,11 +164,11 @@ def check_keys(page, count):
     open_step(page, "history", "#m=increment&w=1011")
     page.ask("document.activeElement?.blur?.(); 0")
     page.strike("ArrowRight", 39)
-    count.hold(comes(page, "bench.state.e > 0", 20), "→ makes no step in the lesson")
+    count.hold(comes(page, "bench.state.e > 0"), "→ makes no step in the lesson")
     page.strike(" ", 32, " ")
-    comes(page, "bench.state.playing > 0 && bench.state.e > 0", 10)
+    comes(page, "bench.state.playing > 0 && bench.state.e > 0")
     page.strike(" ", 32, " ", shift=True)
-    count.hold(comes(page, f"{SAID}.includes('✓')", 10), "by keys alone what was tried isn't ticked off")
+    count.hold(comes(page, f"{SAID}.includes('✓')"), "by keys alone what was tried isn't ticked off")
     page.ask("bench.pause(); 0")
     for _ in range(40):
         page.strike("Tab", 9)
@@ -153,7 +176,7 @@ def check_keys(page, count):
             break
     count.hold(page.ask("document.activeElement.id") == "learnnext", "the Tab key doesn't come to Next")
     page.strike("Enter", 13, "\r")
-    count.hold(comes(page, "bench.state.lesson === 'stages'", 10), "Enter on Next doesn't go on")
+    count.hold(comes(page, "bench.state.lesson === 'stages'"), "Enter on Next doesn't go on")
 
 
 def check_laid(page, pictures, count):
@@ -171,6 +194,7 @@ def check_laid(page, pictures, count):
                 page.wait("new Promise(done => setTimeout(done, 60))")
                 if pictures:
                     page.screenshot(os.path.join(pictures, f"learn-{width}-{shade}-{step}.png"))
+            soon(lambda: not page.ask(LAID)["many"], LAID_PATIENCE)
             given = page.ask(LAID)
             count.hold(seen and given["count"] > 8 and not given["many"], f"{where}: of {given['count']} texts {given['many']} lie over others: {'; '.join(given['over'])}")
             count.hold(given["wide"] <= width, f"{where}: the page is {given['wide']} wide")
@@ -178,25 +202,28 @@ def check_laid(page, pictures, count):
             count.hold(not low, f"{where}: the picture or Play is out of sight")
             marked = {"element": ".l-cases tr.now", "row": ".l-moves .now", "column": ".l-bank .element.now"}.get(step)
             if marked and height > 600:
-                count.hold(page.ask(IN_SIGHT % marked), f"{where}: what is marked is out of sight")
+                count.hold(comes(page, IN_SIGHT % marked, LAID_PATIENCE), f"{where}: what is marked is out of sight")
     page.call("Emulation.setEmulatedMedia", features=[])
     page.call("Emulation.setDeviceMetricsOverride", width=1280, height=800, deviceScaleFactor=1, mobile=False)
 
 
 def check_first(page, count):
-    page.visit(f"file://{PAGE}#m=increment&learn=machine")
-    took = page.ask("performance.getEntriesByName('shown')[0]?.startTime ?? -1")
-    count.hold(0 < took < MOST_FIRST, f"the first picture took {took:.0f} ms")
-    print(f"Learn: the first picture after {took:.0f} ms", flush=True)
+    def measure():
+        page.visit(f"file://{PAGE}#m=increment&learn=machine")
+        comes(page, "performance.getEntriesByName('shown').length > 0")
+        return page.ask("performance.getEntriesByName('shown')[0].startTime"), ""
+    holds_time(page, count, "Learn: the first picture", FIRST, measure)
 
 
 def check_learn(page, pictures, count):
     page.call("Emulation.setDeviceMetricsOverride", width=1280, height=800, deviceScaleFactor=1, mobile=False)
+    page.visit(f"file://{PAGE}#m=least")
     check_first(page, count)
-    check_walk(page, "Add one", "#m=increment&w=1011", count)
-    text = machines()["adder"]["texts"]["latex"]
-    check_walk(page, "a pasted adder", link(t=text, w="1011"), count)
-    check_walk(page, "a machine that is stuck", link(t="S,_,_,+,A\nA,1,1,+,A\nA,0,0,-,B\nB,1,0,-,B\nA,_,_,0,F\n", w="1101"), count)
+    walked = {"Add one": "#m=increment&w=1011", "a pasted adder": link(t=machines()["adder"]["texts"]["latex"], w="1011"),
+              "a machine that is stuck": link(t="S,_,_,+,A\nA,1,1,+,A\nA,0,0,-,B\nB,1,0,-,B\nA,_,_,0,F\n", w="1101")}
+    for name, machine in walked.items():
+        check_walk(page, name, machine, count)
+        check_played(page, name, machine, count)
     check_ways(page, count)
     check_keys(page, count)
     check_laid(page, pictures, count)

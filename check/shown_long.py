@@ -7,7 +7,7 @@ are wanted, their window without a run, their end when it is come to. The same i
 import json
 import re
 
-from shown import PAGE
+from shown import PAGE, comes, soon
 from shown_runs import faults_at, next_quadruple
 from workbench_text import read_tape
 
@@ -74,17 +74,13 @@ def lay(page, limits, above, fragment):
     page.wait("""(async () => {
       const done = () => bench.current.run !== earlier && bench.current.run.isWhole && Number.isFinite(bench.current.run.end)
         && !document.getElementById("busy").textContent.includes("…");
-      for (let k = 0; k < 1200 && !done(); k++) await new Promise(later => setTimeout(later, 50));
+      for (let k = 0; k < 3000 && !done(); k++) await new Promise(later => setTimeout(later, 50));
     })()""")
 
 
 def told_of(page, program):
     table, words = page.ask("[bench.current.run.table, bench.current.run.words]")
     return Told(program, table, words)
-
-
-def rest(page, ms=350):
-    page.wait(f"new Promise(done => setTimeout(done, {ms}))")
 
 
 def check_pieces(page, program, draw, count):
@@ -116,7 +112,7 @@ def check_moves(page, program, told, where, draw, count):
     q = draw.randrange(1, len(starts) - 1)
     page.wait(f"""(async () => {{ const run = bench.current.run; bench.state.layer = "quadruple"; bench.goTo({starts[q]});
       const first = run.chunkNumber({starts[q]}), last = run.chunkNumber({starts[q + 1]});
-      for (let k = 0; k < 200 && !run.range(first, last).every(c => run.loaded(c)); k++) await new Promise(done => setTimeout(done, 50)); }})()""")
+      for (let k = 0; k < 3000 && !run.range(first, last).every(c => run.loaded(c)); k++) await new Promise(done => setTimeout(done, 50)); }})()""")
     given = page.ask(f"bench.current.run.movesBetween({starts[q]}, {starts[q + 1]}).map(it => [it.step, bench.placeName(it.place)])")
     banks = page.ask("bench.current.run.banks.map(it => [it.base, it.rows, it.count])")
     entries = {f"{base + row}.w" for base, rows, _ in banks for row in range(rows)}
@@ -137,7 +133,7 @@ def check_stops(page, told, where, draw, count):
       state.layer = "quadruple"; state.speed = 100; RANGES.quadruple[1] = 400; goTo(0);
       for (const direction of [1, -1]) {
         play(direction);
-        for (let k = 0; k < 600 && state.playing; k++) await new Promise(done => setTimeout(done, 25));
+        for (let k = 0; k < 6000 && state.playing; k++) await new Promise(done => setTimeout(done, 25));
         found.push(state.e);
       }
       RANGES.quadruple[1] = kept; state.speed = 40;
@@ -216,14 +212,12 @@ def check_span(page, program, count):
     for share in (.1, .5, .83):
         for kind in ("mousePressed", "mouseReleased"):
             page.call("Input.dispatchMouseEvent", type=kind, x=box[0] + share * box[2], y=box[1] + 50, button="left", clickCount=1)
-        rest(page)
         right = starts[int(two[0] + (two[1] - two[0]) * share)]
-        count.hold(page.ask("bench.state.e") == right, f"a click in the window leads to {page.ask('bench.state.e')}, and not to {right}")
-        left = page.ask("parseFloat(document.getElementById('cursor').style.left)")
-        count.hold(abs(left - (told.time(right) - two[0]) / (two[1] - two[0]) * 100) < .5, f"the cursor stands at {left}")
+        count.hold(comes(page, f"bench.state.e === {right}"), f"a click in the window leads to {page.ask('bench.state.e')}, and not to {right}")
+        place, left = (told.time(right) - two[0]) / (two[1] - two[0]) * 100, "parseFloat(document.getElementById('cursor').style.left)"
+        count.hold(comes(page, f"Math.abs({left} - {place}) < .5"), f"the cursor stands at {page.ask(left)}, and not at {place}")
     page.call("Input.dispatchMouseEvent", type="mouseWheel", x=box[0] + box[2] / 2, y=box[1] + 50, deltaX=0, deltaY=120)
-    rest(page)
-    count.hold(seen() and abs(seen()[1] - seen()[0] - 1.25 * (two[1] - two[0])) < .01, f"by the wheel the window is {seen()}")
+    count.hold(soon(lambda: seen() and abs(seen()[1] - seen()[0] - 1.25 * (two[1] - two[0])) < .01), f"by the wheel the window is {seen()}")
     page.ask("document.getElementById('whole').focus(); 0")
     page.strike("Home", 36)
     count.hold(seen() and seen()[0] == 0, f"by Home the window is {seen()}")
@@ -235,8 +229,7 @@ def check_span(page, program, count):
     page.call("Input.dispatchMouseEvent", type="mousePressed", x=strip[0] + middle * strip[2], y=strip[1] + 6, button="left", clickCount=1)
     page.call("Input.dispatchMouseEvent", type="mouseMoved", x=strip[0] + .7 * strip[2], y=strip[1] + 6, button="left", buttons=1)
     page.call("Input.dispatchMouseEvent", type="mouseReleased", x=strip[0] + .7 * strip[2], y=strip[1] + 6, button="left", clickCount=1)
-    rest(page)
-    count.hold(abs(sum(seen()) / 2 - .7 * whole) < .5, f"drawn along to .7 of {whole} the window is {seen()}")
+    count.hold(soon(lambda: abs(sum(seen()) / 2 - .7 * whole) < .5), f"drawn along to .7 of {whole} the window is {seen()}")
     page.ask("document.querySelector('[data-span=all]').click(); 0")
     count.hold(seen() is None, f"after All the window is {seen()}")
     page.ask("bench.zoomTime(10, 0); bench.goTo(0); 0")
@@ -256,7 +249,7 @@ def check_marks(page, program, draw, count):
         for span in (None, [20.0, 26.0]):
             page.ask(f"Object.assign(bench.state, {{breaks: [{{kind: 'element', element: {element}}}], span: {json.dumps(span and dict(zip(('from', 'to'), span)))}}});"
                      " bench.zoomTime(1); 0")
-            page.wait("(async () => { for (let k = 0; k < 100 && (k < 8 || document.getElementById('spansaid').textContent.includes('looks for')); k++)"
+            page.wait("(async () => { for (let k = 0; k < 2500 && (k < 8 || document.getElementById('spansaid').textContent.includes('looks for')); k++)"
                       " await new Promise(done => setTimeout(done, 60)); })()")
             low, high = span or [0, len(told.moments)]
             ends = [told.end if it >= len(told.moments) else told.starts()[int(it)] for it in (low, high)]
@@ -268,15 +261,15 @@ def check_marks(page, program, draw, count):
             is_more = "there are more" in page.ask("document.getElementById('spansaid').textContent")
             count.hold(is_more == (len(right) > 200), f"element {element} in {span}: whether there are more marks than {len(places)}")
     page.ask("Object.assign(bench.state, {breaks: [{kind: 'state', state: 'Add'}], span: null}); bench.zoomTime(1); 0")
-    rest(page)
     right = [q for q, it in enumerate(told.moments) if it[3] == "Add" and it[2] != "copy"]
+    comes(page, f"document.querySelectorAll('#breakmarks i').length === {len(right)}")
     given = page.ask("[...document.querySelectorAll('#breakmarks i')].map(it => parseFloat(it.style.left))")
     count.hold(len(given) == len(right) and all(abs(a - q / len(told.moments) * 100) < .02 for a, q in zip(given, right)), f"the state's marks are {given}")
     # A play stops where the signal comes to the element, however far a frame goes.
     element = elements[1]
     right = told.comes(element, 0, told.end, 1)
     e = page.wait(f"""(async () => {{ const {{state, play, goTo}} = bench; Object.assign(state, {{breaks: [{{kind: "element", element: {element}}}], layer: "machine", speed: 100}});
-      goTo(0); play(1); for (let k = 0; k < 400 && state.playing; k++) await new Promise(done => setTimeout(done, 25)); state.speed = 40; return state.e; }})()""")
+      goTo(0); play(1); for (let k = 0; k < 6000 && state.playing; k++) await new Promise(done => setTimeout(done, 25)); state.speed = 40; return state.e; }})()""")
     count.hold([e] == right, f"a play stops at {e} for element {element}, and the program comes to it at {right}")
     page.ask("bench.state.breaks = []; 0")
 
@@ -289,22 +282,21 @@ def check_firsts(page, program, draw, count):
         cells = [(tape, view.first + k) for tape, view in enumerate(told.views[0], 1) for k in range(len(view.symbols))]
         for tape, cell in draw.sample(cells, 9):
             page.ask(f"bench.state.cell = {{tape: {tape}, cell: {cell}}}; bench.goTo(bench.current.run.end); 0")
-            rest(page, 150)
-            page.wait("""(async () => { bench.render(false); const it = [...document.querySelectorAll("#cellbox button")].find(it => /Go there|When was/.test(it.textContent));
-              it?.click(); for (let k = 0; k < 100 && (k < 3 || document.getElementById("busy").textContent); k++) await new Promise(done => setTimeout(done, 40)); })()""")
+            page.wait("bench.current.run.ready(bench.state.e).then(() => bench.render(false))")
+            page.wait("""(async () => { const it = [...document.querySelectorAll("#cellbox button")].find(it => /Go there|When was/.test(it.textContent));
+              it?.click(); for (let k = 0; k < 3000 && (k < 3 || document.getElementById("busy").textContent); k++) await new Promise(done => setTimeout(done, 40)); })()""")
             first = told.first_change(tape, cell)
-            e, said = page.ask("[bench.state.e, document.getElementById('cellbox').textContent]")
-            right = told.end if first is None else told.starts()[first]
-            count.hold(e == right and ("never changed" in said if first is None else f"First changed at quadruple {first}," in said),
-                       f"cell {cell} of tape {tape}: it leads to {e} with {said!r}, and it first changes at {first}, step {right}")
+            right, words = (told.end, "never changed") if first is None else (told.starts()[first], f"First changed at quadruple {first},")
+            count.hold(comes(page, f"bench.state.e === {right} && document.getElementById('cellbox').textContent.includes({json.dumps(words)})"),
+                       f"cell {cell} of tape {tape}: it leads to {page.ask('bench.state.e')} with {page.ask('document.getElementById(`cellbox`).textContent')!r}, "
+                       f"and it first changes at {first}, step {right}")
         page.ask("bench.state.cell = null; bench.goTo(0); document.getElementById('three').focus(); 0")
         for key, code in (("ArrowDown", 40), ("ArrowRight", 39), ("ArrowRight", 39)):
             page.strike(key, code)
         cell = page.ask("bench.state.cell")
         page.strike("Enter", 13, "\r")
-        rest(page, 900)
         first = told.first_change(cell["tape"], cell["cell"])
-        count.hold(page.ask("bench.state.e") == (told.starts()[first] if first is not None else 0), f"by keys cell {cell} leads to {page.ask('bench.state.e')}")
+        count.hold(comes(page, f"bench.state.e === {told.starts()[first] if first is not None else 0}"), f"by keys cell {cell} leads to {page.ask('bench.state.e')}")
         page.ask("bench.state.cell = null; document.activeElement.blur(); 0")
 
 

@@ -4,12 +4,10 @@ line that says what they were read as, and what undoes that.
 import json
 import os
 import subprocess
-import time
 
 from counting import TOP
-from shown import PAGE
-from shown_editor import set_value, settle, text_shown
-from shown_kept import comes
+from shown import PAGE, comes, reload, settle
+from shown_editor import set_value, text_shown
 
 FIXTURE = os.path.join(TOP, "page", "test", "pasted.js")
 LISTED = "import {PASTED} from %s; console.log(JSON.stringify(PASTED))"
@@ -56,7 +54,7 @@ def check_played(page, program, name, notation, text, words, count):
         settle(page, 400)
     before = page.ask(TAPES)
     click(page, "play")
-    count.hold(comes(page, f"{TAPES} !== {json.dumps(before)}", 20), f"{name}, {notation}: after three actions no tape moves; {page.ask(OUTCOME)!r}")
+    count.hold(comes(page, f"{TAPES} !== {json.dumps(before)}"), f"{name}, {notation}: after three actions no tape moves; {page.ask(OUTCOME)!r}")
     page.ask("bench.pause(); 0")
     table = page.ask("bench.current.machine.table")
     status, answer = program.answer(["machine", "=" + word, "2000"], table)
@@ -76,10 +74,8 @@ def check_undone(page, text, count):
     settle(page, 350)
     said = page.ask(VERDICT)
     count.hold(text_shown(page) == text and turned != text and "Read it so" in said, f"undone, the editor has {text_shown(page)[:60]!r}, and it says {said[:80]!r}")
-    settle(page, 700)
-    page.call("Page.reload")
-    time.sleep(1)
-    comes(page, "typeof bench === 'object' && document.querySelector('#verdict .fault') !== null")
+    comes(page, "new URLSearchParams(location.hash.slice(1)).get('t') === bench.state.text && location.hash.includes('u=1')")
+    reload(page, "typeof bench === 'object' && document.querySelector('#verdict .fault') !== null")
     count.hold(text_shown(page) == text, f"behind a reload the editor has {text_shown(page)[:60]!r}")
     page.ask("document.getElementById('undo').disabled || document.getElementById('undo').click(); 0")
 

@@ -8,7 +8,7 @@ COPIED = """(async () => {
   Object.defineProperty(navigator, "clipboard", {value: clipboard, configurable: true});
   document.querySelector(%s).click();
   const body = document.getElementById("dialogbody");
-  for (let k = 0; k < 200 && !document.getElementById("dialog").open; k++) await new Promise(done => setTimeout(done, 50));
+  for (let k = 0; k < 3000 && !document.getElementById("dialog").open; k++) await new Promise(done => setTimeout(done, 50));
   const heads = [...body.querySelectorAll(".said code")].map(it => it.textContent);
   const seen = [...body.querySelectorAll(".said pre")].map(it => it.textContent);
   for (const it of body.querySelectorAll("[data-copy]")) { it.click(); await null; }

@@ -15,8 +15,10 @@ const TRAIL = [[6, .11, 1], [24, .09, .7], [90, .07, .42], [Infinity, .05, .22]]
 // Where things stand: `pitch` is the distance of two rows; the part that is seen begins at the column and row x, y.
 class Grid {
   /** @param {import("./run.js").Run} run @param {Record<string, any>} how */
-  constructor(run, {bank, width, height, pitch, x, y, wide, left}) {
+  constructor(run, {bank, width, height, pitch, x, y, wide, left, isPlain = false}) {
     this.run = run;
+    // Whether the elements that stand as they stood are one path: a thousand boxes take far longer to draw than one.
+    this.isPlain = isPlain;
     this.bank = bank;
     this.rows = bank.rows;
     this.width = width;
@@ -74,9 +76,9 @@ class Grid {
 
 export function bankPicture(run, {bars, place, hasLeft, trail, clip: name = "seen", ...how}) {
   const grid = new Grid(run, {wide: WIDE, ...how}), {bank, width, height, left, P} = grid;
-  const {ground, wires, stubs, boxes, standing} = columnsPicture(grid, bars, place, hasLeft), edge = left - P * .32;
+  const {ground, wires, stubs, boxes, standing, plain} = columnsPicture(grid, bars, place, hasLeft), edge = left - P * .32;
   const clip = `<defs><clipPath id="${name}"><rect x="${edge}" y="${TOP - 4}" width="${width - edge}" height="${height}"/></clipPath></defs>`;
-  const bodies = `${ground}<path class="stub" d="${stubs}"/><path class="wire" d="${wires}"/>${boxes}`
+  const bodies = `${ground}<path class="stub" d="${stubs}"/><path class="wire" d="${wires}"/>${plain && `<path class="element" d="${plain}"/>`}${boxes}`
     + `<path class="bar" stroke-width="${n1(Math.max(1.4, P * .1))}" d="${standing}"/>${wayPicture(grid, trail, hasLeft)}${signalPicture(grid, place, hasLeft)}`;
   const back = name === "seen" ? "" : `<rect class="box" width="${width}" height="${height}"/>`;
   return svg(width, height, `${back}${clip}<g clip-path="url(#${name})">${bodies}</g>${labelsPicture(grid, bars, name === "seen" ? place : null, name !== "seen")}`, "bank",
@@ -85,7 +87,7 @@ export function bankPicture(run, {bars, place, hasLeft, trail, clip: name = "see
 
 function columnsPicture(grid, bars, place, hasLeft) {
   const {run, bank, rows, P, X, h, a} = grid, {targets, sources} = run.circuit, last = bank.columns - 1;
-  const it = {ground: "", wires: "", stubs: "", boxes: "", standing: ""};
+  const it = {ground: "", wires: "", stubs: "", boxes: "", standing: "", plain: ""};
   for (let c = grid.first[0]; c <= grid.last[0]; c++) {
     const top = bank.base + c * (rows + 1), bottom = top + rows, isMarked = bars?.[bottom - bank.base] === 1;
     it.ground += `<rect class="column${isMarked ? " marked" : ""}" x="${n1(grid.cx(c) - P * .56)}" y="${n1(grid.cy(0) - P * .47)}" width="${n1(P * 1.12)}" height="${n1((rows + .96) * P)}" rx="${n1(P * .2)}"/>`;
@@ -99,7 +101,8 @@ function columnsPicture(grid, bars, place, hasLeft) {
       if (isRow && targets[4 * element + WEST] >= 0) it.stubs += `M${n1(x - h)},${n1(y + a)}h${n1(-P * .26)}`;
       if (isRow && sources[4 * element + EAST] >= 0) it.stubs += `M${n1(x + h)},${n1(y + a)}h${n1(P * .26)}`;
       const kind = `${bar === 1 && isRow ? " turned" : ""}${!hasLeft && element === place >> 2 ? " now" : ""}`;
-      it.boxes += `<rect class="element${kind}" data-element="${element}" x="${n1(x - h)}" y="${n1(y - h)}" width="${n1(2 * h)}" height="${n1(2 * h)}" rx="${n1(P * .08)}"/>`;
+      if (grid.isPlain && !kind) it.plain += `M${n1(x - h)},${n1(y - h)}h${n1(2 * h)}v${n1(2 * h)}h${n1(-2 * h)}z`;
+      else it.boxes += `<rect class="element${kind}" data-element="${element}" x="${n1(x - h)}" y="${n1(y - h)}" width="${n1(2 * h)}" height="${n1(2 * h)}" rx="${n1(P * .08)}"/>`;
       if (bar === 0) it.standing += `M${n1(x)},${n1(y - h * .62)}v${n1(h * 1.24)}`;
       if (bar === 1) it.standing += `M${n1(x - h * .62)},${n1(y)}h${n1(h * 1.24)}`;
     }

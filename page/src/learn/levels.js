@@ -102,7 +102,7 @@ export function columnLevel(f, {width, height}) {
   const pitch = Math.max(20, Math.min(44, fit)), wide = 1.7, columns = (width - NAMES_WIDTH) / (pitch * wide), rows = (free - 33) / pitch;
   const clamp = (it, most) => Math.max(0, Math.min(Math.max(0, most), it));
   const how = {bank, bars, place, hasLeft: Boolean(f.at.hasLeft), trail: f.move.from !== null ? run.trail(f.e, f.move.from, MOST_TRAIL) : [place], width, height: free,
-    pitch, wide, x: clamp(column + .5 - columns / 2, bank.columns - columns), y: clamp(row + .5 - rows / 2, bank.rows + 1 - rows), left: NAMES_WIDTH};
+    pitch, wide, x: clamp(column + .5 - columns / 2, bank.columns - columns), y: clamp(row + .5 - rows / 2, bank.rows + 1 - rows), left: NAMES_WIDTH, isPlain: true};
   const line = entryLine(run, f);
   return `<p class="l-rule">${escaped(bankName(bank)[0].toUpperCase() + bankName(bank).slice(1))}${line ? `: ${escaped(line.words)}` : ""}</p>
     <p class="quiet">${moveWords(f)}</p><div class="l-bank">${bankPicture(run, how)}</div>`;
