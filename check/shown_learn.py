@@ -42,6 +42,15 @@ PLAYED = """(async () => {
 })()"""
 
 
+# Each text of a bank's picture lies within it, and each of its names is told in words in the lesson's card.
+CUT = """(svg => {
+  const room = svg.getBoundingClientRect(), out = box => box.top < room.top - .5 || box.right > room.right + .5 || box.left < room.left - .5;
+  return [...svg.querySelectorAll("text")].filter(it => out(it.getBoundingClientRect())).map(it => it.textContent);
+})(document.querySelector(".l-bank svg"))"""
+UNTOLD = """(told => {
+  const kind = it => it.split(" ")[0], names = [...document.querySelectorAll(".l-bank text title")].filter(it => it.textContent.startsWith("row "));
+  return names.map(it => kind(it.nextSibling.textContent)).filter(it => !told.includes(it));
+})([...document.querySelectorAll(".l-names dt")].map(it => it.textContent.split(" ")[0]))"""
 # What is marked lies within the room of its picture.
 IN_SIGHT = """(it => {
   const box = it.getBoundingClientRect(), room = document.getElementById("learnpicture").getBoundingClientRect();
@@ -74,6 +83,17 @@ def check_walk(page, name, machine, count):
         where = f"{name}, {step}"
         count.hold(comes(page, SEEN % PICTURES[step]), f"{where}: its picture isn't seen: {page.ask('document.getElementById(`learnpicture`).innerText')[:90]!r}")
         count.hold(page.ask("bench.state.lesson") == step, f"{where}: the step is {page.ask('bench.state.lesson')}")
+        if step in ("machine", "past", "history"):
+            rules = page.ask("[[...document.querySelectorAll('.l-rules li b')].map(it => Number(it.textContent)), bench.current.run.rules.length]")
+            count.hold(rules[0] == list(range(1, rules[1] + 1)), f"{where}: of {rules[1]} rules the numbers {rules[0]} stand there")
+        if step in ("row", "column"):
+            names = page.ask("[...document.querySelectorAll('.l-names dt')].map(it => it.textContent)")
+            count.hold({"row": {"module", "control", "line", "row"}, "column": {"bank", "column", "row"}}[step] <= set(names), f"{where}: told are {names}")
+        if step == "column":
+            count.hold(not page.ask(UNTOLD) and not page.ask(CUT), f"{where}: {page.ask(UNTOLD)} aren't told in words, {page.ask(CUT)} are cut")
+        if step == "element":
+            turns = "(it => it.cells[0].textContent !== it.cells[3].textContent)(document.querySelector('.l-cases tr.now'))"
+            count.hold(comes(page, turns), f"{where}: it begins where the signal goes straight on")
         for act in TRIED[step]:
             before = page.ask("bench.state.e")
             if step == "past":
@@ -82,6 +102,8 @@ def check_walk(page, name, machine, count):
                 pasts = page.ask("document.querySelectorAll('.l-pasts figure').length")
                 count.hold(told and (pasts >= 2 or "one rule alone" in page.ask("document.querySelector('.l-pasts').innerText")), f"{where}: {pasts} pasts are drawn")
                 count.hold(page.ask("bench.state.playing") == 0, f"{where}: the machine alone is taken back")
+                words, after = page.ask("[document.querySelector('.l-pasts').innerText, bench.state.e]")
+                count.hold(after == before or "so here is the nearest step" in words, f"{where}: from {before} it goes to {after}, and says {words[:90]!r}")
             elif act in ("learnplay", "learntake"):
                 count.hold(play_a_while(page, act, before), f"{where}: {act} moves nothing")
             else:
@@ -92,12 +114,10 @@ def check_walk(page, name, machine, count):
             page.ask("bench.goTo(bench.current.run.end); 0")
             settle(page, 300)
             count.hold("✓" in page.ask(SAID) or not page.ask("bench.current.found.own.outcome === 'halted'"), f"{where}: its end isn't ticked off")
-            page.ask("bench.goTo(bench.current.run.starts[7]); 0")
-            settle(page, 200)
         elif TRIED[step]:
             count.hold(comes(page, f"{SAID}.includes('✓')"), f"{where}: what was tried isn't ticked off")
         e, kept = page.ask("bench.state.e"), page.ask("document.getElementById('learntrail').innerText")
-        if step in ("history", "row", "column"):
+        if step in ("history", "row"):
             click(page, "learnnext")
             count.hold(page.ask("bench.state.e") == e, f"{where}: behind Next another moment is shown")
         elif step != "out":
@@ -159,6 +179,21 @@ def check_ways(page, count):
     count.hold(comes(page, "bench.state.lesson === null && document.getElementById('learn').hidden"), "Back leaves the lesson open")
 
 
+def check_address(page, count):
+    """A step that an address names has its own layer, whatever else the address lacks; and an end has a way into a rule."""
+    for step, most in (("element", 1), ("column", 1), ("row", 20000)):
+        open_step(page, step, "#m=increment")
+        before = page.ask("bench.state.e")
+        click(page, "learnforth")
+        comes(page, f"bench.state.e !== {before}")
+        count.hold(0 < page.ask("bench.state.e") - before <= most, f"of the address of {step} a step leads from {before} to {page.ask('bench.state.e')}")
+    end = page.ask("bench.current.run.end")
+    page.visit(f"file://{PAGE}#m=increment&learn=row&e={end}")
+    count.hold(comes(page, "document.querySelector('#learnpicture [data-go]') !== null"), "at the end of the run nothing leads into a rule")
+    page.ask("document.querySelector('#learnpicture [data-go]').click(); 0")
+    count.hold(comes(page, SEEN % PICTURES["row"]), "from the end of the run no row is come to")
+
+
 def check_keys(page, count):
     """By the keyboard alone: space plays, the arrows step, Tab and Enter go on."""
     open_step(page, "history", "#m=increment&w=1011")
@@ -198,7 +233,7 @@ def check_laid(page, pictures, count):
             given = page.ask(LAID)
             count.hold(seen and given["count"] > 8 and not given["many"], f"{where}: of {given['count']} texts {given['many']} lie over others: {'; '.join(given['over'])}")
             count.hold(given["wide"] <= width, f"{where}: the page is {given['wide']} wide")
-            low = page.ask("['learnplay', 'learnpicture'].map(id => document.getElementById(id).getBoundingClientRect()).some(it => it.top > innerHeight - 20 || it.height < 20)")
+            low = page.ask("['learnplay', 'learnpicture', ...(innerWidth > 760 ? ['learnnext'] : [])].map(id => document.getElementById(id).getBoundingClientRect()).some(it => it.top > innerHeight - 20 || it.height < 20)")
             count.hold(not low, f"{where}: the picture or Play is out of sight")
             marked = {"element": ".l-cases tr.now", "row": ".l-moves .now", "column": ".l-bank .element.now"}.get(step)
             if marked and height > 600:
@@ -225,5 +260,6 @@ def check_learn(page, pictures, count):
         check_walk(page, name, machine, count)
         check_played(page, name, machine, count)
     check_ways(page, count)
+    check_address(page, count)
     check_keys(page, count)
     check_laid(page, pictures, count)

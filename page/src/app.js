@@ -49,8 +49,10 @@ function begin() {
   chips();
   showButtons();
   const asked = new URLSearchParams(location.hash.slice(1)), task = Number(asked.get("x")), lesson = asked.get("learn");
-  if (lesson !== null) openLearn(lesson || undefined);
-  else if (!location.hash && !current.run && isFirstVisit()) openLearn();
+  const isFirst = !location.hash && !current.run && isFirstVisit();
+  // What a link asks for is known before the lesson, which has a layer of its own.
+  if (link && !task) Object.assign(state, link);
+  if (lesson !== null || isFirst) openLearn(lesson || undefined, !asked.has("e"));
   if (task) {
     beginTask(task);
     if (current.run || state.text) return;
@@ -59,7 +61,7 @@ function begin() {
     if (lesson === null || !current.run) takeMachine(EXAMPLES[0]);
     return;
   }
-  Object.assign(state, link);
+  if (task) Object.assign(state, link);
   byId("examples").value = link.example;
   byId("about").textContent = EXAMPLES.find(it => it.key === link.example)?.about ?? "A machine from a link.";
   byId("word").value = state.word;

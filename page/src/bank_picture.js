@@ -2,12 +2,13 @@
 import {escaped} from "./state.js";
 import {n1, svg} from "./svg.js";
 import {controlInFull, controlLabel, controlStates} from "./control.js";
+import {symbolWord} from "./table.js";
 import {bankName, lineOf} from "./words.js";
 
 // How much wider than high a place of the grid is, at least; and the room above it.
-export const WIDE = 1.5, TOP = 25;
+export const WIDE = 1.5, TOP = 27;
 // How wide a letter of a label is, and where the two lines of labels stand.
-const LETTER_WIDTH = 6.4, LABEL_LINES = [9, 19];
+const LETTER_WIDTH = 6.4, LABEL_LINES = [10, 21];
 const [NORTH, EAST, SOUTH, WEST] = [0, 1, 2, 3], STEPS = [[0, -1], [1, 0], [0, 1], [-1, 0]];
 // The strokes of the way, from the newest part on: up to which age, how wide, how strong.
 const TRAIL = [[6, .11, 1], [24, .09, .7], [90, .07, .42], [Infinity, .05, .22]];
@@ -137,8 +138,8 @@ function signalPicture(grid, place, hasLeft) {
 // it is about in words.
 function columnLabel(run, bank, column) {
   if (bank.kind === "cell") {
-    const z = run.symbols[bank.tape - 1];
-    return [`${column >= z ? "▾" : ""}${run.symbolOf(bank.tape, column % z)}`];
+    const z = run.symbols[bank.tape - 1], symbol = run.symbolOf(bank.tape, column % z), hasHead = column >= z;
+    return [`${hasHead ? "▾" : ""}${symbol}`, `the cell holds ${symbolWord(symbol)}${hasHead ? ", and the head is there" : ""}`];
   }
   const it = controlStates(run)[column];
   return it ? [controlLabel(it), `state ${column + 1}: ${controlInFull(it)}`] : [String(column + 1)];
@@ -157,7 +158,9 @@ function labelsPicture(grid, bars, place, isSlice) {
   for (let c = grid.first[0]; c <= grid.last[0]; c++) if (bars?.[c * (rows + 1) + rows] === 1) marked = c;
   for (let c = grid.first[0]; c <= grid.last[0]; c++) {
     const x = grid.cx(c), isNow = c === marked, isOut = c % every !== 0 || every > 1 && Math.abs(c - marked) < 2 * every;
-    if (x > left - P * .2 && x < width && (isNow || !isOut && !isSlice)) body += label(columnLabel(run, bank, c), isNow, "middle", x, high(c));
+    if (x <= left - P * .2 || x >= width || !isNow && (isOut || isSlice)) continue;
+    const words = columnLabel(run, bank, c);
+    if (x + words[0].length * LETTER_WIDTH / 2 < width) body += label(words, isNow, "middle", x, high(c));
   }
   for (let r = grid.first[1]; r <= Math.min(grid.last[1], rows - 1) && !isSlice; r++) {
     const y = grid.cy(r), isNow = place === 4 * (bank.base + r) + WEST;

@@ -189,9 +189,15 @@ export class Run extends Moments {
     return bars;
   }
   // Sides n, e, s, w are 0 to 3, so an odd side is one along west and east: a bar that lies is 1.
-  barBefore(place, next, hasLeft) {
-    const out = hasLeft ? next : this.circuit.sources[next], isStraight = ((place & 3) ^ (out & 3)) === 2;
-    return isStraight ? place & 1 : 1 - (place & 1);
+  isStraight(place, next, hasLeft) { return ((place & 3) ^ ((hasLeft ? next : this.circuit.sources[next]) & 3)) === 2; }
+  barBefore(place, next, hasLeft) { return this.isStraight(place, next, hasLeft) ? place & 1 : 1 - (place & 1); }
+  // The first step from one on at which the signal turns a bar, or that one, where none is near.
+  async turnFrom(e) {
+    const it = await this.chunk(this.chunkNumber(e)), last = (it?.places.length ?? 0) - 1;
+    for (let k = e - (it?.from ?? 0); it && k < last; k++) {
+      if (!this.isStraight(it.places[k], it.places[k + 1], it.hasLeft && k + 1 === last)) return it.from + k;
+    }
+    return e;
   }
   // Everything for a frame at step e, and for those near it in the direction of play.
   async ready(e, direction = 0) {

@@ -76,7 +76,7 @@ export function ruleAt(run, q, name) {
 }
 const scannedOn = tape => tape.symbols[(tape.head ?? 0) - tape.first];
 const isKept = rule => rule.write === rule.read;
-function ruleWords(rule, name) {
+export function ruleWords(rule, name) {
   const write = isKept(rule) ? "" : `write ${symbolWord(rule.write)}, `, then = rule.next === rule.state ? "" : `, then ${name(rule.next)}`;
   return `In ${name(rule.state)}, on ${symbolWord(rule.read)}: ${write}${SHIFT_WORDS[rule.shift]}${then}.`;
 }

@@ -10,16 +10,20 @@ import {forgetSizes, heightOf, put, widthOf} from "../sizes.js";
 import {byId, current, escaped, nameOf, state} from "../state.js";
 import {say} from "../view.js";
 import {number, ruleAt, shortBank} from "../words.js";
-import {columnLevel, elementLevel, entryLine, machineLevel, ownMoment, rowLevel, stagesLevel, tapesLevel} from "./levels.js";
+import {columnLevel, elementLevel, entryLine, insideRule, isOver, machineLevel, ownMoment, rowLevel, stagesLevel, tapesLevel} from "./levels.js";
 import {forkNear, pastsOf} from "./pasts.js";
 import {STEPS, stepOf} from "./steps.js";
 
 const KEPT_AS = "hithwelor learn";
 const PICTURES = {machine: machineLevel, history: tapesLevel, stages: stagesLevel, row: rowLevel, column: columnLevel, element: elementLevel};
 const LAYER_OF = {machine: "machine", history: "quadruple", stages: "quadruple", row: "module", column: "element", element: "element"};
+const INSIDE = ["row", "column", "element"];
 const SPEED_OF = {machine: 30, history: 30, stages: 62, row: 28, column: 34, element: 6};
-/** @type {{level: string, isRefused: boolean, seen: Set<string>, e: number, before: {layer: Layer, speed: number} | null}} */
-const lesson = {level: "machine", isRefused: false, seen: new Set(), e: 0, before: null};
+// `from` is the machine's step from which another was gone to, so that something is seen there; `begins` whether the step of the
+// lesson is still to choose its moment.
+/** @type {{level: string, isRefused: boolean, from: number | null, seen: Set<string>, e: number, begins: boolean,
+ *   before: {layer: Layer, speed: number} | null}} */
+const lesson = {level: "machine", isRefused: false, from: null, seen: new Set(), e: 0, begins: false, before: null};
 
 export const isLearning = () => state.lesson !== null;
 // Whether the lesson was begun before, or the browser keeps nothing, so that it isn't known.
@@ -40,10 +44,11 @@ export function keptStep() {
 
 // ---- opened, closed, gone on
 
-export function openLearn(key = keptStep() ?? STEPS[0].key) {
+// `begins` is false where the moment is given.
+export function openLearn(key = keptStep() ?? STEPS[0].key, begins = true) {
   const it = stepOf(key);
   lesson.before ??= {layer: state.layer, speed: state.speed};
-  Object.assign(lesson, {isRefused: false, seen: new Set(), e: state.e});
+  Object.assign(lesson, {isRefused: false, seen: new Set(), e: state.e, begins});
   state.lesson = it.key;
   keepStep(it.key);
   document.body.classList.add("learning");
@@ -83,6 +88,13 @@ function toLevel(level) {
   chooseLayer(LAYER_OF[level]);
   if (current.run) renderFilm();
 }
+// A row, a module and an element are shown within a rule; one element at first where the signal turns its bar.
+async function toMoment(run) {
+  const {level} = lesson;
+  if (!INSIDE.includes(level)) return;
+  const from = isOver(run, state.e) ? insideRule(run) : state.e, e = level === "element" ? await run.turnFrom(from) : from;
+  if (run === current.run && lesson.level === level && e !== state.e) goTo(e);
+}
 // The element step at which the machine by itself has come to its end.
 function ownEnd(run) {
   const end = run.moments.findIndex(it => it.stage !== "compute");
@@ -95,6 +107,7 @@ function refuses(direction) {
   lesson.seen.add("refused");
   const {run} = current, at = ownMoment(run, run.momentIndex(state.e)), isFork = pastsOf(run.rules, run.moments[at]).length > 1;
   const fork = isFork ? null : forkNear(run, at);
+  lesson.from = fork === null ? null : run.moments[at].step;
   if (fork !== null) lesson.e = run.starts[fork];
   if (fork === null) redraw(true);
   else goTo(lesson.e);
@@ -123,10 +136,14 @@ export function renderLearn(isLive = !state.playing) {
     if (!run) put("learnpicture", '<p class="quiet">the program makes the run …</p>');
     return;
   }
-  const f = frame(), room = {width: widthOf("learnpicture"), height: heightOf("learnpicture"), isRefused: lesson.isRefused};
+  if (lesson.begins && run.circuit.count) {
+    lesson.begins = false;
+    toMoment(run).catch(console.error);
+  }
+  const f = frame(), room = {width: widthOf("learnpicture"), height: heightOf("learnpicture"), isRefused: lesson.isRefused, from: lesson.from};
   put("learntrail", trailOf(f));
   put("learnpicture", PICTURES[lesson.level](f, room));
-  const row = /** @type {HTMLElement | null} */ (byId("learnpicture").querySelector(".l-moves .now")), list = row?.parentElement;
+  const row = /** @type {HTMLElement | null} */ (byId("learnpicture").querySelector("ol .now:not([data-stage])")), list = row?.parentElement;
   if (row && list) list.scrollTop = row.offsetTop - list.clientHeight / 3;
   renderTime(f);
   if (isLive) say(f);
@@ -135,7 +152,12 @@ function saidOf(it, at) {
   const shown = current.run ? current : null, words = shown ? it.words(shown) : [];
   const isDone = shown && it.done({seen: lesson.seen, shown, e: state.e});
   return `<p class="quiet">${at + 1} of ${STEPS.length}</p><h2>${escaped(it.title)}</h2>${words.map(one => `<p>${escaped(one)}</p>`).join("")}
-    <p class="l-ask${isDone ? " done" : ""}"><b>Try it.</b> ${escaped(it.ask)}${isDone ? " ✓" : ""}</p>`;
+    <p class="l-ask${isDone ? " done" : ""}"><b>Try it.</b> ${escaped(it.ask)}${isDone ? " ✓" : ""}</p>${namesList(it)}`;
+}
+// What the names mean that are seen at a step.
+function namesList(it) {
+  const names = it.names && current.run?.hasViews(current.run.momentIndex(state.e)) ? it.names(current, frame()) : [];
+  return names.length ? `<dl class="l-names">${names.map(([name, words]) => `<dt>${escaped(name)}</dt><dd>${escaped(words)}</dd>`).join("")}</dl>` : "";
 }
 // From the machine down to the element, at this moment: each leads to its level.
 function trailOf(f) {

@@ -7,7 +7,7 @@ import {actText, quadrupleAt} from "../quadruples.js";
 import {current, escaped, nameOf, state} from "../state.js";
 import {tapePicture} from "../tape_picture.js";
 import {markOf} from "../verdicts.js";
-import {bankName, lineOf, number, ruleAt, shortBank, TAPES} from "../words.js";
+import {bankName, lineOf, number, ruleAt, ruleWords, shortBank, TAPES} from "../words.js";
 import {casesTable, elementPicture} from "./element.js";
 import {pastsOf} from "./pasts.js";
 
@@ -22,6 +22,20 @@ const ruleHead = f => {
   return `<p class="l-rule">${tag}${escaped(rule.head)}</p>`;
 };
 
+// The rules with their numbers, which the history tape has; the one at work is marked.
+const RULES_HEIGHT = 100;
+function rulesList(run, now) {
+  const rules = run.rules.map((it, k) => `<li${k + 1 === now ? ' class="now" aria-current="step"' : ""}><b>${k + 1}</b> ${escaped(ruleWords(it, nameOf))}</li>`);
+  return `<ol class="l-rules" tabindex="0" aria-label="the machine's rules">${rules.join("")}</ol>`;
+}
+// Where the run is over no rule is at work: then a way leads into one.
+function overWords(run) {
+  return `<p class="l-rule">The run is over, and no rule is at work.</p><p><button class="link" data-go="${insideRule(run)}">Go into a rule</button></p>`;
+}
+// The moment in the middle of the machine's own steps: there a rule is at work, wherever the run is.
+export const insideRule = run => run.starts[run.moments.findLastIndex(it => it.stage === "compute") >> 1];
+export const isOver = (run, e) => e >= run.end || run.hasView(run.momentIndex(e)) && quadrupleAt(run, run.momentIndex(e)) < 0;
+
 // ---- the machine alone
 
 // The moment at which the machine by itself stands, at a moment of the whole.
@@ -31,28 +45,31 @@ export function ownMoment(run, q) {
   while (at > 0 && moments[at].rule !== null) at--;
   return at;
 }
-export function machineLevel(f, {width, height, isRefused}) {
+export function machineLevel(f, {width, height, isRefused, from = null}) {
   const {run} = current, at = ownMoment(run, f.q), moment = run.moments[at], [work, history] = moment.tapes ?? [];
   if (!work) return '<p class="quiet">asking what stands on the tape …</p>';
   const tape = {...work, tape: 1}, size = sizeFor(width, tape.symbols.length, Math.min(76, height / 6)), before = run.moments[at - 1]?.tapes?.[0];
-  const name = moment.state, isOver = name === run.rules[run.rules.length - 1].next;
+  const name = moment.state, hasHalted = name === run.rules[run.rules.length - 1].next;
   // The history, which isn't shown here, has the number of the rule that was followed.
   const last = Number(history.symbols[(history.head ?? 0) - history.first]) || null;
-  const words = `<p class="l-rule">${isOver ? `It has halted, in <b>${escaped(nameOf(name))}</b>.` : `Step ${moment.step}: in <b>${escaped(nameOf(name ?? ""))}</b>.`}</p>`;
+  const words = `<p class="l-rule">${hasHalted ? `It has halted, in <b>${escaped(nameOf(name))}</b>.` : `Step ${moment.step}: in <b>${escaped(nameOf(name ?? ""))}</b>.`}</p>`;
   const picture = `<div class="l-tape">${tapePicture(tape, {width, size, before: before ?? null})}</div>`;
-  if (isRefused) return words + picture + pastsPicture(run, at, width, Math.min(size, 40));
-  const free = Math.max(120, Math.floor(height - size - 110));
+  const list = rulesList(run, last);
+  if (isRefused) return words + picture + pastsPicture(run, at, {width, size: Math.min(size, 40), from}) + list;
+  const free = Math.max(120, Math.floor(height - size - 118 - RULES_HEIGHT));
   return words + picture + `<div class="l-diagram">${diagramPicture(run.rules, {
     width, height: Math.min(free, 520), now: name, rule: last, stage: "compute", stops: new Set(), name: nameOf, places: state.places, mark: markOf,
-  })}</div>`;
+  })}</div>${list}`;
 }
 // 'Take it back' fails: what may have been before is drawn, and whether it is one thing or several is said.
-function pastsPicture(run, at, width, size) {
+function pastsPicture(run, at, {width, size, from}) {
   const moment = run.moments[at], pasts = pastsOf(run.rules, moment);
   const shown = pasts.slice(0, MOST_PASTS).map(it => `<figure><figcaption>by <b>rule ${it.rule}</b>, from <b>${escaped(nameOf(it.state))}</b></figcaption>
     ${tapePicture(it.tape, {width: Math.max(160, Math.floor(width / Math.min(pasts.length, innerWidth <= 760 ? 1 : MOST_PASTS)) - 24), size: innerWidth <= 760 ? 24 : size, isNumbered: false})}</figure>`);
   const many = {2: "Two", 3: "Three"}[pasts.length] ?? pasts.length;
-  const said = pasts.length > 1 ? `It can't be taken back. ${many} rules lead to what stands here, at step ${moment.step}, so it has ${String(many).toLowerCase()} pasts:`
+  // Where one rule alone fits, the nearest step is shown at which several do.
+  const went = from === null ? "" : `${from ? `At step ${from} one rule alone fits` : "Step 0 is where it began"}, so here is the nearest step at which several fit. `;
+  const said = pasts.length > 1 ? `${went}It can't be taken back. ${many} rules lead to what stands here, at step ${moment.step}, so it has ${String(many).toLowerCase()} pasts:`
     : pasts.length ? "Here one rule alone fits, and so it is at every step on this word. But the machine keeps nothing that would say so."
       : "This is where it began, so there is no past.";
   return `<div class="l-pasts" role="group" aria-label="what may have been before"><p class="fault">${said}</p><div class="l-row">${shown.join("")}</div></div>`;
@@ -63,12 +80,13 @@ function pastsPicture(run, at, width, size) {
 export function tapesLevel(f, {width, height}, many = 3) {
   const {run} = current, {moment} = f, before = f.q > 0 ? run.moments[f.q - 1] : null;
   const longest = Math.max(...moment.tapes.slice(0, many).map(it => it.symbols.length)), room = innerWidth <= 760 ? width : width - 130;
-  const size = sizeFor(room, longest, Math.min(72, Math.floor((height - 90) / many) - 34));
+  const free = height - 98 - RULES_HEIGHT;
+  const size = sizeFor(room, longest, Math.min(72, Math.floor(free / many) - 34));
   // In small cells there is no room for what has changed since the moment.
   const between = size < LEAST_BETWEEN ? [] : betweenAt(run, f);
   const tapes = moment.tapes.slice(0, many).map((tape, k) => `<div class="tape"><div><b>${TAPES[k + 1][0].toUpperCase()}${TAPES[k + 1].slice(1)}</b><span>${TAPE_NOTES[k]}</span></div>${
     tapePicture(tape, {width: room, size, before: before?.tapes?.[k], now: between.filter(it => it.tape === k + 1)})}</div>`);
-  return `${ruleHead(f)}<div class="l-tapes">${tapes.join("")}</div>`;
+  return `${ruleHead(f)}<div class="l-tapes">${tapes.join("")}</div>${rulesList(run, ruleAt(run, f.q, nameOf).rule)}`;
 }
 export function stagesLevel(f, room) {
   const said = {compute: ["Compute", "keep a history"], copy: ["Copy", "the output"], retrace: ["Retrace", "take the history back"]};
@@ -80,7 +98,9 @@ export function stagesLevel(f, room) {
 // ---- a row, and its moves
 
 export function rowLevel(f, {width, height}) {
-  const {run} = current, from = run.starts[f.q], to = run.starts[f.q + 1] ?? run.end, list = run.movesBetween(from, Math.max(to, from + 1));
+  const {run} = current;
+  if (isOver(run, f.e)) return overWords(run);
+  const from = run.starts[f.q], to = run.starts[f.q + 1] ?? run.end, list = run.movesBetween(from, Math.max(to, from + 1));
   const row = quadrupleAt(run, f.q), told = row < 0 ? "" : `row ${row + 1} of Bennett's table: ${run.quadruples[row][0]} ${actText(run.quadruples[row])} ${run.quadruples[row][7]}`;
   const map = mapPicture(run, {bank: f.bank, row: f.row, moment: f.moment, hasLeft: Boolean(f.at?.hasLeft), width, height: Math.min(200, Math.max(118, height * .34))});
   const at = list.findLastIndex(it => it.step <= f.e), first = Math.max(0, Math.min(list.length - MOST_MOVES, at - MOST_MOVES / 2));
@@ -96,6 +116,7 @@ export function rowLevel(f, {width, height}) {
 
 export function columnLevel(f, {width, height}) {
   const {run} = current, {bank} = f;
+  if (isOver(run, f.e)) return overWords(run);
   if (!bank || !f.at) return '<p class="quiet">fetching the way of the signal …</p>';
   const bars = run.bankBars(bank, f.e), place = f.at.place, free = Math.max(160, height - 74), inBank = (place >> 2) - bank.base;
   const column = Math.floor(inBank / (bank.rows + 1)), row = inBank % (bank.rows + 1), fit = (free - 34) / (bank.rows + 1);
@@ -120,8 +141,8 @@ export function entryLine(run, f) {
 
 export function elementLevel(f, {width, height}) {
   const {run} = current, {at} = f;
+  if (isOver(run, f.e)) return overWords(run);
   if (!at) return '<p class="quiet">fetching the way of the signal …</p>';
-  if (at.hasLeft) return '<p class="l-rule">The signal has left the circuit: the run is over. Step back, and it comes in again.</p>';
   const element = at.place >> 2, bank = run.bankOf(element), bars = run.bankBars(bank, f.e), side = "nesw"[at.place & 3];
   if (!bars) return '<p class="quiet">asking how its bar lies …</p>';
   const bar = bars[element - bank.base] ? "H" : "V", isBeside = width >= LEAST_BESIDE;
