@@ -65,7 +65,8 @@ def page_text(entry="page/src/entry.js", made="page"):
     if any(it in script.lower() for it in ("</script", "<!--")):
         raise Bundle("the script has text that ends a script")
     policy = POLICY.format(script=base64.b64encode(hashlib.sha256(script.encode()).digest()).decode())
-    style = text_of("embed", "out", f"{made}.css")
+    # The styles once more, without the lines that esbuild breaks: a fifth of their bytes.
+    style = esbuild(f"embed/out/{made}.css", f"{made}-small.css", "", "--minify-whitespace")
     head = f'<meta http-equiv="Content-Security-Policy" content="{policy}">\n<style>\n{style}</style>'
     page = text_of("page", "src", "index.html")
     still = text_of("page", "src", "still.svg").strip()
