@@ -134,7 +134,7 @@ WAITED_FOR = "1" * 24
 
 
 def check_stopped(page, program, count, browser=""):
-    """A run that takes long is stopped by its button, which comes by itself; what was shown stays, and the page goes on.
+    """A run that takes long is stopped by its button, which comes by itself; the machine by itself stays, and the page goes on.
     By what both browsers have: the workers that are here are ended by the button, and those behind it break."""
     page.visit(f"file://{PAGE}#m=least")
     source = BROKEN % json.dumps(IN_WORKER % json.dumps([[f"^run ={WAITED_FOR} auto", "endless"]]))
@@ -148,9 +148,9 @@ def check_stopped(page, program, count, browser=""):
     early = page.ask(TOASTS)
     page.ask("(document.getElementById('stop').click(), 0)")
     said = comes_to(page, TOASTS, "Stopped. Make the word shorter")
-    stale, busy = page.ask("[document.body.classList.contains('stale'), document.getElementById('busy').textContent]")
-    is_told = came and said.startswith("Stopped. Make the word shorter") and stale and busy.startswith("still shown")
-    count.hold(is_told, f"{browser}stopped: the button came: {came}; it says {said!r} behind {early!r}, {busy!r}")
+    stale, size = page.ask("[document.body.classList.contains('stale'), document.getElementById('size').textContent]")
+    is_told = came and said.startswith("Stopped. Make the word shorter") and not stale and size.startswith("Stopped: ")
+    count.hold(is_told, f"{browser}stopped: the button came: {came}; it says {said!r} behind {early!r}, {size!r}")
     goes_on(page, program, f"{browser}a stop", count)
 
 

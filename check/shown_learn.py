@@ -94,6 +94,8 @@ def check_walk(page, name, machine, count):
         if step == "element":
             turns = "(it => it.cells[0].textContent !== it.cells[3].textContent)(document.querySelector('.l-cases tr.now'))"
             count.hold(comes(page, turns), f"{where}: it begins where the signal goes straight on")
+        settle(page)
+        count.hold("✓" not in page.ask(SAID) or not TRIED[step], f"{where}: it is ticked off before anything was tried")
         for act in TRIED[step]:
             before = page.ask("bench.state.e")
             if step == "past":

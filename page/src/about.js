@@ -2,7 +2,7 @@
 // the program's answers.
 import {controlSaid} from "./control.js";
 import {frame} from "./frame.js";
-import {byId, current, dialog, escaped, nameOf, state} from "./state.js";
+import {byId, current, dialog, escaped, isEarly, nameOf, state} from "./state.js";
 import {symbolWord} from "./table.js";
 import {bankName, countWords, endWords, exitWords, number, ruleAt, TAPES} from "./words.js";
 
@@ -97,7 +97,9 @@ function tapeWords({moment, q}) {
     `${rule.head} ${rule.more}`, ...tapes];
 }
 function circuitWords({e, at, bank, move}) {
-  const {run} = current, cells = run.window,
+  const {run} = current;
+  if (isEarly()) return [run.lacking];
+  const cells = run.window,
     count = `${number(run.circuit.count)} elements in ${number(run.banks.length)} modules.`;
   const window = `The work tape has ${cells[0] + cells[1] + 1} cells, the history ${cells[2] + 1}, `
     + `the output tape ${cells[3] + 1}.`;
@@ -110,6 +112,7 @@ function circuitWords({e, at, bank, move}) {
   return [count, window, where + far, full ? `The control: ${full}.` : ""].filter(Boolean);
 }
 function timeWords({e, q}) {
+  if (isEarly()) return [`The machine by itself makes ${number(current.run.end)} steps. Now: step ${number(e)}.`];
   const {run} = current, parts = run.stageParts(), stages = parts.map((it, k) => {
     const isOpen = !run.isWhole && k === parts.length - 1;
     return `${it.stage} from quadruple ${it.from} ${isOpen ? "on, as far as it is known by now" : `to ${it.to - 1}`}`;

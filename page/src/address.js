@@ -2,7 +2,7 @@
 // An exercise keeps the address that began it.
 import {linkOf} from "./links.js";
 import {taskAtHand} from "./sheet.js";
-import {state} from "./state.js";
+import {isEarly, state} from "./state.js";
 
 const ADDRESS_REST = 400, MOST_ADDRESS = 100000;
 let later = 0;
@@ -11,7 +11,8 @@ let later = 0;
 export function keepAddress() {
   clearTimeout(later);
   later = setTimeout(() => {
-    if (state.playing || taskAtHand() !== null) return;
+    // While a circuit is looked for the step that is kept isn't the one that is shown.
+    if (state.playing || taskAtHand() !== null || isEarly() && state.isMaking) return;
     const link = state.text.length > MOST_ADDRESS ? state.lesson === null ? "#" : `#learn=${state.lesson}` : linkOf();
     if (link !== location.hash) history.replaceState(null, "", link);
   }, ADDRESS_REST);

@@ -76,6 +76,8 @@ function endLane(lane, text) {
   for (const done of bench.waiting.values()) done({kind: "fault", text, ms: 0});
 }
 export function stopLane(lane) { endLane(lane, STOPPED); }
+// What is asked there for a machine that isn't wanted any more is given up, so that nothing queues behind it.
+export function stopBusy(lane) { if (benches[lane]?.waiting.size) stopLane(lane); }
 export function stopAll() { benches.forEach((_, lane) => stopLane(lane)); }
 
 // Whether an answer was cut off, and isn't the program's; what is said of it.

@@ -44,7 +44,7 @@ function changeWords(run, first) {
   if (first === null) return "It is never changed.";
   const at = run.moments[first];
   if (!at.tapes) return `First changed at quadruple ${number(first)}, in ${at.stage}.`;
-  const rule = at.stage === "compute" ? at.rule ?? Number(at.tapes[1].symbols[at.step]) : null;
+  const rule = at.stage === "compute" ? at.rule ?? Number(at.tapes[1]?.symbols[at.step]) : null;
   return `First changed at quadruple ${number(first)}, in ${at.stage}${rule ? `, step ${at.step || 1}, by rule ${rule}` : ""}.`;
 }
 

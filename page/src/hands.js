@@ -16,7 +16,7 @@ import {endHints, placeHint} from "./hints.js";
 import {takeLecture} from "./lecture.js";
 import {closeLens, isLensOpen, openLens} from "./lens.js";
 import {linkOf} from "./links.js";
-import {asPasted, changed, OWN_WORDS, showOutcome, stale, takeMachine, typed} from "./machine.js";
+import {asPasted, changed, giveUp, OWN_WORDS, showOutcome, takeMachine, typed} from "./machine.js";
 import {listed} from "./moves.js";
 import {redraw} from "./notices.js";
 import {keepPast, takeBack} from "./past.js";
@@ -255,7 +255,7 @@ function onCells(event) {
   const tapes = run.tapesAt(0), it = state.cell ?? {tape: 1, cell: tapes[0].first - 1};
   const moves = {ArrowLeft: [0, -1], ArrowRight: [0, 1], ArrowUp: [-1, 0], ArrowDown: [1, 0]}[key];
   if (moves) {
-    const tape = Math.max(1, Math.min(3, it.tape + moves[0])), {first, symbols} = tapes[tape - 1];
+    const tape = Math.max(1, Math.min(tapes.length, it.tape + moves[0])), {first, symbols} = tapes[tape - 1];
     state.cell = {tape, cell: Math.max(first, Math.min(first + symbols.length - 1, it.cell + moves[1]))};
     redraw(false);
   } else if (key === "Enter" && state.cell) goToFirst(state.cell);
@@ -344,7 +344,7 @@ function onHeader() {
     wantedTime = null;
     stopAll();
     busy("");
-    if (isMaking) stale(true);
+    if (isMaking) giveUp();
     else goToKnown();
     toast(isMaking ? "Stopped. Make the word shorter, or choose the window by hand." : "Stopped. A step or a click asks again.");
   };

@@ -1,12 +1,12 @@
 // The link of what is seen: machine, word, window and step stand behind its #.
 import {EXAMPLES} from "./examples.js";
-import {LAYERS, state} from "./state.js";
+import {isEarly, LAYERS, state} from "./state.js";
 
 // What stands in a link as JSON, where it isn't empty.
 const IN_LINK = [["n", "names"], ["ac", "accept"], ["rj", "reject"], ["ws", "tried"], ["p", "places"]];
 
 export function linkOf() {
-  const it = new URLSearchParams({t: state.text, w: state.word, e: String(state.e), l: state.layer});
+  const it = new URLSearchParams({t: state.text, w: state.word, e: String(isEarly() ? 0 : state.e), l: state.layer});
   // An example that stands as it is keeps its name.
   const example = EXAMPLES.find(other => other.key === state.example);
   if (example && example.table === state.text && Boolean(example.letter) === state.asStandard) it.set("m", example.key);

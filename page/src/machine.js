@@ -2,6 +2,7 @@
 // window is found, and the run's answers are fetched. What is wrong is said in words, with what the page can do about it.
 import {answer, isCutOff, STATUS} from "./answer.js";
 import {chips} from "./breaks.js";
+import {earlyRun} from "./early.js";
 import {editorText, markFaults} from "./editor.js";
 import {EXAMPLES} from "./examples.js";
 import {followRun, renderFilm, resetFilm} from "./film.js";
@@ -11,7 +12,7 @@ import {keepPast} from "./past.js";
 import {fetchFrame, pause} from "./play.js";
 import {readingsOf} from "./reading.js";
 import {Run} from "./run.js";
-import {busy, byId, current, dialog, escaped, isTooLong, nameOf, state, toast} from "./state.js";
+import {busy, byId, current, dialog, escaped, isEarly, isTooLong, nameOf, state, toast} from "./state.js";
 import {put} from "./sizes.js";
 import {blankCandidates, faultOf, freeNames, lettersOf, refusalWords, rulesOf, spelled, statesOf, turned} from "./table.js";
 import {matchOf} from "./texts.js";
@@ -19,7 +20,7 @@ import {answerWords, judgedBy} from "./verdicts.js";
 import {findRun, Refused, widen} from "./window.js";
 import {number} from "./words.js";
 
-const MOST_BLANKS = 4, SOUGHT_AFTER = 200;
+const MOST_BLANKS = 4, SOUGHT_AFTER = 200, EARLY_AFTER = 150;
 // What of a reading is said at once: the rest is in sight where it is asked for.
 const TOLD_AT_ONCE = /the blank$|halts|stuck| to [!-~]$/;
 export const OWN_WORDS = "Your own machine, run by the program.";
@@ -173,25 +174,58 @@ async function judge(text, given, isOld) {
 async function makeRun(table, isOld) {
   busy("looking for a window …");
   // What is typed meanwhile is another run's.
-  const {word, window} = state, found = await findRun(table, word, window);
-  if (!isOld()) busy("its circuit, and its moments …");
-  return {run: await new Run(table, word, found).open(), found};
+  const {word, window} = state, made = {isThere: false, early: Promise.resolve(/** @type {any} */ (null))};
+  try {
+    const found = await findRun(table, word, window, own => { made.early = tellEarly({table, word, own, window}, made, isOld); });
+    if (!isOld()) busy("its circuit, and its moments …");
+    return {run: await new Run(table, word, found).open(), found};
+  } catch (fault) {
+    if (fault instanceof Refused) fault.early = await made.early;
+    throw fault;
+  } finally {
+    made.isThere = true;
+  }
 }
-
-function showRun({run, found}, keep) {
+// While the circuit is looked for the machine by itself is shown; where another machine is seen, which most circuits take the place
+// of at once, a moment later.
+async function tellEarly(asked, made, isOld) {
+  const edition = state.editions, run = await earlyRun(asked).catch(() => null);
+  if (!run) return null;
+  if (current.run) await new Promise(done => setTimeout(done, EARLY_AFTER));
+  const early = {run: Object.assign(run, {edition}), found: {own: asked.own, window: run.window, text: ""}};
+  if (!isOld() && !made.isThere) showEarly(early);
+  return early;
+}
+function showEarly(early) {
+  if (current.run === early.run) return;
+  pause();
+  showAny(early, 0);
+}
+// A step of the machine by itself is looked for in the run with its circuit, where it was gone to before that was there.
+function stepKept(run, keep) {
+  const {run: before} = current, isSame = before?.circuit.count === 0 && before.table === run.table && before.word === run.word;
+  return isSame && (state.e || state.playing) ? run.stops.machine[state.e] ?? run.starts.at(-1) ?? 0 : keep;
+}
+function showAny({run, found}, e) {
   Object.assign(current, {run, found});
-  state.isMaking = false;
-  sought(false);
+  document.body.classList.toggle("early", run.circuit.count === 0);
   state.breaks = state.breaks.filter(it => it.kind !== "state" || run.states.includes(it.state));
   stale(false);
-  busy("");
-  Object.assign(state, {e: Math.max(0, Math.min(keep, run.end)), cell: null, zoom: null, span: null});
+  Object.assign(state, {e: Math.max(0, Math.min(e, run.end)), cell: null, zoom: null, span: null});
   resetFilm();
   showOutcome();
   chips();
   renderFilm();
   redraw();
   requestAnimationFrame(() => { if (!performance.getEntriesByName("shown").length) performance.mark("shown"); });
+}
+
+function showRun(made, keep) {
+  const {run} = made;
+  state.isMaking = false;
+  sought(false);
+  busy("");
+  showAny(made, stepKept(run, keep));
   fetchFrame(1);
   followRun(run).then(isWhole => { if (isWhole && run === current.run && !Number.isFinite(run.end)) openWider(run); }).catch(console.error);
   beginHints();
@@ -301,7 +335,15 @@ function showStandard() {
   dialog('<h2>The same machine in standard form</h2><p class="quiet">What <code>standard</code> printed, with your names. Rule 1 '
     + `steps onto the word; the last ones go back over it.</p><pre class="listing">${listing()}</pre>`);
 }
-function showRefusal({reply, message}) {
+function showRefusal({reply, message, early}) {
+  const words = isCutOff(reply) ? reply.words : refusalWords(reply.text, state.word, current.machine.rules) ?? message;
+  if (early) {
+    early.run.lacking = words;
+    showEarly(early);
+    settleEarly();
+    if (isCutOff(reply)) showFault({fault: reply.words, again: true});
+    return;
+  }
   if (isCutOff(reply)) {
     byId("outcome").innerHTML = `<span class="fault">${escaped(reply.words)}</span>`;
     showFault({fault: reply.words, again: true});
@@ -309,11 +351,28 @@ function showRefusal({reply, message}) {
     busy("");
     return;
   }
-  const words = refusalWords(reply.text, state.word, current.machine.rules) ?? message;
   byId("word").classList.add("fault");
   byId("outcome").innerHTML = `<span class="fault">${escaped(words)}</span>`;
   stale(true);
   busy("");
+}
+// No circuit is looked for any more: the machine by itself stays.
+function settleEarly() {
+  state.isMaking = false;
+  sought(false);
+  busy("");
+  showOutcome();
+  redraw(false);
+}
+// What is made is given up: the machine by itself stays, where that is shown already.
+export function giveUp() {
+  const {run} = current;
+  if (!isEarly() || run.edition !== state.editions - 1) {
+    stale(true);
+    return;
+  }
+  run.lacking = "Stopped: no circuit is looked for.";
+  settleEarly();
 }
 export function showOutcome() {
   const {run, found} = current, it = found.own, [l1, r1, n, r3] = run.window;
@@ -322,6 +381,11 @@ export function showOutcome() {
     stuck: `stuck in ${nameOf(it.state)} on ${it.letter === "_" ? "blank" : it.letter} after ${it.steps}`,
     running: `runs on; ${n} steps shown`,
   }[it.outcome];
+  if (isEarly()) {
+    byId("size").textContent = run.lacking.split(". ")[0];
+    byId("size").title = "";
+    return;
+  }
   const byHand = state.window ? " · window by hand" : "";
   byId("size").textContent = `${number(run.circuit.count)} elements · ${number(run.banks.length)} modules${byHand}`;
   byId("size").title = `window ${run.window.join(" ")}: work tape from ${-l1} to ${r1}, history to ${n}, output to ${r3}`;

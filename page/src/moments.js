@@ -48,6 +48,9 @@ export class Moments {
   /** @type {Promise<boolean> | null} */ asking = null;
   /** @type {{q: number, promise: Promise<boolean>} | null} */ viewing = null;
   /** @type {Promise<any> | null} */ coming = null;
+  // What is said in place of a circuit, where there is none; and with which edition of what was typed it came.
+  lacking = "";
+  edition = 0;
   // The answer that was cut off.
   /** @type {Reply} */ cut = {status: -1, text: "", words: ""};
 
@@ -135,6 +138,8 @@ export class Moments {
     const stage = name.startsWith("A") ? "compute" : "retrace", isRule = name.endsWith("'");
     return {name, stage, state: isRule ? null : this.states[digitsOf(name) - 1], rule: isRule ? digitsOf(name) : null};
   }
+  // Which rule led to a moment, where `trace` told it.
+  followedAt(q) { return this.moments[q - 1]?.applied ?? null; }
   isKnown(e) { return this.isWhole || (this.starts.at(-1) ?? 0) > e; }
   // The moments up to a step, up to one of them, or all; false where the asking was stopped.
   async momentsTo(e) { return this.moreUntil(() => this.isKnown(e)); }

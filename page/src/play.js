@@ -5,7 +5,7 @@ import {LANES} from "./answer.js";
 import {frame} from "./frame.js";
 import {redraw} from "./notices.js";
 import {isPhone} from "./sizes.js";
-import {busy, byId, current, state, toast} from "./state.js";
+import {busy, byId, current, layerNow, state, toast} from "./state.js";
 import {number} from "./words.js";
 
 // Steps a second on each layer, the least and the most.
@@ -22,7 +22,7 @@ export const timings = [];
 export const frames = [];
 
 function speed() {
-  const [least, most] = RANGES[state.layer];
+  const [least, most] = RANGES[layerNow()];
   return least * (most / least) ** (state.speed / 100);
 }
 export function speedWords() {
@@ -153,7 +153,7 @@ function tick(now) {
   const spent = Math.min(calm ? 2 * CALM_GAP : MOST_GAP, now - pace.then), rate = speed(), began = performance.now();
   pace.then = now;
   pace.owed += spent / 1000 * rate;
-  let {e, isWaiting} = state.layer === "element" ? elementsOn(run, direction) : stopsOn(run, direction);
+  let {e, isWaiting} = layerNow() === "element" ? elementsOn(run, direction) : stopsOn(run, direction);
   const stop = stopBetween(state.e, e);
   if (stop) {
     e = stop.step;
@@ -165,7 +165,7 @@ function tick(now) {
   if (isMoved) redraw(false);
   frames.push({ms: performance.now() - began, gap: spent, isWaiting, at: now});
   if (frames.length > MOST_FRAMES) frames.shift();
-  const isSlow = state.layer === "element" || state.layer === "module" || rate <= SLOW;
+  const isSlow = layerNow() === "element" || layerNow() === "module" || rate <= SLOW;
   if (isSlow && (isMoved || isWaiting)) fetchFrame(direction);
   else if (isMoved || isWaiting) fetchViews(run, direction);
   if (stop || (direction > 0 ? e >= Math.min(run.end, guard.most()) : e <= 0)) pause();
@@ -205,11 +205,11 @@ function stopsOn(run, direction) {
   return {e, isWaiting: false};
 }
 function stopBehind(run, e, direction) {
-  if (state.layer === "module") {
+  if (layerNow() === "module") {
     const move = run.moveAt(direction > 0 ? e : e - 1);
     return direction > 0 ? move.to : e === 0 ? 0 : move.from;
   }
-  const next = run.stopNear(state.layer, e, direction);
+  const next = run.stopNear(layerNow(), e, direction);
   return next ?? (direction > 0 && !run.isWhole ? null : e);
 }
 

@@ -13,9 +13,11 @@ function callsOf(panel) {
   const circuit = {input: run.compiled, what: "the circuit's text"};
   const what = machine.given === state.text ? "the table as it was typed" : "the table as it was typed, its names spelled";
   const turned = machine.isStandard ? [{words: ["standard"], input: machine.given, what}] : [];
+  const own = [...turned, {words: ["check"], ...table}, {words: ["machine", "=" + run.word, OWN_STEPS], ...table}];
+  if (!run.circuit.count) return [...own, {words: ["trace", "=" + run.word, String(run.end)], ...table}];
   const ran = run.isOpen ? ["run", ...run.words, at] : found.isFound ? ["run", "=" + run.word, "auto"] : ["run", ...run.words];
   return {
-    machine: [...turned, {words: ["check"], ...table}, {words: ["machine", "=" + run.word, OWN_STEPS], ...table}],
+    machine: own,
     tapes: [{words: ["view", ...run.words, at], ...table}, {words: ["bennett"], ...table}],
     circuit: [{words: ["run", ...run.words, at], ...table}, {words: ["compile", ...run.words], ...table},
       {words: ["step", at], ...circuit}],

@@ -22,6 +22,10 @@ export function breaksOf(kind) { return /** @type {any[]} */ (state.breaks.filte
 // They are there once a run is shown; who may come before asks for it.
 export const current = /** @type {{run: import("./run.js").Run, found: Found, machine: Machine}} */ ({});
 
+// Whether what runs has no circuit yet, or none at all; and on which layer its steps are.
+export const isEarly = () => current.run?.circuit.count === 0;
+export const layerNow = () => isEarly() ? "machine" : state.layer;
+
 /** @type {(id: string) => Box} */
 export const byId = id => /** @type {Box} */ (document.getElementById(id));
 // A part of a box, by its name.

@@ -39,7 +39,7 @@ export function openStops() {
 }
 function withCell(act) {
   const tape = Number(byId("stoptape").value), cell = Number(byId("stopcell").value),
-    {first, symbols} = current.run.tapesAt(0)[tape - 1];
+    {first, symbols} = current.run.tapesAt(0)[tape - 1] ?? {first: 0, symbols: []};
   const last = first + symbols.length - 1;
   if (Number.isInteger(cell) && cell >= first && cell <= last) act({tape, cell});
   else byId("stopsaid").textContent = `This tape has the cells from ${first} to ${last}.`;

@@ -200,7 +200,8 @@ export function faultOf(answer, text) {
 /** @type {(answer: string, word: string, rules: Rule[]) => string | null} */
 export function refusalWords(answer, word, rules) {
   const place = /^word: (\d+)/.exec(answer), size = /^size: (.*)/.exec(answer);
-  if (size) return `Too large: ${size[1].replace(/\d+/g, it => Number(it).toLocaleString("en"))}. A circuit has at most 4,194,304 elements.`;
+  const told = size?.[1].replace(/\d+/g, it => Number(it).toLocaleString("en")).replace(/^elements (.*)/, "$1 elements");
+  if (told) return `Too large: ${told}. A circuit has at most 4,194,304 elements.`;
   if (!place) return null;
   // A letter outside the first plane of Unicode is two units of a text.
   const letter = [...word][Number(place[1]) - 1], known = lettersOf(rules).slice(1).join(" ") || "none";

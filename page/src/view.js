@@ -10,7 +10,7 @@ import {renderQuadruples} from "./quadruples.js";
 import {diagramPicture} from "./diagram_picture.js";
 import {isLecture} from "./lecture.js";
 import {heightOf, isPhone, put, widthOf} from "./sizes.js";
-import {breaksOf, byId, current, editorLine, escaped, nameOf, state} from "./state.js";
+import {breaksOf, byId, current, editorLine, escaped, isEarly, nameOf, state} from "./state.js";
 import {tapePicture} from "./tape_picture.js";
 import {markOf} from "./verdicts.js";
 import {bankName, ruleAt, spoken, TAPES} from "./words.js";
@@ -36,16 +36,27 @@ export function render(isLive = !state.playing) {
   }
   const tag = rule.rule ? `<span class="tagno">rule ${rule.rule}${rule.isBack ? ", undone" : ""}</span> ` : "";
   const between = betweenAt(current.run, f), told = betweenWords(between), aside = between.length ? ` <span class="aside" title="${escaped(told)}">${escaped(told)}</span>` : "";
-  put("rule", `<p class="head">${tag}${escaped(rule.head)}</p><p class="more">${escaped(rule.more)}${aside}</p>`);
+  put("rule", `<p class="head">${tag}${escaped(rule.head)}</p><p class="more">${isEarly() ? "" : escaped(rule.more)}${aside}</p>`);
   renderTapes(f, between);
   renderCell();
   markLine(editorLine(rule.rule));
   renderItself(f, rule);
-  renderBank(f);
-  renderMoves(f);
-  renderQuadruples(f);
+  if (isEarly()) renderLacking();
+  else {
+    renderBank(f);
+    renderMoves(f);
+    renderQuadruples(f);
+  }
   renderTime(f);
   if (isLive) say(f);
+}
+
+// In place of a circuit it is said why there is none.
+function renderLacking() {
+  for (const id of ["map", "controlsaid", "where", "overview", "bank", "quadruples", "strip"]) put(id, "");
+  const words = `<span class="quiet">${escaped(current.run.lacking)}</span>`;
+  put("what", words);
+  put("moves", words);
 }
 
 // As large as the height allows, and small enough that the longest tape is seen whole, where that can be.
@@ -55,17 +66,20 @@ function cellSize(room, longest) {
   const most = isPhone() ? 30 : Math.min(44, Math.floor((heightOf("tapes") - 430) / 3));
   return fits >= 28 ? Math.max(28, Math.min(most, fits)) : Math.max(30, Math.min(most, 32));
 }
+const capital = word => word[0].toUpperCase() + word.slice(1);
 function renderTapes({q, moment}, between) {
   const room = widthOf("three"), width = isPhone() ? room : room - 84, before = q > 0 ? current.run.moments[q - 1] : null;
   const size = cellSize(room, Math.max(...moment.tapes.map(it => it.symbols.length)));
+  // The tapes that are told with the circuit have their room before.
+  const later = moment.tapes.length > 1 ? "" : [2, 3].map(tape => `<div class="tape" style="height:${size + 28}px"><div><b>${capital(TAPES[tape])}</b></div></div>`).join("");
   put("three", moment.tapes.map((tape, k) => {
-    const title = TAPES[k + 1][0].toUpperCase() + TAPES[k + 1].slice(1);
+    const title = capital(TAPES[k + 1]);
     const picked = breaksOf("cell").filter(it => it.tape === k + 1).map(it => it.cell);
     if (state.cell && state.cell.tape === k + 1) picked.push(state.cell.cell);
     const now = between.filter(it => it.tape === k + 1);
     return `<div class="tape"><div><b>${title}</b><span>${TAPE_NOTES[k]}</span></div>`
       + tapePicture(tape, {width, size, before: before?.tapes?.[k], picked, now}) + "</div>";
-  }).join(""));
+  }).join("") + later);
 }
 
 // The machine by itself: its tape and its state, which stay once it has halted; and its diagram.

@@ -2,7 +2,7 @@
 // window: the first line of `run =W auto` names it, and the rest is what `run` says in it. Where the machine makes many
 // steps by itself, the whole run takes long: then the window is as wide as its steps and its output want, and how the
 // run goes on is asked for while it is looked at.
-import {answer, isCutOff, LANES, STATUS} from "./answer.js";
+import {answer, isCutOff, LANES, STATUS, stopBusy} from "./answer.js";
 import {matchOf} from "./texts.js";
 
 // How many steps a machine is run by itself, how many are shown of one that runs on, and above how many a run is long.
@@ -13,6 +13,8 @@ export class Refused extends Error {
   constructor(reply) {
     super(reply.text.trim());
     this.reply = reply;
+    // What is shown without a circuit.
+    /** @type {any} */ this.early = null;
   }
 }
 
@@ -25,12 +27,16 @@ export function whole(reply) {
 
 // A window that is given, by a link or by hand, stays. For a machine that runs on there is none that has room: so many
 // of its steps are shown.
-/** @type {(table: string, word: string, given?: Window4 | null) => Promise<Found>} */
-export async function findRun(table, word, given = null) {
+// `told` hears how the machine runs by itself, before a circuit is looked for.
+/** @type {(table: string, word: string, given?: Window4 | null, told?: (own: Own) => void) => Promise<Found>} */
+export async function findRun(table, word, given = null, told = () => {}) {
   const own = await ownRun(table, word), shown = [SHOWN_STEPS, Math.max(word.length, SHOWN_STEPS), SHOWN_STEPS, 1];
+  told(own);
   const isOpen = !given && own.outcome === "halted" && own.steps > longRuns.above;
   const asked = given ?? (own.outcome === "running" ? shown : isOpen ? longWindow(table, word, own) : null);
-  const words = ["run", "=" + word, ...(asked ?? ["auto"]), ...(isOpen ? ["0"] : [])], ran = await answer(words, table);
+  // It may take long, so what is asked of the next machine doesn't queue behind it.
+  stopBusy(LANES.long);
+  const words = ["run", "=" + word, ...(asked ?? ["auto"]), ...(isOpen ? ["0"] : [])], ran = await answer(words, table, {lane: LANES.long});
   if (![STATUS.done, STATUS.stuck, STATUS.window, STATUS.inside].includes(ran.status)) throw new Refused(ran);
   const window = asked ?? matchOf(/^window (\d+) (\d+) (\d+) (\d+)$/m, ran.text).slice(1).map(Number);
   return {own, window, text: ran.text, isFound: !asked, isOpen};

@@ -7,7 +7,7 @@ import {redraw} from "../notices.js";
 import {chooseLayer, goTo, guard, pause, play, step} from "../play.js";
 import {quadrupleAt} from "../quadruples.js";
 import {forgetSizes, heightOf, put, widthOf} from "../sizes.js";
-import {byId, current, escaped, nameOf, state} from "../state.js";
+import {byId, current, escaped, isEarly, nameOf, state} from "../state.js";
 import {say} from "../view.js";
 import {number, ruleAt, shortBank} from "../words.js";
 import {columnLevel, elementLevel, entryLine, insideRule, isOver, machineLevel, ownMoment, rowLevel, stagesLevel, tapesLevel} from "./levels.js";
@@ -22,8 +22,8 @@ const SPEED_OF = {machine: 30, history: 30, stages: 62, row: 28, column: 34, ele
 // `from` is the machine's step from which another was gone to, so that something is seen there; `begins` whether the step of the
 // lesson is still to choose its moment.
 /** @type {{level: string, isRefused: boolean, from: number | null, seen: Set<string>, e: number, begins: boolean,
- *   before: {layer: Layer, speed: number} | null}} */
-const lesson = {level: "machine", isRefused: false, from: null, seen: new Set(), e: 0, begins: false, before: null};
+ *   run: any, before: {layer: Layer, speed: number} | null}} */
+const lesson = {run: null, level: "machine", isRefused: false, from: null, seen: new Set(), e: 0, begins: false, before: null};
 
 export const isLearning = () => state.lesson !== null;
 // Whether the lesson was begun before, or the browser keeps nothing, so that it isn't known.
@@ -93,7 +93,9 @@ async function toMoment(run) {
   const {level} = lesson;
   if (!INSIDE.includes(level)) return;
   const from = isOver(run, state.e) ? insideRule(run) : state.e, e = level === "element" ? await run.turnFrom(from) : from;
-  if (run === current.run && lesson.level === level && e !== state.e) goTo(e);
+  if (run !== current.run || lesson.level !== level || e === state.e) return;
+  lesson.e = e;
+  goTo(e);
 }
 // The element step at which the machine by itself has come to its end.
 function ownEnd(run) {
@@ -116,6 +118,8 @@ function refuses(direction) {
 // What was done is told by what is shown, be it by a button or by a key.
 function notice() {
   if (state.playing) lesson.seen.add(state.playing > 0 ? "played" : "took");
+  // Where another run is shown its step is another, and nobody has made one.
+  if (lesson.run !== current.run) Object.assign(lesson, {run: current.run, e: state.e});
   if (lesson.e === state.e) return;
   if (!state.playing) lesson.seen.add("stepped");
   Object.assign(lesson, {e: state.e, isRefused: false});
@@ -142,7 +146,7 @@ export function renderLearn(isLive = !state.playing) {
   }
   const f = frame(), room = {width: widthOf("learnpicture"), height: heightOf("learnpicture"), isRefused: lesson.isRefused, from: lesson.from};
   put("learntrail", trailOf(f));
-  put("learnpicture", PICTURES[lesson.level](f, room));
+  put("learnpicture", isEarly() && lesson.level !== "machine" ? `<p class="quiet">${escaped(run.lacking)}</p>` : PICTURES[lesson.level](f, room));
   const row = /** @type {HTMLElement | null} */ (byId("learnpicture").querySelector("ol .now:not([data-stage])")), list = row?.parentElement;
   if (row && list) list.scrollTop = row.offsetTop - list.clientHeight / 3;
   renderTime(f);
