@@ -6,6 +6,7 @@ import json
 from shown import PAGE, comes, settle
 from shown_editor import many_states
 from shown_places import link
+from shown_times import four
 
 MOST_SIZES = 6
 # The sizes of all text that is seen, with a sample of each.
@@ -35,6 +36,21 @@ TOPS = """(async () => {
   return [[...tops], cut];
 })()"""
 MIDDLE = "(it => { const box = it.getBoundingClientRect(); return [box.left + box.width / 2, box.top + box.height / 2]; })(document.querySelector(%s))"
+# The large diagram: its least letters, how many states are lit, and what lies over what; an edge in forty points.
+LARGE = """(() => {
+  const svg = document.querySelector("#d-picture svg"), over = [];
+  const boxOf = it => { const box = it.getBoundingClientRect(), high = box.height * .2; return [box.left, box.top + high, box.right, box.bottom - high]; };
+  const labels = [...svg.querySelectorAll(".label")].map(it => ({words: it.textContent, box: boxOf(it)}));
+  const states = [...svg.querySelectorAll("[data-state]")].map(it => ({words: it.dataset.state, box: boxOf(it.querySelector("rect"))}));
+  const areOver = (a, b) => Math.min(a[2], b[2]) - Math.max(a[0], b[0]) > 1 && Math.min(a[3], b[3]) - Math.max(a[1], b[1]) > 1;
+  for (const [k, it] of labels.entries()) for (const other of [...labels.slice(0, k), ...states]) if (areOver(it.box, other.box)) over.push(`${it.words} over ${other.words}`);
+  for (const path of svg.querySelectorAll("path.edge")) for (let k = 0; k <= 40; k++) {
+    const {x, y} = path.getPointAtLength(path.getTotalLength() * k / 40).matrixTransform(path.getScreenCTM());
+    for (const {words, box} of labels) if (x > box[0] + 2 && x < box[2] - 2 && y > box[1] && y < box[3]) over.push(`an edge over ${words}`);
+  }
+  const sizes = [...svg.querySelectorAll("text")].map(it => parseFloat(getComputedStyle(it).fontSize));
+  return {labels: labels.length, least: Math.min(...sizes), now: svg.querySelectorAll("rect.state.now").length, over: [...new Set(over)]};
+})()"""
 LENS = "(document.getElementById('lens')?.innerText ?? '')"
 MARKED = """(() => {
   const room = document.getElementById("bankbox").getBoundingClientRect();
@@ -147,6 +163,19 @@ def check_diagram(page, count):
             count.hold(width < 1100 or low <= floor, f"{width} wide, {number} states: the diagram ends at {low:.0f}, its panel at {floor:.0f}")
 
 
+def check_large(page, count):
+    """The diagram in large: letters of 14 pixels, no label over another one, over a state or over an edge, and the present state lit."""
+    for width, height in ((1680, 1050), (1280, 800), (1024, 768)):
+        size(page, width, height)
+        for name, fragment in (("four increments", link(t=four(None), w="11")), ("Add one", "#m=increment"), ("Palindrome?", "#m=palindrome&w=ab")):
+            page.visit(f"file://{PAGE}{fragment}")
+            page.ask("document.getElementById('larger').click(); 0")
+            settle(page)
+            given = page.ask(LARGE)
+            count.hold(given["labels"] > 4 and given["least"] >= 14 and given["now"] == 1 and not given["over"],
+                       f"in large, {name}, {width} wide: {json.dumps(given)}")
+
+
 def check_reached(page, count):
     """Play is one Tab key away; lecture mode fills a projector; at 200 % the tapes are in sight; pictures of exercises."""
     size(page, 1280, 800)
@@ -191,7 +220,7 @@ def check_reached(page, count):
 
 
 def check_glance(page, program, count):
-    for check in (check_sizes, check_still, check_lens, check_marked, check_diagram, check_reached):
+    for check in (check_sizes, check_still, check_lens, check_marked, check_diagram, check_large, check_reached):
         check(page, count)
     size(page, 1680, 1050)
     count.hold(not page.faults(), f"{page.faults()}")

@@ -4,6 +4,9 @@ import {escaped} from "./state.js";
 import {n1, svg} from "./svg.js";
 
 const MOST_STATES = 14, IN_TWO_ROWS = 8, GAP = 8, LEAST_NAME = 2, SMALL_WIDTH = 480, MOST_NAME = 9, LINE = 11.5, MOST_LABELS = 3, LETTER = 6.4, MOST_ROW = 230;
+// In large: a label's letters are so wide and its lines so high; where along an edge labels may stand; and in how many points an edge is
+// looked at.
+const LARGE_LETTER = 8.5, LARGE_LINE = 15, ALONG = [.5, .4, .6, .3, .7, .22, .78], POINTS = 24;
 const MOVES = {"+": "R", "-": "L", "0": "N"};
 
 // How many rows so many states stand in, and how many are side by side where they stand in a grid.
@@ -13,7 +16,7 @@ const gridOf = (count, width, height) => Math.max(2, Math.round(Math.sqrt(count 
 // How the diagram is laid out: which states, how large, where each stands.
 class Layout {
   /** @param {Rule[]} rules @param {Record<string, any>} how */
-  constructor(rules, {width, height, now, name, chosen, places = {}, most = MOST_STATES}) {
+  constructor(rules, {width, height, now, name, chosen, places = {}, most = MOST_STATES, isOpen = false}) {
     const states = [...new Set(rules.flatMap(it => [it.state, it.next]))], middle = chosen ?? now ?? states[0];
     this.rules = rules;
     this.width = width;
@@ -26,16 +29,27 @@ class Layout {
     this.places = new Map();
     const count = this.shown.length;
     this.isSmall = count > IN_TWO_ROWS && width < SMALL_WIDTH;
-    this.R = this.isSmall ? 14 : count > MOST_STATES ? 16 : 19;
+    this.isLarge = isOpen && !this.isSmall;
+    this.R = this.isSmall ? 14 : count > MOST_STATES ? 16 : this.isLarge ? 21 : 19;
     this.isDense = this.isSmall || height < 130 || count > MOST_STATES;
     this.loops = new Set(rules.filter(it => it.state === it.next).map(it => it.state));
-    this.top = this.R * .72 + (this.shown.some(it => this.loops.has(it)) ? (this.isDense ? 16 : 31) : 14);
+    this.top = this.R * .72 + (this.shown.some(it => this.loops.has(it)) ? (this.isDense ? 16 : this.isLarge ? 38 : 31) : 14);
     // So many stand side by side, and so long is a name at most that no box lies over the next one.
     this.across = count <= MOST_STATES ? Math.ceil(count / rowsOf(count)) : gridOf(count, width - (this.isSmall ? 40 : 56), height);
     const letters = Math.floor((width / (this.across + (count > MOST_STATES ? .5 : 0)) - GAP - 14) / (2 * this.letter()));
     this.mostName = Math.max(LEAST_NAME, Math.min(MOST_NAME, letters));
     const own = k => count <= MOST_STATES ? this.inRows(k) : this.inGrid(k);
     this.shown.forEach((it, k) => this.places.set(it, this.placed(it, places[name(it)]) ?? own(k)));
+    if (this.isLarge) for (const it of this.loops) this.turnLoop(it);
+  }
+  // A loop stands on the side to which fewer steep edges go.
+  turnLoop(state) {
+    const here = this.places.get(state);
+    if (!here) return;
+    const others = this.rules.filter(it => it.state !== it.next && (it.state === state || it.next === state)).map(it => this.places.get(it.state === state ? it.next : it.state));
+    const steep = up => others.filter(it => it && up * (here[1] - it[1]) > .45 * Math.abs(it[0] - here[0])).length;
+    const own = here[2] < 0 ? 1 : -1;
+    if (steep(own) > steep(-own)) this.places.set(state, [here[0], here[1], -here[2]]);
   }
   // Where a state was put, within the picture.
   placed(state, share) {
@@ -49,7 +63,7 @@ class Layout {
     return Math.max(this.R, Math.min(this.mostName, this.name(state).length) * this.letter() + 7);
   }
   // Half the width of a letter.
-  letter() { return this.isSmall ? 3.1 : 3.6; }
+  letter() { return this.isSmall ? 3.1 : this.isLarge ? 4.2 : 3.6; }
   // How far the first box of a row stands from the edge: within the picture, and not farther than it has to.
   inset(least) {
     const wide = Math.max(...this.shown.map(it => this.half(it))) + 3, free = (this.width - 2 * wide * this.across) / 2 + wide;
@@ -100,14 +114,15 @@ function near(rules, states, middle, most) {
 export function diagramPicture(rules, how) {
   const layout = new Layout(rules, how), edges = layout.edges(), isNow = edge => edge.labels.some(it => it.rule === how.rule);
   let lines = "", labels = "";
-  for (const edge of [...edges.values()].sort((a, b) => Number(isNow(a)) - Number(isNow(b)))) {
-    const drawn = edge.from === edge.to ? loopOf(layout, edge, isNow(edge)) : arcOf(layout, edge, isNow(edge), edges.has(edge.to + "\n" + edge.from));
+  const all = [...edges.values()], places = layout.isLarge ? placesOf(layout, all, edges) : new Map();
+  for (const edge of all.sort((a, b) => Number(isNow(a)) - Number(isNow(b)))) {
+    const drawn = {...(edge.from === edge.to ? loopOf(layout, edge, isNow(edge)) : arcOf(layout, edge, isNow(edge), hasBack(edges, edge))), ...places.get(edge)};
     const isFar = how.chosen && layout.isDense && edge.from !== how.chosen && edge.to !== how.chosen && !isNow(edge);
     lines += isFar ? `<g class="far">${drawn.line}</g>` : drawn.line;
     labels += labelsOf(layout, edge, drawn, how, isNow(edge));
   }
   const nodes = layout.shown.map(it => nodeOf(layout, it, how)).join(""), role = how.isOpen ? "group" : "img";
-  return svg(how.width, how.height, `<g class="${how.stage}">${lines}${startOf(layout)}${labels}${nodes}</g>`, "diagram",
+  return svg(how.width, how.height, `<g class="${how.stage}">${lines}${startOf(layout)}${labels}${nodes}</g>`, `diagram${layout.isLarge ? " large" : ""}`,
              `role="${role}" aria-label="${escaped(diagramWords(layout, how))}"`);
 }
 // The diagram as it is heard.
@@ -136,15 +151,63 @@ function loopOf(layout, edge, isNow) {
   const line = `<path class="edge ${kind}" d="M${point(near[0])} C${point(far[0])} ${point(far[1])} ${point(near[1])}"/>`
     + edgeTip(...near[1], middle + .55 + Math.PI + .22 * up, kind);
   const aside = Math.abs(dx) > .3 ? Math.sign(dx) * -6 : 0;
-  return {line, x: Math.max(34, Math.min(width - 34, x + aside)), y: y + up * (R * .72 + 20) - 1, anchor: "middle", isOne: true};
+  const edgeRoom = layout.isLarge ? sizeOf(layout, edge, true)[0] / 2 : 34;
+  return {line, x: Math.max(edgeRoom, Math.min(width - edgeRoom, x + aside)), y: y + up * (R * .72 + (layout.isLarge ? 25 : 20)) - 1, anchor: "middle", isOne: true};
+}
+const hasBack = (edges, edge) => edges.has(edge.to + "\n" + edge.from);
+// How wide and how high the labels of an edge are, in large; those of a loop stand in one line.
+function sizeOf(layout, edge, isOne) {
+  const texts = edge.labels.slice(0, MOST_LABELS).map(it => it.text.length), more = edge.labels.length > MOST_LABELS ? 2 : 0;
+  const letters = isOne ? texts.reduce((sum, it) => sum + it + 2, -2) : Math.max(...texts);
+  return [LARGE_LETTER * (letters + more) + 4, isOne ? LARGE_LINE + 2 : LARGE_LINE * texts.length + 2];
+}
+// In large, where the labels of all edges stand, so that none lies over another, over a state, a loop or an edge, where that can be;
+// loops first, which have one place.
+function placesOf(layout, all, edges) {
+  const found = new Map(), lines = [], taken = [...layout.places].map(([state, [x, y]]) => boxAt(x, y, 2 * layout.half(state), layout.R * 1.44));
+  for (const edge of all) {
+    if (edge.from !== edge.to) {
+      const it = curveOf(layout, edge, hasBack(edges, edge));
+      for (let k = 0; k <= POINTS; k++) lines.push(pointOf(it, k / POINTS));
+      continue;
+    }
+    const {x, y} = loopOf(layout, edge, false), [, p] = layout.places.get(edge.from), [wide, high] = sizeOf(layout, edge, true);
+    taken.push(boxAt(x, y, wide, high), boxAt(layout.places.get(edge.from)[0], (y + p) / 2, 2 * layout.R, Math.abs(y - p)));
+  }
+  const faults = box => taken.filter(it => areOver(it, box)).length + lines.filter(([x, y]) => x > box[0] && x < box[2] && y > box[1] && y < box[3]).length
+    + 9 * Number(box[0] < 0 || box[1] < 0 || box[2] > layout.width || box[3] > layout.height);
+  for (const edge of all) {
+    if (edge.from === edge.to) continue;
+    const curve = curveOf(layout, edge, hasBack(edges, edge)), [wide, high] = sizeOf(layout, edge, false);
+    const tried = ALONG.flatMap(t => [1, -1].map(side => besideOf(curve, t, side, wide, high))), many = tried.map(it => faults(boxAt(it.x, it.y, wide, high)));
+    const best = tried[many.indexOf(Math.min(...many))];
+    taken.push(boxAt(best.x, best.y, wide, high));
+    found.set(edge, {...best, anchor: "middle"});
+  }
+  return found;
+}
+const boxAt = (x, y, wide, high) => [x - wide / 2, y - high / 2, x + wide / 2, y + high / 2];
+const areOver = (a, b) => a[0] < b[2] && b[0] < a[2] && a[1] < b[3] && b[1] < a[3];
+// A point of an edge, and a box beside it that the edge's line doesn't touch there.
+function pointOf({x, y, mx, my, p, q}, t) {
+  const on = (a, b, c) => (1 - t) * (1 - t) * a + 2 * t * (1 - t) * b + t * t * c;
+  return [on(x, mx, p), on(y, my, q)];
+}
+function besideOf(curve, t, side, wide, high) {
+  const [x, y] = pointOf(curve, t), [u, v] = pointOf(curve, t + .01), length = Math.hypot(u - x, v - y) || 1, dx = -side * (v - y) / length, dy = side * (u - x) / length;
+  const far = Math.abs(dx) * wide / 2 + Math.abs(dy) * high / 2 + 5;
+  return {x: x + dx * far, y: y + dy * far};
 }
 
 // An edge from one state to another, and where its labels stand.
-function arcOf(layout, edge, isNow, hasBack) {
-  const {R, width} = layout, [x, y] = layout.places.get(edge.from), [p, q] = layout.places.get(edge.to), kind = isNow ? "now" : "";
-  const dx = p - x, dy = q - y, length = Math.hypot(dx, dy) || 1, bow = hasBack ? 18 : length > 150 ? 14 : 8;
-  const isSteep = Math.abs(dy) > .45 * Math.abs(dx), turn = isSteep && !hasBack && ((x + p) / 2 - width / 2) * -dy < 0 ? -1 : 1;
-  const mx = (x + p) / 2 - turn * dy / length * bow, my = (y + q) / 2 + turn * dx / length * bow;
+function curveOf({places, width}, edge, isTwo) {
+  const [x, y] = places.get(edge.from), [p, q] = places.get(edge.to);
+  const dx = p - x, dy = q - y, length = Math.hypot(dx, dy) || 1, bow = isTwo ? 18 : length > 150 ? 14 : 8;
+  const isSteep = Math.abs(dy) > .45 * Math.abs(dx), turn = isSteep && !isTwo && ((x + p) / 2 - width / 2) * -dy < 0 ? -1 : 1;
+  return {x, y, p, q, isSteep, mx: (x + p) / 2 - turn * dy / length * bow, my: (y + q) / 2 + turn * dx / length * bow};
+}
+function arcOf(layout, edge, isNow, isTwo) {
+  const {R, width} = layout, curve = curveOf(layout, edge, isTwo), {x, y, p, q, mx, my, isSteep} = curve, kind = isNow ? "now" : "";
   const out = Math.atan2(my - y, mx - x), into = Math.atan2(q - my, p - mx);
   // Where a line leaves or comes to a state's rounded box.
   const rim = (state, angle, more) => Math.min((R * .72 + more) / Math.max(.01, Math.abs(Math.sin(angle))),
@@ -153,7 +216,7 @@ function arcOf(layout, edge, isNow, hasBack) {
   const line = `<path class="edge ${kind}" d="M${n1(x + away * Math.cos(out))},${n1(y + away * Math.sin(out))} Q${n1(mx)},${n1(my)} ${n1(ex)},${n1(ey)}"/>`
     + edgeTip(ex, ey, into, kind);
   const labelAt = t => {
-    const on = (a, b, c) => (1 - t) * (1 - t) * a + 2 * t * (1 - t) * b + t * t * c, lx = on(x, mx, p), ly = on(y, my, q);
+    const [lx, ly] = pointOf(curve, t);
     if (!isSteep) return {line, x: lx, y: ly + (my > (y + q) / 2 ? 8 : -11), anchor: "middle", isOne: false};
     const side = mx > (x + p) / 2 ? 1 : -1, room = side > 0 ? width - lx : lx, isStart = (room > 48 ? side : -side) > 0;
     return {line, x: lx + (isStart ? 7 : -7), y: ly, anchor: isStart ? "start" : "end", isOne: false};
@@ -176,7 +239,7 @@ function labelsOf(layout, edge, {x, y, anchor, isOne}, {rule, chosen}, isNowEdge
   const rows = isOne ? [{text: shown.map(it => it.text).join("  "), isNow: isNowEdge}] : shown.map(it => ({text: it.text, isNow: it.rule === rule}));
   return rows.map(({text, isNow}, k) => {
     if (layout.isDense && !isNow && !isChosen) return "";
-    const more = k === rows.length - 1 && edge.labels.length > MOST_LABELS ? " …" : "", at = y + 4 + (k - (rows.length - 1) / 2) * LINE;
+    const more = k === rows.length - 1 && edge.labels.length > MOST_LABELS ? " …" : "", at = y + (layout.isLarge ? 5 : 4) + (k - (rows.length - 1) / 2) * (layout.isLarge ? LARGE_LINE : LINE);
     return `<text class="label${isNow ? " now" : ""}" data-rule="${(isOne ? shown[0] : shown[k]).rule}" style="text-anchor:${anchor}" x="${n1(x)}" y="${n1(at)}">${escaped(text)}${more}</text>`;
   }).join("");
 }
@@ -191,6 +254,6 @@ function nodeOf(layout, state, {now, stops, chosen, isOpen, mark = _ => ""}) {
   return `<g data-state="${escaped(state)}"${heard}><title>${escaped(text)}${halts}${answers}: ${does}</title>`
     + `<rect class="state${isNow ? " now" : ""}${stops.has(state) ? " stop" : ""}${state === chosen ? " chosen" : ""}" ${box(0, "")}/>`
     + (isFinal ? `<rect class="state" ${box(3, ' style="fill:none"')}/>` : "")
-    + `<text text-anchor="middle" ${isDense ? 'style="font-size:11px"' : ""} x="${n1(x)}" y="${n1(y + 4)}" ${isNow ? 'font-weight="700"' : ""}>${escaped(short)}</text>`
+    + `<text text-anchor="middle" ${isDense && !layout.isLarge ? 'style="font-size:11px"' : ""} x="${n1(x)}" y="${n1(y + 4)}" ${isNow ? 'font-weight="700"' : ""}>${escaped(short)}</text>`
     + (sign ? `<text class="sign ${sign === "✓" ? "accepts" : "rejects"}" text-anchor="middle" x="${n1(x + half - 1)}" y="${n1(y - R * .72 + 4)}">${sign}</text>` : "") + "</g>";
 }
