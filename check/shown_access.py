@@ -94,6 +94,10 @@ SCENES = [("the start", "#m=least", ""),
           ("elements", "#m=least", "bench.openWorkshop('elements'); document.getElementById('e-forth').click()"),
           ("mirror", "#m=least", "bench.openWorkshop('mirror')"), ("two boards", "#m=least",
                                                                    "bench.openWorkshop('farm'); document.getElementById('f-line').click()"),
+          ("Learn", "#m=increment&learn=machine", ""), ("two pasts", "#m=increment&learn=past", "document.getElementById('learntake').click()"),
+          ("a history", "#m=increment&learn=history&e=500500", ""), ("stages", "#m=increment&learn=stages&e=1700000", ""),
+          ("a row", "#m=increment&learn=row&e=500500", ""), ("a bank", "#m=increment&learn=column&e=500500", ""),
+          ("one element", "#m=increment&learn=element&e=500500", ""),
           ("erase", "#m=least", "bench.openWorkshop('erase')"), ("floor plan", "#m=least",
                                                                  "bench.openWorkshop('plan')")]
 
@@ -176,7 +180,7 @@ def walk(page, most):
 def check_keyboard(page, count):
     """Tab comes to all that can be used, and marks it; keys alone step, set a breakpoint, run to it, and step in the workshop."""
     for name, fragment, act in SCENES:
-        if name not in ("the start", "stops", "a diagram", "answers", "an exercise", "elements", "mirror", "two boards", "erase"):
+        if name not in ("the start", "stops", "a diagram", "answers", "an exercise", "elements", "mirror", "two boards", "erase", "two pasts", "a row", "a bank"):
             continue
         scene(page, fragment, act)
         unmarked = walk(page, 120)

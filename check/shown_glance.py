@@ -42,10 +42,13 @@ LARGE = """(() => {
   const boxOf = it => { const box = it.getBoundingClientRect(), high = box.height * .2; return [box.left, box.top + high, box.right, box.bottom - high]; };
   const labels = [...svg.querySelectorAll(".label")].map(it => ({words: it.textContent, box: boxOf(it)}));
   const states = [...svg.querySelectorAll("[data-state]")].map(it => ({words: it.dataset.state, box: boxOf(it.querySelector("rect"))}));
+  const isLoop = path => path.getAttribute("d").includes("C");
   const areOver = (a, b) => Math.min(a[2], b[2]) - Math.max(a[0], b[0]) > 1 && Math.min(a[3], b[3]) - Math.max(a[1], b[1]) > 1;
   for (const [k, it] of labels.entries()) for (const other of [...labels.slice(0, k), ...states]) if (areOver(it.box, other.box)) over.push(`${it.words} over ${other.words}`);
   for (const path of svg.querySelectorAll("path.edge")) for (let k = 0; k <= 40; k++) {
     const {x, y} = path.getPointAtLength(path.getTotalLength() * k / 40).matrixTransform(path.getScreenCTM());
+    const ends = [0, 40].includes(k) ? [] : states.filter(({box}) => x > box[0] + 1 && x < box[2] - 1 && y > box[1] && y < box[3]);
+    if (k > 2 && k < 38) for (const {words} of ends) if (!isLoop(path)) over.push(`an edge over the state ${words}`);
     for (const {words, box} of labels) if (x > box[0] + 2 && x < box[2] - 2 && y > box[1] && y < box[3]) over.push(`an edge over ${words}`);
   }
   const sizes = [...svg.querySelectorAll("text")].map(it => parseFloat(getComputedStyle(it).fontSize));
@@ -204,10 +207,10 @@ def check_reached(page, count):
     for width, height in ((640, 400), (960, 540)):
         size(page, width, height)
         page.visit(f"file://{PAGE}#m=increment&e=700000")
-        ends = "[document.querySelectorAll('#three .tape')[1].getBoundingClientRect().bottom, document.getElementById('time').getBoundingClientRect().top]"
+        ends = "[document.querySelectorAll('#three .tape')[2].getBoundingClientRect().bottom, document.getElementById('time').getBoundingClientRect().top]"
         comes(page, f"(([low, top]) => low <= top + 1)({ends})")
         low, top = page.ask(ends)
-        count.hold(low <= top + 1, f"{width} by {height}: the history ends at {low:.0f}, and the time line begins at {top:.0f}")
+        count.hold(low <= top + 1, f"{width} by {height}: the tapes end at {low:.0f}, and the time line begins at {top:.0f}")
     size(page, 1280, 800)
     page.visit(f"file://{PAGE}#x=1")
     letters = comes(page, "['n', 'e', 's', 'w'].every(it => [...document.querySelectorAll('#e-picture text')].some(one => one.textContent === it))")

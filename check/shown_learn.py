@@ -94,6 +94,8 @@ def check_walk(page, name, machine, count):
         if step == "element":
             turns = "(it => it.cells[0].textContent !== it.cells[3].textContent)(document.querySelector('.l-cases tr.now'))"
             count.hold(comes(page, turns), f"{where}: it begins where the signal goes straight on")
+            wide, words = page.ask("[document.querySelector('.rotary .box').getBoundingClientRect().width, document.querySelector('.l-cases p').textContent]")
+            count.hold(wide >= 150 and "the only one of eight that ends so" in words, f"{where}: the element is {wide:.0f} wide, and it says {words!r}")
         settle(page)
         count.hold("✓" not in page.ask(SAID) or not TRIED[step], f"{where}: it is ticked off before anything was tried")
         for act in TRIED[step]:

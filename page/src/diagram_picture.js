@@ -200,11 +200,22 @@ function besideOf(curve, t, side, wide, high) {
 }
 
 // An edge from one state to another, and where its labels stand.
-function curveOf({places, width}, edge, isTwo) {
-  const [x, y] = places.get(edge.from), [p, q] = places.get(edge.to);
+function curveOf(layout, edge, isTwo) {
+  const {places, width} = layout, [x, y] = places.get(edge.from), [p, q] = places.get(edge.to);
   const dx = p - x, dy = q - y, length = Math.hypot(dx, dy) || 1, bow = isTwo ? 18 : length > 150 ? 14 : 8;
   const isSteep = Math.abs(dy) > .45 * Math.abs(dx), turn = isSteep && !isTwo && ((x + p) / 2 - width / 2) * -dy < 0 ? -1 : 1;
-  return {x, y, p, q, isSteep, mx: (x + p) / 2 - turn * dy / length * bow, my: (y + q) / 2 + turn * dx / length * bow};
+  const bent = by => ({x, y, p, q, isSteep, mx: (x + p) / 2 - turn * dy / length * by, my: (y + q) / 2 + turn * dx / length * by});
+  if (!layout.isLarge || layout.shown.length > MOST_STATES) return bent(bow);
+  // In large it goes around the states that are in its way, where it can.
+  return [bow, 60, -60, 100, -100].map(bent).find(it => !isOverState(layout, edge, it)) ?? bent(bow);
+}
+function isOverState(layout, edge, curve) {
+  const high = layout.R * .72 + 3, others = [...layout.places].filter(([state]) => state !== edge.from && state !== edge.to);
+  for (let k = 1; k < POINTS; k++) {
+    const [x, y] = pointOf(curve, k / POINTS);
+    if (others.some(([state, [p, q]]) => Math.abs(x - p) < layout.half(state) + 3 && Math.abs(y - q) < high)) return true;
+  }
+  return false;
 }
 function arcOf(layout, edge, isNow, isTwo) {
   const {R, width} = layout, curve = curveOf(layout, edge, isTwo), {x, y, p, q, mx, my, isSteep} = curve, kind = isNow ? "now" : "";

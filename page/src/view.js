@@ -16,7 +16,7 @@ import {markOf} from "./verdicts.js";
 import {bankName, ruleAt, spoken, TAPES} from "./words.js";
 
 const TAPE_NOTES = ["its own tape", "the rules used", "the copy"];
-const LEAST_DIAGRAM = 104;
+const LEAST_DIAGRAM = 104, LOW = 560, LOW_CELL = 25;
 const REST = 350;
 
 export function render(isLive = !state.playing) {
@@ -69,7 +69,8 @@ function cellSize(room, longest) {
 const capital = word => word[0].toUpperCase() + word.slice(1);
 function renderTapes({q, moment}, between) {
   const room = widthOf("three"), width = isPhone() ? room : room - 84, before = q > 0 ? current.run.moments[q - 1] : null;
-  const size = cellSize(room, Math.max(...moment.tapes.map(it => it.symbols.length)));
+  // In a low window, as at 200 %, the cells are small and without numbers, so that all three tapes are in sight.
+  const isLow = isPhone() && innerHeight <= LOW, size = isLow ? LOW_CELL : cellSize(room, Math.max(...moment.tapes.map(it => it.symbols.length)));
   // The tapes that are told with the circuit have their room before.
   const later = moment.tapes.length > 1 ? "" : [2, 3].map(tape => `<div class="tape" style="height:${size + 28}px"><div><b>${capital(TAPES[tape])}</b></div></div>`).join("");
   put("three", moment.tapes.map((tape, k) => {
@@ -78,7 +79,7 @@ function renderTapes({q, moment}, between) {
     if (state.cell && state.cell.tape === k + 1) picked.push(state.cell.cell);
     const now = between.filter(it => it.tape === k + 1);
     return `<div class="tape"><div><b>${title}</b><span>${TAPE_NOTES[k]}</span></div>`
-      + tapePicture(tape, {width, size, before: before?.tapes?.[k], picked, now}) + "</div>";
+      + tapePicture(tape, {width, size, before: before?.tapes?.[k], picked, now, isNumbered: !isLow}) + "</div>";
   }).join("") + later);
 }
 
