@@ -28,7 +28,8 @@ def check_hints(page, _, count):
     page.visit(f"file://{PAGE}#m=least")
     page.ask("localStorage.clear(); 0")
     page.visit(f"file://{PAGE}#m=least")
-    seen = [hint(page)]
+    seen, first = [hint(page)], page.ask("document.getElementById('hint').innerText")
+    count.hold("forgets" in first and "heat" in first, f"the first hint doesn't say why one would undo: {first!r}")
     for name in ("hintnext", "hintnext", "hintnext", "hintend"):
         page.ask(f"document.getElementById('{name}')?.click(); 0")
         seen.append(hint(page))

@@ -14,9 +14,9 @@ function boxesOf(svg) {
   const isSame = (a, b) => Math.abs(2 * a[0] + a[2] - 2 * b[0] - b[2]) < .1 && Math.abs(2 * a[1] + a[3] - 2 * b[1] - b[3]) < .1;
   return all.filter((it, k) => all.findIndex(other => isSame(it, other)) === k);
 }
-function holds(count, name, width, height, most) {
+function holds(count, name, width, height, most, isOpen = false) {
   const svg = diagramPicture(machine(count, names[name]), {
-    width, height, most, now: names[name](1), rule: 1, stage: "compute", stops: new Set(), name: it => it, places: {}, mark: () => "",
+    width, height, most, isOpen, now: names[name](1), rule: 1, stage: "compute", stops: new Set(), name: it => it, places: {}, mark: () => "",
   });
   const boxes = boxesOf(svg), said = `${count} states with ${name} names in ${width} by ${height}`;
   assert.equal(boxes.length, count, said);
@@ -36,6 +36,6 @@ for (const name of Object.keys(names)) test(`up to fourteen states with ${name} 
 
 test("up to sixty states in large", () => {
   for (const [width, height] of [[700, 500], [900, 560], [1400, 800]]) {
-    for (let count = 15; count <= 60; count += 3) holds(count, "short", width, height, 60);
+    for (let count = 15; count <= 60; count += 3) holds(count, "short", width, height, 60, true);
   }
 });

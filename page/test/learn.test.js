@@ -4,9 +4,12 @@ import {test} from "node:test";
 import "./workers.js";
 import {caseOf, CASES} from "../src/learn/element.js";
 import {forkNear, pastsOf} from "../src/learn/pasts.js";
-import {STEPS} from "../src/learn/steps.js";
+import {namesOf, STEPS} from "../src/learn/steps.js";
 import {Run} from "../src/run.js";
+import {readBars} from "../src/texts.js";
 import {findRun} from "../src/window.js";
+import {controlLabel, controlStates} from "../src/control.js";
+import {lineOf} from "../src/words.js";
 import {answer, example} from "./program.js";
 
 test("the eight cases of an element are what the program does with one", () => {
@@ -37,6 +40,33 @@ test("among the pasts of each moment is the one that was, and somewhere there ar
   }
   const fork = forkNear(run, 3);
   assert.ok(fork !== null && pastsOf(run.rules, run.moments[fork]).length > 1);
+});
+
+test("every kind of name that a bank's picture has is told in words", async () => {
+  const table = example("increment.csv"), run = await new Run(table, "1011", await findRun(table, "1011")).open();
+  for (const bank of run.banks) {
+    const told = namesOf(run, bank), names = told.map(([name]) => name);
+    for (let row = 0; row < bank.rows; row++) {
+      const kind = lineOf(run, bank, row).name.split(" ")[0];
+      assert.ok(names.some(it => it.split(" ")[0] === kind), `bank ${bank.number}: ${kind}`);
+    }
+    assert.ok(told.every(([name, words]) => name && words.length > 3), `bank ${bank.number}: ${told}`);
+  }
+  const labels = controlStates(run).map(controlLabel), [control] = run.banks;
+  assert.ok(namesOf(run, control).filter(([name]) => labels.includes(name)).length >= 5);
+});
+
+test("the step that is looked for turns a bar, and none before it does", async () => {
+  const table = example("increment.csv"), run = await new Run(table, "1011", await findRun(table, "1011")).open();
+  const barsAt = e => readBars(answer(["step", e], run.compiled).text, run.circuit.count);
+  for (const from of [0, 400, 20000]) {
+    const e = await run.turnFrom(from);
+    assert.ok(e >= from && e < from + 400, `${from}: ${e}`);
+    for (let k = Math.max(from, e - 3); k <= e; k++) {
+      const [before, after] = [barsAt(k), barsAt(k + 1)], turned = before.filter((bar, element) => bar !== after[element]).length;
+      assert.equal(turned, k === e ? 1 : 0, `step ${k}`);
+    }
+  }
 });
 
 test("each step has two sentences and a thing to try", () => {
