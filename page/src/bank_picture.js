@@ -77,9 +77,10 @@ class Grid {
 
 export function bankPicture(run, {bars, place, hasLeft, trail, clip: name = "seen", ...how}) {
   const grid = new Grid(run, {wide: WIDE, ...how}), {bank, width, height, left, P} = grid;
-  const {ground, wires, stubs, boxes, standing, plain} = columnsPicture(grid, bars, place, hasLeft), edge = left - P * .32;
+  const {ground, wires, stubs, boxes, standing, plain} = columnsPicture(grid, bars, place, hasLeft);
+  const edge = left - P * .32, one = plain && `<path class="element" d="${plain}"/>`;
   const clip = `<defs><clipPath id="${name}"><rect x="${edge}" y="${TOP - 4}" width="${width - edge}" height="${height}"/></clipPath></defs>`;
-  const bodies = `${ground}<path class="stub" d="${stubs}"/><path class="wire" d="${wires}"/>${plain && `<path class="element" d="${plain}"/>`}${boxes}`
+  const bodies = `${ground}<path class="stub" d="${stubs}"/><path class="wire" d="${wires}"/>${one}${boxes}`
     + `<path class="bar" stroke-width="${n1(Math.max(1.4, P * .1))}" d="${standing}"/>${wayPicture(grid, trail, hasLeft)}${signalPicture(grid, place, hasLeft)}`;
   const back = name === "seen" ? "" : `<rect class="box" width="${width}" height="${height}"/>`;
   return svg(width, height, `${back}${clip}<g clip-path="url(#${name})">${bodies}</g>${labelsPicture(grid, bars, name === "seen" ? place : null, name !== "seen")}`, "bank",
@@ -139,7 +140,8 @@ function signalPicture(grid, place, hasLeft) {
 function columnLabel(run, bank, column) {
   if (bank.kind === "cell") {
     const z = run.symbols[bank.tape - 1], symbol = run.symbolOf(bank.tape, column % z), hasHead = column >= z;
-    return [`${hasHead ? "▾" : ""}${symbol}`, `the cell holds ${symbolWord(symbol)}${hasHead ? ", and the head is there" : ""}`];
+    const told = hasHead ? ", and the head is there" : "";
+    return [`${hasHead ? "▾" : ""}${symbol}`, `the cell holds ${symbolWord(symbol)}${told}`];
   }
   const it = controlStates(run)[column];
   return it ? [controlLabel(it), `state ${column + 1}: ${controlInFull(it)}`] : [String(column + 1)];

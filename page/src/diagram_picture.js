@@ -4,8 +4,8 @@ import {escaped} from "./state.js";
 import {n1, svg} from "./svg.js";
 
 const MOST_STATES = 14, IN_TWO_ROWS = 8, GAP = 8, LEAST_NAME = 2, SMALL_WIDTH = 480, MOST_NAME = 9, LINE = 11.5, MOST_LABELS = 3, LETTER = 6.4, MOST_ROW = 230;
-// In large: a label's letters are so wide and its lines so high; where along an edge labels may stand; and in how many points an edge is
-// looked at.
+// In large: a label's letters are so wide and its lines so high; where along an edge labels may stand; and in how many
+// points an edge is looked at.
 const LARGE_LETTER = 8.5, LARGE_LINE = 15, ALONG = [.5, .4, .6, .3, .7, .22, .78], POINTS = 24;
 const MOVES = {"+": "R", "-": "L", "0": "N"};
 
@@ -16,7 +16,7 @@ const gridOf = (count, width, height) => Math.max(2, Math.round(Math.sqrt(count 
 // How the diagram is laid out: which states, how large, where each stands.
 class Layout {
   /** @param {Rule[]} rules @param {Record<string, any>} how */
-  constructor(rules, {width, height, now, name, chosen, places = {}, most = MOST_STATES, isOpen = false}) {
+  constructor(rules, {width, height, now, name, chosen, places = {}, most = MOST_STATES, isOpen = false, isLarge = isOpen}) {
     const states = [...new Set(rules.flatMap(it => [it.state, it.next]))], middle = chosen ?? now ?? states[0];
     this.rules = rules;
     this.width = width;
@@ -29,11 +29,12 @@ class Layout {
     this.places = new Map();
     const count = this.shown.length;
     this.isSmall = count > IN_TWO_ROWS && width < SMALL_WIDTH;
-    this.isLarge = isOpen && !this.isSmall;
+    this.isLarge = isLarge && !this.isSmall;
     this.R = this.isSmall ? 14 : count > MOST_STATES ? 16 : this.isLarge ? 21 : 19;
     this.isDense = this.isSmall || height < 130 || count > MOST_STATES;
     this.loops = new Set(rules.filter(it => it.state === it.next).map(it => it.state));
-    this.top = this.R * .72 + (this.shown.some(it => this.loops.has(it)) ? (this.isDense ? 16 : this.isLarge ? 38 : 31) : 14);
+    const loopRoom = this.isDense ? 16 : this.isLarge ? 38 : 31;
+    this.top = this.R * .72 + (this.shown.some(it => this.loops.has(it)) ? loopRoom : 14);
     // So many stand side by side, and so long is a name at most that no box lies over the next one.
     this.across = count <= MOST_STATES ? Math.ceil(count / rowsOf(count)) : gridOf(count, width - (this.isSmall ? 40 : 56), height);
     const letters = Math.floor((width / (this.across + (count > MOST_STATES ? .5 : 0)) - GAP - 14) / (2 * this.letter()));
@@ -46,7 +47,8 @@ class Layout {
   turnLoop(state) {
     const here = this.places.get(state);
     if (!here) return;
-    const others = this.rules.filter(it => it.state !== it.next && (it.state === state || it.next === state)).map(it => this.places.get(it.state === state ? it.next : it.state));
+    const edges = this.rules.filter(it => it.state !== it.next && (it.state === state || it.next === state));
+    const others = edges.map(it => this.places.get(it.state === state ? it.next : it.state));
     const steep = up => others.filter(it => it && up * (here[1] - it[1]) > .45 * Math.abs(it[0] - here[0])).length;
     const own = here[2] < 0 ? 1 : -1;
     if (steep(own) > steep(-own)) this.places.set(state, [here[0], here[1], -here[2]]);
@@ -114,15 +116,18 @@ function near(rules, states, middle, most) {
 export function diagramPicture(rules, how) {
   const layout = new Layout(rules, how), edges = layout.edges(), isNow = edge => edge.labels.some(it => it.rule === how.rule);
   let lines = "", labels = "";
-  const all = [...edges.values()], places = layout.isLarge ? placesOf(layout, all, edges) : new Map();
+  const all = [...edges.values()], places = layout.isLarge ? keptPlaces(rules, layout, all, edges) : new Map();
   for (const edge of all.sort((a, b) => Number(isNow(a)) - Number(isNow(b)))) {
-    const drawn = {...(edge.from === edge.to ? loopOf(layout, edge, isNow(edge)) : arcOf(layout, edge, isNow(edge), hasBack(edges, edge))), ...places.get(edge)};
+    const isLoop = edge.from === edge.to;
+    const own = isLoop ? loopOf(layout, edge, isNow(edge)) : arcOf(layout, edge, isNow(edge), hasBack(edges, edge));
+    const drawn = {...own, ...places.get(edge.from + "\n" + edge.to)};
     const isFar = how.chosen && layout.isDense && edge.from !== how.chosen && edge.to !== how.chosen && !isNow(edge);
     lines += isFar ? `<g class="far">${drawn.line}</g>` : drawn.line;
     labels += labelsOf(layout, edge, drawn, how, isNow(edge));
   }
   const nodes = layout.shown.map(it => nodeOf(layout, it, how)).join(""), role = how.isOpen ? "group" : "img";
-  return svg(how.width, how.height, `<g class="${how.stage}">${lines}${startOf(layout)}${labels}${nodes}</g>`, `diagram${layout.isLarge ? " large" : ""}`,
+  const kind = `diagram${layout.isLarge ? " large" : ""}`, start = startOf(layout);
+  return svg(how.width, how.height, `<g class="${how.stage}">${lines}${start}${labels}${nodes}</g>`, kind,
              `role="${role}" aria-label="${escaped(diagramWords(layout, how))}"`);
 }
 // The diagram as it is heard.
@@ -151,40 +156,56 @@ function loopOf(layout, edge, isNow) {
   const line = `<path class="edge ${kind}" d="M${point(near[0])} C${point(far[0])} ${point(far[1])} ${point(near[1])}"/>`
     + edgeTip(...near[1], middle + .55 + Math.PI + .22 * up, kind);
   const aside = Math.abs(dx) > .3 ? Math.sign(dx) * -6 : 0;
-  const edgeRoom = layout.isLarge ? sizeOf(layout, edge, true)[0] / 2 : 34;
-  return {line, x: Math.max(edgeRoom, Math.min(width - edgeRoom, x + aside)), y: y + up * (R * .72 + (layout.isLarge ? 25 : 20)) - 1, anchor: "middle", isOne: true};
+  const half = layout.isLarge ? sizeOf(layout, edge, true)[0] / 2 : 34, away = R * .72 + (layout.isLarge ? 25 : 20);
+  return {line, x: Math.max(half, Math.min(width - half, x + aside)), y: y + up * away - 1, anchor: "middle", isOne: true};
 }
 const hasBack = (edges, edge) => edges.has(edge.to + "\n" + edge.from);
 // How wide and how high the labels of an edge are, in large; those of a loop stand in one line.
+/** @returns {[number, number]} */
 function sizeOf(layout, edge, isOne) {
-  const texts = edge.labels.slice(0, MOST_LABELS).map(it => it.text.length), more = edge.labels.length > MOST_LABELS ? 2 : 0;
+  const texts = edge.labels.slice(0, MOST_LABELS).map(it => it.text.length);
+  const more = edge.labels.length > MOST_LABELS ? 2 : 0;
   const letters = isOne ? texts.reduce((sum, it) => sum + it + 2, -2) : Math.max(...texts);
   return [LARGE_LETTER * (letters + more) + 4, isOne ? LARGE_LINE + 2 : LARGE_LINE * texts.length + 2];
 }
-// In large, where the labels of all edges stand, so that none lies over another, over a state, a loop or an edge, where that can be;
-// loops first, which have one place.
+// In large, where the labels of all edges stand, so that none lies over another, over a state, a loop or an edge, where
+// that can be; loops first, which have one place.
 function placesOf(layout, all, edges) {
-  const found = new Map(), lines = [], taken = [...layout.places].map(([state, [x, y]]) => boxAt(x, y, 2 * layout.half(state), layout.R * 1.44));
+  const found = new Map(), lines = [], high = layout.R * 1.44;
+  const taken = [...layout.places].map(([state, [x, y]]) => boxAt(x, y, 2 * layout.half(state), high));
   for (const edge of all) {
     if (edge.from !== edge.to) {
       const it = curveOf(layout, edge, hasBack(edges, edge));
       for (let k = 0; k <= POINTS; k++) lines.push(pointOf(it, k / POINTS));
       continue;
     }
-    const {x, y} = loopOf(layout, edge, false), [, p] = layout.places.get(edge.from), [wide, high] = sizeOf(layout, edge, true);
-    taken.push(boxAt(x, y, wide, high), boxAt(layout.places.get(edge.from)[0], (y + p) / 2, 2 * layout.R, Math.abs(y - p)));
+    const {x, y} = loopOf(layout, edge, false), [p, q] = layout.places.get(edge.from), size = sizeOf(layout, edge, true);
+    taken.push(boxAt(x, y, ...size), boxAt(p, (y + q) / 2, 2 * layout.R, Math.abs(y - q)));
   }
-  const faults = box => taken.filter(it => areOver(it, box)).length + lines.filter(([x, y]) => x > box[0] && x < box[2] && y > box[1] && y < box[3]).length
-    + 9 * Number(box[0] < 0 || box[1] < 0 || box[2] > layout.width || box[3] > layout.height);
+  const isIn = ([left, top, right, bottom], [x, y]) => x > left && x < right && y > top && y < bottom;
+  const isOut = box => box[0] < 0 || box[1] < 0 || box[2] > layout.width || box[3] > layout.height;
+  const faults = box => taken.filter(it => areOver(it, box)).length + lines.filter(it => isIn(box, it)).length
+    + 9 * Number(isOut(box));
   for (const edge of all) {
     if (edge.from === edge.to) continue;
-    const curve = curveOf(layout, edge, hasBack(edges, edge)), [wide, high] = sizeOf(layout, edge, false);
-    const tried = ALONG.flatMap(t => [1, -1].map(side => besideOf(curve, t, side, wide, high))), many = tried.map(it => faults(boxAt(it.x, it.y, wide, high)));
-    const best = tried[many.indexOf(Math.min(...many))];
-    taken.push(boxAt(best.x, best.y, wide, high));
+    const curve = curveOf(layout, edge, hasBack(edges, edge)), size = sizeOf(layout, edge, false);
+    const tried = ALONG.flatMap(t => [1, -1].map(side => besideOf(curve, t, side, size)));
+    const many = tried.map(it => faults(boxAt(it.x, it.y, ...size))), best = tried[many.indexOf(Math.min(...many))];
+    taken.push(boxAt(best.x, best.y, ...size));
     found.set(edge, {...best, anchor: "middle"});
   }
   return found;
+}
+// While a machine plays its states stay where they are, and so do the labels.
+const kept = new WeakMap();
+function keptPlaces(rules, layout, all, edges) {
+  const key = [layout.width, layout.height, ...layout.places].join();
+  if (kept.get(rules)?.key !== key) {
+    /** @type {[string, any][]} */
+    const found = [...placesOf(layout, all, edges)].map(([{from, to}, place]) => [from + "\n" + to, place]);
+    kept.set(rules, {key, found: new Map(found)});
+  }
+  return kept.get(rules).found;
 }
 const boxAt = (x, y, wide, high) => [x - wide / 2, y - high / 2, x + wide / 2, y + high / 2];
 const areOver = (a, b) => a[0] < b[2] && b[0] < a[2] && a[1] < b[3] && b[1] < a[3];
@@ -193,8 +214,9 @@ function pointOf({x, y, mx, my, p, q}, t) {
   const on = (a, b, c) => (1 - t) * (1 - t) * a + 2 * t * (1 - t) * b + t * t * c;
   return [on(x, mx, p), on(y, my, q)];
 }
-function besideOf(curve, t, side, wide, high) {
-  const [x, y] = pointOf(curve, t), [u, v] = pointOf(curve, t + .01), length = Math.hypot(u - x, v - y) || 1, dx = -side * (v - y) / length, dy = side * (u - x) / length;
+function besideOf(curve, t, side, [wide, high]) {
+  const [x, y] = pointOf(curve, t), [u, v] = pointOf(curve, t + .01), length = Math.hypot(u - x, v - y) || 1;
+  const dx = -side * (v - y) / length, dy = side * (u - x) / length;
   const far = Math.abs(dx) * wide / 2 + Math.abs(dy) * high / 2 + 5;
   return {x: x + dx * far, y: y + dy * far};
 }
@@ -203,22 +225,26 @@ function besideOf(curve, t, side, wide, high) {
 function curveOf(layout, edge, isTwo) {
   const {places, width} = layout, [x, y] = places.get(edge.from), [p, q] = places.get(edge.to);
   const dx = p - x, dy = q - y, length = Math.hypot(dx, dy) || 1, bow = isTwo ? 18 : length > 150 ? 14 : 8;
-  const isSteep = Math.abs(dy) > .45 * Math.abs(dx), turn = isSteep && !isTwo && ((x + p) / 2 - width / 2) * -dy < 0 ? -1 : 1;
-  const bent = by => ({x, y, p, q, isSteep, mx: (x + p) / 2 - turn * dy / length * by, my: (y + q) / 2 + turn * dx / length * by});
+  const isSteep = Math.abs(dy) > .45 * Math.abs(dx);
+  const turn = isSteep && !isTwo && ((x + p) / 2 - width / 2) * -dy < 0 ? -1 : 1, across = [-turn * dy / length, turn * dx / length];
+  const bent = by => ({x, y, p, q, isSteep, mx: (x + p) / 2 + across[0] * by, my: (y + q) / 2 + across[1] * by});
   if (!layout.isLarge || layout.shown.length > MOST_STATES) return bent(bow);
   // In large it goes around the states that are in its way, where it can.
   return [bow, 60, -60, 100, -100].map(bent).find(it => !isOverState(layout, edge, it)) ?? bent(bow);
 }
 function isOverState(layout, edge, curve) {
-  const high = layout.R * .72 + 3, others = [...layout.places].filter(([state]) => state !== edge.from && state !== edge.to);
+  const high = layout.R * .72 + 3;
+  const others = [...layout.places].filter(([state]) => state !== edge.from && state !== edge.to);
   for (let k = 1; k < POINTS; k++) {
     const [x, y] = pointOf(curve, k / POINTS);
-    if (others.some(([state, [p, q]]) => Math.abs(x - p) < layout.half(state) + 3 && Math.abs(y - q) < high)) return true;
+    const isOver = ([state, [p, q]]) => Math.abs(x - p) < layout.half(state) + 3 && Math.abs(y - q) < high;
+    if (others.some(isOver)) return true;
   }
   return false;
 }
 function arcOf(layout, edge, isNow, isTwo) {
-  const {R, width} = layout, curve = curveOf(layout, edge, isTwo), {x, y, p, q, mx, my, isSteep} = curve, kind = isNow ? "now" : "";
+  const {R, width} = layout, curve = curveOf(layout, edge, isTwo), {x, y, p, q, mx, my, isSteep} = curve;
+  const kind = isNow ? "now" : "";
   const out = Math.atan2(my - y, mx - x), into = Math.atan2(q - my, p - mx);
   // Where a line leaves or comes to a state's rounded box.
   const rim = (state, angle, more) => Math.min((R * .72 + more) / Math.max(.01, Math.abs(Math.sin(angle))),
@@ -246,11 +272,13 @@ function isFree(layout, edge, {x, y, anchor}) {
 
 function labelsOf(layout, edge, {x, y, anchor, isOne}, {rule, chosen}, isNowEdge) {
   const isChosen = chosen && (edge.from === chosen || edge.to === chosen);
+  const [line, base] = layout.isLarge ? [LARGE_LINE, 5] : [LINE, 4];
   const shown = edge.labels.slice(0, MOST_LABELS);
   const rows = isOne ? [{text: shown.map(it => it.text).join("  "), isNow: isNowEdge}] : shown.map(it => ({text: it.text, isNow: it.rule === rule}));
   return rows.map(({text, isNow}, k) => {
     if (layout.isDense && !isNow && !isChosen) return "";
-    const more = k === rows.length - 1 && edge.labels.length > MOST_LABELS ? " …" : "", at = y + (layout.isLarge ? 5 : 4) + (k - (rows.length - 1) / 2) * (layout.isLarge ? LARGE_LINE : LINE);
+    const more = k === rows.length - 1 && edge.labels.length > MOST_LABELS ? " …" : "";
+    const at = y + base + (k - (rows.length - 1) / 2) * line;
     return `<text class="label${isNow ? " now" : ""}" data-rule="${(isOne ? shown[0] : shown[k]).rule}" style="text-anchor:${anchor}" x="${n1(x)}" y="${n1(at)}">${escaped(text)}${more}</text>`;
   }).join("");
 }

@@ -1,6 +1,6 @@
-// A run while its circuit is sought: the machine by itself, as `trace` tells it moment by moment, a text line each. It has what the
-// panels ask of a run, but no circuit, and its time is counted in the machine's steps. What the tape shows at a moment is read of its
-// line where it is wanted.
+// A run while its circuit is sought: the machine by itself, as `trace` tells it moment by moment, a text line each. It has
+// what the panels ask of a run, but no circuit, and its time is counted in the machine's steps. What the tape shows at a
+// moment is read of its line where it is wanted.
 import {answer, LANES, STATUS} from "./answer.js";
 import {holdsAt} from "./breaks.js";
 import {Moments} from "./moments.js";
@@ -47,7 +47,8 @@ export class Early extends Moments {
   /** @param {{table: string, word: string, own: Own, window: Window4 | null}} asked @param {string[]} lines */
   constructor({table, word, own, window}, lines) {
     super({table, own, isOpen: false, window: window ?? [1, word.length + 1, own.steps, (own.output ?? "").length + 1],
-           outcome: {elements: 0, exit: null, steps: lines.length - 1, quadruples: null, output: own.output, tapes: []}});
+           outcome: {elements: 0, exit: null, steps: lines.length - 1, quadruples: null, output: own.output,
+                     tapes: []}});
     this.word = word;
     this.letters = lettersOf(this.rules);
     this.symbols = [this.letters.length];
@@ -65,7 +66,9 @@ export class Early extends Moments {
   chunkNumber() { return 0; }
   async ready() { /* all is there */ }
   async chunksBetween() { /* there is no circuit */ }
-  async nextStop(layer, e, direction) { return this.stopNear("machine", e, direction) ?? (direction < 0 ? 0 : this.end); }
+  async nextStop(layer, e, direction) {
+    return this.stopNear("machine", e, direction) ?? (direction < 0 ? 0 : this.end);
+  }
   async runTo(e, direction, breaks) {
     for (let q = e + direction; q >= 0 && q <= this.end; q += direction) {
       const hit = breaks.find(it => it.kind !== "element" && holdsAt(it, q));

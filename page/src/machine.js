@@ -176,7 +176,8 @@ async function makeRun(table, isOld) {
   // What is typed meanwhile is another run's.
   const {word, window} = state, made = {isThere: false, early: Promise.resolve(/** @type {any} */ (null))};
   try {
-    const found = await findRun(table, word, window, own => { made.early = tellEarly({table, word, own, window}, made, isOld); });
+    const told = own => { made.early = tellEarly({table, word, own, window}, made, isOld); };
+    const found = await findRun(table, word, window, told);
     if (!isOld()) busy("its circuit, and its moments …");
     return {run: await new Run(table, word, found).open(), found};
   } catch (fault) {
@@ -186,8 +187,8 @@ async function makeRun(table, isOld) {
     made.isThere = true;
   }
 }
-// While the circuit is looked for the machine by itself is shown; where another machine is seen, which most circuits take the place
-// of at once, a moment later.
+// While the circuit is looked for the machine by itself is shown; where another machine is seen, a moment later, since most
+// circuits are found by then.
 async function tellEarly(asked, made, isOld) {
   const edition = state.editions, run = await earlyRun(asked).catch(() => null);
   if (!run) return null;
@@ -201,9 +202,9 @@ function showEarly(early) {
   pause();
   showAny(early, 0);
 }
-// A step of the machine by itself is looked for in the run with its circuit, where it was gone to before that was there.
+// Where a step of the machine by itself was gone to before the circuit was there, the same one is shown with it.
 function stepKept(run, keep) {
-  const {run: before} = current, isSame = before?.circuit.count === 0 && before.table === run.table && before.word === run.word;
+  const {run: before} = current, isSame = isEarly() && before.table === run.table && before.word === run.word;
   return isSame && (state.e || state.playing) ? run.stops.machine[state.e] ?? run.starts.at(-1) ?? 0 : keep;
 }
 function showAny({run, found}, e) {

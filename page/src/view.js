@@ -36,7 +36,8 @@ export function render(isLive = !state.playing) {
   }
   const tag = rule.rule ? `<span class="tagno">rule ${rule.rule}${rule.isBack ? ", undone" : ""}</span> ` : "";
   const between = betweenAt(current.run, f), told = betweenWords(between), aside = between.length ? ` <span class="aside" title="${escaped(told)}">${escaped(told)}</span>` : "";
-  put("rule", `<p class="head">${tag}${escaped(rule.head)}</p><p class="more">${isEarly() ? "" : escaped(rule.more)}${aside}</p>`);
+  const more = isEarly() ? "" : escaped(rule.more);
+  put("rule", `<p class="head">${tag}${escaped(rule.head)}</p><p class="more">${more}${aside}</p>`);
   renderTapes(f, between);
   renderCell();
   markLine(editorLine(rule.rule));
@@ -70,9 +71,11 @@ const capital = word => word[0].toUpperCase() + word.slice(1);
 function renderTapes({q, moment}, between) {
   const room = widthOf("three"), width = isPhone() ? room : room - 84, before = q > 0 ? current.run.moments[q - 1] : null;
   // In a low window, as at 200 %, the cells are small and without numbers, so that all three tapes are in sight.
-  const isLow = isPhone() && innerHeight <= LOW, size = isLow ? LOW_CELL : cellSize(room, Math.max(...moment.tapes.map(it => it.symbols.length)));
+  const isLow = isPhone() && innerHeight <= LOW, longest = Math.max(...moment.tapes.map(it => it.symbols.length));
+  const size = isLow ? LOW_CELL : cellSize(room, longest);
   // The tapes that are told with the circuit have their room before.
-  const later = moment.tapes.length > 1 ? "" : [2, 3].map(tape => `<div class="tape" style="height:${size + 28}px"><div><b>${capital(TAPES[tape])}</b></div></div>`).join("");
+  const later = [2, 3].filter(tape => tape > moment.tapes.length).map(tape =>
+    `<div class="tape" style="height:${size + 28}px"><div><b>${capital(TAPES[tape])}</b></div></div>`).join("");
   put("three", moment.tapes.map((tape, k) => {
     const title = capital(TAPES[k + 1]);
     const picked = breaksOf("cell").filter(it => it.tape === k + 1).map(it => it.cell);

@@ -10,7 +10,9 @@ import {forgetSizes, heightOf, put, widthOf} from "../sizes.js";
 import {byId, current, escaped, isEarly, nameOf, state} from "../state.js";
 import {say} from "../view.js";
 import {number, ruleAt, shortBank} from "../words.js";
-import {columnLevel, elementLevel, entryLine, insideRule, isOver, machineLevel, ownMoment, rowLevel, stagesLevel, tapesLevel} from "./levels.js";
+import {
+  columnLevel, elementLevel, entryLine, insideRule, isOver, machineLevel, ownMoment, rowLevel, stagesLevel, tapesLevel,
+} from "./levels.js";
 import {forkNear, pastsOf} from "./pasts.js";
 import {STEPS, stepOf} from "./steps.js";
 
@@ -19,11 +21,13 @@ const PICTURES = {machine: machineLevel, history: tapesLevel, stages: stagesLeve
 const LAYER_OF = {machine: "machine", history: "quadruple", stages: "quadruple", row: "module", column: "element", element: "element"};
 const INSIDE = ["row", "column", "element"];
 const SPEED_OF = {machine: 30, history: 30, stages: 62, row: 28, column: 34, element: 6};
-// `from` is the machine's step from which another was gone to, so that something is seen there; `begins` whether the step of the
-// lesson is still to choose its moment.
+// `from` is the machine's step from which another was gone to, so that something is seen there; `begins` whether the step
+// of the lesson is still to choose its moment.
 /** @type {{level: string, isRefused: boolean, from: number | null, seen: Set<string>, e: number, begins: boolean,
  *   run: any, before: {layer: Layer, speed: number} | null}} */
-const lesson = {run: null, level: "machine", isRefused: false, from: null, seen: new Set(), e: 0, begins: false, before: null};
+const lesson = {
+  run: null, level: "machine", isRefused: false, from: null, seen: new Set(), e: 0, begins: false, before: null,
+};
 
 export const isLearning = () => state.lesson !== null;
 // Whether the lesson was begun before, or the browser keeps nothing, so that it isn't known.
@@ -92,7 +96,8 @@ function toLevel(level) {
 async function toMoment(run) {
   const {level} = lesson;
   if (!INSIDE.includes(level)) return;
-  const from = isOver(run, state.e) ? insideRule(run) : state.e, e = level === "element" ? await run.turnFrom(from) : from;
+  const from = isOver(run, state.e) ? insideRule(run) : state.e;
+  const e = level === "element" ? await run.turnFrom(from) : from;
   if (run !== current.run || lesson.level !== level || e === state.e) return;
   lesson.e = e;
   goTo(e);
@@ -144,10 +149,13 @@ export function renderLearn(isLive = !state.playing) {
     lesson.begins = false;
     toMoment(run).catch(console.error);
   }
-  const f = frame(), room = {width: widthOf("learnpicture"), height: heightOf("learnpicture"), isRefused: lesson.isRefused, from: lesson.from};
+  const f = frame(), {level, isRefused, from} = lesson;
+  const room = {width: widthOf("learnpicture"), height: heightOf("learnpicture"), isRefused, from};
   put("learntrail", trailOf(f));
-  put("learnpicture", isEarly() && lesson.level !== "machine" ? `<p class="quiet">${escaped(run.lacking)}</p>` : PICTURES[lesson.level](f, room));
-  const row = /** @type {HTMLElement | null} */ (byId("learnpicture").querySelector("ol .now:not([data-stage])")), list = row?.parentElement;
+  const isLacking = isEarly() && level !== "machine";
+  put("learnpicture", isLacking ? `<p class="quiet">${escaped(run.lacking)}</p>` : PICTURES[level](f, room));
+  const row = /** @type {HTMLElement | null} */ (byId("learnpicture").querySelector("ol .now:not([data-stage])"));
+  const list = row?.parentElement;
   if (row && list) list.scrollTop = row.offsetTop - list.clientHeight / 3;
   renderTime(f);
   if (isLive) say(f);
@@ -161,7 +169,8 @@ function saidOf(it, at) {
 // What the names mean that are seen at a step.
 function namesList(it) {
   const names = it.names && current.run?.hasViews(current.run.momentIndex(state.e)) ? it.names(current, frame()) : [];
-  return names.length ? `<dl class="l-names">${names.map(([name, words]) => `<dt>${escaped(name)}</dt><dd>${escaped(words)}</dd>`).join("")}</dl>` : "";
+  const rows = names.map(([name, words]) => `<dt>${escaped(name)}</dt><dd>${escaped(words)}</dd>`);
+  return rows.length ? `<dl class="l-names">${rows.join("")}</dl>` : "";
 }
 // From the machine down to the element, at this moment: each leads to its level.
 function trailOf(f) {

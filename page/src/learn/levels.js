@@ -23,18 +23,23 @@ const ruleHead = f => {
 };
 
 // The rules with their numbers, which the history tape has; the one at work is marked.
-const RULES_HEIGHT = 100;
+const RULES_HEIGHT = 100, LARGE_WIDTH = 560, LARGE_HEIGHT = 220;
 function rulesList(run, now) {
-  const rules = run.rules.map((it, k) => `<li${k + 1 === now ? ' class="now" aria-current="step"' : ""}><b>${k + 1}</b> ${escaped(ruleWords(it, nameOf))}</li>`);
+  const kind = k => k + 1 === now ? ' class="now" aria-current="step"' : "";
+  const rules = run.rules.map((it, k) => `<li${kind(k)}><b>${k + 1}</b> ${escaped(ruleWords(it, nameOf))}</li>`);
   return `<ol class="l-rules" tabindex="0" aria-label="the machine's rules">${rules.join("")}</ol>`;
 }
 // Where the run is over no rule is at work: then a way leads into one.
 function overWords(run) {
-  return `<p class="l-rule">The run is over, and no rule is at work.</p><p><button class="link" data-go="${insideRule(run)}">Go into a rule</button></p>`;
+  return `<p class="l-rule">The run is over, and no rule is at work.</p>
+    <p><button class="link" data-go="${insideRule(run)}">Go into a rule</button></p>`;
 }
 // The moment in the middle of the machine's own steps: there a rule is at work, wherever the run is.
 export const insideRule = run => run.starts[run.moments.findLastIndex(it => it.stage === "compute") >> 1];
-export const isOver = (run, e) => e >= run.end || run.hasView(run.momentIndex(e)) && quadrupleAt(run, run.momentIndex(e)) < 0;
+export function isOver(run, e) {
+  const q = run.momentIndex(e);
+  return e >= run.end || run.hasView(q) && quadrupleAt(run, q) < 0;
+}
 
 // ---- the machine alone
 
@@ -52,13 +57,13 @@ export function machineLevel(f, {width, height, isRefused, from = null}) {
   const name = moment.state, hasHalted = name === run.rules[run.rules.length - 1].next;
   // The history, which isn't shown here, has the number of the rule that was followed.
   const last = history ? Number(history.symbols[(history.head ?? 0) - history.first]) || null : run.followedAt(at);
-  const words = `<p class="l-rule">${hasHalted ? `It has halted, in <b>${escaped(nameOf(name))}</b>.` : `Step ${moment.step}: in <b>${escaped(nameOf(name ?? ""))}</b>.`}</p>`;
+  const words = `<p class="l-rule">${hasHalted ? "It has halted," : `Step ${moment.step}:`} in <b>${escaped(nameOf(name ?? ""))}</b>.</p>`;
   const picture = `<div class="l-tape">${tapePicture(tape, {width, size, before: before ?? null})}</div>`;
   const list = rulesList(run, last);
   if (isRefused) return words + picture + pastsPicture(run, at, {width, size: Math.min(size, 40), from}) + list;
   const free = Math.max(120, Math.floor(height - size - 118 - RULES_HEIGHT));
   return words + picture + `<div class="l-diagram">${diagramPicture(run.rules, {
-    width, height: Math.min(free, 520), now: name, rule: last, stage: "compute", stops: new Set(), name: nameOf, places: state.places, mark: markOf,
+    width, height: Math.min(free, 520), isLarge: width >= LARGE_WIDTH && free >= LARGE_HEIGHT, now: name, rule: last, stage: "compute", stops: new Set(), name: nameOf, places: state.places, mark: markOf,
   })}</div>${list}`;
 }
 // 'Take it back' fails: what may have been before is drawn, and whether it is one thing or several is said.
@@ -68,8 +73,10 @@ function pastsPicture(run, at, {width, size, from}) {
     ${tapePicture(it.tape, {width: Math.max(160, Math.floor(width / Math.min(pasts.length, innerWidth <= 760 ? 1 : MOST_PASTS)) - 24), size: innerWidth <= 760 ? 24 : size, isNumbered: false})}</figure>`);
   const many = {2: "Two", 3: "Three"}[pasts.length] ?? pasts.length;
   // Where one rule alone fits, the nearest step is shown at which several do.
-  const went = from === null ? "" : `${from ? `At step ${from} one rule alone fits` : "Step 0 is where it began"}, so here is the nearest step at which several fit. `;
-  const said = pasts.length > 1 ? `${went}It can't be taken back. ${many} rules lead to what stands here, at step ${moment.step}, so it has ${String(many).toLowerCase()} pasts:`
+  const why = from ? `At step ${from} one rule alone fits` : "Step 0 is where it began";
+  const went = from === null ? "" : `${why}, so here is the nearest step at which several fit. `;
+  const here = `${many} rules lead to what stands here, at step ${moment.step}, so it has ${String(many).toLowerCase()} pasts:`;
+  const said = pasts.length > 1 ? `${went}It can't be taken back. ${here}`
     : pasts.length ? "Here one rule alone fits, and so it is at every step on this word. But the machine keeps nothing that would say so."
       : "This is where it began, so there is no past.";
   return `<div class="l-pasts" role="group" aria-label="what may have been before"><p class="fault">${said}</p><div class="l-row">${shown.join("")}</div></div>`;
@@ -100,7 +107,8 @@ export function stagesLevel(f, room) {
 export function rowLevel(f, {width, height}) {
   const {run} = current;
   if (isOver(run, f.e)) return overWords(run);
-  const from = run.starts[f.q], to = run.starts[f.q + 1] ?? run.end, list = run.movesBetween(from, Math.max(to, from + 1));
+  const from = run.starts[f.q], to = run.starts[f.q + 1] ?? run.end;
+  const list = run.movesBetween(from, Math.max(to, from + 1));
   const row = quadrupleAt(run, f.q), told = row < 0 ? "" : `row ${row + 1} of Bennett's table: ${run.quadruples[row][0]} ${actText(run.quadruples[row])} ${run.quadruples[row][7]}`;
   const map = mapPicture(run, {bank: f.bank, row: f.row, moment: f.moment, hasLeft: Boolean(f.at?.hasLeft), width, height: Math.min(200, Math.max(118, height * .34))});
   const at = list.findLastIndex(it => it.step <= f.e), first = Math.max(0, Math.min(list.length - MOST_MOVES, at - MOST_MOVES / 2));
@@ -123,7 +131,8 @@ export function columnLevel(f, {width, height}) {
   const pitch = Math.max(20, Math.min(44, fit)), wide = 1.7, columns = (width - NAMES_WIDTH) / (pitch * wide), rows = (free - 33) / pitch;
   const clamp = (it, most) => Math.max(0, Math.min(Math.max(0, most), it));
   const how = {bank, bars, place, hasLeft: Boolean(f.at.hasLeft), trail: f.move.from !== null ? run.trail(f.e, f.move.from, MOST_TRAIL) : [place], width, height: free,
-    pitch, wide, x: clamp(column + .5 - columns / 2, bank.columns - columns), y: clamp(row + .5 - rows / 2, bank.rows + 1 - rows), left: NAMES_WIDTH, isPlain: true};
+    pitch, wide, x: clamp(column + .5 - columns / 2, bank.columns - columns), y: clamp(row + .5 - rows / 2, bank.rows + 1 - rows),
+    left: NAMES_WIDTH, isPlain: true};
   const line = entryLine(run, f);
   return `<p class="l-rule">${escaped(bankName(bank)[0].toUpperCase() + bankName(bank).slice(1))}${line ? `: ${escaped(line.words)}` : ""}</p>
     <p class="quiet">${moveWords(f)}</p><div class="l-bank">${bankPicture(run, how)}</div>`;

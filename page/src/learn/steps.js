@@ -11,7 +11,9 @@ export function namesOf(run, bank) {
     if (!found.has(kind)) found.set(kind, [name, words]);
   }
   for (const it of bank.kind === "control" ? controlStates(run) : []) {
-    if (!found.has(it.kind) || it.symbols?.length && !found.get(it.kind)[2]) found.set(it.kind, [controlLabel(it), controlInFull(it), it.symbols?.length]);
+    const many = it.symbols?.length, known = found.get(it.kind);
+    // One that keeps a symbol in mind tells more.
+    if (!known || many && !known[2]) found.set(it.kind, [controlLabel(it), controlInFull(it), many]);
   }
   if (bank.kind === "cell") found.set("head", ["▾1", "the column of a cell that holds 1 and has the head"]);
   return [...found.values()].map(it => it.slice(0, 2));
@@ -40,13 +42,16 @@ export const STEPS = [
   {key: "row", level: "row", title: "A row opens",
    words: () => ["One row of Bennett's table is done by one signal in a circuit, from the control to the cells of the three tapes, and back with their answers.",
      "Each line of the list is a move, into which module it goes and what it says there; each can be undone, since the module is made so."],
-   names: () => [["module", "a part of the circuit: the control, or one cell of a tape"], ["control", "the module that has the state of Bennett's machine: it asks the cells, and their answers tell it what to do"],
-     ["line", "a wire by which the signal comes into a module; by which one it comes says what is wanted"], ["row", "a line of Bennett's table: it has rows, as the machine has rules"]],
+   names: () => [["module", "a part of the circuit: the control, or one cell of a tape"],
+     ["control", "the module that has the state of Bennett's machine: it asks the cells, and their answers tell it what to do"],
+     ["line", "a wire by which the signal comes into a module; by which one it comes says what is wanted"],
+     ["row", "a line of Bennett's table: it has rows, as the machine has rules"]],
    ask: "Step on, move by move.", done: ({seen}) => seen.has("stepped")},
   {key: "column", level: "column", title: "A move opens",
    words: () => ["A module is a bank of columns, and the one on amber is marked: it is the module's state, as a cell's symbol.",
      "The signal comes in by a row, which is a question, looks for the marked column and marks another; the line by which it comes out is the answer."],
-   names: ({run}, f) => [["bank", "a module's elements, in columns and rows"], ["column", "one state of the module"], ["row", "one line by which the signal comes in"],
+   names: ({run}, f) => [["bank", "a module's elements, in columns and rows"], ["column", "one state of the module"],
+     ["row", "one line by which the signal comes in"],
      ...(f.bank ? namesOf(run, f.bank) : [])],
    ask: "Play it, on and back.", done: ({seen}) => seen.has("played") || seen.has("took")},
   {key: "element", level: "element", title: "One element",
