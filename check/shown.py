@@ -16,8 +16,8 @@ COMMAND = os.path.join(TOP, "bin", "hithwelor")
 # The page as it is committed, and the same with a hook behind it, which check/page makes and most of it looks at.
 SHIPPED = os.path.join(TOP, "page", "hithwelor.html")
 PAGE = os.path.join(TOP, "embed", "out", "checked.html")
-# How long anything is waited for. It is no measure: what comes at once on an idle machine comes after a minute on one that is half as
-# fast and proves on all its cores, and then it has come.
+# How long anything is waited for. It is no measure: what comes at once on an idle machine comes after a minute on one that
+# is half as fast and proves on all its cores, and then it has come.
 PATIENCE = 180
 # A run is shown, and nothing is waited for.
 RUNS = "typeof bench === 'object' && Boolean(bench.current.run) && !document.getElementById('busy').textContent.includes('…')"
@@ -26,10 +26,14 @@ RUNS = "typeof bench === 'object' && Boolean(bench.current.run) && !document.get
 SETTLED = """(async () => {
   const rest = ms => new Promise(done => setTimeout(done, ms));
   await rest(%d);
-  for (let calm = 0; calm < 3;) { await rest(25); calm = document.getElementById("busy").textContent.includes("…") ? 0 : calm + 1; }
+  for (let calm = 0; calm < 3;) {
+    await rest(25);
+    calm = document.getElementById("busy").textContent.includes("…") ? 0 : calm + 1;
+  }
   await bench.inTurn(() => {});
 })()"""
-# A fixed piece of the work that the page does, some times: a picture of a thousand boxes is written, laid out and taken away.
+# A fixed piece of the work that the page does, some times: a picture of a thousand boxes is written, laid out and taken
+# away.
 WORK = """(async () => {
   const found = [];
   for (let k = 0; k < 10; k++) {
@@ -143,16 +147,17 @@ def reload(page, ready=RUNS):
 # ---- time
 
 def slowness(page):
-    """How many times as long as where nothing else runs a piece of work takes in this browser now: the longest of some."""
+    """How many times as long a piece of work takes in this browser now as where nothing else runs: the longest of some."""
     return max(1, max(page.wait(WORK)) / PIECE)
 
 
 def holds_time(page, count, what, wanted, measure, factor=3):
     """Holds that something takes at most so many times the milliseconds that are wanted of it on an idle machine.
 
-    A clock measures the machine as well as the page: one that is half as fast, with proofs on all its cores, takes ten times
-    as long, and a burst of other work longer still. So the limit grows with a piece of work that is timed in the same browser before
-    and behind, and the least of a few fresh tries counts. `measure` makes one, and gives milliseconds and a word on where.
+    A clock measures the machine as well as the page: one that is half as fast, with proofs on all its cores, takes ten
+    times as long, and a burst of other work longer still. So the limit grows with a piece of work that is timed in the same
+    browser before and behind, and the least of a few fresh tries counts. `measure` makes one, and gives milliseconds and a
+    word on where.
     """
     tries = []
     for _ in range(TRIES):

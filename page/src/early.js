@@ -7,8 +7,9 @@ import {Moments} from "./moments.js";
 import {lettersOf} from "./table.js";
 import {matchOf} from "./texts.js";
 
-const MOST_TRACED = 20000, SHOWN_STEPS = 40;
-const LINE = /^(\d+) (\S+) from (-?\d+) head (-?\d+) cells (\d+): (.*?)(?: rule (\d+))?$/;
+// How many steps are asked for at most, of long tapes fewer; and how many are shown of a machine that runs on.
+const MOST_TRACED = 10000, MOST_SYMBOLS = 2e6, SHOWN_STEPS = 40;
+const LINE = /^(\d+) (\S+) from (-?\d+) head (-?\d+) cells (\d+): /, RULE = " rule ";
 
 // One text line of `trace`, with the cells that are shown of the whole run.
 /** @implements {Moment} */
@@ -21,20 +22,20 @@ class TracedMoment {
   many = 0;
   /** @param {string} line */
   constructor(line) {
-    const [, step, state, from, head, cells, , rule] = matchOf(LINE, line);
-    this.line = line;
+    const [told, step, state, from, head, cells] = matchOf(LINE, line), end = line.lastIndexOf(RULE);
+    this.written = line.slice(told.length, end < 0 ? undefined : end);
     this.name = this.state = state;
     this.steps = this.step = Number(step);
     this.from = Number(from);
     this.head = Number(head);
     this.last = this.from + Number(cells) - 1;
     // Which rule is followed next, from 1.
-    this.applied = rule ? Number(rule) : null;
+    this.applied = end < 0 ? null : Number(line.slice(end + RULE.length));
   }
   /** @returns {Tape[]} */
   get tapes() {
     const symbols = Array(this.many).fill("_");
-    matchOf(LINE, this.line)[6].split(" ").forEach((it, k) => { symbols[this.from - this.first + k] = it; });
+    this.written.split(" ").forEach((it, k) => { symbols[this.from - this.first + k] = it; });
     return [{tape: 1, first: this.first, head: this.head, symbols}];
   }
 }
@@ -81,8 +82,9 @@ export class Early extends Moments {
 // The machine by itself on a word, or null where the program doesn't tell it.
 /** @param {{table: string, word: string, own: Own, window: Window4 | null}} asked */
 export async function earlyRun(asked) {
-  const {own} = asked, most = own.outcome === "running" ? SHOWN_STEPS : Math.min(own.steps, MOST_TRACED);
-  const reply = await answer(["trace", "=" + asked.word, most], asked.table, {lane: LANES.beside});
+  const {own, word} = asked, wide = word.length + (own.output ?? "").length + 2;
+  const most = Math.floor(Math.min(MOST_TRACED, MOST_SYMBOLS / wide, own.outcome === "running" ? SHOWN_STEPS : own.steps));
+  const reply = await answer(["trace", "=" + word, most], asked.table, {lane: LANES.beside});
   if (![STATUS.done, STATUS.stuck, STATUS.inside].includes(reply.status)) return null;
   return new Early(asked, reply.text.split("\n").slice(0, -2));
 }

@@ -42,6 +42,12 @@ test("stepped, and run to a state and to a cell", async () => {
   delete current.run;
 });
 
+test("of a long tape so many steps are told as can be read at once", async () => {
+  const word = "1".repeat(5000), table = "S,_,_,+,A\nA,1,1,+,A\nA,_,_,0,H\n", own = await ownRun(table, word);
+  const early = await earlyRun({table, word, own, window: null});
+  assert.ok(own.steps > 5000 && early.end > 100 && early.end * early.cells < 3e6, `${early.end} steps of ${early.cells} cells`);
+});
+
 test("a machine that runs on is told in part, and a foreign letter not at all", async () => {
   const table = "S,_,_,+,T\nT,_,1,+,T\nT,1,1,+,T\nU,_,_,0,F\n", own = await ownRun(table, "1");
   assert.equal((await earlyRun({table, word: "1", own, window: null})).end, 40);
