@@ -83,8 +83,8 @@ class Interpreter:
         return self.head - place
 
     def shown(self):
-        """The first cell that is shown, the head, and the letters from the first cell to the last one: what isn't blank,
-        and the head."""
+        """The first cell that is shown, the head, and the letters from that cell to the last one: all that isn't
+        blank, and the head's."""
         places_shown = [place for place, letter in self.cells.items() if letter != BLANK] + [self.head]
         first, last = min(places_shown), max(places_shown)
         return first, self.head, "".join(self.cells.get(place, BLANK) for place in range(first, last + 1))
@@ -94,7 +94,7 @@ LINE = re.compile(r"(\d+) (\S+) from (-?\d+) head (-?\d+) cells (\d+): (\S(?: \S
 
 
 def moments_of(lines):
-    """What the lines of a trace tell, moment by moment: steps, state, what is shown, and the number of the next rule."""
+    """What the lines of a trace tell, moment by moment: steps, state, what is shown, and the next rule's number."""
     for line in lines:
         found = LINE.fullmatch(line)
         assert found, line
@@ -104,7 +104,7 @@ def moments_of(lines):
 
 
 def tagged(rules, word):
-    """What a tag system that takes two letters off leaves: a list of letters, 1 and up, and the rules of each, in order."""
+    """What a tag system leaves that takes two letters off: letters are numbers from 1, each with its rule, in order."""
     word = list(word)
     while len(word) >= 2:
         word = word[2:] + rules[word[0] - 1]

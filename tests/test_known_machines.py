@@ -195,7 +195,7 @@ MEANINGS = {
     "parity": [(word, str(word.count("1") % 2)) for word in words_over("01", 5)],
     "brackets": [(word, balanced(word)) for word in words_over("()", 6)],
     "palindrome": [(word, "y" if word == word[::-1] else "n") for word in words_over("ab", 5)],
-    "abc": [(word, is_abc(word)) for word in [*words_over("abc", 4), "aabbcc", "aaabbbccc", "aabbbc", "aabbccc", "abcabc"]],
+    "abc": [(word, is_abc(word)) for word in [*words_over("abc", 4), "aabbcc", "aaabbbccc", "aabbbc", "abcabc"]],
     "copy": [(word, f"{word}:{word}") for word in words_over("01", 4)],
     "reverse": [(word, word[::-1]) for word in words_over("01", 5)],
     "sort": [(word, "".join(sorted(word))) for word in words_over("01", 6)],
@@ -208,8 +208,8 @@ MEANINGS = {
     "stuck": [("", ""), ("0101", "0101"), ("10", "10")],
     "tag": [("a" * number, "a") for number in range(1, 5)] + [("bc", "a"), ("cb", "a"), ("b", "b"), ("", "")],
 }
-TAG_SYSTEMS = [([[2, 3], [1], [1, 1, 1]], [1, 1, 1, 1]), ([[1]], [1, 1, 1]), ([[], [1]], [2, 2, 1, 1]), ([[], []], [1, 2]),
-               ([[2], [3, 1], [3]], [2, 1, 3, 2, 1]), ([[2, 3], [1], [1, 1, 1]], [1])]
+TAG_SYSTEMS = [([[2, 3], [1], [1, 1, 1]], [1, 1, 1, 1]), ([[1]], [1, 1, 1]), ([[], [1]], [2, 2, 1, 1]),
+               ([[], []], [1, 2]), ([[2], [3, 1], [3]], [2, 1, 3, 2, 1]), ([[2, 3], [1], [1, 1, 1]], [1])]
 
 
 def test_each_machine_has_a_meaning():
@@ -222,7 +222,8 @@ def test_it_does_what_it_is_to_do(name, answering):
     table = in_standard_form(name)
     for word, output in MEANINGS[name]:
         run = interpreted(name, word)
-        assert asked(["machine", f"={word}", PATIENCE], table) == f"halted {steps_of(name, run)}\noutput ={output}\n", word
+        told = asked(["machine", f"={word}", PATIENCE], table)
+        assert told == f"halted {steps_of(name, run)}\noutput ={output}\n", word
 
 
 @pytest.mark.engine
