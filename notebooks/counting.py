@@ -53,15 +53,18 @@ pictures.plot(steps, "letters of the word", "steps of the machine", is_log=True,
 #
 # The machine halts after *i* steps with *L* letters, and its reversible machine after 4*i* + 4*L* + 5. So the exponent stays; only the factor grows. That is Bennett's price in time, and the next section has his price in cells.
 # %%
-table = [(n, sort.by_itself("1" * (n // 2) + "0" * (n // 2)), sort.run("1" * (n // 2) + "0" * (n // 2))) for n in range(2, 11, 2)]
+words = ["1" * half + "0" * half for half in range(1, 6)]
+table = [(len(word), sort.by_itself(word), sort.run(word)) for word in words]
 print(f"{'letters':>8}{'steps':>7}{'reversible':>12}{'4i + 4L + 5':>13}{'element steps':>15}{'for each':>10}")
 for n, own, run in table:
     told = 4 * own.steps + 4 * len(own.output) + 5
-    print(f"{n:>8}{own.steps:>7}{run.quadruple_steps:>12}{told:>13}{run.steps:>15,}{run.steps / run.quadruple_steps:>10,.0f}")
+    each = run.steps / run.quadruple_steps
+    print(f"{n:>8}{own.steps:>7}{run.quadruple_steps:>12}{told:>13}{run.steps:>15,}{each:>10,.0f}")
 # %% [markdown]
 # The last column has the element steps for each step of the reversible machine. It grows: a command goes from the control along the cells of a tape to the one with the head, and its answer comes back. The further the head, the longer the way.
 # %%
-element = {"element steps": [(n, run.steps) for n, _, run in table], "elements": [(n, run.elements) for n, _, run in table],
+element = {"element steps": [(n, run.steps) for n, _, run in table],
+           "elements": [(n, run.elements) for n, _, run in table],
            "steps of the reversible machine": [(n, run.quadruple_steps) for n, _, run in table]}
 pictures.plot(element, "letters of the word", is_log=True, fits=["element steps"])
 # %% [markdown]
@@ -76,8 +79,9 @@ def elements(machine, word, window):
 
 
 names = ["work tape, left", "work tape, right", "history", "output"]
-growth = {name: [(extra, elements(sort, "1", [4 + extra * (at == place) for place in range(4)])) for extra in range(0, 13, 2)]
-          for at, name in enumerate(names)}
+windows = {name: [[4 + extra * (at == place) for place in range(4)] for extra in range(0, 13, 2)]
+           for at, name in enumerate(names)}
+growth = {name: [(sum(window) - 16, elements(sort, "1", window)) for window in told] for name, told in windows.items()}
 for name, points in growth.items():
     print(f"{name:>17}: {(points[-1][1] - points[0][1]) // 12} elements for each cell")
 pictures.plot(growth, "cells more than 4", "elements")

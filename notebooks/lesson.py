@@ -84,7 +84,7 @@ outcome = machine.by_itself("1011")
 print(outcome.kind, "after", outcome.steps, "steps, with the output", outcome.output)
 pictures.moments(machine.ask(["trace", "=1011", 20]))
 # %% [markdown]
-# 1011 + 1 = 1100. Now look at step 9, and cover the rows above it. In state `Home` there is a 1 right of the head: was it a 0 before, or a blank? Two rules lead there, and the machine has forgotten which one it was. A step that forgets can't be undone.
+# 1011 + 1 = 1100. Now look at step 9, and cover the rows above it. In state `Home` there is a 1 right of the head: was it a 0 before, a blank, or the same 1? Three rules lead there, and the machine has forgotten which one it was. A step that forgets can't be undone.
 #
 # The same in the least table that shows it. Two **quadruples**: whatever was read, 1 is written, and the next state is R.
 # %%

@@ -4,6 +4,7 @@ stand where its table says, TikZ that LaTeX compiles; in colour and in black and
 import functools
 import os
 import re
+import shlex
 import subprocess
 import sys
 import types
@@ -178,9 +179,32 @@ def test_the_tools_write_what_is_drawn(program):
         by_figure = called(["figure", "circuit", "--frames", "1", "--to", kind, *style], data, program)
         by_draw = called(["draw", f"--{kind}", "--frames", "1", *style], data, program)
         assert (by_figure.returncode, by_draw.returncode, by_figure.stderr, by_draw.stderr) == (0, 0, b"", b"")
-        assert re.sub(rb"(?m)^(%|<desc>) ?.*\n", b"", by_figure.stdout) == re.sub(rb"(?m)^(%|<desc>) ?.*\n", b"", by_draw.stdout)
-    hill = called(["figure", "hill", "=", "0", "2", "2", "1", "--to", "tikz"], places.text_of("examples", "least.csv"), program)
+        how = rb"(?m)^(%|<desc>) ?.*\n"
+        assert re.sub(how, b"", by_figure.stdout) == re.sub(how, b"", by_draw.stdout)
+    least = places.text_of("examples", "least.csv")
+    hill = called(["figure", "hill", "=", "0", "2", "2", "1", "--to", "tikz"], least, program)
     assert hill.returncode == 0 and hill.stdout.endswith(b"\\end{tikzpicture}%\n")
+
+
+PAGE = os.path.join("docs", "learn", "FIGURES.md")
+COMMANDS = re.findall(r"(?m)^(?:\|.*`)?(tools/\w+ .*?) > \w+\.\w+`?(?: \|)?$", places.text_of(PAGE))
+
+
+@pytest.mark.slow
+@pytest.mark.engine
+@pytest.mark.parametrize("command", COMMANDS)
+def test_the_commands_of_the_page_write_figures(command, program):
+    words, _, source = command.partition(" < ")
+    tool, *rest = shlex.split(words)
+    ran = called([os.path.basename(tool), *rest], places.text_of(source), program)
+    assert (ran.returncode, ran.stderr) == (0, b"")
+    kind = "tikz" if "tikz" in words else "pdf" if "pdf" in words else "svg"
+    begins = {"tikz": b"% ", "pdf": b"%PDF-1.4\n", "svg": b"<svg "}
+    assert ran.stdout.startswith(begins[kind])
+
+
+def test_the_page_has_commands_of_each_kind():
+    assert len(COMMANDS) == 10 and sum("tikz" in it for it in COMMANDS) == 2
 
 
 @pytest.mark.engine

@@ -256,6 +256,19 @@ def test_the_files_of_pairs_are_their_tables(name, first, second, answering):
     assert places.text_of(FOLDER, f"{name}.txt") == before + "%\n" + in_standard_form(second)
 
 
+def overlapping(rows):
+    """The pairs of quintuples that lead to one configuration: one state, and one letter there, or two moves."""
+    return [(number, other) for number, row in enumerate(rows, 1) for other, before in enumerate(rows[:number - 1], 1)
+            if row[4] == before[4] and (row[3] != before[3] or row[2] == before[2])]
+
+
+@pytest.mark.parametrize("name", MACHINES)
+def test_each_machine_forgets(name):
+    """None is reversible as it stands, and the three that lecture 1 names have one pair each."""
+    pairs = overlapping(rows_of(table_of(name)))
+    assert pairs and (len(pairs) == 1) == (name in ("busy-beaver-2", "add-unary", "gray"))
+
+
 def row_of(it):
     """A machine's row of the page."""
     case = it["cases"][0]

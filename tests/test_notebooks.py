@@ -1,7 +1,7 @@
 """The lab sheets of notebooks/, executed without a network: their cells are those of their texts, and what each cell
 prints and draws is what the notebook holds.
 
-Each is run twice: its code cells in order by a fresh Python that can open no socket, and by nbclient as Jupyter runs it.
+Each is run twice: its code cells in order by a fresh Python that can open no socket, and by nbclient, as Jupyter does.
 """
 import json
 import os
@@ -32,7 +32,8 @@ for source in json.load(sys.stdin):
         if last is not None:
             shown = eval(compile(ast.Expression(last.value), "cell", "eval"), room)
     kinds = {"text/plain": repr, "image/svg+xml": lambda it: it._repr_svg_(), "text/html": lambda it: it._repr_html_()}
-    has = {"text/plain": True, "image/svg+xml": hasattr(shown, "_repr_svg_"), "text/html": hasattr(shown, "_repr_html_")}
+    has = {"text/plain": True, "image/svg+xml": hasattr(shown, "_repr_svg_"),
+           "text/html": hasattr(shown, "_repr_html_")}
     data = {} if shown is None else {kind: show(shown) for kind, show in kinds.items() if has[kind]}
     told.append({"said": said.getvalue(), "data": data})
 json.dump(told, sys.stdout)
@@ -74,7 +75,7 @@ def test_a_notebook_has_the_cells_of_its_text(name):
 def test_a_notebook_has_pictures_and_its_turns_have_answers(name):
     book = book_of(name)
     assert sum("image/svg+xml" in it["data"] for it in shown_by(code_of(book))) >= 2
-    turns = sum(joined(cell["source"]).count("**Your turn ") for cell in book["cells"] if cell["cell_type"] == "markdown")
+    turns = sum(joined(cell["source"]).count("**Your turn ") for cell in book["cells"])
     part = places.text_of("notebooks", "ANSWERS.md").split("\n## ")[1 + make.NAMES.index(name)]
     assert turns >= 4 and all(f"**{number}.** " in part for number in range(1, turns + 1))
 

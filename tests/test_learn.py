@@ -1,0 +1,159 @@
+"""The lecturer's pages: docs/learn, with those of examples/machines and notebooks.
+
+Every link leads to a file and a head that are there. A link into the page has a title with the machine, the word and
+the moment, and the page's own reader (page/src/links.js, under node) reads just that out of it; the moment is there in
+the program's run. The plans go from the first minute to the last, with a link a row; the questions are twenty, each with
+five sentences, something to run and sources that stand in the list. The outputs are held by check/documents.
+"""
+import glob
+import json
+import os
+import re
+import subprocess
+import urllib.parse
+
+import places
+import pytest
+from hithwelor import answers
+
+FOLDERS = ["docs/learn", "examples/machines", "notebooks"]
+PAGES = sorted(os.path.relpath(path, places.TOP)
+               for folder in FOLDERS for path in glob.glob(os.path.join(places.TOP, folder, "*.md")))
+LECTURES = [f"docs/learn/LECTURE-{number}.md" for number in range(1, 5)]
+QUESTIONS = "docs/learn/QUESTIONS.md"
+LINK = re.compile(r'\[[^\]]*\]\(([^()\s]+(?:\([^()]*\)[^()\s]*)*)(?: "([^"]*)")?\)')
+
+
+def links_of(page):
+    """The links of a page outside of its code: the address and the title of each."""
+    text = re.sub(r"(?ms)^```.*?^```", "", places.text_of(page))
+    return LINK.findall(re.sub(r"`[^`]*`", "", text))
+
+
+def heads_of(page):
+    """The names that a page's heads have in addresses."""
+    heads = re.findall(r"(?m)^#+ (.*)$", re.sub(r"(?ms)^```.*?^```", "", places.text_of(page)))
+    return {re.sub(r"[^\w\- ]", "", head.lower()).replace(" ", "-") for head in heads}
+
+
+def page_links():
+    return [(page, *link) for page in PAGES for link in links_of(page) if "hithwelor.html#" in link[0]]
+
+
+@pytest.fixture(scope="session")
+def readings(any_node):
+    """What the page's reader gives of each link into the page, by what stands from # on."""
+    hashes = sorted({"#" + link.partition("#")[2] for _, link, _ in page_links()})
+    script = os.path.join(places.TOP, "tests", "read_links.mjs")
+    ran = subprocess.run([any_node, script], input=json.dumps(hashes), capture_output=True, text=True)
+    assert ran.returncode == 0, ran.stderr
+    return dict(zip(hashes, json.loads(ran.stdout)))
+
+
+def test_all_pages_are_read():
+    others = {"docs/learn/LECTURES.md", "docs/learn/FIGURES.md", "examples/machines/README.md", "notebooks/ANSWERS.md"}
+    assert {*LECTURES, QUESTIONS, *others} <= set(PAGES)
+    assert len(page_links()) >= 40
+
+
+@pytest.mark.parametrize("page", PAGES)
+def test_every_link_leads_somewhere(page):
+    for address, _ in links_of(page):
+        path, _, head = address.partition("#")
+        target = os.path.normpath(os.path.join(os.path.dirname(page), urllib.parse.unquote(path))) if path else page
+        assert os.path.exists(os.path.join(places.TOP, target)), address
+        if head and target.endswith(".md"):
+            assert head in heads_of(target), address
+
+
+@pytest.mark.parametrize("page", sorted({page for page, *_ in page_links()}))
+def test_a_link_into_the_page_gives_what_its_title_says(page, readings):
+    for place, address, title in page_links():
+        if place == page:
+            told = readings["#" + address.partition("#")[2]]["title"]
+            assert title == told and "none" not in told and "no machine that is known" not in told, address
+
+
+@pytest.mark.engine
+@pytest.mark.parametrize("page", sorted({page for page, *_ in page_links()}))
+def test_the_machine_and_the_moment_of_a_link_are_there(page, readings, answering):
+    for place, address, _ in page_links():
+        link = readings["#" + address.partition("#")[2]]["link"]
+        if place != page or link is None or link["example"] == "sum":
+            continue
+        table = link["text"].encode()
+        if link["asStandard"]:
+            table = answers.answer(["standard"], table)[1]
+        status, text = answers.answer(["machine", f"={link['word']}", "100000"], table)
+        assert status == 0, (address, text)
+        if link["window"]:
+            words = ["view", f"={link['word']}", *map(str, link["window"]), str(link["e"])]
+            assert answers.answer(words, table)[1].decode().split("\n")[0].endswith(f" steps {link['e']}"), address
+        assert link["window"] or not link["e"], f"{address}: a moment is told in a window"
+
+
+def plan_of(page):
+    """The rows of a page's plan: from and to which minute, and the row."""
+    found = re.findall(r"(?m)^\| (\d+) to (\d+) (\|.*)$", places.text_of(page))
+    return [(int(first), int(last), row) for first, last, row in found]
+
+
+@pytest.mark.parametrize("page, minutes", [*((page, 75) for page in LECTURES), ("docs/learn/LECTURES.md", 60)])
+def test_a_plan_has_a_link_for_each_of_its_minutes(page, minutes):
+    plan = plan_of(page)
+    assert plan[0][0] == 0 and plan[-1][1] == minutes
+    assert all(last == first for (_, last, _), (first, _, _) in zip(plan, plan[1:]))
+    assert all("hithwelor.html#" in row for _, _, row in plan)
+
+
+@pytest.mark.parametrize("page", LECTURES)
+def test_a_lecture_says_all_that_is_needed(page):
+    text = places.text_of(page)
+    wanted = ["The plan", "On the board", "In the terminal", "The sheet and the exercises", "What usually goes wrong",
+              "Sources"]
+    assert re.findall(r"(?m)^## (.*)$", text) == wanted
+    assert "**Afterwards a student can**" in text and "**Before.**" in text and "../../notebooks/" in text
+    assert text.count("\n$ ") >= 4
+
+
+def test_every_exercise_has_its_lecture():
+    numbers = set(map(int, re.findall(r"(?m)^## (\d+) ", places.text_of("docs", "EXERCISES.md"))))
+    rows = [row for row in places.text_of("docs", "learn", "LECTURES.md").splitlines() if row.startswith("| [")]
+    cells = [row.rsplit("|", 2)[1] for row in rows]
+    spans = [re.findall(r"(\d+)(?: to (\d+))?", cell) for cell in cells]
+    found = [number for cell in spans for first, last in cell for number in range(int(first), int(last or first) + 1)]
+    assert numbers == set(found) and len(cells) == len(LECTURES)
+    for page, cell in zip(LECTURES, spans):
+        named = re.findall(r"EXERCISES\.md#(\d+)-", places.text_of(page))
+        assert {int(first) for first, _ in cell} <= set(map(int, named)), page
+
+
+def questions():
+    """Each question: its number, the paragraph, the commands, and the sources."""
+    for part in re.split(r"(?m)^## ", places.text_of(QUESTIONS))[1:-1]:
+        head, paragraph, rest = part.split("\n\n", 2)
+        commands, source = re.findall(r"(?m)^\$ (.*)$", rest), re.search(r"(?m)^Source: (.*)$", rest)
+        yield int(head.split(" ")[0]), paragraph, commands, source[1]
+
+
+def sentences(paragraph):
+    return [it for it in re.split(r"(?<=[.!?])\s+", paragraph.strip()) if it]
+
+
+def test_the_questions_are_twenty_with_five_sentences_each():
+    found = list(questions())
+    assert [number for number, *_ in found] == list(range(1, 21))
+    for number, paragraph, commands, _ in found:
+        assert len(sentences(paragraph)) == 5, (number, len(sentences(paragraph)))
+        assert commands, number
+
+
+def test_the_sources_of_the_questions_are_in_the_list():
+    listed = places.text_of(QUESTIONS).split("\n## Sources\n")[1]
+    entries = [line for line in listed.splitlines() if line.startswith("- ")]
+    cited = {(name.split(" ")[0].strip(","), year) for _, _, _, told in questions() if not told.startswith("[")
+             for name, year in (part.rsplit(" ", 1) for part in told.rstrip(".").split("; "))}
+    for name, year in cited:
+        assert any(name in entry and entry.endswith(f"{year}.") for entry in entries), (name, year)
+    for entry in entries:
+        assert any(name in entry and entry.endswith(f"{year}.") for name, year in cited), entry
