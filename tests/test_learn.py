@@ -109,8 +109,8 @@ def test_a_plan_has_a_link_for_each_of_its_minutes(page, minutes):
 @pytest.mark.parametrize("page", LECTURES)
 def test_a_lecture_says_all_that_is_needed(page):
     text = places.text_of(page)
-    wanted = ["The plan", "On the board", "In the terminal", "The sheet and the exercises", "What usually goes wrong",
-              "Sources"]
+    wanted = ["The plan", "On the board", "Answers to what the plan asks", "In the terminal",
+              "The sheet and the exercises", "What usually goes wrong", "Sources"]
     assert re.findall(r"(?m)^## (.*)$", text) == wanted
     assert "**Afterwards a student can**" in text and "**Before.**" in text and "../../notebooks/" in text
     assert text.count("\n$ ") >= 4
