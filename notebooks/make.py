@@ -30,7 +30,8 @@ def made(name):
     new = nbformat.v4
     cells = [new.new_markdown_cell(body) if is_words else new.new_code_cell(body) for is_words, body in cells_of(name)]
     book = new.new_notebook(cells=cells, metadata={"kernelspec": KERNEL})
-    NotebookClient(book, kernel_name="python3", timeout=None, resources={"metadata": {"path": HERE}}).execute()
+    where = {"metadata": {"path": HERE}}
+    NotebookClient(book, kernel_name="python3", timeout=None, startup_timeout=3600, resources=where).execute()
     for number, cell in enumerate(book.cells):
         cell["id"] = f"{name}-{number}"
         cell.metadata.clear()
