@@ -27,6 +27,7 @@ def made(name):
     """A sheet's notebook, run. Cells are numbered and no times are kept: the same sheet gives the same bytes."""
     import nbformat
     from nbclient import NotebookClient
+
     new = nbformat.v4
     cells = [new.new_markdown_cell(body) if is_words else new.new_code_cell(body) for is_words, body in cells_of(name)]
     book = new.new_notebook(cells=cells, metadata={"kernelspec": KERNEL})
@@ -41,6 +42,7 @@ def made(name):
 
 def main():
     import nbformat
+
     parser = argparse.ArgumentParser(description=__doc__, formatter_class=argparse.RawDescriptionHelpFormatter)
     parser.add_argument("names", nargs="*", metavar="NAME", default=NAMES)
     parser.add_argument("--to", default=HERE, metavar="DIR")

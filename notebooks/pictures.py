@@ -19,9 +19,11 @@ class Picture:
         return f"a picture, {self.width:g} by {self.height:g}"
 
     def _repr_svg_(self):
-        return (f'<svg xmlns="http://www.w3.org/2000/svg" width="{self.width:g}" height="{self.height:g}" '
-                f'viewBox="0 0 {self.width:g} {self.height:g}" font-family="sans-serif" font-size="12">'
-                f"{self.body}</svg>")
+        return (
+            f'<svg xmlns="http://www.w3.org/2000/svg" width="{self.width:g}" height="{self.height:g}" '
+            f'viewBox="0 0 {self.width:g} {self.height:g}" font-family="sans-serif" font-size="12">'
+            f"{self.body}</svg>"
+        )
 
 
 def text(x, y, words, anchor="middle", more=""):
@@ -46,8 +48,10 @@ def element(configuration):
     (kind, place), bar = lines[5].split(" "), lines[6].split(" ")[2]
     x, y = ENDS[place[-1]]
     lies = 'x1="36" y1="60" x2="84" y2="60"' if bar == "H" else 'x1="60" y1="36" x2="60" y2="84"'
-    body = "".join(f'<path d="M{a},{b} L{60 + (a - 60) * .62:g},{60 + (b - 60) * .62:g}" stroke="{GREY}"/>'
-                   for a, b in ENDS.values())
+    body = "".join(
+        f'<path d="M{a},{b} L{60 + (a - 60) * .62:g},{60 + (b - 60) * .62:g}" stroke="{GREY}"/>'
+        for a, b in ENDS.values()
+    )
     body += '<rect x="29" y="29" width="62" height="62" rx="6" fill="#f7f5ef" stroke="#444"/>'
     body += f'<line {lies} stroke="{BLUE}" stroke-width="8" stroke-linecap="round"/>'
     fill = RED if kind == "at" else "white"
@@ -61,7 +65,7 @@ def moments(trace):
     for line in trace.splitlines()[:-1]:
         words = line.split(" ")
         count = int(words[7].rstrip(":"))
-        rows.append((words[0], words[1], int(words[3]), int(words[5]), words[8:8 + count]))
+        rows.append((words[0], words[1], int(words[3]), int(words[5]), words[8 : 8 + count]))
     first = min(row[2] for row in rows)
     last = max(row[2] + len(row[4]) for row in rows)
     body = ""
@@ -82,9 +86,9 @@ def views_of(machine, word, window):
     names = list(dict.fromkeys(name for row in rows for name in (row[0], row[-1])))
     room = 4 * (window[2] + window[3]) + 8
     script = [f"break s{number} state {name}" for number, name in enumerate(names)]
-    views = machine.session(word, window, script + [f"go {2 ** 62}", "view"] * room)[len(names) + 1::2]
+    views = machine.session(word, window, script + [f"go {2 ** 62}", "view"] * room)[len(names) + 1 :: 2]
     end = next((number for number, view in enumerate(views) if view.has_left), len(views) - 1)
-    return views[:end + 1]
+    return views[: end + 1]
 
 
 STAGES = {"compute": "#cfe0f3", "copy": "#fbe6a8", "retrace": "#d3ebcb"}
@@ -122,7 +126,7 @@ def spread(values, is_log):
     if is_log:
         low, high = math.floor(math.log10(min(values))), math.ceil(math.log10(max(values)))
         high += high == low
-        return lambda it: (math.log10(it) - low) / (high - low), [10 ** power for power in range(low, high + 1)]
+        return lambda it: (math.log10(it) - low) / (high - low), [10**power for power in range(low, high + 1)]
     size = 10 ** math.floor(math.log10(max(values)))
     size = next(it for it in (size / 5, size / 2, size, 2 * size) if max(values) / it <= 6)
     count = math.ceil(max(values) / size)
@@ -159,7 +163,7 @@ def plot(series, x="", y="", is_log=False, fits=()):
         ink = INKS[number % len(INKS)]
         if name in fits:
             power, factor = fit(points)
-            (left, low), (right, high) = (at(a, factor * a ** power) for a, _ in (min(points), max(points)))
+            (left, low), (right, high) = (at(a, factor * a**power) for a, _ in (min(points), max(points)))
             body += f'<path d="M{left:g},{low:g} L{right:g},{high:g}" stroke="{ink}" stroke-dasharray="5 4"/>'
             name += f": about {factor:,.3g} x ^ {power:.2f}"
         for left, high in (at(*it) for it in points):

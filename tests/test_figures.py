@@ -120,8 +120,19 @@ def test_what_a_figure_of_a_circuit_shows(program):
 def test_what_a_diagram_shows(program):
     tree = ElementTree.fromstring(made("diagram", "svg", program))
     words = [it.text for it in tree.iter(f"{SVG}text")]
-    assert sorted(words) == sorted(["S", "Go", "Add", "Home", "Halt", *(
-        f"{row[1]}/{row[2]} {row[3]}" for row in (line.split(",") for line in places.text_of(INCREMENT).splitlines()))])
+    assert sorted(words) == sorted(
+        [
+            "S",
+            "Go",
+            "Add",
+            "Home",
+            "Halt",
+            *(
+                f"{row[1]}/{row[2]} {row[3]}"
+                for row in (line.split(",") for line in places.text_of(INCREMENT).splitlines())
+            ),
+        ]
+    )
 
 
 @pytest.mark.engine
@@ -142,9 +153,9 @@ def test_a_pdf_has_its_objects_where_it_says(name, font, base, program):
     table = int(re.search(rb"startxref\n(\d+)\n", data)[1])
     assert data[table:].startswith(b"xref\n0 7\n")
     for count, place in enumerate(re.findall(rb"(\d{10}) 00000 n \n", data[table:]), 1):
-        assert data[int(place):].startswith(b"%d 0 obj\n" % count)
+        assert data[int(place) :].startswith(b"%d 0 obj\n" % count)
     length, start = int(re.search(rb"/Length (\d+)", data)[1]), data.index(b"stream\n") + len(b"stream\n")
-    assert data[start + length:].startswith(b"\nendstream")
+    assert data[start + length :].startswith(b"\nendstream")
 
 
 @pytest.mark.engine
@@ -163,8 +174,14 @@ def test_latex_compiles_every_figure(program, tmp_path, needs):
         body += rf"\includegraphics[width=40mm]{{figure{number}}}\par" + "\n"
     (tmp_path / "all.tex").write_text(DOCUMENT % body)
     env = {**os.environ, "HOME": str(tmp_path), "TEXMFVAR": str(tmp_path / "var")}
-    ran = subprocess.run(["pdflatex", "-interaction=nonstopmode", "-halt-on-error", "all.tex"], cwd=tmp_path, env=env,
-                         capture_output=True, text=True, errors="replace")
+    ran = subprocess.run(
+        ["pdflatex", "-interaction=nonstopmode", "-halt-on-error", "all.tex"],
+        cwd=tmp_path,
+        env=env,
+        capture_output=True,
+        text=True,
+        errors="replace",
+    )
     assert ran.returncode == 0, ran.stdout[-2000:]
     assert "Missing character" not in ran.stdout and (tmp_path / "all.pdf").stat().st_size > 20000
     assert not re.search(r"undefined|Undefined|Warning: .*font", ran.stdout)
@@ -208,16 +225,29 @@ def test_the_page_has_commands_of_each_kind():
 
 
 @pytest.mark.engine
-@pytest.mark.parametrize("words, source, said", [
-    (["figure", "circuit", "--to", "pdf", "--font", "Georgia"], "examples/across.txt",
-     "figure: a PDF has the fonts sans, serif, mono, and not 'Georgia'"),
-    (["figure", "tapes", "=1", "auto"], INCREMENT,
-     "figure: the last word of tapes is the number of element steps; --help tells the words"),
-    (["figure", "hill", "1", "auto"], INCREMENT, "figure: the word '1' has no = before it"),
-    (["figure", "circuit", "=1"], "examples/across.txt", "figure: circuit has no word; --help tells the words"),
-    (["figure", "diagram"], "examples/across.txt", "figure: ./workbench check says: text: record 1 fields (status 3)"),
-    (["draw", "--tikz"], "", "draw: ./workbench step 0 says: text: line 1 syntax (status 3)"),
-])
+@pytest.mark.parametrize(
+    "words, source, said",
+    [
+        (
+            ["figure", "circuit", "--to", "pdf", "--font", "Georgia"],
+            "examples/across.txt",
+            "figure: a PDF has the fonts sans, serif, mono, and not 'Georgia'",
+        ),
+        (
+            ["figure", "tapes", "=1", "auto"],
+            INCREMENT,
+            "figure: the last word of tapes is the number of element steps; --help tells the words",
+        ),
+        (["figure", "hill", "1", "auto"], INCREMENT, "figure: the word '1' has no = before it"),
+        (["figure", "circuit", "=1"], "examples/across.txt", "figure: circuit has no word; --help tells the words"),
+        (
+            ["figure", "diagram"],
+            "examples/across.txt",
+            "figure: ./workbench check says: text: record 1 fields (status 3)",
+        ),
+        (["draw", "--tikz"], "", "draw: ./workbench step 0 says: text: line 1 syntax (status 3)"),
+    ],
+)
 def test_what_is_refused(words, source, said, program):
     ran = called(words, places.text_of(source) if source else "", program)
     assert (ran.returncode, ran.stdout, ran.stderr.decode()) == (2, b"", said + "\n")

@@ -17,11 +17,16 @@ from known_machines import FOLDER, Interpreter, encoded, machines, moments_of, r
 
 MACHINES = machines()
 PAGE = os.path.join(FOLDER, "README.md")
-CASES = [pytest.param(name, case, id=f"{name} ={case['word']}")
-         for name, it in MACHINES.items() for case in it["cases"]]
+CASES = [
+    pytest.param(name, case, id=f"{name} ={case['word']}") for name, it in MACHINES.items() for case in it["cases"]
+]
 # The busy beavers' known figures: steps and marks.
-FIGURES = {"busy-beaver-2": (6, 4), "busy-beaver-3-steps": (21, 5), "busy-beaver-3-marks": (14, 6),
-           "busy-beaver-4": (107, 13)}
+FIGURES = {
+    "busy-beaver-2": (6, 4),
+    "busy-beaver-3-steps": (21, 5),
+    "busy-beaver-3-marks": (14, 6),
+    "busy-beaver-4": (107, 13),
+}
 STATUSES = {"halted": 0, "stuck": 10, "running": 12}
 PATIENCE = 200000
 
@@ -96,8 +101,11 @@ def test_machine_answers_as_told(name, case, answering):
     most = case["steps"] if case["outcome"] == "running" else PATIENCE
     text = asked(["machine", f"={case['word']}", most], in_standard_form(name), STATUSES[case["outcome"]])
     steps = case.get("standard steps", case["steps"])
-    wanted = {"halted": f"halted {steps}\noutput ={case.get('output')}\n", "running": f"running {most}\n",
-              "stuck": f"stuck {case.get('state')} {case.get('letter')} {steps}\n"}
+    wanted = {
+        "halted": f"halted {steps}\noutput ={case.get('output')}\n",
+        "running": f"running {most}\n",
+        "stuck": f"stuck {case.get('state')} {case.get('letter')} {steps}\n",
+    }
     assert text == wanted[case["outcome"]]
 
 
@@ -131,7 +139,7 @@ def test_its_circuit_answers_in_the_window_that_is_found(name, case, answering):
         assert quadruples == case["quadruple steps"] and lines[-1] == f"output ={case['output']}"
     else:
         told += [f"exit stuck {case['state']} {case['letter']}", f"steps {case['element steps']}"]
-    assert lines[:len(told)] == told
+    assert lines[: len(told)] == told
 
 
 @pytest.mark.engine
@@ -208,8 +216,14 @@ MEANINGS = {
     "stuck": [("", ""), ("0101", "0101"), ("10", "10")],
     "tag": [("a" * number, "a") for number in range(1, 5)] + [("bc", "a"), ("cb", "a"), ("b", "b"), ("", "")],
 }
-TAG_SYSTEMS = [([[2, 3], [1], [1, 1, 1]], [1, 1, 1, 1]), ([[1]], [1, 1, 1]), ([[], [1]], [2, 2, 1, 1]),
-               ([[], []], [1, 2]), ([[2], [3, 1], [3]], [2, 1, 3, 2, 1]), ([[2, 3], [1], [1, 1, 1]], [1])]
+TAG_SYSTEMS = [
+    ([[2, 3], [1], [1, 1, 1]], [1, 1, 1, 1]),
+    ([[1]], [1, 1, 1]),
+    ([[], [1]], [2, 2, 1, 1]),
+    ([[], []], [1, 2]),
+    ([[2], [3, 1], [3]], [2, 1, 3, 2, 1]),
+    ([[2, 3], [1], [1, 1, 1]], [1]),
+]
 
 
 def test_each_machine_has_a_meaning():
@@ -234,8 +248,12 @@ def test_the_universal_machine_does_what_a_tag_system_does(rules, word, answerin
     assert told.splitlines()[1] == "output =" + encoded(tagged(rules, word))
 
 
-UNDOING = [("decrement", "100", "11"), ("gray", "10110", "11101"), ("ungray", "111", "101"),
-           ("reverse", "1101", "1011")]
+UNDOING = [
+    ("decrement", "100", "11"),
+    ("gray", "10110", "11101"),
+    ("ungray", "111", "101"),
+    ("reverse", "1101", "1011"),
+]
 UNDONE_BY = {"decrement": "../increment", "gray": "ungray", "ungray": "gray", "reverse": "reverse"}
 
 
@@ -249,8 +267,9 @@ def test_machines_that_undo_one_another_leave_the_output_alone(name, word, outpu
 
 
 @pytest.mark.engine
-@pytest.mark.parametrize("name, first, second", [("gray-ungray", "gray", "ungray"),
-                                                 ("increment-decrement", "../increment", "decrement")])
+@pytest.mark.parametrize(
+    "name, first, second", [("gray-ungray", "gray", "ungray"), ("increment-decrement", "../increment", "decrement")]
+)
 def test_the_files_of_pairs_are_their_tables(name, first, second, answering):
     before = places.text_of("examples", "increment.csv") if first.startswith(".") else in_standard_form(first)
     assert places.text_of(FOLDER, f"{name}.txt") == before + "%\n" + in_standard_form(second)
@@ -258,8 +277,12 @@ def test_the_files_of_pairs_are_their_tables(name, first, second, answering):
 
 def overlapping(rows):
     """The pairs of quintuples that lead to one configuration: one state, and one letter there, or two moves."""
-    return [(number, other) for number, row in enumerate(rows, 1) for other, before in enumerate(rows[:number - 1], 1)
-            if row[4] == before[4] and (row[3] != before[3] or row[2] == before[2])]
+    return [
+        (number, other)
+        for number, row in enumerate(rows, 1)
+        for other, before in enumerate(rows[: number - 1], 1)
+        if row[4] == before[4] and (row[3] != before[3] or row[2] == before[2])
+    ]
 
 
 @pytest.mark.parametrize("name", MACHINES)
@@ -278,8 +301,10 @@ def row_of(it):
     steps = f"{case['steps']}" + (f", {case['standard steps']}" if "standard steps" in case else "")
     steps = "" if case["outcome"] == "running" else steps
     elements = f"{case['elements']:,}" if "elements" in case else ""
-    return (f"| [{it['name']}]({it['name']}.csv) | {it['what']} | {it['whence']} | {it['seen']} | `={case['word']}` "
-            f"| {answer[case['outcome']]}{marks} | {steps} | {elements} |")
+    return (
+        f"| [{it['name']}]({it['name']}.csv) | {it['what']} | {it['whence']} | {it['seen']} | `={case['word']}` "
+        f"| {answer[case['outcome']]}{marks} | {steps} | {elements} |"
+    )
 
 
 @pytest.mark.parametrize("name", MACHINES)

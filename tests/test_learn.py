@@ -2,8 +2,8 @@
 
 Every link leads to a file and a head that are there. A link into the page has a title with the machine, the word and
 the moment, and the page's own reader (page/src/links.js, under node) reads just that out of it; the moment is there in
-the program's run. The plans go from the first minute to the last, with a link a row; the questions are twenty, each with
-five sentences, something to run and sources that stand in the list. The outputs are held by check/documents.
+the program's run. The plans go from the first minute to the last, with a link a row; the questions are twenty, each
+with five sentences, something to run and sources that stand in the list. The outputs are held by check/documents.
 """
 import glob
 import json
@@ -17,8 +17,11 @@ import pytest
 from hithwelor import answers
 
 FOLDERS = ["docs/learn", "examples/machines", "notebooks"]
-PAGES = sorted(os.path.relpath(path, places.TOP)
-               for folder in FOLDERS for path in glob.glob(os.path.join(places.TOP, folder, "*.md")))
+PAGES = sorted(
+    os.path.relpath(path, places.TOP)
+    for folder in FOLDERS
+    for path in glob.glob(os.path.join(places.TOP, folder, "*.md"))
+)
 LECTURES = [f"docs/learn/LECTURE-{number}.md" for number in range(1, 5)]
 QUESTIONS = "docs/learn/QUESTIONS.md"
 LINK = re.compile(r'\[[^\]]*\]\(([^()\s]+(?:\([^()]*\)[^()\s]*)*)(?: "([^"]*)")?\)')
@@ -109,8 +112,15 @@ def test_a_plan_has_a_link_for_each_of_its_minutes(page, minutes):
 @pytest.mark.parametrize("page", LECTURES)
 def test_a_lecture_says_all_that_is_needed(page):
     text = places.text_of(page)
-    wanted = ["The plan", "On the board", "Answers to what the plan asks", "In the terminal",
-              "The sheet and the exercises", "What usually goes wrong", "Sources"]
+    wanted = [
+        "The plan",
+        "On the board",
+        "Answers to what the plan asks",
+        "In the terminal",
+        "The sheet and the exercises",
+        "What usually goes wrong",
+        "Sources",
+    ]
     assert re.findall(r"(?m)^## (.*)$", text) == wanted
     assert "**Afterwards a student can**" in text and "**Before.**" in text and "../../notebooks/" in text
     assert text.count("\n$ ") >= 4
@@ -151,8 +161,12 @@ def test_the_questions_are_twenty_with_five_sentences_each():
 def test_the_sources_of_the_questions_are_in_the_list():
     listed = places.text_of(QUESTIONS).split("\n## Sources\n")[1]
     entries = [line for line in listed.splitlines() if line.startswith("- ")]
-    cited = {(name.split(" ")[0].strip(","), year) for _, _, _, told in questions() if not told.startswith("[")
-             for name, year in (part.rsplit(" ", 1) for part in told.rstrip(".").split("; "))}
+    cited = {
+        (name.split(" ")[0].strip(","), year)
+        for _, _, _, told in questions()
+        if not told.startswith("[")
+        for name, year in (part.rsplit(" ", 1) for part in told.rstrip(".").split("; "))
+    }
     for name, year in cited:
         assert any(name in entry and entry.endswith(f"{year}.") for entry in entries), (name, year)
     for entry in entries:

@@ -17,7 +17,7 @@ sys.path.insert(0, FOLDER)
 import make
 
 # Runs the code cells of a notebook in order: for each what it printed, and what its last expression shows.
-PLAIN = r'''
+PLAIN = r"""
 import ast, contextlib, io, json, socket, sys
 def closed(*_, **__):
     raise OSError("the sheets need no network")
@@ -37,7 +37,7 @@ for source in json.load(sys.stdin):
     data = {} if shown is None else {kind: show(shown) for kind, show in kinds.items() if has[kind]}
     told.append({"said": said.getvalue(), "data": data})
 json.dump(told, sys.stdout)
-'''
+"""
 
 
 def book_of(name):
@@ -86,8 +86,9 @@ def test_its_cells_run_in_a_fresh_python_without_a_network(name, answering):
     cells = code_of(book_of(name))
     env = {**os.environ, "PYTHONPATH": os.path.join(places.TOP, "python")}
     sources = json.dumps([joined(cell["source"]) for cell in cells])
-    ran = subprocess.run([sys.executable, "-B", "-c", PLAIN], input=sources, cwd=FOLDER, env=env, capture_output=True,
-                         text=True)
+    ran = subprocess.run(
+        [sys.executable, "-B", "-c", PLAIN], input=sources, cwd=FOLDER, env=env, capture_output=True, text=True
+    )
     assert ran.returncode == 0, ran.stderr
     assert json.loads(ran.stdout) == shown_by(cells)
 

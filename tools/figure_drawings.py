@@ -26,8 +26,11 @@ def wire_shapes(points, side, kind):
     """A wire with its white rim, so that crossings are seen, and its tip."""
     ink = {"past": "past", "now": "signal"}.get(kind, "wire")
     width = {"past": 2.6, "now": 4}.get(kind, 1.3)
-    return [Line(points, "paper", width + 3.4, radius=4), Line(points, ink, width, kind == "past", 4),
-            arrow_tip(points[-1], into(side), 9 if kind else 8, ink)]
+    return [
+        Line(points, "paper", width + 3.4, radius=4),
+        Line(points, ink, width, kind == "past", 4),
+        arrow_tip(points[-1], into(side), 9 if kind else 8, ink),
+    ]
 
 
 def span_shapes(box, is_marked, left, top):
@@ -43,8 +46,11 @@ def element_shapes(number, middle, bar, is_turned, is_bottom):
     x, y = middle
     half, reach = BOX // 2, BOX // 2 - 9
     ends = [(x - reach, y), (x + reach, y)] if bar == "H" else [(x, y - reach), (x, y + reach)]
-    return [Box(x - half, y - half, BOX, BOX, "paper", "ink", 3.6 if is_turned else 1.3, 12 if is_bottom else 5),
-            Line(ends, "ink", 5), Words(x - half + 4, y - half + 12, str(number), "start", 10 if number > 99 else 12)]
+    return [
+        Box(x - half, y - half, BOX, BOX, "paper", "ink", 3.6 if is_turned else 1.3, 12 if is_bottom else 5),
+        Line(ends, "ink", 5),
+        Words(x - half + 4, y - half + 12, str(number), "start", 10 if number > 99 else 12),
+    ]
 
 
 def stub_shapes(plan, line, way, name, kind, left, top):
@@ -114,8 +120,10 @@ def label_shapes(x, y, labels):
     shapes, top = [], y - 6.5 * (len(labels) - 1)
     for place, label in enumerate(labels):
         width = 6.1 * len(label) + 4
-        shapes += [Box(x - width / 2, top + 13 * place - 7, width, 13, "paper", ""),
-                   Words(x, top + 13 * place + 4, label, size=11)]
+        shapes += [
+            Box(x - width / 2, top + 13 * place - 7, width, 13, "paper", ""),
+            Words(x, top + 13 * place + 4, label, size=11),
+        ]
     return shapes
 
 
@@ -128,7 +136,7 @@ def arrow_shapes(start, goal, bend):
     begin = (start[0] + out[0] * STATE, start[1] + out[1] * STATE)
     tip_at = (goal[0] + home[0] * (STATE + 1), goal[1] + home[1] * (STATE + 1))
     end = (tip_at[0] + home[0] * 6, tip_at[1] + home[1] * 6)
-    curve = [begin, *(tuple(a + (m - a) * .6 for a, m in zip(point, middle)) for point in (begin, end)), end]
+    curve = [begin, *(tuple(a + (m - a) * 0.6 for a, m in zip(point, middle)) for point in (begin, end)), end]
     half = tuple((a + 3 * b + 3 * c + d) / 8 for a, b, c, d in zip(*curve))
     return [Line(curve, "wire", 1.5, is_curved=True), arrow_tip(tip_at, (-home[0], -home[1]), 9)], half
 
@@ -137,26 +145,30 @@ def loop_shapes(at, away, count):
     """The arrow from a state to itself, on the side that is away from the middle; and where its labels stand."""
     (x, y), (dx, dy) = at, away
     aside, far = (-dy, dx), STATE + 44
-    begin = (x + dx * STATE * .86 + aside[0] * STATE * .5, y + dy * STATE * .86 + aside[1] * STATE * .5)
-    tip_at = (x + dx * STATE * .86 - aside[0] * STATE * .5, y + dy * STATE * .86 - aside[1] * STATE * .5)
+    begin = (x + dx * STATE * 0.86 + aside[0] * STATE * 0.5, y + dy * STATE * 0.86 + aside[1] * STATE * 0.5)
+    tip_at = (x + dx * STATE * 0.86 - aside[0] * STATE * 0.5, y + dy * STATE * 0.86 - aside[1] * STATE * 0.5)
     first = (x + dx * far + aside[0] * 26, y + dy * far + aside[1] * 26)
     second = (x + dx * far - aside[0] * 26, y + dy * far - aside[1] * 26)
     home = unit(tip_at[0] - second[0], tip_at[1] - second[1])
     end = (tip_at[0] - home[0] * 6, tip_at[1] - home[1] * 6)
     high = STATE + 40 + 6.5 * (count - 1) * abs(dy) + 8 * abs(dx)
-    return [Line([begin, first, second, end], "wire", 1.5, is_curved=True), arrow_tip(tip_at, home, 9)], \
-        (x + dx * high, y + dy * high)
+    return [Line([begin, first, second, end], "wire", 1.5, is_curved=True), arrow_tip(tip_at, home, 9)], (
+        x + dx * high,
+        y + dy * high,
+    )
 
 
 def state_shapes(at, name, is_start, is_final):
     """A state with its name; the one in which it halts has two rings, and an arrow leads to the first one."""
     (x, y), size = at, min(12, 2 * STATE * 1.55 / max(1, len(name)))
-    shapes = [Disc(x, y, STATE, "paper", "ink", 1.5), Words(x, y + size * .33, name, size=size)]
+    shapes = [Disc(x, y, STATE, "paper", "ink", 1.5), Words(x, y + size * 0.33, name, size=size)]
     if is_final:
         shapes.insert(1, Disc(x, y, STATE - 4, "", "ink", 1.2))
     if is_start:
-        shapes += [Line([(x - STATE - 26, y), (x - STATE - 8, y)], "ink", 1.5),
-                   arrow_tip((x - STATE - 1, y), (1, 0), 9, "ink")]
+        shapes += [
+            Line([(x - STATE - 26, y), (x - STATE - 8, y)], "ink", 1.5),
+            arrow_tip((x - STATE - 1, y), (1, 0), 9, "ink"),
+        ]
     return shapes
 
 
@@ -216,8 +228,9 @@ def tape_shapes(tape, x, y, width):
     shapes, head = [], []
     for place, symbol in enumerate(tape.symbols):
         left, is_head = x + place * width, tape.first + place == tape.head
-        cell = Box(left, y, width, 24, "paper" if symbol == "_" else "full", "ink" if is_head else "rim",
-                   2.4 if is_head else 1)
+        cell = Box(
+            left, y, width, 24, "paper" if symbol == "_" else "full", "ink" if is_head else "rim", 2.4 if is_head else 1
+        )
         words = Words(left + width / 2, y + 16, symbol, ink="quiet" if symbol == "_" else "ink")
         (head if is_head else shapes).extend([cell, words])
         if is_head:
@@ -252,13 +265,16 @@ def hill_scene(views, made):
         x, high = left + number * step, tall * length / greatest
         scene.add(Box(x, top, step, tall, view.stage, ""))
         if length:
-            scene.add(Box(x, top + tall - high, step * .86, high, "hill", ""))
+            scene.add(Box(x, top + tall - high, step * 0.86, high, "hill", ""))
         if view.stage != before:
             scene.add(Line([(x, top - 16), (x, top + tall)], "quiet", 1), Words(x + 4, top - 6, view.stage, "start"))
         before = view.stage
     foot = top + tall
-    scene.add(Line([(left, foot), (left + step * len(views), foot)], "ink", 1), Words(left - 5, foot + 4, "0", "end"),
-              Words(left - 5, top + 9, str(max(lengths)), "end"),
-              Words(left + step * len(views), foot + 18, f"{len(views)} moments", "end"))
+    scene.add(
+        Line([(left, foot), (left + step * len(views), foot)], "ink", 1),
+        Words(left - 5, foot + 4, "0", "end"),
+        Words(left - 5, top + 9, str(max(lengths)), "end"),
+        Words(left + step * len(views), foot + 18, f"{len(views)} moments", "end"),
+    )
     assert all(view.stage in STAGES for view in views)
     return scene

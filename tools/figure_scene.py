@@ -5,12 +5,40 @@ them in colour, GREYS for print in black and white, where nothing is told by a c
 """
 from dataclasses import dataclass, field
 
-PALETTE = {"ink": "222222", "paper": "FFFFFF", "pale": "F3F5F7", "rim": "B9C2CB", "wire": "4F7396", "past": "D9822B",
-           "signal": "C0272B", "marked": "FBE2AE", "mark": "8A5A00", "quiet": "888888", "full": "E9E9E9",
-           "compute": "DBE8F7", "copy": "FDEEBF", "retrace": "DCEFD6", "hill": "444455"}
-GREYS = {"ink": "000000", "paper": "FFFFFF", "pale": "F4F4F4", "rim": "AAAAAA", "wire": "444444", "past": "444444",
-         "signal": "000000", "marked": "D0D0D0", "mark": "000000", "quiet": "777777", "full": "E2E2E2",
-         "compute": "F2F2F2", "copy": "D4D4D4", "retrace": "F2F2F2", "hill": "333333"}
+PALETTE = {
+    "ink": "222222",
+    "paper": "FFFFFF",
+    "pale": "F3F5F7",
+    "rim": "B9C2CB",
+    "wire": "4F7396",
+    "past": "D9822B",
+    "signal": "C0272B",
+    "marked": "FBE2AE",
+    "mark": "8A5A00",
+    "quiet": "888888",
+    "full": "E9E9E9",
+    "compute": "DBE8F7",
+    "copy": "FDEEBF",
+    "retrace": "DCEFD6",
+    "hill": "444455",
+}
+GREYS = {
+    "ink": "000000",
+    "paper": "FFFFFF",
+    "pale": "F4F4F4",
+    "rim": "AAAAAA",
+    "wire": "444444",
+    "past": "444444",
+    "signal": "000000",
+    "marked": "D0D0D0",
+    "mark": "000000",
+    "quiet": "777777",
+    "full": "E2E2E2",
+    "compute": "F2F2F2",
+    "copy": "D4D4D4",
+    "retrace": "F2F2F2",
+    "hill": "333333",
+}
 
 
 @dataclass
@@ -88,5 +116,5 @@ class Scene:
 def arrow_tip(point, direction, size=8, ink="wire"):
     """The tip of an arrow that comes to this point in this direction, of length one."""
     (x, y), (dx, dy) = point, direction
-    back, half = (x - dx * size, y - dy * size), size * .44
+    back, half = (x - dx * size, y - dy * size), size * 0.44
     return Area([(x, y), (back[0] - dy * half, back[1] + dx * half), (back[0] + dy * half, back[1] - dx * half)], ink)

@@ -9,11 +9,14 @@ from figure_scene import GREYS, PALETTE, Area, Box, Disc, Line, Words
 from workbench_text import Fault
 
 KINDS = ["svg", "tikz", "pdf"]
-FAMILIES = {"sans": ("sans-serif", "Helvetica", "Helvetica-Bold"), "serif": ("serif", "Times-Roman", "Times-Bold"),
-            "mono": ("monospace", "Courier", "Courier-Bold")}
-POINTS = .75
+FAMILIES = {
+    "sans": ("sans-serif", "Helvetica", "Helvetica-Bold"),
+    "serif": ("serif", "Times-Roman", "Times-Bold"),
+    "mono": ("monospace", "Courier", "Courier-Bold"),
+}
+POINTS = 0.75
 # How far the middle of a quarter of a circle is from its ends, as a cubic curve has it.
-ROUND = .5523
+ROUND = 0.5523
 # Widths of letters, as shares of the size, roughly: PDF places words by them, and no more than that.
 NARROW, WIDE = "iljtf.,:;'|()[]-_ ", "mwMW"
 
@@ -41,7 +44,7 @@ def rounded_pieces(line):
 def toward(start, goal, far):
     """The point so far from the start toward the goal, at most half the way."""
     dx, dy = goal[0] - start[0], goal[1] - start[1]
-    length = (dx * dx + dy * dy) ** .5
+    length = (dx * dx + dy * dy) ** 0.5
     part = min(far, length / 2) / length if length else 0
     return start[0] + dx * part, start[1] + dy * part
 
@@ -58,8 +61,12 @@ def written(scene, kind, is_grey=False, font="sans"):
 def add_style(parser):
     """The options of how a figure looks."""
     parser.add_argument("--grey", action="store_true", help="a figure in black and white")
-    parser.add_argument("--font", metavar="NAME", default="sans",
-                        help="the font of a figure: sans, serif, mono, in SVG any family; TikZ has the document's own")
+    parser.add_argument(
+        "--font",
+        metavar="NAME",
+        default="sans",
+        help="the font of a figure: sans, serif, mono, in SVG any family; TikZ has the document's own",
+    )
 
 
 # ---- SVG
@@ -75,8 +82,10 @@ def svg_line(it, colours):
             told = " ".join(f"{number(x)},{number(y)}" for x, y in points)
             way += (" L" if kind == "to" and way != "M" else " Q" if kind == "bend" else "") + told
     dash = ' stroke-dasharray="6 3"' if it.is_dashed else ""
-    return (f'<path d="{way}" fill="none" stroke="#{colours[it.ink]}" stroke-width="{number(it.width)}" '
-            f'stroke-linejoin="round"{dash}/>')
+    return (
+        f'<path d="{way}" fill="none" stroke="#{colours[it.ink]}" stroke-width="{number(it.width)}" '
+        f'stroke-linejoin="round"{dash}/>'
+    )
 
 
 def svg_paint(it, colours):
@@ -106,16 +115,26 @@ def svg_of(scene, is_grey=False, font="sans"):
     colours, family = colours_of(is_grey), FAMILIES.get(font, (font,))[0]
     body = "\n".join(svg_shape(it, colours) for it in scene.shapes)
     width, height = number(scene.width), number(scene.height)
-    return (f'<svg xmlns="http://www.w3.org/2000/svg" width="{width}" height="{height}" viewBox="0 0 {width} {height}" '
-            f'font-family="{html.escape(family)}" role="img">\n'
-            f"<desc>{html.escape(scene.made)}</desc>\n{body}\n</svg>\n")
+    return (
+        f'<svg xmlns="http://www.w3.org/2000/svg" width="{width}" height="{height}" viewBox="0 0 {width} {height}" '
+        f'font-family="{html.escape(family)}" role="img">\n'
+        f"<desc>{html.escape(scene.made)}</desc>\n{body}\n</svg>\n"
+    )
 
 
 # ---- TikZ
 
-SPECIAL = {"\\": r"\textbackslash{}", "~": r"\textasciitilde{}", "^": r"\textasciicircum{}", "<": r"\textless{}",
-           ">": r"\textgreater{}", "|": r"\textbar{}", '"': r"\textquotedbl{}", "`": r"\textasciigrave{}",
-           **{letter: "\\" + letter for letter in "#$%&_{}"}}
+SPECIAL = {
+    "\\": r"\textbackslash{}",
+    "~": r"\textasciitilde{}",
+    "^": r"\textasciicircum{}",
+    "<": r"\textless{}",
+    ">": r"\textgreater{}",
+    "|": r"\textbar{}",
+    '"': r"\textquotedbl{}",
+    "`": r"\textasciigrave{}",
+    **{letter: "\\" + letter for letter in "#$%&_{}"},
+}
 ANCHORS = {"start": "base west", "middle": "base", "end": "base east"}
 
 
@@ -155,15 +174,19 @@ def tikz_shape(it):
     if isinstance(it, Box):
         corners = f",rounded corners={number(it.radius * POINTS)}bp" if it.radius else ""
         far = (it.x + it.width, it.y + it.height)
-        return (rf"\path[{tikz_paint(it)}{corners}] ({number(it.x)},{number(it.y)}) "
-                f"rectangle ({number(far[0])},{number(far[1])});")
+        return (
+            rf"\path[{tikz_paint(it)}{corners}] ({number(it.x)},{number(it.y)}) "
+            f"rectangle ({number(far[0])},{number(far[1])});"
+        )
     if isinstance(it, Disc):
         at, radius = f"({number(it.x)},{number(it.y)})", number(it.radius * POINTS)
         return rf"\path[{tikz_paint(it)}] {at} circle[radius={radius}bp];"
     bold = r",font=\bfseries" if it.is_bold else ""
     scale = number(it.size / 12)
-    return (rf"\node[anchor={ANCHORS[it.anchor]},inner sep=0pt,text=hithwelor{it.ink},scale={scale}{bold}] "
-            rf"at ({number(it.x)},{number(it.y)}) {{\hithwelorsize {tex(it.text)}}};")
+    return (
+        rf"\node[anchor={ANCHORS[it.anchor]},inner sep=0pt,text=hithwelor{it.ink},scale={scale}{bold}] "
+        rf"at ({number(it.x)},{number(it.y)}) {{\hithwelorsize {tex(it.text)}}};"
+    )
 
 
 def tikz_of(scene, is_grey=False):
@@ -173,17 +196,19 @@ def tikz_of(scene, is_grey=False):
     used = sorted({name for it in scene.shapes for name in (getattr(it, "ink", ""), getattr(it, "fill", "")) if name})
     defined = "".join(rf"\definecolor{{hithwelor{name}}}{{HTML}}{{{colours[name]}}}" + "%\n" for name in used)
     body = "\n".join(tikz_shape(it) for it in scene.shapes)
-    return (f"% {scene.made}\n{defined}\\providecommand\\hithwelorsize{{\\fontsize{{9}}{{10}}\\selectfont}}%\n"
-            f"\\begin{{tikzpicture}}[x={POINTS}bp,y=-{POINTS}bp]\n"
-            f"\\useasboundingbox (0,0) rectangle ({number(scene.width)},{number(scene.height)});\n{body}\n"
-            "\\end{tikzpicture}%\n")
+    return (
+        f"% {scene.made}\n{defined}\\providecommand\\hithwelorsize{{\\fontsize{{9}}{{10}}\\selectfont}}%\n"
+        f"\\begin{{tikzpicture}}[x={POINTS}bp,y=-{POINTS}bp]\n"
+        f"\\useasboundingbox (0,0) rectangle ({number(scene.width)},{number(scene.height)});\n{body}\n"
+        "\\end{tikzpicture}%\n"
+    )
 
 
 # ---- PDF
 
 
 def pdf_colour(name, colours, operator):
-    red, green, blue = (int(colours[name][place:place + 2], 16) / 255 for place in (0, 2, 4))
+    red, green, blue = (int(colours[name][place : place + 2], 16) / 255 for place in (0, 2, 4))
     return f"{number(red)} {number(green)} {number(blue)} {operator}"
 
 
@@ -192,8 +217,10 @@ def pdf_paint(it, colours):
     said = [pdf_colour(it.fill, colours, "rg")] if it.fill else []
     if it.ink:
         said += [pdf_colour(it.ink, colours, "RG"), f"{number(it.stroke)} w"]
-    return " ".join(said), {(True, True): "B", (True, False): "f", (False, True): "S", (False, False): "n"}[
-        bool(it.fill), bool(it.ink)]
+    return (
+        " ".join(said),
+        {(True, True): "B", (True, False): "f", (False, True): "S", (False, False): "n"}[bool(it.fill), bool(it.ink)],
+    )
 
 
 def pdf_points(points):
@@ -221,28 +248,32 @@ def pdf_round(x, y, width, height, radius):
     """The way around a rectangle with round corners; a circle is one that is all corners."""
     right, low, k = x + width, y + height, radius * (1 - ROUND)
     r = radius
-    return (f"{pdf_points([(x + r, y)])} m {pdf_points([(right - r, y)])} l "
-            f"{pdf_points([(right - k, y), (right, y + k), (right, y + r)])} c {pdf_points([(right, low - r)])} l "
-            f"{pdf_points([(right, low - k), (right - k, low), (right - r, low)])} c {pdf_points([(x + r, low)])} l "
-            f"{pdf_points([(x + k, low), (x, low - k), (x, low - r)])} c {pdf_points([(x, y + r)])} l "
-            f"{pdf_points([(x, y + k), (x + k, y), (x + r, y)])} c h")
+    return (
+        f"{pdf_points([(x + r, y)])} m {pdf_points([(right - r, y)])} l "
+        f"{pdf_points([(right - k, y), (right, y + k), (right, y + r)])} c {pdf_points([(right, low - r)])} l "
+        f"{pdf_points([(right, low - k), (right - k, low), (right - r, low)])} c {pdf_points([(x + r, low)])} l "
+        f"{pdf_points([(x + k, low), (x, low - k), (x, low - r)])} c {pdf_points([(x, y + r)])} l "
+        f"{pdf_points([(x, y + k), (x + k, y), (x + r, y)])} c h"
+    )
 
 
 def width_of(text, size, is_mono):
     """About how wide words are: PDF has no anchors."""
     if is_mono:
-        return .6 * size * len(text)
-    shares = (.29 if it in NARROW else .86 if it in WIDE else .68 if it.isupper() else .54 for it in text)
+        return 0.6 * size * len(text)
+    shares = (0.29 if it in NARROW else 0.86 if it in WIDE else 0.68 if it.isupper() else 0.54 for it in text)
     return size * sum(shares)
 
 
 def pdf_words(it, colours, font):
     said = it.text.encode("cp1252", errors="replace")
     said = b"".join(b"\\" + bytes([it]) if it in b"()\\" else bytes([it]) for it in said).decode("cp1252")
-    back = {"start": 0, "middle": .5, "end": 1}[it.anchor] * width_of(it.text, it.size, font == "mono")
+    back = {"start": 0, "middle": 0.5, "end": 1}[it.anchor] * width_of(it.text, it.size, font == "mono")
     name = "FB" if it.is_bold else "FR"
-    return (f"{pdf_colour(it.ink, colours, 'rg')} BT /{name} {number(it.size)} Tf 1 0 0 -1 {number(it.x - back)} "
-            f"{number(it.y)} Tm ({said}) Tj ET")
+    return (
+        f"{pdf_colour(it.ink, colours, 'rg')} BT /{name} {number(it.size)} Tf 1 0 0 -1 {number(it.x - back)} "
+        f"{number(it.y)} Tm ({said}) Tj ET"
+    )
 
 
 def pdf_shape(it, colours, font):
@@ -268,18 +299,27 @@ def pdf_of(scene, is_grey=False, font="sans"):
     width, height = scene.width * POINTS, scene.height * POINTS
     drawn = [f"{POINTS} 0 0 -{POINTS} 0 {number(height)} cm", *(pdf_shape(it, colours, font) for it in scene.shapes)]
     content = "\n".join(drawn).encode("cp1252")
-    objects = [b"<< /Type /Catalog /Pages 2 0 R >>", b"<< /Type /Pages /Kids [3 0 R] /Count 1 >>",
-               (f"<< /Type /Page /Parent 2 0 R /MediaBox [0 0 {number(width)} {number(height)}] "
-                "/Resources << /Font << /FR 5 0 R /FB 6 0 R >> >> /Contents 4 0 R >>").encode(),
-               f"<< /Length {len(content)} >>\nstream\n".encode() + content + b"\nendstream",
-               *(f"<< /Type /Font /Subtype /Type1 /BaseFont /{base} /Encoding /WinAnsiEncoding >>".encode()
-                 for base in (plain, bold))]
+    objects = [
+        b"<< /Type /Catalog /Pages 2 0 R >>",
+        b"<< /Type /Pages /Kids [3 0 R] /Count 1 >>",
+        (
+            f"<< /Type /Page /Parent 2 0 R /MediaBox [0 0 {number(width)} {number(height)}] "
+            "/Resources << /Font << /FR 5 0 R /FB 6 0 R >> >> /Contents 4 0 R >>"
+        ).encode(),
+        f"<< /Length {len(content)} >>\nstream\n".encode() + content + b"\nendstream",
+        *(
+            f"<< /Type /Font /Subtype /Type1 /BaseFont /{base} /Encoding /WinAnsiEncoding >>".encode()
+            for base in (plain, bold)
+        ),
+    ]
     data, places = b"%PDF-1.4\n", []
     for count, it in enumerate(objects, 1):
         places.append(len(data))
         data += f"{count} 0 obj\n".encode() + it + b"\nendobj\n"
     table = "".join(f"{place:010} 00000 n \n" for place in places)
     count = len(objects) + 1
-    tail = (f"xref\n0 {count}\n0000000000 65535 f \n{table}trailer\n<< /Size {count} /Root 1 0 R >>\n"
-            f"startxref\n{len(data)}\n%%EOF\n")
+    tail = (
+        f"xref\n0 {count}\n0000000000 65535 f \n{table}trailer\n<< /Size {count} /Root 1 0 R >>\n"
+        f"startxref\n{len(data)}\n%%EOF\n"
+    )
     return data + tail.encode()
