@@ -17,7 +17,7 @@ FRONT = "tools/front.sh"
 FORMATS = "docs/FORMATS.md"
 MAN_PAGE = "docs/workbench.1"
 # The kind of word that stands for each letter of a form.
-KINDS = {"=W": "Letters", "auto": "Auto", "E": "Count greatest", "Q": "Ordinal MOST_COUNT", "I": "Ordinal MOST_COUNT", "k": "Ordinal MOST_INCREMENTS",
+KINDS = {**dict.fromkeys(["=W", "=W1", "=W2", "=W3"], "Letters"), "auto": "Auto", "E": "Count greatest", "Q": "Ordinal MOST_COUNT", "I": "Ordinal MOST_COUNT", "k": "Ordinal MOST_INCREMENTS",
          **dict.fromkeys(["l1", "r1", "n", "r3"], "Count MOST_COUNT")}
 # Words that have no form, and what is said to them in one line.
 FAULTS = [
@@ -47,6 +47,8 @@ FAULTS = [
     (["run", "=1011", "0"], "auto is the one word that may stand for 0"),
     (["realise", "0", "1"], "Q is at least 1"),
     (["generate", "5"], "k is at most 4"),
+    (["moments", "=1", "=", "1", "5"], "the word needs a = before it: =1"),
+    (["moments", "=1", "=", "5"], "as many words are wanted as in `moments =W n` or `moments =W1 =W2 =W3 n`"),
     (["machine", "=1011"], "as many words are wanted as in `machine =W n`"),
     (["erase", "=1"], "as many words are wanted as in `erase` or `erase =W n`"),
 ]
@@ -65,7 +67,7 @@ def cases():
     """The cases of the program's table: each with its command's name, the words behind it, and what is allowed."""
     text = text_of(TABLE)
     allowed = dict(re.findall(r"^IsAllowed \(?(\w+)\b.*? = (.*)$", text, flags=re.M))
-    for case, name, words in re.findall(r'^words_of \(?(\w+).*? = codes "(\w+)" ∷ (.*)$', text, flags=re.M):
+    for case, name, words in re.findall(r'^words_of \(?(\w+).*? =\s+codes "(\w+)" ∷ (.*)$', text, flags=re.M):
         yield case, name, words, allowed.get(case, "")
 
 
@@ -80,7 +82,7 @@ def rows():
         given = re.sub(r"steps_words given$", "decimal e ∷ []", words)
         for form in dict.fromkeys([re.sub(r"\(?steps_words given$", "[]", words), given]):
             kinds = []
-            for mark, number in re.findall(r'(\(61 ∷ word\)|codes "auto"|decimal ([\w.]+))', form):
+            for mark, number in re.findall(r'(\(61 ∷ \w+\)|codes "auto"|decimal ([\w.]+))', form):
                 kinds.append(kind_of(re.escape(number), allowed) if number else "Letters" if mark[0] == "(" else "Auto")
             found.append((name, *kinds))
     return found

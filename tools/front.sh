@@ -112,7 +112,7 @@ is_above() {
 find_fault_of_word() {
     local letter=$1 word=$2 digits
     fault=
-    if [[ $letter = =W ]]; then
+    if [[ $letter = =W* ]]; then
         [[ $word = =* ]] || fault="the word needs a = before it: =$word"
     elif [[ $letter = auto ]]; then
         [[ $word = auto ]] || fault="auto is the one word that may stand for $word"
@@ -201,7 +201,7 @@ tell_refusal() {
     4)
         where="\`machine:\` and a demand"
         what="its machine isn't in standard form; where it starts on the first letter of its word, \`standard\` helps"
-        [[ $command = standard || $command = realise ]] && what="its machine isn't one that $command takes"
+        [[ $command = standard || $command = realise || $command = moments ]] && what="its machine isn't one that $command takes"
         ;;
     5) what="the word has a letter that the table hasn't" where="\`word:\` and \`size:\`"
         [ "$command" = realise ] && what="the machine has no such state or line" ;;
