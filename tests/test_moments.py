@@ -14,7 +14,7 @@ import pytest
 from hithwelor import answers
 
 from test_ends import BLANK, SHIFTS
-from test_traces import drawn_quadruples, drawn_run, table_of, turned
+from test_traces import drawn_quadruples, drawn_run, table_of
 
 # How many machines and tables are drawn by themselves.
 NUMBER = 150
@@ -108,13 +108,27 @@ def test_words_on_three_tapes(words_of_three, answering):
 
 
 @pytest.mark.engine
-def test_what_has_halted_is_led_back_by_the_inverse(answering):
-    """A machine that writes its word's mirror on tape 2 and leaves tape 1 blank; its inverse brings the word back."""
-    table = b"S,/,/,/,+,+,0,A\nA,1,_,/,_,1,0,B\nB,/,/,/,+,+,0,A\nA,_,_,/,_,_,0,H\n"
+def test_the_inverse_goes_through_the_same_moments_backward(run, answering):
+    rows, word, most = run
+    table = answers.answer(["bennett"], table_of(rows).encode())[1]
+    status, text = answers.answer(["moments", f"={word}", str(4 * most)], table)
+    forth = text.decode().splitlines()
+    if status:
+        return
+    output = answers.answer(["machine", f"={word}", str(most)], table_of(rows).encode())[1].decode().split("output =")[1].strip()
+    status, text = answers.answer(["moments", f"={word}", "=", f"={output}", str(4 * most)], answers.answer(["inverse"], table)[1])
+    back = text.decode().splitlines()
+    assert status == 0 and back[-1] == forth[-1]
+    said = lambda line: line.split(" ", 1)[1].split(" rule ")[0]
+    assert [said(line) for line in back[-2::-1]] == [said(line) for line in forth[:-1]]
+
+
+@pytest.mark.engine
+def test_a_word_is_moved_to_another_tape(answering):
+    table = b"S,/,_,/,+,_,0,A\nA,1,/,/,_,+,0,B\nB,/,_,/,+,1,0,A\nA,_,/,/,_,0,0,H\n"
     status, text = answers.answer(["moments", "=11", "50"], table)
-    lines = text.decode().splitlines()
-    assert status == 0 and lines[-2] == "6 H tape 1 from 3 head 3 cells 1: _ tape 2 from 1 head 3 cells 3: 1 1 _ tape 3 from 0 head 0 cells 1: _"
-    assert answers.answer(["inverse"], table)[1] == table_of([turned(row) for row in reversed(rows_of(table))]).encode()
+    assert status == 0 and text.decode().splitlines()[-2:] == [
+        "6 H tape 1 from 3 head 3 cells 1: _ tape 2 from 1 head 2 cells 2: 1 1 tape 3 from 0 head 0 cells 1: _", "halted 6"]
 
 
 @pytest.mark.engine
