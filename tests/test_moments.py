@@ -3,12 +3,14 @@
 Of drawn machines in standard form the reversible machine is run that `bennett` prints; of drawn tables of quadruples those
 that pass both tests, from a word on each tape, and the inverse of what has halted, which leads back. Each line is compared:
 the state, the cells of each tape from the first to the last that isn't blank or has the head, the number of the quadruple that
-comes next, and how the run comes out.
+comes next, and how the run comes out. And where a drawn machine halts soon, its circuit is played from moment to moment by a
+session, with a breakpoint in each state: each view shows the state and the tapes that `moments` tells.
 
 The answers are the library's, or those of node by bin/hithwelor; where neither is here all is skipped. `--drawn N` draws so
 many, and `--seed S` others.
 """
 import random
+import re
 
 import pytest
 from hithwelor import answers
@@ -16,8 +18,12 @@ from hithwelor import answers
 from test_ends import BLANK, SHIFTS
 from test_traces import drawn_quadruples, drawn_run, table_of
 
-# How many machines and tables are drawn by themselves.
+# How many machines and tables are drawn by themselves, and how many whose circuits are played.
 NUMBER = 150
+PLAYED = 200
+# The most steps of the reversible machine whose circuit is played.
+SOON = 60
+TAPE = r"tape (\d) from (-?\d+) head (-?\d+)(?: cells \d+)?:((?: (?!tape |rule )\S+)+)"
 
 
 def shown(cells, head):
@@ -68,6 +74,21 @@ def drawn_words(draw):
     rows = drawn_quadruples(draw)
     words = ["".join(draw.choice("ab") for _ in range(draw.randrange(4))) for _ in range(3)]
     return rows, words, draw.choice([0, 1, 2, 5, 30])
+
+
+def places(line):
+    """What the tapes hold by a line, or by lines: of each the head, and the symbols but for the blank, by their places."""
+    return {tape: (int(head), {int(first) + number: symbol for number, symbol in enumerate(symbols.split()) if symbol != BLANK})
+            for tape, first, head, symbols in re.findall(TAPE, line)}
+
+
+def drawn_soon(draw):
+    """A machine that halts soon, with its word and its table."""
+    while True:
+        rows, word, _ = drawn_run(draw)
+        status, lines = told(rows_of(answers.answer(["bennett"], table_of(rows).encode())[1]), [word, "", ""], SOON)
+        if status == 0:
+            return rows, word, lines
 
 
 def pytest_generate_tests(metafunc):
@@ -160,3 +181,21 @@ def test_a_long_run_has_a_line_each_moment(answering):
     lines = text.decode().splitlines()
     assert status == 12 and len(lines) == 100_002 and lines[-1] == "running 100000"
     assert lines[-2].startswith("100000 A tape 1 from 50000 head 50000 cells 1: _ tape 2 from 0 head 0 cells 1: _ tape 3 from -50000")
+
+
+@pytest.mark.engine
+def test_sessions_show_the_same_moments(answering, request):
+    draw = random.Random(request.config.getoption("--seed"))
+    for _ in range(request.config.getoption("--drawn") or PLAYED):
+        rows, word, _ = drawn_soon(draw)
+        table = table_of(rows).encode()
+        reversible = answers.answer(["bennett"], table)[1]
+        moments = answers.answer(["moments", f"={word}", str(SOON)], reversible)[1].decode().splitlines()[:-1]
+        window = answers.answer(["run", f"={word}", "auto"], table)[1].decode().split("\n")[0].split()[1:]
+        states = dict.fromkeys(name for row in rows_of(reversible) for name in (row[0], row[7]))
+        breaks = [f"break s{number} state {name}" for number, name in enumerate(states)]
+        script = "\n".join([*breaks, *["go 4000000000\nview"] * len(moments)]) + "\n"
+        played = answers.answer(["session", f"={word}", *window], table + b"%\n" + script.encode())[1].decode().splitlines()
+        views = [played[at:at + 7] for at in range(len(breaks) + 1, len(played), 8)]
+        assert [view[2].split()[1] for view in views] == [line.split()[1] for line in moments], f"{word} of {table!r}"
+        assert [places("\n".join(view[3:6])) for view in views] == [places(line) for line in moments], f"{word} of {table!r}"
