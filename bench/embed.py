@@ -14,10 +14,10 @@ import time
 
 sys.dont_write_bytecode = True
 TOP = os.path.dirname(os.path.dirname(os.path.abspath(__file__)))
-sys.path[:0] = [os.path.join(TOP, part) for part in ("check", "python", "tools")]
+sys.path[:0] = [os.path.join(TOP, part) for part in ("tests", "python", "tools")]
 from browser import Browser, browser_at_hand
-from counting import proved_program
 from hithwelor import answers
+from places import told_program
 
 TIMES = 5
 CASES = [["run", "=1011", "0", "5", "11", "5"], ["generate", "4"], ["run", "=1011", "0", "5", "6140", "5"],
@@ -71,7 +71,7 @@ class Page(Browser):
 
 
 def main():
-    program, path, node, browser = proved_program(), answers.library_path(), shutil.which("node"), browser_at_hand()
+    program, path, node, browser = told_program(), answers.library_path(), shutil.which("node"), browser_at_hand()
     with open(os.path.join(TOP, "examples", "increment.csv"), "rb") as file:
         increment = file.read()
     page = Page(browser).__enter__() if browser else None

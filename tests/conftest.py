@@ -5,6 +5,7 @@ What isn't there is skipped by its name, with what would bring it.
 import os
 import shutil
 import sys
+from collections import Counter
 
 import pytest
 
@@ -12,6 +13,7 @@ sys.dont_write_bytecode = True
 sys.path.insert(0, os.path.dirname(os.path.abspath(__file__)))
 
 import places
+import shared
 
 LACKING = "{} isn't installed: tools/setup"
 
@@ -89,6 +91,8 @@ def pytest_addoption(parser):
     parser.addoption("--drawn", metavar="N", type=int, help="how many runs are drawn where a test draws them")
     parser.addoption("--seed", metavar="S", type=int, default=1, help="other runs are drawn")
     parser.addoption("--program", metavar="PATH", help="a program in place of the proved one, as one that was proved elsewhere")
+    parser.addoption("--every", action="store_true", help="refuse every allocation, of larger inputs too: some ten minutes")
+    parser.addoption("--closing-line", action="store_true", help="end as the gate ends: what was skipped, and one line")
 
 
 def pytest_configure(config):
@@ -99,6 +103,25 @@ def pytest_configure(config):
         os.environ["WORKBENCH_PROGRAM"] = os.path.abspath(found)
 
 
+def pytest_terminal_summary(terminalreporter):
+    """How much was compared in tests that hold many things."""
+    told = [number for report in terminalreporter.stats.get("passed", []) if report.when == "call"
+            for name, number in report.user_properties if name == "comparisons"]
+    if told:
+        terminalreporter.write_line(f"{sum(told):,} comparisons in {len(told)} tests that hold many")
+
+
+def pytest_unconfigure(config):
+    """With --closing-line: what was skipped, a line a reason, and behind everything 'N passed, M failed, K skipped'."""
+    reporter = config.pluginmanager.get_plugin("terminalreporter")
+    if config.getoption("--closing-line") and reporter and not hasattr(config, "workerinput"):
+        skipped = Counter(str(it.longrepr[2]).removeprefix("Skipped: ") for it in reporter.stats.get("skipped", []))
+        for reason, number in sorted(skipped.items()):
+            reporter.write_line(f"skipped {number}: {reason}")
+        passed, failed = (sum(len(reporter.stats.get(kind, [])) for kind in kinds) for kinds in (["passed"], ["failed", "error"]))
+        reporter.write_line(f"{passed} passed, {failed} failed, {sum(skipped.values())} skipped")
+
+
 @pytest.fixture(scope="session")
 def proved_program(pytestconfig):
     """The path of the program that is named by --program; else of the proved one, where it is that of these sources."""
@@ -106,6 +129,41 @@ def proved_program(pytestconfig):
     if not found:
         pytest.skip("the proved program isn't built: ./workbench, or tools/prove")
     return os.path.abspath(found)
+
+
+@pytest.fixture(scope="session")
+def module():
+    """The path of bin/hithwelor, the same code under node, where it is built of the sources that stand."""
+    found = places.told_program("--module")
+    if not found:
+        pytest.skip("the module can't answer: node 18 or later, and embed/build for the sources that stand")
+    return found
+
+
+@pytest.fixture(scope="session")
+def linkable():
+    """Skips the test where the shared library can't be linked of the proved static one."""
+    if not shared.compiler():
+        pytest.skip("a C compiler isn't installed: tools/setup")
+    if not shared.toolchain():
+        pytest.skip("the command rt isn't here, whose toolchain links the shared library")
+    if not shared.is_current():
+        pytest.skip("the static library isn't that of the sources that stand: tools/prove --crate bn_embed")
+
+
+@pytest.fixture(scope="session")
+def shared_library(linkable, tmp_path_factory):
+    """The path of the shared library, linked anew of the static one that stands."""
+    path = str(tmp_path_factory.mktemp("library") / "libhithwelor.so")
+    fault = shared.link(shared.toolchain(), path)
+    assert not fault, f"the shared library isn't linked: {fault[-400:]}"
+    return path
+
+
+@pytest.fixture
+def comparisons(record_property):
+    """`comparisons(N)` tells how many things a test compared that holds many; the last lines have their sum."""
+    return lambda number: record_property("comparisons", number)
 
 
 @pytest.fixture(scope="session")

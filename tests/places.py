@@ -8,8 +8,12 @@ import re
 import resource
 import shutil
 import subprocess
+import sys
 
 TOP = os.path.dirname(os.path.dirname(os.path.abspath(__file__)))
+sys.path.insert(0, os.path.join(TOP, "tools"))
+from repository import crates, rooms, text_of
+
 CACHE = os.path.join(os.environ.get("XDG_CACHE_HOME") or os.path.expanduser("~/.cache"), "hithwelor")
 # The folders of a machine's own commands, as every user has them on the path.
 SYSTEM = ["/usr/local/bin", "/usr/bin", "/bin", "/usr/sbin", "/sbin"]
@@ -32,32 +36,6 @@ output =1100
 # What ./try says of what answered.
 BY_PROGRAM, BY_MODULE = "answered by the proved program", "answered by the module, under node"
 BY_RT = "nothing is proved of this answer"
-
-
-def text_of(*path):
-    """The text of a file, by its path from the top."""
-    with open(os.path.join(TOP, *path), encoding="utf-8") as file:
-        return file.read()
-
-
-def rooms():
-    """The rooms of crates.txt in their order: (name, what it has, [crate, ..])."""
-    found = []
-    for line in text_of("crates.txt").splitlines():
-        head = re.fullmatch(r"# (\w+): (.*)", line)
-        crate = re.match(r"(\w+)(?: [\w=]+)*:", line)
-        if head:
-            found.append((head[1], head[2], []))
-        elif crate and not found:
-            found.append(("", "", [crate[1]]))
-        elif crate:
-            found[-1][2].append(crate[1])
-    return found
-
-
-def crates():
-    """The crates of crates.txt in their order."""
-    return [crate for _, _, names in rooms() for crate in names]
 
 
 def told_program(*words):

@@ -3,7 +3,7 @@
 Every link leads to a file and a head that are there. A link into the page has a title with the machine, the word and
 the moment, and the page's own reader (page/src/links.js, under node) reads just that out of it; the moment is there in
 the program's run. The plans go from the first minute to the last, with a link a row; the questions are twenty, each
-with five sentences, something to run and sources that stand in the list. The outputs are held by check/documents.
+with five sentences, something to run and sources that stand in the list. The outputs are held by test_documents.py.
 """
 import glob
 import json

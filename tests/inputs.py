@@ -1,11 +1,4 @@
-#!/usr/bin/env python3
-"""Gives every command changed inputs, and holds each answer against what any answer must be.
-
-    check/inputs [--number N] [--seed S] [--jobs J] [PROGRAM]
-
-First come inputs that a reader would try: a byte too many, a number above its limit, an entry too many, and every front of a text
-and of a table, under every command. Then inputs are drawn: an example, a drawn circuit or a drawn table, in which bytes or text
-lines were changed, dropped, doubled or exchanged, or which ends early or goes on with another.
+"""Inputs that were changed at random, under every command, and what any answer must be.
 
 Any answer has a status of docs/FORMATS.md and the form of text that the command has with it; with memory at hand it is never
 status 7, 8 or 9, nothing is on standard error, and it comes within a minute and four GiB. What is taken is held against itself
@@ -13,10 +6,18 @@ besides: `step 0` writes an accepted text again as it is; as many steps back as 
 the circuit; the undoing schedule of a farm restores its boards; Bennett's machine of a table that `check` takes is deterministic
 and reversible.
 
-The proved static library answers, linked anew, where it stands and there is a C compiler; else the proved program, or the one
-that is named, a process an answer. The same seed gives the same inputs. The last line is 'N passed, M failed': the inputs.
+An input is drawn so: an example, a drawn circuit or a drawn table, in which bytes or text lines were changed, dropped,
+doubled or exchanged, or which ends early or goes on with another. The same seed gives the same inputs.
+
+test_inputs.py runs this file as a program of its own, since an answer that takes too long or too much ends its process:
+
+    python3 tests/inputs.py SEED FIRST STRIDE COUNT [--library PATH] [PROGRAM]
+
+draws the batches FIRST, FIRST + STRIDE, .. of COUNT inputs, and prints a line of JSON for each: its place, how many inputs
+it has, how often each command came to each status, and the faults.
 """
 import argparse
+import json
 import os
 import random
 import re
@@ -24,22 +25,16 @@ import resource
 import signal
 import subprocess
 import sys
-import tempfile
-import time
 from collections import Counter
-from concurrent.futures import ProcessPoolExecutor
-from concurrent.futures.process import BrokenProcessPool
 
 sys.dont_write_bytecode = True
-from counting import TOP, Count, proved_program
+from places import TOP
 
-sys.path[:0] = [os.path.join(TOP, folder) for folder in ("embed", "python", "tools")]
+sys.path[:0] = [os.path.join(TOP, folder) for folder in ("python", "tools")]
 from hithwelor import answers
 from samples import bank, tangle, text_of
-from shared import compiler, is_current, link, toolchain
 
 BATCH, SECONDS, ROOM = 200, 60, 4 << 30
-SHORT, BY_PROCESSES = 20_000, 1_000
 DONE, USAGE, STUCK, WINDOW, INSIDE = 0, 2, 10, 11, 12
 
 N = r"(?:0|[1-9]\d*)"
@@ -235,24 +230,6 @@ CUT = [("step 1", "across.txt"), ("back 1", "two-columns.txt"), ("plan", "eight-
        ("erase =1 40", "not-twice.txt"), ("farm", "two-boards.txt")]
 
 
-def hostile(library, program):
-    """The faults of the answers to inputs that aren't drawn, and how many there are: each has the answer that is told, or the form
-    that any answer has; a front of a configuration text is refused at one of its text lines."""
-    ask, found, number = by_library(library) if library else by_program(program), [], 0
-    for line, data, status, text in HOSTILE:
-        given, number = ask(line.split(), data), number + 1
-        if given != (status, text + "\n"):
-            found.append((line.split(), data, f"{given} in place of {text!r}"))
-    for line, name in CUT:
-        words, whole = line.split(), EXAMPLES[name]
-        for size in range(len(whole)):
-            status, fault = judged(ask, words, whole[:size])
-            number += 1
-            if fault or (words[0] in TEXT_COMMANDS and status != 3):
-                found.append((words, whole[:size], fault or f"status {status} for a front of a text"))
-    return number, found
-
-
 # ---- what an answer must be
 
 def form_fault(words, status, text):
@@ -297,12 +274,10 @@ def judged(ask, words, data):
 
 # ---- who answers
 
-def by_library(path):
-    """Answers by the shared library."""
-    library = answers.Library(path)
-
+def by_way(way):
+    """Answers by the shared library, or by one process of node."""
     def ask(words, data):
-        status, text = library.answer(b"\0".join(word.encode() for word in words), data)
+        status, text = way.answer(b"\0".join(word.encode() for word in words), data)
         return status, text.decode("ascii")
     return ask
 
@@ -318,10 +293,10 @@ def by_program(program):
 
 
 def batch(library, program, seed, number):
-    """How often each command came to each status, and the faults of so many cases: (words, input, what is wrong). A case that
-    takes too long ends the process."""
+    """How often each command came to each status, and the faults of so many inputs: (words, input, what is wrong). An answer
+    that takes too long ends the process."""
     resource.setrlimit(resource.RLIMIT_AS, (ROOM, ROOM))
-    ask, draw, ends, found = by_library(library) if library else by_program(program), random.Random(seed), Counter(), []
+    ask, draw, ends, found = by_way(answers.Library(library)) if library else by_program(program), random.Random(seed), Counter(), []
     for _ in range(number):
         words, data = drawn_case(draw)
         signal.alarm(SECONDS)
@@ -333,49 +308,23 @@ def batch(library, program, seed, number):
     return ends, found
 
 
-def linked(work):
-    """The path of the shared library, linked anew of the static one, where that can be; else None."""
-    path = os.path.join(work, "libhithwelor.so")
-    kit = compiler() and toolchain()
-    return path if kit and is_current() and not link(kit, path) else None
-
-
 def main():
-    parser = argparse.ArgumentParser(description=__doc__.splitlines()[0])
-    parser.add_argument("--number", type=int, help=f"how many inputs; {SHORT:,} by the library and {BY_PROCESSES:,} by the program where it isn't said")
-    parser.add_argument("--seed", type=int, default=40, help="what they are drawn from")
-    parser.add_argument("--jobs", type=int, default=len(os.sched_getaffinity(0)), help="how many processes")
-    parser.add_argument("program", nargs="?", help="the program, in place of the library and the proved one")
-    given, count, ends, begin = parser.parse_args(), Count(), Counter(), time.monotonic()
-    with tempfile.TemporaryDirectory() as work:
-        library = None if given.program else linked(work) or os.environ.get(answers.VARIABLE)
-        program = given.program or proved_program()
-        if not library and not program:
-            sys.exit("check/inputs: neither the static library stands nor the proved program")
-        number = given.number or (SHORT if library else BY_PROCESSES)
-        fixed, found = hostile(library, program)
-        count.passed += fixed - len(found)
-        for words, data, fault in found:
-            count.hold(False, f"{' '.join(words)} on {data[:400]!r}:", f"  {fault}")
-        sizes = [min(BATCH, number - at) for at in range(0, number, BATCH)]
-        with ProcessPoolExecutor(given.jobs) as pool:
-            ran = [pool.submit(batch, library, program, f"{given.seed} {place}", size) for place, size in enumerate(sizes)]
-            for place, (size, one) in enumerate(zip(sizes, ran)):
-                try:
-                    reached, found = one.result()
-                except BrokenProcessPool:
-                    count.hold(False, f"batch {place} of seed {given.seed}: an answer took more than {SECONDS} s or ended its process")
-                    break
-                ends += reached
-                count.passed += size - len(found)
-                for words, data, fault in found:
-                    count.hold(False, f"{' '.join(words)} on {data[:400]!r}:", f"  {fault}")
-    for name in FORMS:
-        told = ", ".join(f"{status}: {ends[name, status]:,}" for status in sorted({it for what, it in ends if what == name and it is not None}))
-        print(f"{name}: {told or 'none'}")
-    print(f"by {'the library' if library else 'the program'}, after {time.monotonic() - begin:.0f} s")
-    return count.close()
+    parser = argparse.ArgumentParser(description=__doc__, formatter_class=argparse.RawDescriptionHelpFormatter)
+    parser.add_argument("seed", type=int)
+    parser.add_argument("first", type=int)
+    parser.add_argument("stride", type=int)
+    parser.add_argument("count", type=int)
+    parser.add_argument("--library", metavar="PATH", help="the shared library, in place of a program")
+    parser.add_argument("program", nargs="?", help="the program")
+    given = parser.parse_args()
+    sizes = [min(BATCH, given.count - at) for at in range(0, given.count, BATCH)]
+    for place in range(given.first, len(sizes), given.stride):
+        print(f"batch {place}", flush=True)
+        ends, found = batch(given.library, given.program, f"{given.seed} {place}", sizes[place])
+        reached = [[name, status, number] for (name, status), number in ends.items()]
+        faults = [[words, repr(data[:400]), fault] for words, data, fault in found]
+        print(json.dumps({"place": place, "number": sizes[place], "reached": reached, "faults": faults}), flush=True)
 
 
 if __name__ == "__main__":
-    sys.exit(main())
+    main()

@@ -1,40 +1,33 @@
-#!/usr/bin/env python3
-"""Checks that every output in the documents is what the program gives.
+"""The outputs that the documents show, read from their pages, and what a program gives in their place.
 
-    check/documents                    by ./workbench, where the proved program stands; else by unproved builds of `rt try`
-    check/documents --program PATH     by another program, as the one that was proved elsewhere
-
-In each page of the root, of docs/, of examples/, of the folders in them, and of notebooks/, each line of a code block that begins with `$ ` is a command, and
-the lines up to the next one, or to the end of the block, are what it prints. The commands are `cat FILE`,
-`printf 'TEXT'`, `./workbench WORDS`, `./try WORDS`, and chains of them by `|`, with `< FILE`, and `echo $?` for the
-exit status of the command before. The last of a chain may be `cksum`, `head -n N` or `tail -n N`. Files are named from
-the top of the repository. A block of another language (as ```sh) is no example and is passed over.
+In each page of the root, of docs/, of examples/, of the folders in them, and of notebooks/, each line of a code block that
+begins with `$ ` is a command, and the lines up to the next one, or to the end of the block, are what it prints. The
+commands are `cat FILE`, `printf 'TEXT'`, `./workbench WORDS`, `./try WORDS`, and chains of them by `|`, with `< FILE`, and
+`echo $?` for the exit status of the command before. The last of a chain may be `cksum`, `head -n N` or `tail -n N`. Files
+are named from the top of the repository. A block of another language (as ```sh) is no example and is passed over.
 
 In a table of four columns whose second cell is a command of the program, the third cell has lines of its output, in
 their order. In the man page, docs/workbench.1, the blocks from .EX to .EE are read as above, and each quoted command
 below a number of its section EXIT STATUS has to end with that number. The statuses 7, 8 and 9 come from outside the
 program (a folder as input, a full device, no memory); their commands are not run here.
 
-How many outputs each page has is printed first. The last line is 'N passed, M failed'.
+Nothing of this wants pytest: test_documents.py compares by it, and check/quick on a new machine.
 """
-import argparse
 import glob
 import os
 import re
 import shlex
-import shutil
 import subprocess
-import sys
 import tempfile
 from concurrent.futures import ThreadPoolExecutor
 
-sys.dont_write_bytecode = True
-from counting import TOP, Count, proved_program
+from places import TOP
 
 MAN_PAGE = "docs/workbench.1"
 PROGRAMS = ["./workbench", "./try"]
 FROM_OUTSIDE = [7, 8, 9]
 FILTERS = ["cksum", "head", "tail"]
+STATUS = "echo $?"
 # The fewest runs for which another unproved build is worth its time.
 LEAST_SHARE = 40
 # How long `rt try` lets a run go on.
@@ -56,9 +49,10 @@ def has_program(command):
 class Example:
     """A command of a page with what the page says that it prints."""
 
-    def __init__(self, page, line, command):
+    def __init__(self, page, line, command, before=None):
         self.place = f"{page}:{line}"
         self.command = command
+        self.before = before
         self.wanted = []
         self.is_shown = False
         self.is_part = False
@@ -78,6 +72,11 @@ class Example:
             given = iter(self.text.decode(errors="replace").splitlines())
             return self.is_shown and all(line in given for line in self.wanted)
         return self.is_shown and self.text == "".join(line + "\n" for line in self.wanted).encode()
+
+    def told(self):
+        """The command, what the page says of it and what was given, as a text."""
+        given = (f"    {line}" for line in self.text.decode(errors="replace").splitlines())
+        return "\n".join([f"{self.place}: {self.command}", *self.claims(), "  the program gives:", *given])
 
     def claims(self):
         """What the page says, as lines to print."""
@@ -122,11 +121,11 @@ def man_examples_of(page):
             elif block is not None:
                 line = unrolled(line)
                 if line.startswith("$ "):
-                    block.append(Example(page, number, line[2:]))
+                    block.append(Example(page, number, line[2:], block[-1] if block else None))
                 elif block:
                     block[-1].show(line)
                 else:
-                    sys.exit(f"check/documents: {page}:{number}: an output without a command")
+                    raise ValueError(f"{page}:{number}: an output without a command")
             elif section == "EXIT STATUS" and re.fullmatch(r"\.B \d+", line):
                 status = int(line[3:])
             elif status is not None and status not in FROM_OUTSIDE:
@@ -153,7 +152,7 @@ def examples_of(page):
                     block = None
             elif block is not None and not language:
                 if line.startswith("$ "):
-                    block.append(Example(page, number, line[2:]))
+                    block.append(Example(page, number, line[2:], block[-1] if block else None))
                 elif block:
                     block[-1].show(line)
             elif block is None and line.startswith("|"):
@@ -224,7 +223,7 @@ def tried_by_one(jobs):
     pieces = re.split(rb"^== case(\d+)\n", ran.stdout, flags=re.M)
     texts = {int(pieces[at]): pieces[at + 1] for at in range(1, len(pieces) - 1, 2)}
     if not statuses:
-        sys.exit(f"check/documents: rt try answered nothing:\n{said}")
+        raise OSError(f"rt try answered nothing:\n{said}")
     lost = "(no answer: `rt try` came to a limit)\n".encode()
     return [(texts[n], statuses[n]) if n in statuses and n in texts else (lost, None) for n in range(len(jobs))]
 
@@ -244,10 +243,11 @@ def answers_by(program):
 
 
 def run_all(examples, answers):
-    """Runs the programs of all examples, chain by chain: the first of each, then the second of each that has two."""
+    """Runs the programs of examples, chain by chain: the first of each, then the second of each that has two. What
+    `echo $?` prints is the status of the command before it, which has to be among them."""
     waiting = []
     for it in examples:
-        it.text, it.runs, it.sieve = stages_of(it.command)
+        it.text, it.runs, it.sieve = (b"", [], []) if it.command == STATUS else stages_of(it.command)
         if it.runs:
             waiting.append(it)
     while waiting:
@@ -256,49 +256,19 @@ def run_all(examples, answers):
             it.runs = it.runs[1:]
         waiting = [it for it in waiting if it.runs]
     for it in examples:
-        if it.sieve:
-            ran = subprocess.run(it.sieve, input=it.text, capture_output=True)
-            it.text, it.status = ran.stdout, ran.returncode
+        finish(it)
 
 
-def compare(blocks, count):
-    """Counts the examples that hold, and prints those that don't."""
-    for block in blocks:
-        status = 0
-        for it in block:
-            if it.command == "echo $?":
-                it.text = f"{status}\n".encode()
-            status = it.status
-            given = (f"    {line}" for line in it.text.decode(errors="replace").splitlines())
-            count.hold(it.holds(), f"{it.place}: {it.command}", *it.claims(), "  the program gives:", *given)
+def finish(example):
+    """What stands behind the programs of an example: a filter, or the status of the command before."""
+    if example.sieve:
+        ran = subprocess.run(example.sieve, input=example.text, capture_output=True)
+        example.text, example.status = ran.stdout, ran.returncode
+    if example.command == STATUS:
+        example.text = f"{example.before.status if example.before else 0}\n".encode()
 
 
-def way_of(program):
-    """What answers the commands, and how it is called."""
-    if program:
-        return answers_by(os.path.abspath(program)), program
-    if proved_program():
-        return answers_by(None), "the proved program, by ./workbench and ./try"
-    if shutil.which("rt"):
-        return tried, "unproved builds, since the proved program doesn't stand or isn't that of the sources that stand"
-    sys.exit("check/documents: there is nothing to check by: no proved program, and no command rt")
-
-
-def main():
-    parser = argparse.ArgumentParser(description=__doc__, formatter_class=argparse.RawDescriptionHelpFormatter)
-    parser.add_argument("--program", metavar="PATH", help="the program to run")
-    answers, way = way_of(parser.parse_args().program)
-    blocks = []
-    for page in [*pages(), MAN_PAGE]:
-        found = man_examples_of(page) if page == MAN_PAGE else examples_of(page)
-        if found:
-            print(f"{page}: {sum(map(len, found))} outputs")
-        blocks += found
-    print(f"{sum(map(len, blocks))} outputs in all, by {way}", flush=True)
-    run_all([it for block in blocks for it in block if it.command != "echo $?"], answers)
-    count = Count()
-    compare(blocks, count)
-    return count.close()
-
-
-sys.exit(main())
+def blocks():
+    """The examples of all pages, in order, block by block."""
+    found = [block for page in pages() for block in examples_of(page)]
+    return found + man_examples_of(MAN_PAGE)

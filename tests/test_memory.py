@@ -1,23 +1,17 @@
-#!/usr/bin/env python3
-"""Runs every command with a heap that refuses an allocation, and compares what is answered with the answer that it has.
-
-    check/memory [--all] [PROGRAM]     by the proved program, or by the one that is named
+"""Every command with a heap that refuses an allocation, and what is answered beside the answer that it has.
 
 For a number n the n-th allocation is refused, alone or with all behind it. The answer is the command's own, or status 9 and a
-front of its own text; nothing is on standard error. Without --all a command is tried at no more than 60 numbers, which are
-close together at first and far apart later; with it at every one, and on larger inputs too. The heap is a library that is laid
-before the system's; a C compiler makes it. The last line is 'N passed, M failed'.
+front of its own text; nothing is on standard error. By themselves the tests try a command at no more than 60 numbers, which are
+close together at first and far apart later; with `--every` at every one, and on larger inputs too, which takes ten minutes.
+The heap is a library that is laid before the system's; a C compiler makes it.
 """
-import argparse
 import os
 import shutil
 import subprocess
-import sys
-import tempfile
 from concurrent.futures import ThreadPoolExecutor
 
-sys.dont_write_bytecode = True
-from counting import TOP, Count, proved_program
+import places
+import pytest
 
 NO_MEMORY = 9
 NUMBERS = 60
@@ -56,23 +50,27 @@ SMALL = [
     ("view = 0 2 2 1 6539", "least.csv"), ("session = 0 2 2 1", "least-session.txt"), ("generate 1", None),
     ("erase", "least-twice.txt"), ("erase =1 40", "not-twice.txt"), ("farm", "two-boards.txt"), ("Step 1", None),
 ]
-# The same on larger inputs.
+# The same on larger inputs, for --every.
 LARGE = [
     ("compile =1011 0 5 11 5", "increment.csv"), ("run =1011 0 5 11 5", "increment.csv"), ("run =1011 auto", "increment.csv"),
     ("view =1011 0 5 11 5 100000", "increment.csv"), ("generate 2", None),
 ]
 
 
-def build(work):
-    """Makes the heap; its path, or None."""
+pytestmark = [pytest.mark.slow, pytest.mark.engine]
+
+
+@pytest.fixture(scope="module")
+def refusals(proved_program, tmp_path_factory):
+    """Runs commands of the proved program on a heap that refuses."""
     compiler = shutil.which(os.environ.get("CC", "cc"))
     if not compiler:
-        return None
+        pytest.skip("a C compiler isn't installed: tools/setup")
+    work = str(tmp_path_factory.mktemp("heap"))
     source, path = os.path.join(work, "heap.c"), os.path.join(work, "heap.so")
-    with open(source, "w", encoding="utf-8") as file:
-        file.write(HEAP)
+    places.write(source, HEAP)
     subprocess.run([compiler, "-O1", "-fno-builtin", "-shared", "-fPIC", "-o", path, source], check=True)
-    return path
+    return Refusals(proved_program, path, work)
 
 
 class Refusals:
@@ -120,32 +118,18 @@ def numbers_of(count, is_all):
     return [*range(1, half + 1), *(half + rest * step // half for step in range(1, half + 1))]
 
 
-def main():
-    parser = argparse.ArgumentParser(description=__doc__.splitlines()[0])
-    parser.add_argument("--all", action="store_true", help="every allocation, and larger inputs")
-    parser.add_argument("program", nargs="?", help="the program, in place of the proved one")
-    given = parser.parse_args()
-    program, count = given.program or proved_program(), Count()
-    if not program:
-        sys.exit("check/memory: the proved program doesn't stand or isn't that of the sources that stand")
-    with tempfile.TemporaryDirectory() as work:
-        heap = build(work)
-        if not heap:
-            count.skip("the heap", "there is no C compiler")
-            return count.close()
-        refusals = Refusals(os.path.abspath(program), heap, work)
-        for line, name in SMALL + (LARGE if given.all else []):
-            words, data = line.split(), b""
-            if name:
-                with open(os.path.join(TOP, "examples", name), "rb") as file:
-                    data = file.read()
-            asked, own = refusals.count_of(words, data)
-            for fault in refusals.faults(words, data, numbers_of(asked, given.all), own):
-                count.hold(fault is None, f"{line} on {name}, {asked} allocations:", str(fault))
-            if given.all:
-                print(f"{line}: {asked} allocations", flush=True)
-    return count.close()
+def pytest_generate_tests(metafunc):
+    """A case a command and its input."""
+    if "line" in metafunc.fixturenames:
+        metafunc.parametrize("line, name", SMALL + (LARGE if metafunc.config.getoption("--every") else []))
 
 
-if __name__ == "__main__":
-    sys.exit(main())
+def test_an_answer_where_memory_is_refused(request, refusals, line, name, comparisons):
+    words, data = line.split(), b""
+    if name:
+        with open(os.path.join(places.TOP, "examples", name), "rb") as file:
+            data = file.read()
+    asked, own = refusals.count_of(words, data)
+    faults = refusals.faults(words, data, numbers_of(asked, request.config.getoption("--every")), own)
+    assert not any(faults), "\n".join([f"{asked} allocations:", *filter(None, faults)])
+    comparisons(len(faults))

@@ -1,0 +1,73 @@
+"""The page of each crate in its form, and the pages of docs/ that are made of files: tools/pages makes them, and says what
+their form is. Further the rows of docs/WRONG-BODIES.md with the edits that stand, and the version wherever it is told.
+"""
+import os
+import re
+
+import places
+import pytest
+from places import text_of
+
+BODIES = "docs/WRONG-BODIES.md"
+# Where the version is told again.
+VERSIONS = {
+    "docs/workbench.1": r'^\.TH WORKBENCH 1 "[\d-]+" "Hithwelor ([\d.]+)"',
+    "CITATION.cff": r'^version: "?([\d.]+)"?$',
+}
+pages = places.tool("pages")
+
+
+@pytest.fixture(scope="module")
+def faults():
+    return pages.faults(pages.read_pages())
+
+
+@pytest.mark.parametrize("crate", places.crates())
+def test_the_page_of_a_crate_has_its_form(faults, crate):
+    assert not faults[crate], "\n".join(f"crates/{crate}/README.md: {it}" for it in faults[crate])
+
+
+MADE = sorted(pages.made({}))
+
+
+@pytest.mark.parametrize("path", MADE)
+def test_a_page_is_what_the_files_say_of_which_it_is_made(path):
+    assert pages.is_there(path, pages.made(pages.read_pages())[path]), f"tools/pages --write makes {path} anew"
+
+
+def test_the_calls_of_the_crates_are_told_in_full():
+    assert pages.by_calls("faults") == ""
+
+
+@pytest.mark.parametrize("path", VERSIONS)
+def test_the_version_is_told_alike(path):
+    version = re.search(r"^## (\d+\.\d+\.\d+) ", text_of("CHANGELOG.md"), flags=re.M)[1]
+    assert set(re.findall(VERSIONS[path], text_of(path), flags=re.M)) == {version}
+
+
+def rows_of_bodies():
+    """The rows of the page of wrong bodies: what a body does, the edits that are linked, the files that are told."""
+    found = []
+    for line in text_of(BODIES).splitlines():
+        row = line.strip("|").split(" | ") if line.startswith("| ") else []
+        if row:
+            edits = re.findall(r"\]\(\.\./(crates/[\w/-]+\.edit)\)", row[1])
+            found.append((row[0].strip(), edits, row[2].strip().split(", ") if edits else []))
+    return found[1:]
+
+
+@pytest.mark.parametrize("body, edits, told", [pytest.param(*it, id=it[0][:60]) for it in rows_of_bodies()])
+def test_the_edits_of_a_wrong_body_turn_the_files_that_are_told(body, edits, told):
+    assert all(os.path.exists(os.path.join(places.TOP, it)) for it in edits)
+    assert [re.search(r"^file: (.*)$", text_of(it), flags=re.M)[1] for it in edits] == told
+
+
+@pytest.mark.parametrize("old, new, said", [
+    ("# bn_x\n", "# other\n", "its head isn't `# bn_x`"), ("- `crates`", "`crates`", "its section Calls isn't a list"),
+    ("`crates`", "`nowhere`", "its section Calls names `nowhere`, which is nowhere in the crates"),
+    ("## Limits\n\nNone.\n\n", "", "its sections aren't Calls, Proved, Limits, Only tested"),
+])
+def test_a_fault_in_the_page_of_a_crate_is_seen(old, new, said):
+    text = "# bn_x\n\nFor all.\n" + "\n".join(f"\n## {it}\n\n{'- `crates`' if it == 'Calls' else 'None.'}\n" for it in pages.SECTIONS)
+    assert pages.Page(text).faults("bn_x", {"crates"}) == []
+    assert said in pages.Page(text.replace(old, new)).faults("bn_x", {"crates"})
