@@ -5,7 +5,6 @@ What isn't there is skipped by its name, with what would bring it.
 import os
 import shutil
 import sys
-from collections import Counter
 
 import pytest
 
@@ -15,6 +14,7 @@ sys.path.insert(0, os.path.dirname(os.path.abspath(__file__)))
 import places
 import shared
 
+pytest_plugins = ["closing"]
 LACKING = "{} isn't installed: tools/setup"
 
 
@@ -92,7 +92,6 @@ def pytest_addoption(parser):
     parser.addoption("--seed", metavar="S", type=int, default=1, help="other runs are drawn")
     parser.addoption("--program", metavar="PATH", help="a program in place of the proved one, as one that was proved elsewhere")
     parser.addoption("--every", action="store_true", help="refuse every allocation, of larger inputs too: some ten minutes")
-    parser.addoption("--closing-line", action="store_true", help="end as the gate ends: what was skipped, and one line")
 
 
 def pytest_configure(config):
@@ -101,25 +100,6 @@ def pytest_configure(config):
     found = config.getoption("--program") or places.told_program()
     if found:
         os.environ["WORKBENCH_PROGRAM"] = os.path.abspath(found)
-
-
-def pytest_terminal_summary(terminalreporter):
-    """How much was compared in tests that hold many things."""
-    told = [number for report in terminalreporter.stats.get("passed", []) if report.when == "call"
-            for name, number in report.user_properties if name == "comparisons"]
-    if told:
-        terminalreporter.write_line(f"{sum(told):,} comparisons in {len(told)} tests that hold many")
-
-
-def pytest_unconfigure(config):
-    """With --closing-line: what was skipped, a line a reason, and behind everything 'N passed, M failed, K skipped'."""
-    reporter = config.pluginmanager.get_plugin("terminalreporter")
-    if config.getoption("--closing-line") and reporter and not hasattr(config, "workerinput"):
-        skipped = Counter(str(it.longrepr[2]).removeprefix("Skipped: ") for it in reporter.stats.get("skipped", []))
-        for reason, number in sorted(skipped.items()):
-            reporter.write_line(f"skipped {number}: {reason}")
-        passed, failed = (sum(len(reporter.stats.get(kind, [])) for kind in kinds) for kinds in (["passed"], ["failed", "error"]))
-        reporter.write_line(f"{passed} passed, {failed} failed, {sum(skipped.values())} skipped")
 
 
 @pytest.fixture(scope="session")
@@ -158,12 +138,6 @@ def shared_library(linkable, tmp_path_factory):
     fault = shared.link(shared.toolchain(), path)
     assert not fault, f"the shared library isn't linked: {fault[-400:]}"
     return path
-
-
-@pytest.fixture
-def comparisons(record_property):
-    """`comparisons(N)` tells how many things a test compared that holds many; the last lines have their sum."""
-    return lambda number: record_property("comparisons", number)
 
 
 @pytest.fixture(scope="session")

@@ -1,6 +1,8 @@
 """The other scripts, on machines that lack what they want: one plain sentence and a status, and no traceback."""
 import os
 import re
+import shutil
+import sys
 
 import places
 import pytest
@@ -46,9 +48,10 @@ def test_the_gate_names_a_first_look_where_it_can_run(clone, machine, any_node, 
         assert ran.stderr.rstrip().endswith("check/quick needs no rt, but Python 3.9 or later and node 18 or later")
 
 
-def test_the_gate_runs_everything_proved_and_every_check():
+def test_the_gate_runs_everything_proved_and_every_test():
     lines = places.text_of(".ci", "run").splitlines()
-    assert "rt ci" in lines and lines.index("rt ci") < lines.index("tools/setup") < lines.index("check/all")
+    tests = next(number for number, line in enumerate(lines) if '-m pytest -q -m "" --closing-line' in line)
+    assert "rt ci" in lines and lines.index("rt ci") < lines.index("tools/setup") < tests
 
 
 @pytest.mark.parametrize("closed, status, output", [("<&-", 7, "read fault\n"), (">&-", 8, "")])
@@ -137,17 +140,49 @@ def test_a_fault_planted_in_a_script_is_seen(own_clone, needs, planted, told):
     assert ran.returncode == 1 and told in ran.stdout
 
 
-def test_the_gate_ends_in_what_was_skipped_and_one_line(own_clone):
-    """With two checks in place of all."""
-    folder = os.path.join(own_clone, "check")
-    for name in os.listdir(folder):
-        if name not in ("all", "counting.py"):
-            os.remove(os.path.join(folder, name))
-    places.write(os.path.join(folder, "one"), "#!/bin/sh\necho 'a page: skipped, since there is no browser'\n"
-                                              "echo '3 passed, 0 failed, 1 skipped'\n", is_run=True)
-    places.write(os.path.join(folder, "two"), "#!/bin/sh\necho 'SKIPPED [2] tests/a.py:1: no node'\n"
-                                              "echo '4 passed, 1 failed, 2 skipped'\nexit 1\n", is_run=True)
-    ran = run([os.path.join(folder, "all")])
-    assert ran.returncode == 1
-    assert ran.stdout.splitlines()[-4:] == ["== check/all", "check/one: a page: skipped, since there is no browser",
-                                            "check/two: SKIPPED [2] tests/a.py:1: no node", "7 passed, 1 failed, 3 skipped"]
+# A stand-in of the toolchain, which proves nothing and ends with the status that it finds in a file.
+TOOLCHAIN = '#!/bin/sh\n[ "$1" = ci ] && echo "rt: stand-in" && exit "$(cat "$STATUS")"\nexit 1\n'
+# The tests of a clone in which the gate is tried: none of them runs pytest.
+OF_THE_GATE = """import pytest
+
+
+@pytest.mark.parametrize("number", range(3))
+def test_one(number, comparisons):
+    comparisons(10)
+
+
+@pytest.mark.slow
+def test_two():
+    pytest.skip("a browser isn't installed: tools/setup")
+"""
+
+
+def gate_of(own_clone, machine, status, more=""):
+    """What the gate of a clone gives whose tests are those above, on a machine whose toolchain ends with this status."""
+    for folder in ("tests", "python/tests"):
+        for name in os.listdir(os.path.join(own_clone, folder)):
+            if name.startswith("test_"):
+                os.remove(os.path.join(own_clone, folder, name))
+    for folder in ("tests/strangers", "tests/tools"):
+        shutil.rmtree(os.path.join(own_clone, folder))
+    places.write(os.path.join(own_clone, "tests", "test_gate.py"), OF_THE_GATE + more)
+    places.write(os.path.join(own_clone, "tools", "setup"), "#!/bin/sh\necho 'the setup of tools'\n", is_run=True)
+    places.write(os.path.join(own_clone, "check", "page"), "#!/bin/sh\n", is_run=True)
+    places.write(os.path.join(own_clone, "status"), str(status))
+    path = machine(lacks=["rt", "node"], rt=TOOLCHAIN, python=sys.executable)
+    env = places.environment(path, STATUS=os.path.join(own_clone, "status"))
+    ran = run(["bash", os.path.join(own_clone, ".ci", "run")], env=env)
+    return ran.returncode, ran.stdout.splitlines()
+
+
+@pytest.mark.slow
+@pytest.mark.parametrize("proved, more, status, counts", [
+    (0, "", 0, "3 passed, 0 failed, 1 skipped"),
+    (0, "\n\ndef test_three():\n    assert 1 == 2\n", 1, "3 passed, 1 failed, 1 skipped"),
+    (3, "", 3, "3 passed, 0 failed, 1 skipped"),
+])
+def test_the_gate_ends_in_what_was_skipped_and_one_line(own_clone, machine, proved, more, status, counts):
+    given, lines = gate_of(own_clone, machine, proved, more)
+    assert lines[:2] == ["rt: stand-in", "the setup of tools"] and given == status, lines
+    assert "30 comparisons in 3 tests that hold many" in lines
+    assert lines[-2:] == ["skipped 1: a browser isn't installed: tools/setup", counts]
