@@ -14,7 +14,7 @@ import time
 
 sys.dont_write_bytecode = True
 TOP = os.path.dirname(os.path.dirname(os.path.abspath(__file__)))
-sys.path[:0] = [os.path.join(TOP, part) for part in ("tests", "python", "tools")]
+sys.path[:0] = [os.path.join(TOP, part) for part in ("tests", "python", "tools/lib")]
 from browser import Browser, browser_at_hand
 from hithwelor import answers
 from places import told_program

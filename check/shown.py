@@ -7,7 +7,7 @@ import time
 
 from counting import TOP
 
-sys.path[:0] = [os.path.join(TOP, "tools"), os.path.join(TOP, "python")]
+sys.path[:0] = [os.path.join(TOP, "tools", "lib"), os.path.join(TOP, "python")]
 from browser import Browser
 from hithwelor.answers import Node
 

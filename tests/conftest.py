@@ -4,6 +4,7 @@ What isn't there is skipped by its name, with what would bring it.
 """
 import os
 import shutil
+import subprocess
 import sys
 
 import pytest
@@ -39,7 +40,7 @@ def clone(tmp_path_factory):
 def own_clone(clone, tmp_path):
     """A clean clone that a test may change."""
     to = str(tmp_path / "own clone")
-    shutil.copytree(clone, to, symlinks=True)
+    subprocess.run(["cp", "-a", clone, to], check=True)
     yield to
     shutil.rmtree(to, ignore_errors=True)
 

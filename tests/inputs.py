@@ -30,7 +30,7 @@ from collections import Counter
 sys.dont_write_bytecode = True
 from places import TOP
 
-sys.path[:0] = [os.path.join(TOP, folder) for folder in ("python", "tools")]
+sys.path[:0] = [os.path.join(TOP, folder) for folder in ("python", "tools/lib")]
 from hithwelor import answers
 from samples import bank, tangle, text_of
 

@@ -11,7 +11,7 @@ import subprocess
 import sys
 
 TOP = os.path.dirname(os.path.dirname(os.path.abspath(__file__)))
-sys.path.insert(0, os.path.join(TOP, "tools"))
+sys.path.insert(0, os.path.join(TOP, "tools", "lib"))
 from repository import crates, rooms, text_of
 
 CACHE = os.path.join(os.environ.get("XDG_CACHE_HOME") or os.path.expanduser("~/.cache"), "hithwelor")
@@ -47,7 +47,7 @@ def told_program(*words):
 def tool(name):
     """A program of tools/ as a module."""
     path = os.path.join(TOP, "tools", name)
-    loader = importlib.machinery.SourceFileLoader(f"tool_{name}", path)
+    loader = importlib.machinery.SourceFileLoader(f"tool_{os.path.basename(name)}", path)
     module = importlib.util.module_from_spec(importlib.util.spec_from_loader(loader.name, loader))
     loader.exec_module(module)
     return module

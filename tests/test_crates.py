@@ -19,7 +19,7 @@ ARCHITECTURE = "docs/ARCHITECTURE.md"
 OF_OTHER_DAYS = ["docs/CHECK-TIMES.md"]
 MOST_CHAIN = 13
 PLACES = ["*.md", "docs/*.md", "docs/*.1", "examples/*.md", "python/*.md", "js/*.md", "page/*.md", "check/*", "tests/*.py", "embed/*",
-          "tools/*", "bench/*.py", "workbench", "try", ".ci/run"]
+          "tools/*", "tools/*/*", "bench/*.py", "workbench", "try", ".ci/run"]
 
 
 def uses():

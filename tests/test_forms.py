@@ -1,7 +1,7 @@
 """The forms of the words are told alike wherever they are told.
 
 The program's own table is `words_of` in crates/bn_words/specs/Requests.antt, with the limits of `IsAllowed` there; contracts
-cite both. With it are compared: the table of tools/front.sh, from which ./workbench and ./try help, with its numbers' limits
+cite both. With it are compared: the table of tools/lib/front.sh, from which ./workbench and ./try help, with its numbers' limits
 and the commands that read nothing; what these say to words that have no form; the names that tools/completion.bash
 completes; the first column of docs/FORMATS.md's table of commands; and the synopsis and the list of commands of the man page.
 """
@@ -13,7 +13,7 @@ from places import TOP, text_of
 
 TABLE = "crates/bn_words/specs/Requests.antt"
 INCREMENTS = "crates/bn_gen/src/machine.rt"
-FRONT = "tools/front.sh"
+FRONT = "tools/lib/front.sh"
 FORMATS = "docs/FORMATS.md"
 MAN_PAGE = "docs/workbench.1"
 # The kind of word that stands for each letter of a form.
@@ -122,7 +122,7 @@ def described(page):
 
 
 def front_forms():
-    """The table of tools/front.sh: the words of each form, and what it does."""
+    """The table of tools/lib/front.sh: the words of each form, and what it does."""
     table = re.search(r"^forms=\(\n(.*?)^\)", text_of(FRONT), flags=re.M | re.S)[1]
     return re.findall(r'^    "([^"|]+)\|([^"]+)"$', table, flags=re.M)
 
@@ -143,7 +143,7 @@ def limit_of(letter):
 
 
 def numbers_of(name):
-    """The numbers of a table of tools/front.sh by their letters."""
+    """The numbers of a table of tools/lib/front.sh by their letters."""
     table = re.search(rf"^declare -A {name}=\((.*?)\)", FRONT_TEXT, flags=re.M | re.S)[1]
     return dict(re.findall(r"\[(\w+)\]=(\d+)", table))
 
@@ -171,7 +171,7 @@ def said_by_bash(script, *words):
 
 @pytest.mark.parametrize("words, wanted", FAULTS, ids=[" ".join(words) or "no words" for words, _ in FAULTS])
 def test_words_that_have_no_form_are_told_what_is_wrong(words, wanted):
-    find = 'top=$PWD script=try; . tools/built.sh; . tools/front.sh; shopt -s extglob; fault=; find_fault "$@"; echo "$fault"'
+    find = 'top=$PWD script=try; . tools/lib/built.sh; . tools/lib/front.sh; shopt -s extglob; fault=; find_fault "$@"; echo "$fault"'
     assert said_by_bash(find, *words) == wanted
 
 

@@ -7,7 +7,7 @@ import subprocess
 import pytest
 
 TOP = os.path.dirname(os.path.dirname(os.path.abspath(__file__)))
-PARTS = ("bin/", "embed/", "examples/", "js/", "page/", "tools/modules", "crates.txt")
+PARTS = ("bin/", "embed/", "examples/", "js/", "page/", "tools/build/modules", "crates.txt")
 MADE = ["page/hithwelor.html", "bin/hithwelor", "page/sources.sha256"]
 
 
@@ -39,16 +39,16 @@ def plant(copy, path, right, wrong):
 
 def test_the_picture_is_that_of_the_modules():
     needs("esbuild")
-    made = run("tools/modules")
+    made = run("tools/build/modules")
     assert made.returncode == 0, made.stdout
     with open(os.path.join(TOP, "page", "README.md"), encoding="utf-8") as file:
-        assert made.stdout in file.read(), "tools/modules --write puts the picture into page/README.md"
+        assert made.stdout in file.read(), "tools/build/modules --write puts the picture into page/README.md"
 
 
 def test_a_planted_circle_is_seen(copy):
     needs("esbuild")
     plant(copy, "page/src/state.js", "export const LAYERS", 'import "./view.js";\nexport const LAYERS')
-    made = run("tools/modules", cwd=copy)
+    made = run("tools/build/modules", cwd=copy)
     assert made.returncode == 1 and made.stdout.count("\n") == 1 and "state.js" in made.stdout, made.stdout
 
 

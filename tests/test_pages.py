@@ -1,4 +1,4 @@
-"""The page of each crate in its form, and the pages of docs/ that are made of files: tools/pages makes them, and says what
+"""The page of each crate in its form, and the pages of docs/ that are made of files: tools/build/pages makes them, and says what
 their form is. Further the rows of docs/WRONG-BODIES.md with the edits that stand, and the version wherever it is told.
 """
 import os
@@ -14,7 +14,7 @@ VERSIONS = {
     "docs/workbench.1": r'^\.TH WORKBENCH 1 "[\d-]+" "Hithwelor ([\d.]+)"',
     "CITATION.cff": r'^version: "?([\d.]+)"?$',
 }
-pages = places.tool("pages")
+pages = places.tool("build/pages")
 
 
 @pytest.fixture(scope="module")
@@ -32,7 +32,7 @@ MADE = sorted(pages.made({}))
 
 @pytest.mark.parametrize("path", MADE)
 def test_a_page_is_what_the_files_say_of_which_it_is_made(path):
-    assert pages.is_there(path, pages.made(pages.read_pages())[path]), f"tools/pages --write makes {path} anew"
+    assert pages.is_there(path, pages.made(pages.read_pages())[path]), f"tools/build/pages --write makes {path} anew"
 
 
 def test_the_calls_of_the_crates_are_told_in_full():

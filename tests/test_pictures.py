@@ -1,5 +1,5 @@
 """The pictures of the documents, byte for byte with what makes them: docs/pictures/draw those of the definitions' tables,
-and `tools/gallery` those of docs/GALLERY.md, of what the program prints."""
+and `tools/build/gallery` those of docs/GALLERY.md, of what the program prints."""
 import os
 import subprocess
 import sys
@@ -9,7 +9,7 @@ import pytest
 
 DRAW = os.path.join(places.TOP, "docs", "pictures", "draw")
 PICTURES = os.path.join(places.TOP, "docs", "pictures")
-gallery = places.tool("gallery")
+gallery = places.tool("build/gallery")
 COMMANDS = {gallery.stages_of(it)[2]: it for it in gallery.commands_of(places.text_of(gallery.PAGE))}
 
 

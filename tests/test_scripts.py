@@ -124,7 +124,7 @@ def scripts_of_the_shell(folder):
 def test_the_scripts_of_the_shell(clone, needs):
     needs("shellcheck")
     names = sorted(scripts_of_the_shell(clone))
-    assert {"try", "workbench", ".ci/run", "tools/setup", "tools/front.sh"} <= set(names)
+    assert {"try", "workbench", ".ci/run", "tools/setup", "tools/lib/front.sh"} <= set(names)
     ran = run(["shellcheck", "-x", "-e", "SC1090,SC1091", *names], cwd=clone)
     assert ran.returncode == 0, ran.stdout
 

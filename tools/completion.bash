@@ -1,9 +1,9 @@
 # Completion for bash: `source tools/completion.bash`, here or in ~/.bashrc, and then the names of commands are completed
-# behind ./workbench, ./try and a link to either; files are, behind `<`. The names are those of tools/front.sh. Behind
+# behind ./workbench, ./try and a link to either; files are, behind `<`. The names are those of tools/lib/front.sh. Behind
 # `hithwelor` the two words of the Python package are completed too: ./workbench and ./try don't know them.
 # shellcheck shell=bash
 
-_hithwelor_front=$(cd "$(dirname "${BASH_SOURCE[0]}")" && pwd)/front.sh
+_hithwelor_front=$(cd "$(dirname "${BASH_SOURCE[0]}")" && pwd)/lib/front.sh
 
 # The names of the commands, each once.
 _hithwelor_names() {

@@ -1,6 +1,6 @@
 // Machines of four other programs: turingmachine.io, JFLAP, Morphett's simulator and bbchallenge. All have one tape;
 // the first three start on the first letter of the word. A reader gives the machine's rules as they stand in the file;
-// `tableOf` makes of them a table of quintuples that `standard` takes. tools/machine_files.py is the same;
+// `tableOf` makes of them a table of quintuples that `standard` takes. tools/lib/machine_files.py is the same;
 // tests/test_import.py compares both on every file.
 import {readJflap} from "./jflap.js";
 import {isLine, isMorphett, readLine, readMorphett} from "./lines.js";

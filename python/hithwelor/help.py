@@ -1,6 +1,6 @@
 """What `hithwelor --help` says: the package's own words, and the forms of the program's.
 
-The forms stand once, in tools/front.sh, as ./workbench shows them; a wheel and an installation have that file too.
+The forms stand once, in tools/lib/front.sh, as ./workbench shows them; a wheel and an installation have that file too.
 """
 from __future__ import annotations
 
@@ -8,7 +8,7 @@ import os
 
 from .answers import HERE, TOP, first_that_stands
 
-FRONTS = [os.path.join(HERE, "front.sh"), os.path.join(TOP, "tools", "front.sh"), os.path.join(TOP, "front.sh")]
+FRONTS = [os.path.join(HERE, "front.sh"), os.path.join(TOP, "tools", "lib", "front.sh"), os.path.join(TOP, "front.sh")]
 OWN = {
     "sweep MACHINE.. --out TABLE": "counts of many machines, words and windows; `sweep --help` has the options",
     "sweep join TABLE": "the parts of such a table, put together",

@@ -184,12 +184,23 @@ class View:
     machine: str
     text: str = field(default="", repr=False)
 
+    MACHINE: ClassVar[re.Pattern[str]] = re.compile(
+        r"machine (compute|copy|retrace) ((?:state \S+|quintuple \d+) step (?:\d+|\?))")
+
     @classmethod
     def read(cls, lines: Sequence[str]) -> View:
+        if len(lines) < 7:
+            raise ValueError(f"{len(lines)} lines, and a view has seven")
         element = matched(re.fullmatch(r"element (at|left) (\S+) steps (\d+)", lines[0]), lines[0], "an element")
-        stage, _, machine = lines[6].removeprefix("machine ").partition(" ")
-        return cls(element[2], element[1] == "left", int(element[3]), lines[1], lines[2].removeprefix("quadruple "),
-                   tuple(map(Tape.read, lines[3:6])), stage, machine, "".join(f"{line}\n" for line in lines[:7]))
+        quadruple = matched(re.fullmatch(r"quadruple (\S+)", lines[2]), lines[2], "a quadruple")
+        machine = matched(cls.MACHINE.fullmatch(lines[6]), lines[6], "a machine")
+        return cls(element[2], element[1] == "left", int(element[3]), lines[1], quadruple[1], tuple(map(Tape.read, lines[3:6])),
+                   machine[1], machine[2], "".join(f"{line}\n" for line in lines[:7]))
+
+    @property
+    def lines(self) -> list[str]:
+        """The seven lines as the program prints them."""
+        return self.text.splitlines()
 
     def _repr_html_(self) -> str:
         told = [self.stage, f"{self.machine}", f"quadruple {self.quadruple}", f"{self.module}", f"element step {self.steps}"]

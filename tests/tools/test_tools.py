@@ -16,10 +16,10 @@ import xml.etree.ElementTree as ElementTree
 import recorded
 import samples
 from test_machine_files import JFLAP, JFLAP_TABLE, PARITY_TABLE, example
-from workbench_text import TOP, Fault, has_command, program_at_hand
+from workbench_text import TOP, Fault, Tape, has_command, program_at_hand
 
 TOOLS = os.path.join(TOP, "tools")
-RECORDED = os.path.join(TOOLS, "recorded.py")
+RECORDED = os.path.join(os.path.dirname(os.path.abspath(__file__)), "recorded.py")
 SVG = "{http://www.w3.org/2000/svg}"
 LEAST = "S,_,_,+,T\nT,_,_,0,F\n"
 LEAST_RUN = ["=", "0", "2", "2", "1"]
@@ -212,11 +212,11 @@ class Layers(Tools):
 
     def test_long_tapes_are_shown_around_their_heads(self):
         layers = loaded("layers")
-        tape = layers.Tape(-3, 40, [str(place % 10) for place in range(100)])
+        tape = Tape(1, -3, 40, tuple(str(place % 10) for place in range(100)))
         part, before, behind = layers.near_head(tape, 30)
         self.assertEqual((part.first, len(part.symbols), before, behind), (25, 30, True, True))
         self.assertEqual(part.symbols, tape.symbols[28:58])
-        part, before, behind = layers.near_head(layers.Tape(0, 99, tape.symbols), 30)
+        part, before, behind = layers.near_head(Tape(1, 0, 99, tape.symbols), 30)
         self.assertEqual((part.first, before, behind), (70, True, False))
         self.assertEqual(layers.near_head(tape, 100), (tape, False, False))
 
@@ -261,17 +261,17 @@ class Plot(Tools):
 
 class Words(Tools):
     def test_each_tool_has_help(self):
-        for tool in ("draw", "tapes", "layers", "farm", "import", "plot", "gallery", "try_pages"):
+        for tool in ("draw", "tapes", "layers", "farm", "import", "plot", "build/gallery", "build/try_pages"):
             self.assertTrue(self.call(tool, ["--help"]).startswith("usage: "))
 
     def test_faults_of_the_words_are_told_in_one_line(self):
         for tool, words in (("draw", ["--frames", "5001"]), ("draw", ["--svg", "--dot"]), ("tapes", ["="]),
                             ("tapes", ["1011", "0", "5", "11", "5"]), ("tapes", ["=", "auto", "5"]),
                             ("layers", ["=", "0", "2", "02", "1", "5"]), ("layers", ["=", "auto"]), ("farm", ["--frames", "x"]),
-                            ("import", ["--from", "xml"]), ("plot", ["--x"]), ("gallery", ["x"])):
+                            ("import", ["--from", "xml"]), ("plot", ["--x"]), ("build/gallery", ["x"])):
             status, out, said = called(tool, words)
             self.assertEqual((status, out, said.count("\n")), (2, "", 1), f"{tool} {words}: {said}")
-            self.assertTrue(said.startswith(f"{tool}: "))
+            self.assertTrue(said.startswith(f"{os.path.basename(tool)}: "))
 
     def test_a_program_that_isnt_there_is_told(self):
         ran = subprocess.run([os.path.join(TOOLS, "draw"), "--program", "./none"], input=b"", capture_output=True)

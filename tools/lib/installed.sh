@@ -1,7 +1,7 @@
 #!/usr/bin/env bash
 # The installed command `hithwelor`: the proved program, or the same code as a module of node, with the words that
 # ./workbench says beside it. Standard output and the exit status are the program's own, but for --help and --version.
-# shellcheck disable=SC2034 # tools/built.sh and tools/front.sh read what is set here
+# shellcheck disable=SC2034 # tools/lib/built.sh and tools/lib/front.sh read what is set here
 set -u
 top=$(readlink -f "${BASH_SOURCE[0]}")
 top=${top%/bin/*}

@@ -243,7 +243,7 @@ def tapes_scene(view, made):
     longest = max(len(symbol) for tape in view.tapes for symbol in tape.symbols)
     width, left = max(22, 8 * longest + 8), 112
     scene = Scene(left + width * max(len(tape.symbols) for tape in view.tapes) + 12, 44 + 44 * len(view.tapes), made)
-    scene.add(Words(8, 18, f"{view.machine.removeprefix('machine ')}, quadruple {view.state}", "start", is_bold=True))
+    scene.add(Words(8, 18, f"{view.stage} {view.machine}, quadruple {view.quadruple}", "start", is_bold=True))
     least = min(tape.first for tape in view.tapes)
     for number, tape in enumerate(view.tapes, 1):
         top = 46 + 44 * (number - 1)

@@ -1,8 +1,8 @@
 #!/usr/bin/env python3
 """A stand-in for the program in tests: it gives the answers that the program gave, from recorded.json.
 
-With WORKBENCH_RECORD=PATH it runs the program at PATH and keeps its answers. So `WORKBENCH_RECORD=PATH python3 -m
-unittest discover -s tools` writes the recordings that the tests need. An answer that isn't there is told on standard
+With WORKBENCH_RECORD=PATH it runs the program at PATH and keeps its answers. So `WORKBENCH_RECORD=PATH python3 -m pytest
+tests/tools` writes the recordings that the tests need. An answer that isn't there is told on standard
 error, with status 1.
 """
 import json

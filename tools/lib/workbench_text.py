@@ -1,7 +1,8 @@
 """What the tools share: runs of the program, and the texts that it prints.
 
 The program makes every step. A reader here takes a text that the program printed and gives its parts names; where a
-text isn't of the form that docs/FORMATS.md says, a Fault tells what is wrong and where.
+text isn't of the form that docs/FORMATS.md says, a Fault tells what is wrong and where. Tapes and views are those of the
+Python package.
 """
 import argparse
 import os
@@ -10,7 +11,11 @@ import subprocess
 import sys
 from dataclasses import dataclass
 
-TOP = os.path.dirname(os.path.dirname(os.path.abspath(__file__)))
+from repository import TOP
+
+sys.path.append(os.path.join(TOP, "python"))
+from hithwelor.texts import Tape, View
+
 WORKBENCH = os.path.join(TOP, "workbench")
 BUILT = os.path.join(TOP, "crates", "bn_main", "out", "bn_main")
 SIDES = "nesw"
@@ -295,54 +300,25 @@ def frames_of(program, data, greatest):
     return first, frames
 
 
-@dataclass
-class Tape:
-    """A tape line: the position of the first cell, that of the head or None, and the symbols of the cells."""
-
-    first: int
-    head: object
-    symbols: list
-
-
-@dataclass
-class View:
-    """The seven lines of a view. `stage` is compute, copy or retrace."""
-
-    element: str
-    module: str
-    state: str
-    tapes: list
-    machine: str
-    has_left: bool
-    place: str
-    steps: int
-    stage: str
-
-
-TAPE_LINE = re.compile(r"tape ([123]) from (-?\d+) head (-?\d+|\?):((?: \S+)*)")
-MACHINE_LINE = re.compile(r"machine (compute|copy|retrace) (state (\S+)|quintuple (\d+)) step (\d+|\?)")
-
-
 def read_tape(line, number, where):
     """The tape of this number that a tape line spells."""
-    found = TAPE_LINE.fullmatch(line)
-    if not found or int(found[1]) != number:
+    try:
+        tape = Tape.read(line)
+    except ValueError:
+        tape = None
+    if tape is None or tape.number != number:
         raise Fault(f"{where}: {line!r} isn't the line of tape {number}")
-    return Tape(int(found[2]), None if found[3] == "?" else int(found[3]), found[4].split())
+    return tape
 
 
 def read_view(lines, where):
     """The view that seven lines spell."""
-    if len(lines) < 7:
-        raise Fault(f"{where}: {len(lines)} lines, and a view has seven")
-    element = re.fullmatch(r"element (at|left) (\S+) steps (\d+)", lines[0])
-    state = re.fullmatch(r"quadruple (\S+)", lines[2])
-    machine = MACHINE_LINE.fullmatch(lines[6])
-    for number, found in ((1, element), (3, state), (7, machine)):
-        if not found:
-            raise Fault(f"{where}: {lines[number - 1]!r} isn't line {number} of a view")
-    tapes = [read_tape(lines[2 + number], number, where) for number in (1, 2, 3)]
-    return View(lines[0], lines[1], state[1], tapes, lines[6], element[1] == "left", element[2], int(element[3]), machine[1])
+    for number, line in enumerate(lines[3:6], 1):
+        read_tape(line, number, where)
+    try:
+        return View.read(lines)
+    except ValueError as fault:
+        raise Fault(f"{where}: {fault}") from None
 
 
 def add_window(parser):

@@ -1,6 +1,6 @@
 # shellcheck shell=bash disable=SC2154,SC2034
 # The forms of the words, and words that help: what ./workbench and ./try say on standard error beside the program.
-# Sourced where it is needed, behind tools/built.sh, with the top of the repository in `top`; where it is installed,
+# Sourced where it is needed, behind tools/lib/built.sh, with the top of the repository in `top`; where it is installed,
 # `manual` and `help_page` name the two pages.
 manual=${manual-$top/docs/workbench.1}
 help_page=${help_page-$top/docs/HELP.md}

@@ -1,10 +1,10 @@
 # shellcheck shell=bash disable=SC2154,SC2034
 # What ./workbench, ./try, tools/program and the installed command share: where the proved program stands, whether it was
 # built of the sources that stand, and when something is said beside it. Sourced, with the top of the repository in `top`
-# and the script's name in `script`. What is said is in tools/front.sh, or where `front` says, which a call that is simply
+# and the script's name in `script`. What is said is in tools/lib/front.sh, or where `front` says, which a call that is simply
 # answered doesn't read.
 program=$top/crates/bn_main/out/bn_main
-front=${front-$top/tools/front.sh}
+front=${front-$top/tools/lib/front.sh}
 
 # The digests of all sources, in the form of `sha256sum`, a line a file. A source is told by its name, so that what an
 # editor leaves beside it is none; a new source counts from when one that is listed names it.
