@@ -80,7 +80,7 @@ def page_text(entry="page/src/entry.js", made="page"):
 
 
 def checked_text():
-    """The same page with a hook for check/page behind it."""
+    """The same page with a hook for tests/page behind it."""
     return page_text("page/test/checked.js", "checked")
 
 

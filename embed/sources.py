@@ -14,7 +14,7 @@ MADE = ["page/hithwelor.html", "bin/hithwelor", "js/hithwelor.wasm"]
 ENDINGS = (".rt", ".antt", ".js", ".mjs", ".css", ".html", ".svg")
 HEAD = """\
 # What page/hithwelor.html and bin/hithwelor were built from, and what was built, by SHA-256: a line a file, in the form of
-# sha256sum. embed/build writes this list; check/page compares it with the files, and ./try before the module answers.
+# sha256sum. embed/build writes this list; tests/page compares it with the files, and ./try before the module answers.
 """
 
 

@@ -18,7 +18,7 @@ from places import TOP, crates, rooms, text_of
 ARCHITECTURE = "docs/ARCHITECTURE.md"
 OF_OTHER_DAYS = ["docs/CHECK-TIMES.md"]
 MOST_CHAIN = 13
-PLACES = ["*.md", "docs/*.md", "docs/*.1", "examples/*.md", "python/*.md", "js/*.md", "page/*.md", "check/*", "tests/*.py", "embed/*",
+PLACES = ["*.md", "docs/*.md", "docs/*.1", "examples/*.md", "python/*.md", "js/*.md", "page/*.md", "check/*", "tests/*.py", "tests/*/*.py", "embed/*",
           "tools/*", "tools/*/*", "bench/*.py", "workbench", "try", ".ci/run"]
 
 

@@ -163,11 +163,10 @@ def gate_of(own_clone, machine, status, more=""):
         for name in os.listdir(os.path.join(own_clone, folder)):
             if name.startswith("test_"):
                 os.remove(os.path.join(own_clone, folder, name))
-    for folder in ("tests/strangers", "tests/tools"):
+    for folder in ("tests/strangers", "tests/tools", "tests/page"):
         shutil.rmtree(os.path.join(own_clone, folder))
     places.write(os.path.join(own_clone, "tests", "test_gate.py"), OF_THE_GATE + more)
     places.write(os.path.join(own_clone, "tools", "setup"), "#!/bin/sh\necho 'the setup of tools'\n", is_run=True)
-    places.write(os.path.join(own_clone, "check", "page"), "#!/bin/sh\n", is_run=True)
     places.write(os.path.join(own_clone, "status"), str(status))
     path = machine(lacks=["rt", "node"], rt=TOOLCHAIN, python=sys.executable)
     env = places.environment(path, STATUS=os.path.join(own_clone, "status"))

@@ -37,7 +37,7 @@ def test_the_least_python_is_told_alike():
     """What pip asks for, what mypy looks at, and what the pages say; the tests run each Python from that one on."""
     with open(os.path.join(TOP, "pyproject.toml"), encoding="utf-8") as file:
         told = re.findall(r'^(?:requires-python = ">=|python_version = ")(3\.\d+)"$', file.read(), flags=re.M)
-    for page in ("README.md", "python/README.md", "check/README.md"):
+    for page in ("README.md", "python/README.md", "tests/README.md"):
         with open(os.path.join(TOP, page), encoding="utf-8") as file:
             told += re.findall(r"Python (3\.\d+) or later", file.read())
     assert len(told) >= 5 and set(told) == {"3.9"}

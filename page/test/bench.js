@@ -1,4 +1,4 @@
-// What check/page takes of the page from within, as `bench`: the shipped page has nothing of it.
+// What tests/page takes of the page from within, as `bench`: the shipped page has nothing of it.
 import {answer, log} from "../src/answer.js";
 import {controlLabel, controlStates} from "../src/control.js";
 import {PICTURES, TEXTS} from "../src/hands.js";

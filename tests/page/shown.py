@@ -13,7 +13,7 @@ from hithwelor.answers import Node
 
 COMMAND = os.path.join(TOP, "bin", "hithwelor")
 
-# The page as it is committed, and the same with a hook behind it, which check/page makes and most of it looks at.
+# The page as it is committed, and the same with a hook behind it, which test_page.py makes and most of it looks at.
 SHIPPED = os.path.join(TOP, "page", "hithwelor.html")
 PAGE = os.path.join(TOP, "embed", "out", "checked.html")
 # How long anything is waited for. It is no measure: what comes at once on an idle machine comes after a minute on one that

@@ -1,5 +1,5 @@
 """How the page is laid out: at four widths and in both schemes no text lies over another, what is needed is in sight, and
-nothing is to be scrolled sideways. `--pictures FOLDER` of check/page keeps a photograph of each.
+nothing is to be scrolled sideways. `--pictures FOLDER` keeps a photograph of each.
 """
 import json
 import os

@@ -49,13 +49,9 @@ def check_new(page, count):
 
 
 def check_firefox(program, answers, draw, places, pictures, count):
-    """All of it, or a word that no Firefox is installed."""
-    path = firefox_at_hand()
-    if not path:
-        count.skip("the page in Firefox", "no Firefox is installed: firefox-esr is one")
-        return
+    """All of it, in the Firefox that is at hand."""
     began = time.monotonic()
-    with ShownFirefox(path) as page:
+    with ShownFirefox(firefox_at_hand()) as page:
         page.resize(1680, 1150)
         page.visit(f"file://{PAGE}#m=least")
         answers(page, program, count)

@@ -1,17 +1,13 @@
-#!/usr/bin/env python3
-"""Checks the page and the command: that they are built of the sources that stand, and, in a headless browser, what is shown.
+"""The page and the command: that they are built of the sources that stand, and, in a headless browser, what is shown.
 
-    check/page                    by the proved program, where it stands
-    check/page --program PATH     by another program, as the one that was proved elsewhere, or bin/hithwelor
-    check/page --seed N --places N    other drawn places, or more of them
-    check/page --only NAME            one part: shipped, runs, long, places, editor, pasted, glance, learn, reading, access, layout, heard, faults, kept, rest,
-                                      firefox
-    check/page --pictures FOLDER      photographs of the page as it is laid out
-    check/page --times 2          how long the page takes, held against twice what is aimed at, and nothing else
+    python3 -m pytest tests/page -m ""                     by the proved program, or by the module under node
+    python3 -m pytest tests/page -m "" -k editor           one part
+    python3 -m pytest tests/page -m "" --seed N --places N    other drawn places, or another number of them
+    python3 -m pytest tests/page -m "" --pictures FOLDER   photographs of the page as it is laid out
 
 - page/sources.sha256 has the digests of what page/hithwelor.html and bin/hithwelor were built from, and of both; embed/build
   makes them anew.
-- The page that the checks look at is the shipped one, with a hook behind its script, page/test/bench.js, and nothing else.
+- The page that is looked at is the shipped one, with a hook behind its script, page/test/bench.js, and nothing else.
 - The page's policy names its one script by its digest, and the page names nothing outside. Each file of page/src has its
   row in page/README.md. page/test by node, and the types of the modules by tsc.
 - In a headless Chromium without a network, from the file: answers to words and inputs, byte for byte; what stands in the
@@ -24,9 +20,8 @@
 - In a headless Firefox: the answers, and places of some machines.
 - From a server on this machine: an answer, and that nothing but the page was asked for, whatever a script tries.
 
-What isn't installed is skipped. The last line is 'N passed, M failed'.
+How long the page takes is measured by bench/page_times.py.
 """
-import argparse
 import base64
 import glob
 import hashlib
@@ -37,16 +32,14 @@ import random
 import re
 import shutil
 import subprocess
-import sys
 import threading
 import time
 
-sys.dont_write_bytecode = True
-from counting import TOP, Count, proved_program, text_of
-
-sys.path[:0] = [os.path.join(TOP, "embed"), os.path.join(TOP, "tools", "lib")]
 import bundle
+import pytest
 from browser import browser_at_hand
+from counting import TOP, Count, text_of
+from firefox import firefox_at_hand
 from shown import PAGE, SHIPPED, Program, Shown, comes
 from shown_access import check_access
 from shown_editor import check_editor
@@ -64,7 +57,6 @@ from shown_reading import check_reading
 from shown_runs import MACHINES, check_machine, check_windows
 from shown_tasks import check_tasks
 from shown_texts import check_texts
-from shown_times import check_times
 from shown_workshop import check_workshop
 from sources import changed
 
@@ -98,68 +90,65 @@ TRIES = """(async () => {
 
 # ---- without a browser
 
-def check_sources(count):
-    for path in changed():
-        count.hold(False, f"{path} isn't what page/sources.sha256 says; embed/build makes page and command anew, and then the list")
-    count.hold(not changed(), "the page and the command aren't built of the sources that stand")
+def test_page_and_command_are_built_of_the_sources_that_stand():
+    assert not changed(), "embed/build makes page and command anew, and then the list page/sources.sha256"
 
 
-def check_policy(count):
+def test_the_policy_of_the_page_names_its_one_script_and_the_page_nothing_outside():
     page = text_of("page", "hithwelor.html")
-    scripts = re.findall(r"<script[^>]*>(.*?)</script>", page, flags=re.S)
-    policy = re.search(r'<meta http-equiv="Content-Security-Policy" content="([^"]*)">', page)
-    digest = base64.b64encode(hashlib.sha256(scripts[0].encode()).digest()).decode() if len(scripts) == 1 else "?"
-    count.hold(policy and f"script-src 'sha256-{digest}' 'wasm-unsafe-eval';" in policy[1] and "default-src 'none'" in policy[1],
-               "page/hithwelor.html: its policy doesn't name its one script")
-    outside = re.findall(r'(?:src|href)="(?!data:|#)[^"]*"', page.replace(scripts[0] if scripts else "", ""))
-    count.hold(not outside, f"page/hithwelor.html names {', '.join(outside)}")
+    (script,) = re.findall(r"<script[^>]*>(.*?)</script>", page, flags=re.S)
+    policy = re.search(r'<meta http-equiv="Content-Security-Policy" content="([^"]*)">', page)[1]
+    digest = base64.b64encode(hashlib.sha256(script.encode()).digest()).decode()
+    assert f"script-src 'sha256-{digest}' 'wasm-unsafe-eval';" in policy and "default-src 'none'" in policy
+    assert not re.findall(r'(?:src|href)="(?!data:|#)[^"]*"', page.replace(script, ""))
 
 
-def check_named(count):
-    """Each file of page/src has one row in page/README.md."""
+def test_each_file_of_the_page_has_one_row_in_its_readme():
     named = re.findall(r"^\| `([^`]+)` \|", text_of("page", "README.md"), flags=re.M)
     top = os.path.join(TOP, "page", "src")
     files = sorted(os.path.relpath(os.path.join(folder, name), top) for folder, _, names in os.walk(top) for name in names)
-    count.hold(sorted(named) == files, f"page/README.md doesn't name once {sorted({*named} ^ {*files})}, "
-               f"and twice {sorted({it for it in named if named.count(it) > 1})}")
+    assert sorted(named) == files
 
 
-def check_messages(count):
-    """What docs/HELP.md says that the page says stands in page/src, apart from numbers and what is left out."""
+def test_the_page_says_what_the_page_of_help_tells_of_it():
+    """Apart from numbers and what is left out."""
     section = text_of("docs", "HELP.md").partition("## In the page\n")[2]
     sources = "".join(text_of(path) for path in sorted(glob.glob(os.path.join(TOP, "page", "src", "**", "*.*"), recursive=True)))
     told = [it for line in section.splitlines() if line.startswith("**") for it in re.findall(r"`([^`]+)`", line.partition(".** ")[0])]
-    lacking = [it for it in told if not all(part in sources for part in re.split(r"\d+|\.\.", it) if len(part) > 4)]
-    count.hold(len(told) > 8 and not lacking, f"docs/HELP.md: the page doesn't say {lacking}")
+    assert len(told) > 8
+    assert not [it for it in told if not all(part in sources for part in re.split(r"\d+|\.\.", it) if len(part) > 4)]
 
 
-def check_hook(count):
-    """The page for the checks is made: it is the shipped one, with the hook behind it and nothing else. Whether it stands."""
+@pytest.fixture(scope="module")
+def hooked():
+    """The page for the tests of browsers is made: the shipped one, with the hook behind it."""
     try:
         text = bundle.checked_text()
     except bundle.Bundle as fault:
-        count.skip("what the page shows", str(fault))
-        return False
+        pytest.skip(str(fault))
     with open(PAGE, "w", encoding="utf-8", newline="\n") as file:
         file.write(text)
-    scripts = [re.findall(r"<script>(.*?)</script>", it, flags=re.S)[0] for it in (text_of("page", "hithwelor.html"), text)]
+    return text
+
+
+def test_the_page_that_is_looked_at_is_the_shipped_one_with_a_hook(hooked):
+    scripts = [re.findall(r"<script>(.*?)</script>", it, flags=re.S)[0] for it in (text_of("page", "hithwelor.html"), hooked)]
     begin, end = scripts[0].rpartition("})();\n")[:2]
     hook = scripts[1].removeprefix(begin)
-    count.hold(end and hook != scripts[1] and hook.startswith("Object.assign(globalThis,{bench:{") and "{bench:" not in scripts[0],
-               "page/hithwelor.html isn't what the checks look at: embed/build --pages makes it anew")
-    return True
+    assert end and hook != scripts[1], "embed/build --pages makes page/hithwelor.html anew"
+    assert hook.startswith("Object.assign(globalThis,{bench:{") and "{bench:" not in scripts[0]
 
 
-def check_modules(count):
-    """What of the page needs no browser, by node, and its types, by tsc."""
+def test_the_modules_of_the_page_by_node(any_node):
     tests = sorted(glob.glob(os.path.join(TOP, "page", "test", "*.test.js")))
-    parts = {"the page's modules": ["node", "--test", *tests], "the page's types": ["tsc", "-p", "page/tsconfig.json"]}
-    for what, words in parts.items():
-        if not shutil.which(words[0]):
-            count.skip(what, f"{words[0]} isn't installed")
-            continue
-        ran = subprocess.run(words, cwd=TOP, stdout=subprocess.PIPE, stderr=subprocess.STDOUT, text=True)
-        count.hold(ran.returncode == 0, f"{what}: {ran.stdout[-2000:]}")
+    ran = subprocess.run([any_node, "--test", *tests], cwd=TOP, stdout=subprocess.PIPE, stderr=subprocess.STDOUT, text=True)
+    assert tests and ran.returncode == 0, ran.stdout[-2000:]
+
+
+def test_the_types_of_the_page(needs):
+    needs("tsc")
+    ran = subprocess.run(["tsc", "-p", "page/tsconfig.json"], cwd=TOP, stdout=subprocess.PIPE, stderr=subprocess.STDOUT, text=True)
+    assert ran.returncode == 0, ran.stdout[-2000:]
 
 
 # ---- in a browser
@@ -251,8 +240,9 @@ def check_rest(page, program, count):
         check(page, program, count)
 
 
-def check_shown(path, program, asked, count):
-    parts = {
+def parts_of(program, asked, count):
+    """What is looked at in Chromium, part by part: each is a call for a page."""
+    return {
         "shipped": lambda page: check_shipped(page, program, count),
         "runs": lambda page: check_runs(page, program, random.Random(asked.seed), count),
         "long": lambda page: check_long(page, program, random.Random(asked.seed), count),
@@ -266,61 +256,48 @@ def check_shown(path, program, asked, count):
         "faults": lambda page: check_faults(page, program, count), "kept": lambda page: check_kept(page, program, count),
         "rest": lambda page: check_rest(page, program, count),
     }
+
+
+class Asked:
+    """What the options ask for."""
+
+    def __init__(self, config):
+        self.seed = SEED + config.getoption("--seed") - 1
+        self.places = config.getoption("--places") or PLACES
+        self.pictures = config.getoption("--pictures")
+
+
+@pytest.fixture(scope="module")
+def compared(program):
+    """The program that the page is compared with."""
+    kept = Program(program)
+    yield kept
+    if kept.kept:
+        kept.kept.close()
+
+
+@pytest.mark.slow
+@pytest.mark.browser
+@pytest.mark.engine
+@pytest.mark.parametrize("part", parts_of(None, None, None))
+def test_the_page_in_chromium(part, compared, hooked, pytestconfig, comparisons):
+    path, count = browser_at_hand(), Count()
+    if not path:
+        pytest.skip("chromium isn't installed: tools/setup")
     with Shown(path) as page:
         page.call("Network.enable")
         page.call("Network.emulateNetworkConditions", offline=True, latency=0, downloadThroughput=0, uploadThroughput=0)
         page.call("Emulation.setDeviceMetricsOverride", width=1680, height=1050, deviceScaleFactor=1, mobile=False)
-        for name, check in parts.items():
-            began = time.monotonic()
-            if asked.only in (None, name):
-                check(page)
-                print(f"{name}: {time.monotonic() - began:.0f} s", flush=True)
+        parts_of(compared, Asked(pytestconfig), count)[part](page)
+    comparisons(count.close())
 
 
-def check_timed(path, program, factor, is_long, count):
-    with Shown(path) as page:
-        page.call("Emulation.setDeviceMetricsOverride", width=1280, height=800, deviceScaleFactor=1, mobile=False)
-        check_times(page, program, factor, is_long, count)
-        count.hold(not page.faults(), f"{page.faults()}")
-
-
-def main():
-    parser = argparse.ArgumentParser(description=__doc__, formatter_class=argparse.RawDescriptionHelpFormatter)
-    parser.add_argument("--program", metavar="PATH", type=os.path.abspath, help="the program to compare with")
-    parser.add_argument("--seed", metavar="N", type=int, default=SEED, help="the seed of what is drawn")
-    parser.add_argument("--places", metavar="N", type=int, default=PLACES, help="how many places are drawn")
-    parser.add_argument("--only", metavar="NAME", help="one part alone")
-    parser.add_argument("--pictures", metavar="FOLDER", type=os.path.abspath, help="where photographs are kept")
-    parser.add_argument("--times", metavar="FACTOR", type=float, help="measure, and hold the figures against so many times what is aimed at")
-    parser.add_argument("--long", action="store_true", help="with --times: runs of 4,046 and of 20,014 moments too, some minutes")
-    asked = parser.parse_args()
-    path, program = browser_at_hand(), asked.program or proved_program()
-    count = Count()
-    check_sources(count)
-    check_policy(count)
-    check_named(count)
-    check_messages(count)
-    check_modules(count)
-    if not program:
-        count.skip("what the page shows", "the proved program doesn't stand")
-        return count.close()
-    if not check_hook(count):
-        return count.close()
-    kept = Program(program)
-    try:
-        if not path:
-            count.skip("what the page shows", "no browser is installed: chromium is one")
-        elif asked.times:
-            check_timed(path, kept, asked.times, asked.long, count)
-            return count.close()
-        elif asked.only != "firefox":
-            check_shown(path, kept, asked, count)
-        if asked.only in (None, "firefox"):
-            check_firefox(kept, check_answers, random.Random(asked.seed), FIREFOX_PLACES, asked.pictures, count)
-    except OSError as fault:
-        count.hold(False, f"the browser: {fault}")
-    return count.close()
-
-
-if __name__ == "__main__":
-    sys.exit(main())
+@pytest.mark.slow
+@pytest.mark.browser
+@pytest.mark.engine
+def test_the_page_in_firefox(compared, hooked, pytestconfig, comparisons):
+    asked, count = Asked(pytestconfig), Count()
+    if not firefox_at_hand():
+        pytest.skip("firefox-esr isn't installed: tools/setup")
+    check_firefox(compared, check_answers, random.Random(asked.seed), FIREFOX_PLACES, asked.pictures, count)
+    comparisons(count.close())
