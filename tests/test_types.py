@@ -1,4 +1,6 @@
-"""The types of the Python package's public modules, by mypy in its strict way; and that a planted fault is seen."""
+"""The types of the Python package by mypy in its strict way, and of the tools and measures by mypy as it is; and that a planted
+fault is seen."""
+import glob
 import os
 import re
 import shutil
@@ -6,31 +8,57 @@ import subprocess
 
 import places
 import pytest
+from places import TOP
 
-TOP = os.path.dirname(os.path.dirname(os.path.abspath(__file__)))
+# The folders of modules that the tools import.
+MODULES = ["tools/lib", "embed", "python", "tests", "tests/page", "bench"]
+PLAIN = ["--config-file", os.devnull, "--python-version", "3.9", "--ignore-missing-imports", "--scripts-are-modules"]
 
 
-def checked(top):
+def programs_of(folder):
+    """The modules of a folder, and its programs in Python."""
+    for path in sorted(glob.glob(os.path.join(TOP, folder, "*"))):
+        if os.path.isfile(path):
+            with open(path, "rb") as file:
+                if path.endswith(".py") or re.match(rb"#!.*python", file.readline()):
+                    yield os.path.relpath(path, TOP)
+
+
+def checked(top, *words):
+    """What mypy says in a folder."""
     if not shutil.which("mypy"):
-        pytest.skip("mypy isn't installed")
-    return subprocess.run(["mypy", "--cache-dir", os.devnull], cwd=top, stdout=subprocess.PIPE, stderr=subprocess.STDOUT, text=True)
+        pytest.skip("mypy isn't installed: tools/setup")
+    return subprocess.run(["mypy", "--cache-dir", os.devnull, *words], cwd=top, stdout=subprocess.PIPE, stderr=subprocess.STDOUT,
+                          text=True, env={**os.environ, "MYPYPATH": ":".join(MODULES)})
 
 
-def test_public_modules_are_annotated():
+def test_the_package_has_types():
     ran = checked(TOP)
     assert ran.returncode == 0, ran.stdout
 
 
-def test_a_planted_fault_is_seen(tmp_path):
+@pytest.mark.parametrize("folders", [["tools", "tools/build", "tools/lib", "embed", "check"], ["bench"], ["docs/pictures"]],
+                         ids=" ".join)
+def test_tools_and_measures_agree_with_their_types(folders):
+    programs = [path for folder in folders for path in programs_of(folder)]
+    assert programs
+    ran = checked(TOP, *PLAIN, *programs)
+    assert ran.returncode == 0, ran.stdout
+
+
+@pytest.mark.parametrize("path, right, wrong, told", [
+    ("texts.py", "int(words[1]), output=output", "words[1], output=output", "arg-type"),
+    ("sweep/rows.py", "return code, counts, found or window", "return counts, code, found", "return-value"),
+])
+def test_a_planted_fault_is_seen(tmp_path, path, right, wrong, told):
     shutil.copytree(os.path.join(TOP, "python", "hithwelor"), tmp_path / "python" / "hithwelor")
     shutil.copy(os.path.join(TOP, "pyproject.toml"), tmp_path)
-    module = tmp_path / "python" / "hithwelor" / "texts.py"
-    right = "return cls(words[0], int(words[1]), output=output, text=text)"
+    module = tmp_path / "python" / "hithwelor" / path
     text = module.read_text(encoding="utf-8")
     assert text.count(right) == 1
-    module.write_text(text.replace(right, right.replace("int(words[1])", "words[1]")), encoding="utf-8")
+    module.write_text(text.replace(right, wrong), encoding="utf-8")
     ran = checked(tmp_path)
-    assert ran.returncode == 1 and "texts.py" in ran.stdout and "arg-type" in ran.stdout, ran.stdout
+    assert ran.returncode == 1 and path in ran.stdout and told in ran.stdout, ran.stdout
 
 
 def test_the_least_python_is_told_alike():

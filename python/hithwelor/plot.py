@@ -6,15 +6,19 @@
 
 docs/MANY.md has examples. For the picture of the growth of `generate`, in docs/BENCHMARKS.md, there is tools/plot.
 """
+from __future__ import annotations
+
 import argparse
 import csv
 import os
 import sys
 from collections import Counter, defaultdict
+from collections.abc import Iterable, Mapping
+from typing import Any, Callable
 
 from .faults import FULL, Fault, cause
 from .sweep.command import Parser
-from .sweep.rows import COLUMNS, ELEMENTS, FORM, MACHINE, OUTCOME, OUTPUT, QUADRUPLE, STEPS, WINDOW, WORD
+from .sweep.rows import COLUMNS, ELEMENTS, FORM, MACHINE, OUTCOME, OUTPUT, QUADRUPLE, STEPS, WINDOW, WORD, Row
 
 ENDINGS = (".svg", ".png")
 MOST_NAMES = 40
@@ -22,7 +26,11 @@ COLOURS = {"halted": "#2c6da3", "end": "#2c6da3", "compiled": "#2c6da3", "stuck"
            "running": "#8e6bb0", "time": "#555", "refused": "#bbb"}
 
 
-def rows_of(path):
+# The points of a series, each once and in their order.
+Points = dict[tuple[int, int], None]
+
+
+def rows_of(path: str) -> list[Row]:
     """The rows of a table."""
     try:
         with open(path, encoding="utf-8", errors="surrogateescape", newline="") as file:
@@ -37,7 +45,7 @@ def rows_of(path):
     return found
 
 
-def canvas():
+def canvas() -> Any:
     """matplotlib's figures, without a display, and with the same bytes in each run."""
     try:
         import matplotlib
@@ -49,22 +57,24 @@ def canvas():
     return pyplot
 
 
-def namer(rows):
+def namer(rows: list[Row]) -> Callable[[Row], str]:
     """What names a row's series: its form, and its machine where the table has several."""
     if len({row[MACHINE] for row in rows}) == 1:
         return lambda row: row[FORM]
     return lambda row: f"{os.path.basename(row[MACHINE])} {row[FORM]}"
 
 
-def scatter(axes, series):
+def scatter(axes: Any, series: Mapping[str, Iterable[tuple[int, int]]]) -> None:
     """Points of each series."""
     for marker, (name, points) in zip("osv^Dx+*" * len(series), series.items()):
         axes.plot(*zip(*points), marker, markersize=4, fillstyle="none", label=name)
 
 
-def draw_steps(axes, rows):
+def draw_steps(axes: Any, rows: list[Row]) -> None:
     """Steps against length."""
-    series, beside, named = defaultdict(dict), {}, namer(rows)
+    series: defaultdict[str, Points] = defaultdict(dict)
+    beside: Points = {}
+    named = namer(rows)
     for row in rows:
         length, name = len(row[WORD]), named(row)
         if row[FORM].endswith("machine") and row[STEPS]:
@@ -82,15 +92,16 @@ def draw_steps(axes, rows):
     axes.legend()
 
 
-def cells_of(window):
+def cells_of(window: str) -> int:
     """How many cells a window has on its three tapes."""
     left, right, history, output = map(int, window.split(" "))
     return left + right + 1 + history + 1 + output + 1
 
 
-def draw_elements(axes, rows):
+def draw_elements(axes: Any, rows: list[Row]) -> None:
     """Elements against the window."""
-    series, named = defaultdict(dict), namer(rows)
+    series: defaultdict[str, Points] = defaultdict(dict)
+    named = namer(rows)
     for row in rows:
         if row[ELEMENTS] and row[WINDOW].count(" ") == 3:
             series[named(row)][cells_of(row[WINDOW]), int(row[ELEMENTS])] = None
@@ -101,23 +112,25 @@ def draw_elements(axes, rows):
     axes.legend()
 
 
-def lines_of(rows):
+def lines_of(rows: list[Row]) -> list[str]:
     """The line of each row: its form with its window, where all words of its machine were asked in it, else `found window`."""
-    named, words = namer(rows), defaultdict(set)
+    named = namer(rows)
+    words: defaultdict[str, set[str]] = defaultdict(set)
     counts = Counter((row[MACHINE], row[FORM], row[WINDOW]) for row in rows)
     for row in rows:
         words[row[MACHINE]].add(row[WORD])
 
-    def line(row):
+    def line(row: Row) -> str:
         given = counts[row[MACHINE], row[FORM], row[WINDOW]] >= len(words[row[MACHINE]])
         return f"{named(row)} {row[WINDOW] if given else '(found window)'}".strip()
     return list(map(line, rows))
 
 
-def draw_exits(axes, rows):
+def draw_exits(axes: Any, rows: list[Row]) -> None:
     """How each word came out: a column a word, a line a form and window."""
     words = {word: place for place, word in enumerate(dict.fromkeys(row[WORD] for row in rows))}
-    names, points = {}, defaultdict(list)
+    names: dict[str, int] = {}
+    points: defaultdict[str, list[tuple[int, int]]] = defaultdict(list)
     for row, name in zip(rows, lines_of(rows)):
         kind = row[OUTCOME].split(" ")[0]
         points[kind if kind in COLOURS else "refused"].append((words[row[WORD]], names.setdefault(name, len(names))))
@@ -134,7 +147,7 @@ def draw_exits(axes, rows):
 DRAWN = {"steps": draw_steps, "elements": draw_elements, "exits": draw_exits}
 
 
-def plot(words):
+def plot(words: list[str]) -> int:
     """The command `plot`: gives its status."""
     it = Parser(prog="hithwelor plot", description=__doc__, formatter_class=argparse.RawDescriptionHelpFormatter)
     it.add_argument("table", metavar="TABLE", help="the table")
@@ -154,7 +167,7 @@ def plot(words):
     return 0
 
 
-def main(words):
+def main(words: list[str]) -> int:
     """The command of the package: gives its status, and tells a fault in one line."""
     try:
         return plot(words)

@@ -1,4 +1,6 @@
 """The cases of a sweep, each by its number: machines by words, and each of these groups by forms and windows."""
+from __future__ import annotations
+
 import bisect
 import csv
 import functools
@@ -8,7 +10,9 @@ import itertools
 import math
 import os
 import random
+from collections.abc import Iterable, Sequence
 from dataclasses import dataclass
+from typing import Callable, Union
 
 from ..answers import answer
 from ..faults import Fault, cause
@@ -38,10 +42,10 @@ class Table:
     name: str
     data: bytes
     both: bytes = b""
-    refusal: object = None
+    refusal: tuple[int, bytes] | None = None
 
     @property
-    def letters(self):
+    def letters(self) -> str:
         """The letters of the table but the blank, by first appearance; of a table that is none, those that can be found."""
         records = csv.reader(io.StringIO(self.data.decode("utf-8-sig", errors="replace"), newline=""))
         found = [field for record in records if len(record) == 5 for field in record[1:3]]
@@ -51,20 +55,20 @@ class Table:
 class AllWords:
     """All words of these letters with `least` to `most` letters, the shorter ones first, in the order of the letters."""
 
-    def __init__(self, letters, least, most):
+    def __init__(self, letters: str, least: int, most: int) -> None:
         self.letters, self.least = letters, least
         self.counts = [len(letters) ** length for length in range(least, most + 1)]
         self.count = sum(self.counts)
         self.step = max(1, int(math.log(FEW, max(2, len(letters)))))
 
-    def __getitem__(self, number):
+    def __getitem__(self, number: int) -> str:
         for length, count in enumerate(self.counts, self.least):
             if number < count:
                 return self.spelled(number, length)
             number -= count
         raise IndexError(number)
 
-    def spelled(self, number, length):
+    def spelled(self, number: int, length: int) -> str:
         """The word of this number among those of a length."""
         found = []
         while length > self.step:
@@ -76,7 +80,7 @@ class AllWords:
 
 
 @functools.cache
-def spellings(letters, length):
+def spellings(letters: str, length: int) -> list[str]:
     """All words of a length, which is so small that they are few."""
     return ["".join(it) for it in itertools.product(letters, repeat=length)]
 
@@ -84,24 +88,28 @@ def spellings(letters, length):
 class Listed:
     """Words that are listed."""
 
-    def __init__(self, words):
+    def __init__(self, words: list[str]) -> None:
         self.words, self.count = words, len(words)
 
-    def __getitem__(self, number):
+    def __getitem__(self, number: int) -> str:
         return self.words[number]
 
 
-def drawn(letters, least, most, count, seed):
+Words = Union[AllWords, Listed]
+Tell = Callable[[str], None]
+
+
+def drawn(letters: str, least: int, most: int, count: int, seed: int) -> Listed:
     """So many words, drawn by a seed: first the length, then each letter. The same ones in each run."""
     draw = random.Random(seed)
 
-    def below(number):
+    def below(number: int) -> int:
         return int(draw.random() * number)
-    lengths = range(least, most + 1) if letters else [0]
+    lengths: Sequence[int] = range(least, most + 1) if letters else [0]
     return Listed(["".join(letters[below(len(letters))] for _ in range(lengths[below(len(lengths))])) for _ in range(count)])
 
 
-def words_of_file(path):
+def words_of_file(path: str) -> Listed:
     """The words of a file, one a line; an empty line is the empty word."""
     data = read(path).removeprefix(b"\xef\xbb\xbf")
     lines = data.decode("utf-8", errors="surrogateescape").split("\n")
@@ -116,7 +124,7 @@ def words_of_file(path):
     return Listed(words)
 
 
-def read(path):
+def read(path: str) -> bytes:
     """The bytes of a file."""
     try:
         with open(path, "rb") as file:
@@ -125,7 +133,7 @@ def read(path):
         raise Fault(f"{path}: {cause(error)}; nothing was made") from None
 
 
-def increments(count):
+def increments(count: int) -> bytes:
     """The table of the machine that adds one so many times, as docs/FORMATS.md has it."""
     lines = ["S,_,_,+,R1"]
     for i in range(1, count + 1):
@@ -135,7 +143,7 @@ def increments(count):
     return "".join(f"{line}\n" for line in lines).encode()
 
 
-def generated(name):
+def generated(name: str) -> Table:
     """The table of `generate:K`."""
     number = name.removeprefix(GENERATED)
     if not (number.isascii() and number.isdigit()) or not 1 <= int(number) <= MOST_INCREMENTS:
@@ -143,7 +151,7 @@ def generated(name):
     return Table(name, increments(int(number)))
 
 
-def tables_of(names, tell):
+def tables_of(names: Iterable[str], tell: Tell) -> list[Table]:
     """The machines that are named: files, folders of *.csv, and `generate:K`. A folder without one is told, and passed over."""
     found = []
     for name in names:
@@ -163,7 +171,7 @@ def tables_of(names, tell):
     return found
 
 
-def in_standard_form(table):
+def in_standard_form(table: Table) -> Table:
     """The machine that `standard` makes of this one, or this one with what `standard` says against it."""
     status, text = answer(["standard"], table.data)
     if status:
@@ -171,13 +179,13 @@ def in_standard_form(table):
     return Table(table.name, text)
 
 
-def with_second(table, second):
+def with_second(table: Table, second: bytes | None) -> Table:
     """The machine with what `erase` reads: its table, a text line %, and the table of the machine back, or its own again."""
     first = table.data if table.data.endswith(b"\n") else table.data + b"\n"
     return Table(table.name, table.data, first + b"%\n" + (table.data if second is None else second), table.refusal)
 
 
-def window_of(word):
+def window_of(word: str) -> str:
     """The window that a word of the command line names: `auto`, or four numbers with commas between them."""
     parts = word.replace(",", " ").split()
     if parts == [AUTO] or len(parts) == 4 and all(it.isascii() and it.isdigit() for it in parts):
@@ -185,7 +193,7 @@ def window_of(word):
     raise Fault(f"{word}: a window is auto, or four numbers l1,r1,n,r3 with commas between them, as 0,5,11,5")
 
 
-def kinds_of(forms, windows, steps):
+def kinds_of(forms: Sequence[str], windows: Sequence[str], steps: int) -> tuple[Kind, ...]:
     """What is asked of each word, in order."""
     return tuple(Kind(form, window, steps) for form in forms for window in (windows if form in WINDOWED else [""]))
 
@@ -195,13 +203,13 @@ class Batch:
     """Groups in a row, as they are handed to a worker: for each machine its words. A group is a machine and a word with all
     that is asked of it; so a batch can be answered and compared by itself."""
 
-    parts: tuple
-    kinds: tuple
+    parts: tuple[tuple[Table, tuple[str, ...]], ...]
+    kinds: tuple[Kind, ...]
     front: str
-    seconds: object
+    seconds: float | None
 
     @property
-    def groups(self):
+    def groups(self) -> int:
         return sum(len(words) for _, words in self.parts)
 
 
@@ -210,26 +218,27 @@ class Plan:
     """All cases of a sweep. `front` is what stands before the form in a row: `standard ` or nothing. `sources` are the
     machines as they were read, and `back` the machine back of `erase`, where one was named."""
 
-    tables: tuple
-    words: tuple
-    kinds: tuple
+    tables: tuple[Table, ...]
+    words: tuple[Words, ...]
+    kinds: tuple[Kind, ...]
     front: str = ""
-    seconds: object = None
-    sources: tuple = ()
-    back: object = None
+    seconds: float | None = None
+    sources: tuple[Table, ...] = ()
+    back: Table | None = None
 
     @functools.cached_property
-    def starts(self):
+    def starts(self) -> list[int]:
         """The number of each machine's first group, and at the end the number of all groups."""
         return list(itertools.accumulate((words.count for words in self.words), initial=0))
 
     @property
-    def groups(self):
+    def groups(self) -> int:
         return self.starts[-1]
 
-    def batch(self, first, last):
+    def batch(self, first: int, last: int) -> Batch:
         """The groups from one number up to another."""
-        parts, place = [], bisect.bisect_right(self.starts, first) - 1
+        parts: list[tuple[Table, tuple[str, ...]]] = []
+        place = bisect.bisect_right(self.starts, first) - 1
         while first < last and place < len(self.tables):
             start, high, words = self.starts[place], min(last, self.starts[place + 1]), self.words[place]
             if first < high:
@@ -238,6 +247,6 @@ class Plan:
             place += 1
         return Batch(tuple(parts), self.kinds, self.front, self.seconds)
 
-    def part(self, number, count):
+    def part(self, number: int, count: int) -> tuple[int, int]:
         """The first and the last group, one beyond, of a part of so many."""
         return self.groups * (number - 1) // count, self.groups * number // count

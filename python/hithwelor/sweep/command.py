@@ -9,18 +9,21 @@ examples, docs/FORMATS.md the columns.
 
 A machine's file that is named `join` is written ./join.
 """
+from __future__ import annotations
+
 import argparse
 import os
 import re
 import signal
 import sys
+from typing import Callable, NoReturn, TextIO
 
 from ..answers import Unavailable
 from ..faults import STOPPED, Fault
 from . import cases, record, table
 from .progress import progress
 from .rows import Tally
-from .workers import Cluster, Local, answers_in_order
+from .workers import Cluster, Local, Pool, answers_in_order
 
 DIFFER = 1
 # What to do about a refusal, by its first word.
@@ -33,33 +36,33 @@ HINTS = {"text": "that file isn't a table of quintuples, one `state,read,write,s
 class Parser(argparse.ArgumentParser):
     """A parser that tells a fault of the words in one line."""
 
-    def error(self, message):
+    def error(self, message: str) -> NoReturn:
         raise Fault(f"{message}; --help tells the words")
 
 
-def number(least, most=2 ** 62):
+def number(least: int, most: int = 2 ** 62) -> Callable[[str], int]:
     """A reader of an option's number, for argparse."""
-    def read(word):
+    def read(word: str) -> int:
         if not (word.isascii() and word.isdigit()) or not least <= int(word) <= most:
             raise argparse.ArgumentTypeError(f"{word!r} is no number from {least}" + (f" to {most}" if most < 2 ** 62 else " on"))
         return int(word)
     return read
 
 
-def seconds(word):
+def seconds(word: str) -> float:
     if not re.fullmatch(r"\d+(\.\d+)?", word) or float(word) <= 0:
         raise argparse.ArgumentTypeError(f"{word!r} is no number of seconds above 0")
     return float(word)
 
 
-def part(word):
+def part(word: str) -> tuple[int, int]:
     found = re.fullmatch(r"([1-9]\d*)/([1-9]\d*)", word)
     if not found or int(found[1]) > int(found[2]):
         raise argparse.ArgumentTypeError(f"{word!r} is no part K/N with K from 1 to N")
     return int(found[1]), int(found[2])
 
 
-def parser():
+def parser() -> Parser:
     it = Parser(prog="hithwelor sweep", description=__doc__, formatter_class=argparse.RawDescriptionHelpFormatter, allow_abbrev=False)
     it.add_argument("machines", metavar="MACHINE", nargs="+", help="a table's file, a folder of *.csv, or generate:K")
     words = it.add_argument_group("the words").add_mutually_exclusive_group(required=True)
@@ -86,12 +89,12 @@ def parser():
     return it
 
 
-def tell(line):
+def tell(line: object) -> None:
     """One line on standard error."""
     print(f"hithwelor sweep: {line}", file=sys.stderr, flush=True)
 
 
-def options_of(words):
+def options_of(words: list[str]) -> argparse.Namespace:
     options = parser().parse_intermixed_args(words)
     if options.form is None:
         options.form = ["machine", "run"] if options.check else ["machine"]
@@ -108,7 +111,7 @@ def options_of(words):
     return options
 
 
-def words_for(options, letters):
+def words_for(options: argparse.Namespace, letters: str) -> cases.Words:
     """The words for a machine with these letters."""
     letters = letters if options.letters is None else options.letters
     least, most = (0, options.up_to) if options.length is None else (options.length, options.length)
@@ -117,16 +120,16 @@ def words_for(options, letters):
     return cases.AllWords(letters, least, most)
 
 
-def plan_of(options):
+def plan_of(options: argparse.Namespace) -> cases.Plan:
     """All cases that are asked for."""
     sources = tuple(cases.tables_of(options.machines, tell))
     back = cases.Table(options.second, cases.read(options.second)) if options.second else None
-    tables, second = sources, back
+    tables, second = list(sources), back
     if options.standard:
         tables = [cases.in_standard_form(it) for it in tables]
-        second = second and cases.in_standard_form(second)
+        second = cases.in_standard_form(second) if second else None
     if "erase" in options.form:
-        tables = [cases.with_second(it, second and second.data) for it in tables]
+        tables = [cases.with_second(it, second.data if second else None) for it in tables]
     listed = cases.words_of_file(options.words) if options.words else None
     words = [listed or words_for(options, it.letters) for it in sources]
     kinds = cases.kinds_of(options.form, list(dict.fromkeys(map(cases.window_of, options.window))), options.steps)
@@ -134,7 +137,7 @@ def plan_of(options):
                       sources, back if "erase" in options.form else None)
 
 
-def place_of(options):
+def place_of(options: argparse.Namespace) -> tuple[str | None, str | None]:
     """The file that is written, and the name that it gets when it is whole."""
     if not options.part:
         return options.out, options.out
@@ -144,11 +147,12 @@ def place_of(options):
     return whole + table.UNFINISHED, whole
 
 
-def old_of(options, path, whole, plan, bounds):
+def old_of(options: argparse.Namespace, path: str | None, whole: str | None, plan: cases.Plan,
+           bounds: tuple[int, int]) -> table.Old:
     """What stands in the table already; nothing, where there is none or it has no row."""
     old = table.Old()
     there = next((it for it in (whole, path) if it and os.path.isfile(it)), None)
-    if there and not table.has_no_row(there):
+    if there and whole and not table.has_no_row(there):
         if not options.resume:
             raise Fault(f"{there} is there: --resume goes on with it; or name another table by --out")
         old.read(there, plan, *bounds)
@@ -156,19 +160,19 @@ def old_of(options, path, whole, plan, bounds):
     return old
 
 
-def pool_for(options, is_wanted):
+def pool_for(options: argparse.Namespace, is_wanted: bool) -> Pool | None:
     """Who answers, where there is anything left to be answered."""
     if not is_wanted:
         return None
     return Cluster(options.scheduler) if options.scheduler else Local(options.jobs or len(os.sched_getaffinity(0)))
 
 
-def fill(pool, plan, written, done, bounds):
+def fill(pool: Pool | None, plan: cases.Plan, written: table.Written, done: int, bounds: tuple[int, int]) -> Tally:
     """Has all cases answered that aren't there yet, and writes their rows in order; gives their tally."""
     width, tally = len(plan.kinds), Tally()
     line = progress((bounds[1] - bounds[0]) * width, done * width)
     try:
-        for answer in answers_in_order(pool, plan, bounds[0] + done, bounds[1]):
+        for answer in answers_in_order(pool, plan, bounds[0] + done, bounds[1]) if pool else ():
             written.add(answer.text)
             tally.add(answer.tally)
             line.update(answer.groups * width)
@@ -181,7 +185,7 @@ def fill(pool, plan, written, done, bounds):
     return tally
 
 
-def close(tally, is_checked, stream):
+def close(tally: Tally, is_checked: bool, stream: TextIO) -> int:
     """Tells what differs and what was refused; gives the status."""
     for line in tally.lines[:10]:
         tell(line)
@@ -196,7 +200,7 @@ def close(tally, is_checked, stream):
     return DIFFER if is_checked and tally.differ else 0
 
 
-def sweep(words):
+def sweep(words: list[str]) -> int:
     """The command `sweep`: gives its status."""
     options = options_of(words)
     plan = plan_of(options)
@@ -207,19 +211,19 @@ def sweep(words):
     try:
         written = table.Written(path)
         written.open(old.length)
-        if written.is_kept:
+        if written.is_kept and whole:
             record.write(whole, record.files_of(plan, *bounds))
         old.tally.add(fill(pool, plan, written, old.groups, bounds))
     finally:
         if pool:
             pool.end()
     written.close()
-    if path != whole:
+    if path and whole and path != whole:
         os.replace(path, whole)
     return close(old.tally, options.check, sys.stdout if path else sys.stderr)
 
 
-def join(words):
+def join(words: list[str]) -> int:
     """The command `sweep join`: gives its status."""
     it = Parser(prog="hithwelor sweep join", description="Joins the parts of a table that `sweep --part` made.")
     it.add_argument("table", metavar="TABLE", help="the table's name, as --out had it")
@@ -229,7 +233,7 @@ def join(words):
     return close(tally, tally.agree + tally.differ > 0, sys.stdout)
 
 
-def main(words):
+def main(words: list[str]) -> int:
     """The command of the package: gives its status, and tells a fault in one line."""
     try:
         return join(words[1:]) if words[:1] == ["join"] else sweep(words)

@@ -1,5 +1,7 @@
 """Answers with a limit of time. A call of the library can't be stopped, so each is made in a process of its own that is
 kept for the next ones and killed where a case takes too long."""
+from __future__ import annotations
+
 import contextlib
 import os
 import select
@@ -9,6 +11,7 @@ import subprocess
 import sys
 import threading
 import time
+from typing import IO, NoReturn
 
 from .. import answers
 
@@ -27,10 +30,10 @@ class Ended(Exception):
 class Direct:
     """Answers without a limit, in this process."""
 
-    def __init__(self):
+    def __init__(self) -> None:
         self.ask = answers.way().answer
 
-    def begin(self):
+    def begin(self) -> None:
         """A new case begins."""
 
 
@@ -39,18 +42,20 @@ class Limited:
 
     keeper = threading.local()
 
-    def __init__(self):
-        self.child, self.seconds, self.until = None, 0.0, 0.0
+    def __init__(self) -> None:
+        self.child: subprocess.Popen[bytes] | None = None
+        self.seconds, self.until = 0.0, 0.0
 
     @classmethod
-    def kept(cls, seconds):
+    def kept(cls, seconds: float) -> Limited:
         """The one of this thread, with this limit."""
         if not hasattr(cls.keeper, "it"):
             cls.keeper.it = cls()
-        cls.keeper.it.seconds = seconds
-        return cls.keeper.it
+        kept: Limited = cls.keeper.it
+        kept.seconds = seconds
+        return kept
 
-    def begin(self):
+    def begin(self) -> None:
         """A new case begins; where there is no process yet, it is started before its time counts."""
         if self.child is None or self.child.poll() is not None:
             path = os.pathsep.join([PACKAGES, *filter(None, [os.environ.get("PYTHONPATH")])])
@@ -60,7 +65,7 @@ class Limited:
             self.read(1)
         self.until = time.monotonic() + self.seconds
 
-    def ask(self, words, data):
+    def ask(self, words: bytes, data: bytes) -> tuple[int, bytes]:
         """The answer, in the time that is left of this case."""
         try:
             self.write(struct.pack("<II", len(words), len(data)) + words + data)
@@ -70,14 +75,21 @@ class Limited:
             self.stop()
             raise Ended from fault
 
-    def write(self, data):
+    def pipes(self) -> tuple[subprocess.Popen[bytes], IO[bytes], IO[bytes]]:
+        """The process, and the two pipes to it and from it."""
+        assert self.child is not None
+        return self.child, answers.piped(self.child.stdin), answers.piped(self.child.stdout)
+
+    def write(self, data: bytes) -> None:
+        _, pipe, _ = self.pipes()
         sent = memoryview(data)
         while sent:
-            sent = sent[self.child.stdin.write(sent):]
+            sent = sent[pipe.write(sent):]
 
-    def read(self, count):
+    def read(self, count: int) -> bytes:
         """So many bytes from the process, or TimeUp, where it is killed."""
-        parts, pipe = [], self.child.stdout
+        _, _, pipe = self.pipes()
+        parts: list[bytes] = []
         while count:
             ready, _, _ = select.select([pipe], [], [], max(0.0, self.until - time.monotonic()))
             if not ready:
@@ -90,35 +102,36 @@ class Limited:
             count -= len(part)
         return b"".join(parts)
 
-    def stop(self):
+    def stop(self) -> None:
         """Kills the process, with what it started."""
-        kill_group(self.child.pid)
-        self.child.wait()
-        self.child.stdin.close()
-        self.child.stdout.close()
+        child, into, out = self.pipes()
+        kill_group(child.pid)
+        child.wait()
+        into.close()
+        out.close()
         self.child = None
 
 
-def kill_group(leader):
+def kill_group(leader: int) -> None:
     """Kills a process that leads a group, with its group: where node answers, it is in the group."""
     with contextlib.suppress(ProcessLookupError):
         os.killpg(leader, signal.SIGKILL)
 
 
-def end_with(parent):
+def end_with(parent: int) -> None:
     """Lets this process lead a group, which Ctrl-C doesn't reach, and end with it where its parent has ended. The parent is
     told by its number: it may have ended before this process came to ask."""
     if os.getpgrp() != os.getpid():
         os.setsid()
 
-    def watch():
+    def watch() -> None:
         while os.getppid() == parent:
             time.sleep(LOOK)
         kill_group(os.getpid())
     threading.Thread(target=watch, daemon=True).start()
 
 
-def exactly(pipe, count):
+def exactly(pipe: IO[bytes], count: int) -> bytes:
     """So many bytes, or the end of the process where there are no more."""
     data = pipe.read(count)
     if len(data) < count:
@@ -126,7 +139,7 @@ def exactly(pipe, count):
     return data
 
 
-def serve(parent):
+def serve(parent: int) -> NoReturn:
     """Answers one call after another, framed as `serve` of js/command.mjs has them; a first byte says that it is ready."""
     end_with(parent)
     source, sink, way = sys.stdin.buffer, sys.stdout.buffer, answers.way()

@@ -1,13 +1,16 @@
 """The line that tells how far a sweep is: rows, rate, and the time that is left. Where standard error is no terminal, none."""
+from __future__ import annotations
+
 import sys
 import time
+from typing import Any
 
 EVERY = 0.5
 
 
-def spelled(seconds):
+def spelled(time_left: float) -> str:
     """So many seconds in words."""
-    minutes, seconds = divmod(round(seconds), 60)
+    minutes, seconds = divmod(round(time_left), 60)
     hours, minutes = divmod(minutes, 60)
     return f"{hours} h {minutes} min" if hours else f"{minutes} min {seconds} s" if minutes else f"{seconds} s"
 
@@ -15,10 +18,10 @@ def spelled(seconds):
 class Plain:
     """A plain line, written over itself."""
 
-    def __init__(self, total, done):
+    def __init__(self, total: int, done: int) -> None:
         self.total, self.done, self.first, self.began, self.told = total, done, done, time.monotonic(), 0.0
 
-    def update(self, rows):
+    def update(self, rows: int) -> None:
         self.done += rows
         now = time.monotonic()
         if now - self.told >= EVERY or self.done == self.total:
@@ -28,7 +31,7 @@ class Plain:
             sys.stderr.write(f"\r{self.done:,} of {self.total:,} rows, {rate:,.0f} a second, {left} left\033[K")
             sys.stderr.flush()
 
-    def close(self):
+    def close(self) -> None:
         sys.stderr.write("\n")
         sys.stderr.flush()
 
@@ -36,14 +39,14 @@ class Plain:
 class Silent:
     """No line."""
 
-    def update(self, rows):
+    def update(self, rows: int) -> None:
         """Nothing is told."""
 
-    def close(self):
+    def close(self) -> None:
         """Nothing is told."""
 
 
-def progress(total, done):
+def progress(total: int, done: int) -> Any:
     """The line for so many rows, of which so many are done: by tqdm where it is installed."""
     if not sys.stderr.isatty():
         return Silent()
