@@ -2,7 +2,7 @@
 // the program's answers.
 import {controlSaid} from "./control.js";
 import {frame} from "./frame.js";
-import {byId, current, dialog, escaped, isEarly, nameOf, state} from "./state.js";
+import {byId, current, dialog, escaped, hasLayer, isEarly, layerNow, nameOf} from "./state.js";
 import {symbolWord} from "./table.js";
 import {bankName, countWords, endWords, exitWords, number, ruleAt, TAPES} from "./words.js";
 
@@ -60,6 +60,8 @@ const PAGES_ABOUT = {
       "so many tracks are needed, and no more are used."],
 };
 
+const STEP_WORDS = {machine: "machine step", quadruple: "quadruple", module: "move of a module", element: "step of the signal"};
+
 export function openAbout(panel) {
   const {title, words} = PANELS[panel], now = current.run ? nowWords(panel) : ["Nothing runs yet."];
   dialog(`<h2>${title}</h2>${words.map(it => `<p>${it}</p>`).join("")}<h3>At this
@@ -112,14 +114,12 @@ function circuitWords({e, at, bank, move}) {
   return [count, window, where + far, full ? `The control: ${full}.` : ""].filter(Boolean);
 }
 function timeWords({e, q}) {
-  if (isEarly()) return [`The machine by itself makes ${number(current.run.end)} steps. Now: step ${number(e)}.`];
+  if (!hasLayer("quadruple")) return [`The machine by itself makes ${number(current.run.end)} steps. Now: step ${number(e)}.`];
   const {run} = current, parts = run.stageParts(), stages = parts.map((it, k) => {
     const isOpen = !run.isWhole && k === parts.length - 1;
     return `${it.stage} from quadruple ${it.from} ${isOpen ? "on, as far as it is known by now" : `to ${it.to - 1}`}`;
   });
-  const count = `${countWords(run)} quadruples and ${endWords(run)} element steps`;
+  const isOne = isEarly(), count = `${countWords(run)} quadruples${isOne ? "" : ` and ${endWords(run)} element steps`}`;
   return [`The run has ${count}: ${stages.join(", ")}.`,
-          `Now: quadruple ${number(q)}, element step ${number(e)}. A step is a ${state.layer === "element" ? "step " +
-            "of the signal" : state.layer === "module" ? "move of a module"
-              : {machine: "machine step", quadruple: "quadruple"}[state.layer]}.`];
+          `Now: quadruple ${number(q)}${isOne ? "" : `, element step ${number(e)}`}. A step is a ${STEP_WORDS[layerNow()]}.`];
 }

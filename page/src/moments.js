@@ -2,6 +2,7 @@
 // tells with a breakpoint at each state, some at a time. What the tapes show at one of them (`view`) comes with it where a
 // run is short; of a long one it is fetched where it is wanted, and kept while there is room.
 import {LANES, STATUS} from "./answer.js";
+import {LAYERS} from "./state.js";
 import {rulesOf, statesOf} from "./table.js";
 import {GREATEST, matchOf, readPlace, readView} from "./texts.js";
 
@@ -28,6 +29,9 @@ export class Moments {
   /** @type {{quadruple: number[], machine: number[]}} */ stops = {quadruple: [], machine: []};
   // Whether all are known; how many there are, where that is known before; the last element step, as far as it is known.
   isWhole = false;
+  // Whether they are a front of the run, beyond which nothing is told; and on which layers its steps are.
+  isPart = false;
+  /** @type {Layer[]} */ layers = LAYERS;
   /** @type {number | null} */ total = null;
   end = Infinity;
   // By which line the signal leaves, and with which moment the copying begins.

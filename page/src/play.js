@@ -97,10 +97,10 @@ export async function goToEnd() {
   }
   if (run === current.run && Number.isFinite(run.end)) goTo(run.end);
 }
-// Where a step was gone to that isn't known, and is given up: to the last moment that is known.
+// Where a step was gone to that isn't known, and is given up: to the last moment that is known with the one behind it.
 export function goToKnown() {
   const {run} = current;
-  if (run && !run.isKnown(state.e)) goTo(run.starts.at(-1) ?? 0);
+  if (run && !run.isKnown(state.e)) goTo(run.starts.at(-2) ?? 0);
 }
 export function chooseLayer(layer) {
   state.layer = layer;

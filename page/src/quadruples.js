@@ -1,5 +1,5 @@
 // Bennett's quadruple table, as `bennett` printed it, with the quadruple that is at work marked. Which one that is, is
-// looked up: the one of the state that the program named, whose symbols are those that it showed under the heads.
+// told by `moments`, or looked up: the one of the state that the program named, whose symbols it showed under the heads.
 import {put} from "./sizes.js";
 import {byId, current, escaped, state} from "./state.js";
 
@@ -8,7 +8,8 @@ const table = {at: null, run: null};
 
 // The place of the quadruple that is made next at a moment, or -1 where there is none.
 export function quadrupleAt(run, q) {
-  const {name, tapes} = run.moments[q];
+  const {name, tapes, row} = run.moments[q];
+  if (row !== undefined) return row;
   const scanned = tapes.map(tape => tape.head === null ? null : tape.symbols[tape.head - tape.first]);
   return run.quadruples.findIndex(row => row[0] === name && scanned.every((it, k) => row[1 + k] === "/"
     || row[1 + k] === it));

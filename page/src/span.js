@@ -73,6 +73,7 @@ export function spanWords(run, stride) {
   const {from, to} = spanOf(), parts = [];
   if (state.span) parts.push(`quadruples ${number(Math.floor(from))} to ${number(Math.ceil(to) - 1)}`);
   if (stride > 1) parts.push(`one moment in ${number(stride)} is drawn`);
+  if (run.isPart) parts.push(`the first ${number(run.moments.length)} moments are shown`);
   if (!run.isWhole) parts.push(`${number(run.moments.length)}${run.total ? ` of ${number(run.total)}` : ""} moments are known so far`);
   return parts;
 }

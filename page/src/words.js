@@ -16,14 +16,14 @@ export const countWords = run => run.total || run.isWhole ? number(run.count - 1
 export function counterWords({run, found}, {e, q, moment}, {moves, at}, isShort) {
   const steps = found.own.outcome === "running" ? "…" : number(found.own.steps);
   const element = isShort ? number(e) : `${number(e)} of ${endWords(run)}`;
-  if (!run.circuit.count) return {machine: `${number(e)} of ${steps}`, quadruple: "…", module: "·", element: "…"};
+  if (!run.layers.includes("quadruple")) return {machine: `${number(e)} of ${steps}`, quadruple: "…", module: "·", element: "…"};
   if (!run.isKnown(e)) return {machine: `… of ${steps}`, quadruple: `… of ${countWords(run)}`, module: "·", element};
   const isWhole = !moves?.list.isPart && (moves?.to ?? 0) > (moves?.from ?? 0), step = moment.step ?? "…";
   return {
     machine: {compute: `${step} of ${steps}`, copy: "copying"}[moment.stage] ?? `back at ${step}`,
     quadruple: `${number(q)} of ${countWords(run)}`,
     module: isWhole ? `${(at ?? -1) + 1} of ${moves.list.length}` : "·",
-    element,
+    element: run.circuit.count ? element : "…",
   };
 }
 

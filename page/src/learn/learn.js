@@ -7,7 +7,7 @@ import {redraw} from "../notices.js";
 import {chooseLayer, goTo, guard, pause, play, step} from "../play.js";
 import {quadrupleAt} from "../quadruples.js";
 import {forgetSizes, heightOf, put, widthOf} from "../sizes.js";
-import {byId, current, escaped, isEarly, nameOf, state} from "../state.js";
+import {byId, current, escaped, hasLayer, nameOf, state} from "../state.js";
 import {say} from "../view.js";
 import {number, ruleAt, shortBank} from "../words.js";
 import {
@@ -152,7 +152,7 @@ export function renderLearn(isLive = !state.playing) {
   const f = frame(), {level, isRefused, from} = lesson;
   const room = {width: widthOf("learnpicture"), height: heightOf("learnpicture"), isRefused, from};
   put("learntrail", trailOf(f));
-  const isLacking = isEarly() && level !== "machine";
+  const isLacking = !hasLayer(LAYER_OF[level]);
   put("learnpicture", isLacking ? `<p class="quiet">${escaped(run.lacking)}</p>` : PICTURES[level](f, room));
   const row = /** @type {HTMLElement | null} */ (byId("learnpicture").querySelector("ol .now:not([data-stage])"));
   const list = row?.parentElement;
