@@ -20,7 +20,7 @@ import {asPasted, changed, giveUp, OWN_WORDS, showOutcome, takeMachine, typed} f
 import {listed} from "./moves.js";
 import {redraw} from "./notices.js";
 import {keepPast, takeBack} from "./past.js";
-import {exportPicture} from "./picture.js";
+import {openPicture} from "./picture.js";
 import {chooseMiddle} from "./quadruples.js";
 import {openSaidOf} from "./said.js";
 import {openTasks, taskAtHand} from "./sheet.js";
@@ -34,9 +34,6 @@ import {openVerdicts} from "./verdicts.js";
 import {openWorkshop} from "./workshop.js";
 import {endWords, number} from "./words.js";
 
-// What a picture of the whole is made of.
-export const PICTURES = ["own", "diagram", "three", "map", "overview", "bank", "filmpic"];
-export const TEXTS = "#own p,#stages b,#stages span,#rule .head,#rule .more,#three b,#three .tape>div>span,#size,#where,#what,#filmnames span,#stagenames span";
 // What comes as a whole, and not letter by letter: so many letters at least.
 const PASTES = new Set(["insertFromPaste", "insertFromDrop", "insertFromYank"]), LEAST_PASTED = 8, TYPING_REST = 300;
 const LEAST_DRAG = 4, TIME_FACTOR = 2, WHEEL_FACTOR = 1.25, THIRD = 1 / 3;
@@ -360,8 +357,9 @@ function onHeader() {
   byId("picture").onclick = () => {
     const {run} = current;
     if (!run) return;
+    pause();
     const where = `quadruple ${run.momentIndex(state.e)} of ${run.count - 1}, element step ${number(state.e)} of ${endWords(run)}`;
-    exportPicture(`Hithwelor · word ${state.word || "empty"} · ${where}`, PICTURES, TEXTS);
+    openPicture(`Hithwelor · word ${state.word || "empty"} · ${where}`);
   };
 }
 function onKey(event) {

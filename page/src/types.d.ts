@@ -145,6 +145,27 @@ interface LessonStep {
   done(it: {seen: Set<string>; shown: Shown; e: number}): boolean;
 }
 
+// ---- pictures that are saved
+
+/** A part of a path, as SVG names it, with its points: M to one, L in a line, C in a cubic curve, Z back to where it began. */
+type PathPart = [string, ...number[][]];
+/** Red, green and blue up to 255, and how much of the colour covers. */
+interface Colour { rgb: number[]; alpha: number }
+/** What is drawn: a path, or words on a base line. `clip` is a box by its left, top, right and lower end, beyond which nothing of it
+    is seen; `alpha` covers as `Colour` has it. All lengths are pixels, y goes down. */
+type Shape = {fill: Colour | null; alpha: number; isGrey: boolean; clip: number[] | null} & ({
+  kind: "path"; parts: PathPart[]; stroke: Colour | null; width: number; dashes: number[]; isRound: boolean; joinsRound: boolean;
+} | {
+  kind: "words"; text: string; x: number; y: number; size: number; anchor: string; halo: {colour: Colour; width: number} | null;
+  isBold: boolean; isMono: boolean;
+});
+/** A picture: its size, what it is drawn on, and its shapes from the lowest to the uppermost. */
+interface Scene { width: number; height: number; ground: number[]; shapes: Shape[] }
+type PathShape = Extract<Shape, {kind: "path"}>;
+type WordsShape = Extract<Shape, {kind: "words"}>;
+/** How a picture is saved: in black and white or not, in which family of letters, and what it shows, in words. */
+interface SaveStyle { isGrey: boolean; family: "sans" | "serif" | "mono"; made: string }
+
 // ---- boxes of the page
 
 /** A box by its name: any of those that the page asks for; `kept` is what was put into it last. */
