@@ -84,7 +84,7 @@ class Told:
             near = all(any(cell == head for cell, _ in seen) for seen, head in tapes)
             if not (len(tapes) == 3 and drawn and near and [it[1] for it in tapes] == [it[1] for it in right]):
                 wrong.append(f"the tapes of moment {q} are {json.dumps(tapes)[:300]}")
-            if row != number or said != f"{stage}, quadruple {q} of {self.end}":
+            if row != number or said != f"{stage}, row step {q} of {self.end}":
                 wrong.append(f"moment {q} has row {row}, and is told as {said!r}, and it is {stage} with row {number}")
         count.hold(not wrong, f"{where}: {len(wrong)} wrong: {'; '.join(wrong[:2])}")
         page.ask("document.querySelector('[data-middle=moves]').click(); 0")

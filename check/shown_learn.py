@@ -88,7 +88,7 @@ def check_walk(page, name, machine, count):
             count.hold(rules[0] == list(range(1, rules[1] + 1)), f"{where}: of {rules[1]} rules the numbers {rules[0]} stand there")
         if step in ("row", "column"):
             names = page.ask("[...document.querySelectorAll('.l-names dt')].map(it => it.textContent)")
-            count.hold({"row": {"module", "control", "line", "row"}, "column": {"bank", "column", "row"}}[step] <= set(names), f"{where}: told are {names}")
+            count.hold({"row": {"module", "control", "port", "row"}, "column": {"bank", "column", "port"}}[step] <= set(names), f"{where}: told are {names}")
         if step == "column":
             count.hold(not page.ask(UNTOLD) and not page.ask(CUT), f"{where}: {page.ask(UNTOLD)} aren't told in words, {page.ask(CUT)} are cut")
         if step == "element":

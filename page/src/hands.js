@@ -28,7 +28,7 @@ import {chooseLayer, goTo, goToEnd, goToKnown, pause, play, runBreak, speedWords
 import {centreTime, moveTime, spanOf, wholeCount, wholeTime, zoomTime} from "./span.js";
 import {forgetSizes} from "./sizes.js";
 import {openStops} from "./stops.js";
-import {busy, byId, current, isTooLong, LAYERS, nameOf, state, toast} from "./state.js";
+import {busy, byId, current, isEarly, isTooLong, LAYERS, nameOf, state, toast} from "./state.js";
 import {takeTabs} from "./tabs.js";
 import {openVerdicts} from "./verdicts.js";
 import {openWorkshop} from "./workshop.js";
@@ -179,7 +179,7 @@ async function goToTime(run, time) {
   wantedTime = time;
   const isKnown = () => run.isWhole || run.moments.length > time + 1;
   if (!isKnown()) {
-    const told = () => busy(`the program comes to quadruple ${number(Math.floor(time))}: ${number(run.moments.length)} are known …`);
+    const told = () => busy(`the program comes to row step ${number(Math.floor(time))}: ${number(run.moments.length)} are known …`);
     told();
     await run.moreUntil(() => run !== current.run || wantedTime !== time || isKnown(), told);
     if (wantedTime === time) busy("");
@@ -358,7 +358,7 @@ function onHeader() {
     const {run} = current;
     if (!run) return;
     pause();
-    const where = `quadruple ${run.momentIndex(state.e)} of ${run.count - 1}, element step ${number(state.e)} of ${endWords(run)}`;
+    const where = `row step ${number(run.momentIndex(state.e))} of ${number(run.count - 1)}${isEarly() ? "" : `, element step ${number(state.e)} of ${endWords(run)}`}`;
     openPicture(`Hithwelor · word ${state.word || "empty"} · ${where}`);
   };
 }

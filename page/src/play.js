@@ -89,7 +89,7 @@ export async function goToEnd() {
   const {run} = current;
   if (!run) return;
   pause();
-  const told = () => busy(`the program runs to the end: ${number(run.moments.length)} quadruples so far …`);
+  const told = () => busy(`the program runs to the end: ${number(run.moments.length)} row steps so far …`);
   if (!Number.isFinite(run.end)) {
     told();
     await run.moreUntil(() => run !== current.run, told);
@@ -221,7 +221,7 @@ export async function runBreak(direction) {
   pause();
   const {run} = current, way = direction > 0 ? "running on" : "running back";
   busy(`${way} …`);
-  const {step: e, hit: it} = await run.runTo(state.e, direction, state.breaks, q => busy(`${way}: quadruple ${number(q)} of ${number(run.count - 1)} …`));
+  const {step: e, hit: it} = await run.runTo(state.e, direction, state.breaks, q => busy(`${way}: row step ${number(q)} of ${number(run.count - 1)} …`));
   busy("");
   if (run !== current.run) return;
   goTo(e);

@@ -129,6 +129,6 @@ export function heardOf({symbols, first, head}) {
 }
 export const spoken = (run, e, q, name) => {
   const it = run.moments[q], words = ruleAt(run, q, name);
-  return `${it.stage}, quadruple ${q} of ${run.count - 1}, element step ${number(e)}. ${words.head} ${words.more} ` +
+  return `${it.stage}, row step ${q} of ${run.count - 1}, element step ${number(e)}. ${words.head} ${words.more} ` +
     it.tapes.map((tape, k) => `${TAPES[k + 1]}: ${heardOf(tape).symbols.map(symbolWord).join(" ")}, head at ${tape.head ?? "no cell"}`).join(". ");
 };
