@@ -148,7 +148,8 @@ export class OwnRun extends Early {
   constructor(asked, lines) {
     super(asked, lines);
     const shown = this.takeShown(this.shownOf(lines));
-    for (const it of lines) this.addMoment(Object.assign(new ToldMoment(it, shown), {state: it.state, applied: it.applied}));
+    for (const it of lines) this.addMoment(Object.assign(new ToldMoment(it, shown), {state: it.state}));
+    this.told.rules = lines.map(it => it.applied);
     this.total = lines.length;
   }
   stepWith(run, e) { return run.stops.machine[e] ?? run.starts.at(-1) ?? 0; }
@@ -166,8 +167,9 @@ export class BennettRun extends Early {
     this.quadruples = bennett.split("\n").filter(Boolean).map(line => line.split(","));
     const shown = this.takeShown(this.shownOf(lines)), hasHalted = last.startsWith("halted ");
     lines.forEach((it, q) => this.addMoment(Object.assign(new ToldMoment(it, shown), this.kindOf(it.state), {
-      row: it.applied === null ? -1 : it.applied - 1, step: it.told[HISTORY].head, hasLeft: hasHalted && q === this.end,
+      step: it.told[HISTORY].head, hasLeft: hasHalted && q === this.end,
     })));
+    this.told.rows = lines.map(it => (it.applied ?? 0) - 1);
     this.isPart = last.startsWith("running ");
     this.total = this.isPart ? null : lines.length;
     if (hasHalted) Object.assign(this.outcome, {exit: "end", quadruples: this.end});

@@ -174,12 +174,12 @@ async function judge(text, given, isOld) {
 async function makeRun(table, isOld) {
   busy("looking for a window …");
   // What is typed meanwhile is another run's.
-  const {word, window} = state, made = {isThere: false, first: Promise.resolve(), early: /** @type {any} */ (null)};
+  const {word, window} = state, made = {isThere: false, first: Promise.resolve(), early: /** @type {any} */ (null), told: /** @type {RunTold} */ ({rules: [], rows: []})};
   try {
     const told = own => { made.first = tellEarly({table, word, own, window}, made, isOld); };
     const found = await findRun(table, word, window, told);
     if (!isOld()) busy("its circuit, and its moments …");
-    const run = await new Run(table, word, found).open();
+    const run = Object.assign(await new Run(table, word, found).open(), {told: made.told});
     made.isThere = true;
     return {run, found};
   } catch (fault) {
@@ -198,8 +198,9 @@ async function tellEarly(asked, made, isOld) {
   const tell = async asking => {
     const run = await asking.catch(() => null);
     if (!run || isOld()) return;
-    // What is said of the circuit by now is said of both.
-    Object.assign(run, {edition, lacking: made.early?.run.lacking ?? run.lacking});
+    // What was told of one is known of the other, and of the run with its circuit; what is said of the circuit is said of both.
+    Object.assign(made.told, run.told.rules.length ? {rules: run.told.rules} : {rows: run.told.rows});
+    Object.assign(run, {edition, told: made.told, lacking: made.early?.run.lacking ?? run.lacking});
     made.early = {run, found: {own: asked.own, window: run.window, text: ""}};
     await rest;
     if (!isOld() && !made.isThere) showEarly(made.early);

@@ -8,7 +8,7 @@ const table = {at: null, run: null};
 
 // The place of the quadruple that is made next at a moment, or -1 where there is none.
 export function quadrupleAt(run, q) {
-  const {name, tapes, row} = run.moments[q];
+  const {name, tapes} = run.moments[q], row = run.told.rows[q];
   if (row !== undefined) return row;
   const scanned = tapes.map(tape => tape.head === null ? null : tape.symbols[tape.head - tape.first]);
   return run.quadruples.findIndex(row => row[0] === name && scanned.every((it, k) => row[1 + k] === "/"

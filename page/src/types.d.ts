@@ -84,12 +84,14 @@ interface Found { own: Own; window: Window4; text: string; isFound?: boolean; is
 // ---- a run
 
 /** A time at which Bennett's machine comes to a state, `steps` in element steps, `step` in the machine's; what the tapes
-    show there is null where it isn't known. `applied` is the rule that is followed next, where `trace` told the moment; `row` the place
-    in Bennett's table of what is applied next, or -1, where `moments` did. */
+    show there is null where it isn't known. */
 interface Moment {
   name: string; stage: Stage; state: string | null; rule: number | null; steps: number; place: number;
-  hasLeft: boolean; tapes: Tape[] | null; step: number | null; applied?: number | null; row?: number;
+  hasLeft: boolean; tapes: Tape[] | null; step: number | null;
 }
+/** What the commands that tell have told of a run: rules from 1 on, or null, by the machine's steps; places in Bennett's table from 0
+    on, or -1, by the moments. */
+interface RunTold { rules: (number | null)[]; rows: number[] }
 /** A module of the circuit as it is laid out: its first element, rows and columns of elements, and how many it has. */
 interface Bank {
   kind: "control" | "cell"; base: number; rows: number; columns: number; count: number; number: number;

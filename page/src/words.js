@@ -87,7 +87,9 @@ function computing(run, it, name) {
     const rule = run.rules[it.rule - 1];
     return {rule: it.rule, head: ruleWords(rule, name), more: `Now: note ${it.rule} in the history, ${SHIFT_WORDS[rule.shift]}.`};
   }
-  const number = run.rules.findIndex(rule => rule.state === it.state && rule.read === scanned) + 1, rule = run.rules[number - 1];
+  // Of a long run that isn't told so far it is looked up.
+  const next = run.ruleNext(it), number = next === undefined ? run.rules.findIndex(rule => rule.state === it.state && rule.read === scanned) + 1 : next ?? 0;
+  const rule = run.rules[number - 1];
   if (rule) {
     const does = isKept(rule) ? `leave the ${symbolWord(rule.read)}` : `write ${symbolWord(rule.write)}`;
     return {rule: number, head: ruleWords(rule, name), more: `Now: ${does}, move on in the history.`};

@@ -33,7 +33,8 @@ for (const [name, table, word] of MACHINES) test(`${name}: each step of the mach
     assert.deepEqual([it.state, it.step, early.starts[k]], [state, step, k]);
     assertTape(it.tapes[0], tape, `step ${k}`);
     assert.equal(early.stepWith(run, k), run.stops.machine[k]);
-    assert.equal(early.followedAt(k + 1), k + 1 < own.length ? own[k + 1] && Number(run.moments.filter(one => one.stage === "compute" && one.rule !== null)[k].rule) : it.applied);
+    const [followed] = run.moments.filter(one => one.stage === "compute" && one.rule !== null && one.step === k + 1);
+    assert.equal(early.told.rules[k], followed?.rule ?? null);
   });
 });
 
@@ -53,6 +54,18 @@ for (const [name, table, word] of MACHINES) test(`${name}: each moment of Bennet
   });
   // The circuit's run ends behind its last moment where the machine is stuck.
   assert.deepEqual(early.stops.machine, run.stops.machine.slice(0, early.stops.machine.length).map(e => run.momentIndex(e)));
+});
+
+test("what is told of the rule and the row at work is what would be looked up", async () => {
+  for (const [, table, word] of MACHINES) {
+    const {run, asked} = await bothOf(table, word), nameOf = it => it, seen = () => run.moments.map((_, q) => [quadrupleAt(run, q), ruleAt(run, q, nameOf)]);
+    const right = seen(), [own, bennett] = [await ownEarly(asked), await bennettEarly(asked)];
+    run.told = {rules: own.told.rules, rows: bennett.told.rows};
+    // Where the signal has left nothing is at work, whatever stands under the heads.
+    seen().forEach(([row, rule], q) => assert.deepEqual([run.moments[q].hasLeft ? right[q][0] : row, rule], right[q], `moment ${q}`));
+    run.told = {rules: [null, ...own.told.rules], rows: [-1, ...bennett.told.rows]};
+    assert.notDeepEqual(seen(), right);
+  }
 });
 
 test("stepped, and run to a state and to a cell", async () => {

@@ -56,7 +56,7 @@ export function machineLevel(f, {width, height, isRefused, from = null}) {
   const tape = {...work, tape: 1}, size = sizeFor(width, tape.symbols.length, Math.min(76, height / 6)), before = run.moments[at - 1]?.tapes?.[0];
   const name = moment.state, hasHalted = name === run.rules[run.rules.length - 1].next;
   // The history, which isn't shown here, has the number of the rule that was followed.
-  const last = history ? Number(history.symbols[(history.head ?? 0) - history.first]) || null : run.followedAt(at);
+  const last = history ? Number(history.symbols[(history.head ?? 0) - history.first]) || null : run.told.rules[at - 1] ?? null;
   const words = `<p class="l-rule">${hasHalted ? "It has halted," : `Step ${moment.step}:`} in <b>${escaped(nameOf(name ?? ""))}</b>.</p>`;
   const picture = `<div class="l-tape">${tapePicture(tape, {width, size, before: before ?? null})}</div>`;
   const list = rulesList(run, last);
