@@ -144,7 +144,7 @@ def check_learn_early(page, count):
     count.hold(comes(page, "bench.state.e > 0"), "before the circuit Learn doesn't play")
     page.ask("letGo('moments'); 0")
     comes(page, BOTH)
-    for level, tapes in (("history", 3), ("stages", 3)):
+    for level, tapes in (("history", 2), ("stages", 3)):
         page.ask(f"document.querySelector('#learntrail [data-level={level}]').click(); bench.goTo(0); 0")
         count.hold(comes(page, f"document.querySelectorAll('#learnpicture .l-tapes svg').length === {tapes}"), f"before the circuit Learn shows no tapes at {level}")
         page.ask("document.getElementById('learnplay').click(); 0")

@@ -11,7 +11,7 @@ from shown_places import link
 
 STEPS = ["machine", "past", "history", "stages", "row", "column", "element", "out"]
 # What is seen at a step's level.
-PICTURES = {"machine": ".l-tape svg", "past": ".l-tape svg", "history": ".l-tapes .tape:nth-child(3) svg", "stages": ".l-stages .now",
+PICTURES = {"machine": ".l-tape svg", "past": ".l-tape svg", "history": ".l-tapes .tape:nth-child(2) svg", "stages": ".l-stages .now",
             "row": ".l-moves .now", "column": ".l-bank .element.now", "element": ".rotary .bar", "out": ".l-tape svg"}
 TRIED = {"machine": ["learnplay"], "past": ["learntake"], "history": ["learnplay", "learntake"], "stages": [], "row": ["learnforth"],
          "column": ["learnplay", "learntake"], "element": ["learnforth", "learnback"], "out": []}

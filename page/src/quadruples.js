@@ -2,6 +2,7 @@
 // told by `moments`, or looked up: the one of the state that the program named, whose symbols it showed under the heads.
 import {put} from "./sizes.js";
 import {byId, current, escaped, state} from "./state.js";
+import {TAPES} from "./words.js";
 
 const SHIFTED = {"+": "right", "-": "left", "0": "stays"};
 const table = {at: null, run: null};
@@ -42,6 +43,9 @@ function tableText(run) {
   });
   return `<table><thead><tr>${heads.join("")}</tr></thead><tbody>${rows.join("")}</tbody></table>`;
 }
+// A row in words: the state, what it does with each tape, and the next state.
+export const rowWords = row => `in ${row[0]}, ${[1, 2, 3].map(tape => `${TAPES[tape]} ${actWords(row[tape], row[tape + 3])}`).join(", ")}, then ${row[7]}`;
+
 // What a quadruple does with one tape: it moves, or it reads a symbol and writes one.
 function actWords(read, write) {
   if (read === "/") return SHIFTED[write];
