@@ -48,7 +48,7 @@ CUT = """(svg => {
   return [...svg.querySelectorAll("text")].filter(it => out(it.getBoundingClientRect())).map(it => it.textContent);
 })(document.querySelector(".l-bank svg"))"""
 UNTOLD = """(told => {
-  const kind = it => it.split(" ")[0], names = [...document.querySelectorAll(".l-bank text title")].filter(it => it.textContent.startsWith("row "));
+  const kind = it => it.split(" ")[0], names = [...document.querySelectorAll(".l-bank text title")].filter(it => it.textContent.startsWith("port "));
   return names.map(it => kind(it.nextSibling.textContent)).filter(it => !told.includes(it));
 })([...document.querySelectorAll(".l-names dt")].map(it => it.textContent.split(" ")[0]))"""
 # What is marked lies within the room of its picture.

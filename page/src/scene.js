@@ -1,7 +1,9 @@
 // What is drawn on the screen as a list of shapes, in pixels from the picture's corner: paths and words, with their
 // colours as the browser has computed them, whichever scheme it shows.
 const SKIPPED = new Set(["title", "desc", "defs", "clipPath"]);
-const NUMBER = /-?(?:\d*\.)?\d+(?:e-?\d+)?/g, NUMBERS_OF = {M: 2, L: 2, H: 1, V: 1, C: 6, Q: 4};
+const NUMBER = /-?(?:\d*\.)?\d+(?:e-?\d+)?/g;
+/** @type {Record<string, number>} */
+const NUMBERS_OF = {M: 2, L: 2, H: 1, V: 1, C: 6, Q: 4};
 // How far the middle of a quarter of a circle is from its ends, as a cubic curve has it; and how far a letter's foot is
 // below the middle of its line, as a share of its size, and how wide a letter is about.
 const ROUND = .5523, FOOT = .36, WIDE = .55;
@@ -49,6 +51,7 @@ function partsOf(letter, numbers, at) {
     return part;
   });
 }
+/** @type {(kind: string, numbers: number[], at: number[], from: number[]) => number[][]} */
 function pointsOf(kind, numbers, at, from) {
   if (kind === "H") return [[numbers[0] + from[0], at[1]]];
   if (kind === "V") return [[at[0], numbers[0] + from[1]]];
@@ -56,21 +59,31 @@ function pointsOf(kind, numbers, at, from) {
 }
 /** @type {(kind: string, points: number[][], at: number[]) => PathPart} */
 function partOf(kind, points, at) {
+  /** @type {(end: number[], middle: number[]) => number[]} */
   const toward = (end, middle) => [0, 1].map(k => end[k] + (middle[k] - end[k]) * 2 / 3);
   if (kind === "Q") return ["C", toward(at, points[0]), toward(points[1], points[0]), points[1]];
   return [kind === "M" || kind === "C" ? kind : "L", ...points];
 }
 
+// A part with its points elsewhere.
+/** @type {(part: PathPart, act: (point: number[]) => number[]) => PathPart} */
+const moved = ([kind, ...points], act) => [kind, ...points.map(act)];
+/** @type {(parts: PathPart[]) => number[][]} */
+const pointsIn = parts => parts.flatMap(([, ...points]) => points);
+
 // ---- shapes of the screen
 
 // A colour that is computed, as red, green and blue up to 255, with how much of it covers; null where there is none.
+/** @type {(words: string) => Colour | null} */
 export function colourOf(words) {
   const numbers = (words.match(NUMBER) ?? []).map(Number), isShare = words.startsWith("color(srgb");
   if (numbers.length < 3 || !isShare && !words.startsWith("rgb")) return null;
   const alpha = numbers[3] ?? 1, rgb = numbers.slice(0, 3).map(it => Math.round(isShare ? 255 * it : it));
   return alpha > 0 ? {rgb, alpha} : null;
 }
+/** @type {(it: any, ...names: string[]) => number[]} */
 const valuesOf = (it, ...names) => names.map(name => it[name].baseVal.value);
+/** @type {Record<string, (it: any) => PathPart[]>} */
 const GEOMETRY = {
   rect: it => {
     const [x, y, width, height, rx, ry] = valuesOf(it, "x", "y", "width", "height", "rx", "ry");
@@ -88,14 +101,18 @@ const GEOMETRY = {
 };
 /** @type {(matrix: DOMMatrix, point: number[]) => number[]} */
 const placed = (matrix, [x, y]) => [matrix.a * x + matrix.c * y + matrix.e, matrix.b * x + matrix.d * y + matrix.f];
+/** @type {(matrix: DOMMatrix) => number} */
 const scaleOf = matrix => Math.sqrt(Math.abs(matrix.a * matrix.d - matrix.b * matrix.c));
+/** @type {(words: string, scale: number) => number[]} */
 const dashesOf = (words, scale) => words === "none" ? [] : (words.match(NUMBER) ?? []).map(it => Number(it) * scale);
 // The box around points, by its left, top, right and lower end.
+/** @type {(points: number[][]) => number[]} */
 const boxOf = points => points.reduce(([left, top, right, low], [x, y]) =>
   [Math.min(left, x), Math.min(top, y), Math.max(right, x), Math.max(low, y)], [Infinity, Infinity, -Infinity, -Infinity]);
 
 // What a node and those in it draw; `around` has how much of it covers and the box that it is cut off by.
-/** @returns {Shape[]} */
+/** @typedef {{alpha: number, clip: number[], isGrey: boolean}} Around */
+/** @type {(node: any, around: Around) => Shape[]} */
 function shapesIn(node, around) {
   const style = getComputedStyle(node);
   if (SKIPPED.has(node.tagName) || style.display === "none" || style.visibility === "hidden") return [];
@@ -104,20 +121,20 @@ function shapesIn(node, around) {
   const draw = GEOMETRY[node.tagName];
   return draw ? pathIn(node, style, draw(node), inner) : [...node.children].flatMap(it => shapesIn(it, inner));
 }
+/** @type {(node: any, clip: number[]) => number[]} */
 function clipOf(node, clip) {
   const name = /#([\w-]+)/.exec(node.getAttribute("clip-path") ?? "")?.[1];
   const rect = name && node.ownerSVGElement.querySelector(`#${name} rect`);
   if (!rect) return clip;
-  const corners = GEOMETRY.rect(rect).flatMap(([, ...points]) => points), matrix = node.getScreenCTM();
+  const corners = pointsIn(GEOMETRY.rect(rect)), matrix = node.getScreenCTM();
   const box = boxOf(corners.map(it => placed(matrix, it)));
   return box.map((it, k) => k < 2 ? Math.max(it, clip[k]) : Math.min(it, clip[k]));
 }
-/** @returns {PathShape[]} */
+/** @type {(node: any, style: CSSStyleDeclaration, local: PathPart[], around: Around) => PathShape[]} */
 function pathIn(node, style, local, {alpha, clip, isGrey}) {
   const matrix = node.getScreenCTM(), scale = scaleOf(matrix), width = parseFloat(style.strokeWidth) * scale;
   const fill = colourOf(style.fill), stroke = width ? colourOf(style.stroke) : null;
-  const parts = local.map(([kind, ...points]) => [kind, ...points.map(it => placed(matrix, it))]);
-  const [left, top, right, low] = boxOf(parts.flatMap(([, ...points]) => points));
+  const parts = local.map(part => moved(part, it => placed(matrix, it))), [left, top, right, low] = boxOf(pointsIn(parts));
   const isOut = right < clip[0] || low < clip[1] || left > clip[2] || top > clip[3];
   if (!parts.length || isOut || !fill && !stroke) return [];
   const isCut = left < clip[0] - 1 || top < clip[1] - 1 || right > clip[2] + 1 || low > clip[3] + 1;
@@ -125,7 +142,7 @@ function pathIn(node, style, local, {alpha, clip, isGrey}) {
            dashes: dashesOf(style.strokeDasharray, scale), isRound: style.strokeLinecap === "round",
            joinsRound: style.strokeLinejoin === "round"}];
 }
-/** @returns {WordsShape[]} */
+/** @type {(node: any, style: CSSStyleDeclaration, around: Around) => WordsShape[]} */
 function wordsIn(node, style, {alpha, clip, isGrey}) {
   const text = [...node.childNodes].filter(it => it.nodeType === 3).map(it => it.data).join("");
   const matrix = node.getScreenCTM(), scale = scaleOf(matrix), fill = colourOf(style.fill), stroke = colourOf(style.stroke);
@@ -136,17 +153,20 @@ function wordsIn(node, style, {alpha, clip, isGrey}) {
   return [{kind: "words", text, x, y, size: parseFloat(style.fontSize) * scale, anchor: style.textAnchor, fill, halo,
            alpha, isGrey, clip: null, ...fontOf(style)}];
 }
+/** @type {(style: CSSStyleDeclaration) => {isBold: boolean, isMono: boolean}} */
 const fontOf = style => ({isBold: Number(style.fontWeight) >= 600, isMono: /mono/i.test(style.fontFamily.split(",")[0])});
 
 // The lines of text that stand in a box of the page.
-/** @returns {WordsShape[]} */
+/** @type {(box: Element) => WordsShape[]} */
 function linesIn(box) {
-  const walker = document.createTreeWalker(box, NodeFilter.SHOW_TEXT), lines = [];
+  const walker = document.createTreeWalker(box, NodeFilter.SHOW_TEXT);
+  /** @type {WordsShape[]} */
+  const lines = [];
   while (walker.nextNode()) lines.push(...linesOf(/** @type {Text} */ (walker.currentNode)));
   return lines;
 }
 // Those of one text, which may go over several.
-/** @returns {WordsShape[]} */
+/** @type {(node: Text) => WordsShape[]} */
 function linesOf(node) {
   const parent = node.parentElement, range = document.createRange();
   if (!parent || parent.closest("svg,.visually-hidden") || !parent.getClientRects().length) return [];
@@ -173,9 +193,10 @@ const wordsAt = (text, x, y, size, fill) => ({kind: "words", text, x, y, size, a
 // A shape as it stands where the corner is another.
 /** @type {(shape: Shape, dx: number, dy: number) => Shape} */
 function shifted(shape, dx, dy) {
+  /** @type {(it: number[]) => number[]} */
   const by = it => [it[0] - dx, it[1] - dy], clip = shape.clip && shape.clip.map((it, k) => it - (k % 2 ? dy : dx));
   if (shape.kind === "words") return {...shape, x: shape.x - dx, y: shape.y - dy};
-  return {...shape, clip, parts: shape.parts.map(([kind, ...points]) => [kind, ...points.map(by)])};
+  return {...shape, clip, parts: shape.parts.map(part => moved(part, by))};
 }
 /** @type {(it: Element) => boolean} */
 export const isSeen = it => it.getBoundingClientRect().width > 0 && getComputedStyle(it).visibility !== "hidden";
@@ -185,7 +206,8 @@ export const isSeen = it => it.getBoundingClientRect().width > 0 && getComputedS
 export function sceneOf(pictures, texts, title = "") {
   const ground = colourOf(getComputedStyle(document.querySelector(".panel") ?? document.body).backgroundColor)?.rgb;
   const found = [...document.querySelectorAll(pictures)].filter(isSeen), boxes = found.map(it => it.getBoundingClientRect());
-  const isGrey = it => [it, it.parentElement].some(one => getComputedStyle(one).filter.startsWith("grayscale"));
+  /** @param {Element} it */
+  const isGrey = it => [it, it.parentElement ?? it].some(one => getComputedStyle(one).filter.startsWith("grayscale"));
   const drawn = found.flatMap((it, k) => {
     const {left, top, right, bottom} = boxes[k];
     return shapesIn(it, {alpha: 1, clip: [left, top, right, bottom], isGrey: isGrey(it)});

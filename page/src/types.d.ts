@@ -137,16 +137,6 @@ interface Task {
   check(values: any, choice: number): Promise<Judgement>;
 }
 
-// ---- the lesson
-
-/** What is shown, as the steps of the lesson speak of it. */
-interface Shown { run: import("./run.js").Run; found: Found; machine: Machine }
-/** A step: its level, its two sentences, names that are seen there with what they mean, what is to be tried, and whether that was done. */
-interface LessonStep {
-  key: string; level: string; title: string; ask: string; words(shown: Shown): string[]; names?(shown: Shown, f: Frame): string[][];
-  done(it: {seen: Set<string>; shown: Shown; e: number}): boolean;
-}
-
 // ---- pictures that are saved
 
 /** A part of a path, as SVG names it, with its points: M to one, L in a line, C in a cubic curve, Z back to where it began. */

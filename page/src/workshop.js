@@ -34,7 +34,7 @@ function makeWorkshop() {
     <button id="e-close" class="plain" aria-label="close the workshop">×</button></div><div
     id="e-sheet"></div>${boxes.join("")}`;
   document.body.append(workshop.box);
-  takeTabs(workshop.box.querySelector("[role=tablist]"), it => choosePage(pageOf(it.dataset.page)));
+  takeTabs(workshop.box, it => choosePage(pageOf(it.dataset.page ?? "")));
   part("e-close").onclick = () => workshop.box.close();
   part("e-picture").onclick = () => openPicture(`Hithwelor · ${workshop.page.title}`, [
     {key: workshop.page.key, title: workshop.page.title.toLowerCase(), pictures: `#page-${workshop.page.key} svg`, texts: ""},
