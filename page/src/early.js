@@ -1,14 +1,14 @@
-// A run while its circuit is sought, or where there is none: the machine by itself, as `trace` tells it, and Bennett's machine, as
-// `moments` does, a text line each moment. They have what the panels ask of a run, but no circuit, and their time is counted in
-// their own steps. What a tape shows at a moment is read of its line where it is wanted.
+// A run while its circuit is sought, or where there is none: the machine by itself, as `trace` tells it, and Bennett's
+// machine, as `moments` does, a text line each moment. They have what the panels ask of a run, but no circuit, and their
+// time is counted in their own steps. What a tape shows at a moment is read of its line where it is wanted.
 import {answer, LANES, STATUS} from "./answer.js";
 import {holdsAt} from "./breaks.js";
 import {Moments} from "./moments.js";
 import {lettersOf} from "./table.js";
 import {matchOf} from "./texts.js";
 
-// How many steps of the machine by itself are asked for at most, and how many symbols on tapes; how many steps are shown of one
-// that runs on; and how many quadruples the copying takes beside four a letter.
+// How many steps of the machine by itself are asked for at most, and how many symbols on tapes; how many steps are shown
+// of one that runs on; and how many quadruples the copying takes beside four a letter.
 const MOST_TRACED = 10000, MOST_OWN_SYMBOLS = 2e6, MOST_SYMBOLS = 8e6, SHOWN_STEPS = 40, COPYING = 12;
 // How many symbols a picture of a long run is drawn of at most.
 const PICTURE_SYMBOLS = 5e5;
@@ -51,7 +51,8 @@ function readLine(line) {
     if (!found) break;
     const [words, from, head, cells] = found, start = at + words.length;
     const end = told.length === HISTORY ? line.indexOf(BEHIND_HISTORY, start) : start + 2 * Number(cells) - 1;
-    told.push({from: Number(from), head: Number(head), last: Number(from) + Number(cells) - 1, written: line.slice(start, end)});
+    const last = Number(from) + Number(cells) - 1;
+    told.push({from: Number(from), head: Number(head), last, written: line.slice(start, end)});
     at = end + 1;
   }
   const applied = APPLIED.exec(line.slice(at));
@@ -130,7 +131,8 @@ export class Early extends Moments {
   async ready() { /* all is there */ }
   async chunksBetween() { /* there is no circuit */ }
   async nextStop(layer, e, direction) {
-    return this.stopNear(this.layers.includes(layer) ? layer : this.layers[this.layers.length - 1], e, direction) ?? (direction < 0 ? 0 : this.end);
+    const near = this.layers.includes(layer) ? layer : this.layers[this.layers.length - 1];
+    return this.stopNear(near, e, direction) ?? (direction < 0 ? 0 : this.end);
   }
   async runTo(e, direction, breaks) {
     for (let q = e + direction; q >= 0 && q <= this.end; q += direction) {
@@ -191,12 +193,13 @@ const stepsOf = own => own.outcome === "running" ? SHOWN_STEPS : own.steps;
 // The machine by itself on a word, or null where the program doesn't tell it.
 /** @param {AskedEarly} asked */
 export async function ownEarly(asked) {
-  const {own, word, table} = asked, most = Math.floor(Math.min(MOST_TRACED, MOST_OWN_SYMBOLS / wideOf(asked), stepsOf(own)));
+  const {own, word, table} = asked;
+  const most = Math.floor(Math.min(MOST_TRACED, MOST_OWN_SYMBOLS / wideOf(asked), stepsOf(own)));
   const reply = await answer(["trace", "=" + word, most], table, {lane: LANES.beside});
   return TOLD.includes(reply.status) ? new OwnRun(asked, await readLines(reply.text.split("\n").slice(0, -2))) : null;
 }
-// How many quadruples are asked for: all where they can be read, else a front. A step of the machine is two of them on the way
-// there and two on the way back, and each leaves a number in the history.
+// How many quadruples are asked for: all where they can be read, else a front. A step of the machine is two of them on
+// the way there and two on the way back, and each leaves a number in the history.
 export function quadruplesAsked({own, word}) {
   const wide = wideOf({own, word}), steps = stepsOf(own), letters = (own.output ?? "").length;
   if (own.outcome !== "halted") return Math.min(2 * steps, Math.floor(frontOf(wide)));

@@ -108,7 +108,8 @@ const dashesOf = (words, scale) => words === "none" ? [] : (words.match(NUMBER) 
 // The box around points, by its left, top, right and lower end.
 /** @type {(points: number[][]) => number[]} */
 const boxOf = points => points.reduce(([left, top, right, low], [x, y]) =>
-  [Math.min(left, x), Math.min(top, y), Math.max(right, x), Math.max(low, y)], [Infinity, Infinity, -Infinity, -Infinity]);
+  [Math.min(left, x), Math.min(top, y), Math.max(right, x), Math.max(low, y)],
+  [Infinity, Infinity, -Infinity, -Infinity]);
 
 // What a node and those in it draw; `around` has how much of it covers and the box that it is cut off by.
 /** @typedef {{alpha: number, clip: number[], isGrey: boolean}} Around */
@@ -134,7 +135,8 @@ function clipOf(node, clip) {
 function pathIn(node, style, local, {alpha, clip, isGrey}) {
   const matrix = node.getScreenCTM(), scale = scaleOf(matrix), width = parseFloat(style.strokeWidth) * scale;
   const fill = colourOf(style.fill), stroke = width ? colourOf(style.stroke) : null;
-  const parts = local.map(part => moved(part, it => placed(matrix, it))), [left, top, right, low] = boxOf(pointsIn(parts));
+  const parts = local.map(part => moved(part, it => placed(matrix, it)));
+  const [left, top, right, low] = boxOf(pointsIn(parts));
   const isOut = right < clip[0] || low < clip[1] || left > clip[2] || top > clip[3];
   if (!parts.length || isOut || !fill && !stroke) return [];
   const isCut = left < clip[0] - 1 || top < clip[1] - 1 || right > clip[2] + 1 || low > clip[3] + 1;
@@ -145,7 +147,8 @@ function pathIn(node, style, local, {alpha, clip, isGrey}) {
 /** @type {(node: any, style: CSSStyleDeclaration, around: Around) => WordsShape[]} */
 function wordsIn(node, style, {alpha, clip, isGrey}) {
   const text = [...node.childNodes].filter(it => it.nodeType === 3).map(it => it.data).join("");
-  const matrix = node.getScreenCTM(), scale = scaleOf(matrix), fill = colourOf(style.fill), stroke = colourOf(style.stroke);
+  const matrix = node.getScreenCTM(), scale = scaleOf(matrix);
+  const fill = colourOf(style.fill), stroke = colourOf(style.stroke);
   const [x, y] = placed(matrix, ["x", "y"].map(it => Number(node.getAttribute(it) ?? 0)));
   if (!text.trim() || !fill || x < clip[0] - 1 || x > clip[2] + 1 || y < clip[1] || y > clip[3] + 8) return [];
   const hasHalo = stroke && style.paintOrder.startsWith("stroke");
@@ -154,7 +157,8 @@ function wordsIn(node, style, {alpha, clip, isGrey}) {
            alpha, isGrey, clip: null, ...fontOf(style)}];
 }
 /** @type {(style: CSSStyleDeclaration) => {isBold: boolean, isMono: boolean}} */
-const fontOf = style => ({isBold: Number(style.fontWeight) >= 600, isMono: /mono/i.test(style.fontFamily.split(",")[0])});
+const fontOf = ({fontWeight, fontFamily}) =>
+  ({isBold: Number(fontWeight) >= 600, isMono: /mono/i.test(fontFamily.split(",")[0])});
 
 // The lines of text that stand in a box of the page.
 /** @type {(box: Element) => WordsShape[]} */
@@ -185,8 +189,10 @@ function linesOf(node) {
   return lines;
 }
 /** @type {(text: string, x: number, y: number, size: number, fill: Colour | null) => WordsShape} */
-const wordsAt = (text, x, y, size, fill) => ({kind: "words", text, x, y, size, anchor: "start", fill, halo: null, alpha: 1,
-                                              isGrey: false, clip: null, isBold: false, isMono: false});
+const wordsAt = (text, x, y, size, fill) => ({
+  kind: "words", text, x, y, size, anchor: "start", fill, halo: null, alpha: 1, isGrey: false, clip: null,
+  isBold: false, isMono: false,
+});
 
 // ---- the whole
 
@@ -205,7 +211,8 @@ export const isSeen = it => it.getBoundingClientRect().width > 0 && getComputedS
 /** @type {(pictures: string, texts: string, title?: string) => Scene | null} */
 export function sceneOf(pictures, texts, title = "") {
   const ground = colourOf(getComputedStyle(document.querySelector(".panel") ?? document.body).backgroundColor)?.rgb;
-  const found = [...document.querySelectorAll(pictures)].filter(isSeen), boxes = found.map(it => it.getBoundingClientRect());
+  const found = [...document.querySelectorAll(pictures)].filter(isSeen);
+  const boxes = found.map(it => it.getBoundingClientRect());
   /** @param {Element} it */
   const isGrey = it => [it, it.parentElement ?? it].some(one => getComputedStyle(one).filter.startsWith("grayscale"));
   const drawn = found.flatMap((it, k) => {
@@ -216,7 +223,7 @@ export function sceneOf(pictures, texts, title = "") {
   const lines = texts ? [...document.querySelectorAll(texts)].flatMap(linesIn) : [];
   const [left, top, right, low] = boxOf([
     ...boxes.flatMap(it => [[it.left, it.top], [it.right, it.bottom]]),
-    ...lines.flatMap(it => [[it.x, it.y - it.size], [it.x + it.size * it.text.length * WIDE, it.y + it.size * (1 - FOOT)]]),
+    ...lines.flatMap(({x, y, size, text}) => [[x, y - size], [x + size * text.length * WIDE, y + size * (1 - FOOT)]]),
   ]);
   const above = title ? TITLE_ROOM : 0, ink = colourOf(getComputedStyle(document.body).color);
   const head = title ? [wordsAt(title, MARGIN, MARGIN + TITLE_SIZE, TITLE_SIZE, ink)] : [];
