@@ -1,5 +1,5 @@
-"""What is shown before a circuit is there, and where there is none: the machine by itself, moment by moment as `trace` tells it, and
-Bennett's machine, as `moments` does; both play, on and back.
+"""What is shown before a circuit is there, and where there is none: the machine by itself, moment by moment as `trace`
+tells it, and Bennett's machine, as `moments` does; both play, on and back.
 """
 import json
 import re
@@ -9,7 +9,8 @@ from shown_editor import set_value
 from shown_faults import broken
 from shown_places import INCREMENT, link
 
-# Calls of these commands are held where the page asks its worker, until they are let go: then nothing hangs on how long they take.
+# Calls of these commands are held where the page asks its worker, until they are let go: then nothing hangs on how long
+# they take.
 HELD = """window.held = {run: [], moments: []};
 const post = Worker.prototype.postMessage;
 window.letGo = name => { const waiting = held[name]; held[name] = null; waiting.forEach(it => it()); };
@@ -20,15 +21,18 @@ Worker.prototype.postMessage = function (message, ...rest) {
 };"""
 EARLY = "typeof bench === 'object' && bench.current.run?.circuit.count === 0"
 BOTH = f"{EARLY} && bench.current.run.layers.length === 2"
-OWN = "[document.querySelector('#own p').textContent, [...document.querySelectorAll('#own [data-cell]')].map(it => it.querySelector('.symbol').textContent).join('')]"
-# At each of these moments: the tapes' cells that are drawn, where the heads are said to be, the row that is marked, and what the time
-# line says.
+OWN = """[document.querySelector("#own p").textContent,
+  [...document.querySelectorAll("#own [data-cell]")].map(it => it.querySelector(".symbol").textContent).join("")]"""
+# At each of these moments: the tapes' cells that are drawn, where the heads are said to be, the row that is marked, and
+# what the time line says.
 SEEN = """(list => list.map(q => {
   bench.goTo(q);
   const tapes = [...document.querySelectorAll("#three svg")].map(it => [
-    [...it.querySelectorAll("[data-cell]")].map(one => [Number(one.dataset.cell), one.querySelector(".symbol").textContent.replace("·", "_")]),
+    [...it.querySelectorAll("[data-cell]")].map(one =>
+      [Number(one.dataset.cell), one.querySelector(".symbol").textContent.replace("·", "_")]),
     Number(it.getAttribute("aria-label").match(/head at cell (\\S+)$/)[1])]);
-  return [tapes, Number(document.querySelector("#quadruples .now .no")?.textContent ?? 0), document.getElementById("film").getAttribute("aria-valuetext")];
+  const row = document.querySelector("#quadruples .now .no")?.textContent ?? 0;
+  return [tapes, Number(row), document.getElementById("film").getAttribute("aria-valuetext")];
 }))(%s)"""
 PLAYED = """(async () => { const {state, play, goTo, RANGES} = bench, kept = RANGES.%(layer)s[1], found = [];
   Object.assign(state, {layer: "%(layer)s", speed: 100}); RANGES.%(layer)s[1] = 2000; goTo(0);
@@ -46,10 +50,14 @@ LETTERS, TOO_MANY = "abaabbabaababbaaba", 60
 
 def traced(program, word, table):
     """The state, and the tape from the first cell that is ever shown to the last one, at each moment."""
-    found = [re.fullmatch(r"\d+ (\S+) from (-?\d+) head (-?\d+) cells (\d+): (.*?)(?: rule \d+)?", line)
-             for line in program.text(["trace", "=" + word, "1000"], table).splitlines()[:-1]]
-    low, high = min(0, *(int(it[2]) for it in found)), max(len(word) + 1, *(int(it[2]) + int(it[4]) - 1 for it in found))
-    return [(it[1], "".join(it[5].split()).rjust(len(it[5].split()) + int(it[2]) - low, "_").ljust(high - low + 1, "_").replace("_", "·")) for it in found]
+    lines = program.text(["trace", "=" + word, "1000"], table).splitlines()[:-1]
+    found = [re.fullmatch(r"\d+ (\S+) from (-?\d+) head -?\d+ cells (\d+): (.*?)(?: rule \d+)?", it) for it in lines]
+    told = [(it[1], int(it[2]), it[4].split()) for it in found]
+    low = min(0, *(first for _, first, _ in told))
+    high = max(len(word) + 1, *(first + len(it) - 1 for _, first, it in told))
+    tapes = [dict(enumerate(symbols, first)) for _, first, symbols in told]
+    seen = ["".join(it.get(cell, "_") for cell in range(low, high + 1)).replace("_", "·") for it in tapes]
+    return [(state, tape) for (state, _, _), tape in zip(told, seen)]
 
 
 def told_moment(line):
@@ -80,7 +88,8 @@ class Told:
         for q, (tapes, row, said) in zip(places, page.ask(SEEN % json.dumps(places))):
             state, right, number = told_moment(self.lines[q])
             stage = {"A": "compute", "B": "copy", "C": "retrace"}[state[0]]
-            drawn = all(symbol == cells.get(cell, "_") for (seen, _), (cells, _) in zip(tapes, right) for cell, symbol in seen)
+            drawn = all(symbol == cells.get(cell, "_")
+                        for (seen, _), (cells, _) in zip(tapes, right) for cell, symbol in seen)
             near = all(any(cell == head for cell, _ in seen) for seen, head in tapes)
             if not (len(tapes) == 3 and drawn and near and [it[1] for it in tapes] == [it[1] for it in right]):
                 wrong.append(f"the tapes of moment {q} are {json.dumps(tapes)[:300]}")
@@ -97,8 +106,10 @@ def check_own(page, program, count):
     for k, (name, tape) in enumerate(right):
         page.ask(f"bench.goTo({k}); 0")
         said, cells = page.ask(OWN)
-        count.hold(said == f"By itself, step {k}: in {name}" and cells == tape, f"before the circuit, step {k}: {said!r} with {cells!r}, and not {name} with {tape!r}")
-    count.hold(page.ask("bench.current.run.end") == len(right) - 1, f"before the circuit {page.ask('bench.current.run.end')} steps are shown")
+        count.hold(said == f"By itself, step {k}: in {name}" and cells == tape,
+                   f"before the circuit, step {k}: {said!r} with {cells!r}, and not {name} with {tape!r}")
+    end = page.ask("bench.current.run.end")
+    count.hold(end == len(right) - 1, f"before the circuit {end} steps are shown")
     page.ask("bench.goTo(0); document.getElementById('play').click(); 0")
     count.hold(comes(page, "bench.state.e > 0"), "before the circuit nothing plays")
     page.ask("bench.pause(); bench.goTo(4); 0")
@@ -108,51 +119,62 @@ def check_own(page, program, count):
 
 
 def check_texts(page, words, count):
+    """The texts behind each panel, and the panel in words."""
+    close = "document.getElementById('dialog').close()"
+    has_words = f"document.getElementById('dialogbody').textContent.includes('{words}')"
     for panel in ("machine", "circuit", "time"):
         page.ask(f"document.querySelector('[data-said={panel}]').click(); 0")
-        count.hold(comes(page, f"document.getElementById('dialog').open && document.getElementById('dialogbody').textContent.includes('{words}')"),
+        count.hold(comes(page, f"document.getElementById('dialog').open && {has_words}"),
                    f"the texts of {panel} lack {words}")
-        page.ask(f"document.getElementById('dialog').close(); document.querySelector('[data-about={panel}]').click(); document.getElementById('dialog').close(); 0")
+        page.ask(f"{close}; document.querySelector('[data-about={panel}]').click(); {close}; 0")
 
 
 def check_bennett(page, program, count):
     """Then comes Bennett's, at the same step of the machine, and behind it the circuit, at the same moment."""
     step = "bench.current.run.moments[bench.current.run.momentIndex(bench.state.e)].step"
-    before = page.ask(f"{step}; ")
+    before = page.ask(step)
     page.ask("letGo('moments'); 0")
-    count.hold(comes(page, BOTH) and page.ask(step) == before == 5, f"with Bennett's machine another step is shown: {page.ask(step)}, and not {before}")
+    count.hold(comes(page, BOTH) and page.ask(step) == before == 5,
+               f"with Bennett's machine another step is shown: {page.ask(step)}, and not {before}")
     told = Told(page, program)
     told.hold(page, count, "before the circuit", list(range(told.end + 1)))
-    enabled = page.ask("[...document.querySelectorAll('#layers button')].filter(it => !it.disabled).map(it => it.dataset.layer)")
+    enabled = page.ask("[...document.querySelectorAll('#layers button:enabled')].map(it => it.dataset.layer)")
     count.hold(enabled == ["machine", "quadruple"], f"before the circuit there are the layers {enabled}")
     for layer in enabled:
         given = page.wait(PLAYED % {"layer": layer})
-        count.hold(given == [told.end, 0], f"before the circuit, on the layer {layer}, it plays to {given}, and not to {told.end} and back")
+        count.hold(given == [told.end, 0],
+                   f"before the circuit, on the layer {layer}, it plays to {given}, and not to {told.end} and back")
     check_texts(page, f"moments =1011 {told.end}", count)
     page.ask("bench.goTo(7); letGo('run'); 0")
-    count.hold(comes(page, "bench.current.run.circuit.count > 0") and page.ask("bench.current.run.momentIndex(bench.state.e)") == 7,
-               "with the circuit another moment is shown")
+    moment = "bench.current.run.momentIndex(bench.state.e)"
+    count.hold(comes(page, "bench.current.run.circuit.count > 0") and page.ask(moment) == 7,
+               f"with the circuit moment {page.ask(moment)} is shown")
     settle(page, 300)
-    count.hold(page.ask("document.querySelectorAll('#bank .element').length > 20 && document.querySelectorAll('#three svg').length === 3"), "with the circuit its panel is empty")
+    seen = page.ask("['#bank .element', '#three svg'].map(it => document.querySelectorAll(it).length)")
+    count.hold(seen[0] > 20 and seen[1] == 3, f"with the circuit {seen[0]} elements and {seen[1]} tapes are drawn")
 
 
 def check_learn_early(page, count):
     """Learn has both layers before the circuit, and says what the others wait for."""
     page.visit(f"file://{PAGE}#m=increment&learn=machine", EARLY)
-    count.hold(comes(page, "document.querySelector('#learnpicture .l-tape svg') !== null"), "before the circuit Learn shows nothing")
+    count.hold(comes(page, "document.querySelector('#learnpicture .l-tape svg') !== null"),
+               "before the circuit Learn shows nothing")
     page.ask("document.getElementById('learnplay').click(); 0")
     count.hold(comes(page, "bench.state.e > 0"), "before the circuit Learn doesn't play")
     page.ask("letGo('moments'); 0")
     comes(page, BOTH)
     for level, tapes in (("history", 2), ("stages", 3)):
         page.ask(f"document.querySelector('#learntrail [data-level={level}]').click(); bench.goTo(0); 0")
-        count.hold(comes(page, f"document.querySelectorAll('#learnpicture .l-tapes svg').length === {tapes}"), f"before the circuit Learn shows no tapes at {level}")
+        count.hold(comes(page, f"document.querySelectorAll('#learnpicture .l-tapes svg').length === {tapes}"),
+                   f"before the circuit Learn doesn't show {tapes} tapes at {level}")
         page.ask("document.getElementById('learnplay').click(); 0")
         count.hold(comes(page, "bench.state.e > 3"), f"before the circuit Learn doesn't play at {level}")
         page.ask("document.getElementById('learntake').click(); 0")
-        count.hold(comes(page, "bench.state.playing === 0 && bench.state.e === 0"), f"before the circuit Learn isn't taken back at {level}")
+        count.hold(comes(page, "bench.state.playing === 0 && bench.state.e === 0"),
+                   f"before the circuit Learn isn't taken back at {level}")
     page.ask("document.querySelector('#learntrail [data-level=row]').click(); 0")
-    count.hold("looked for" in page.ask("document.getElementById('learnpicture').innerText"), "before the circuit Learn doesn't say what a row waits for")
+    count.hold("looked for" in page.ask("document.getElementById('learnpicture').innerText"),
+               "before the circuit Learn doesn't say what a row waits for")
     page.ask("letGo('run'); 0")
     count.hold(comes(page, "document.querySelector('.l-moves .now') !== null"), "with the circuit Learn shows no row")
 
@@ -173,12 +195,16 @@ def hold_too_large(page, program, words, count):
     table, word = page.ask("[bench.current.run.table, bench.current.run.word]")
     refused = program.text(["run", "=" + word, *words], table)
     elements = f"{int(refused.removeprefix('size: elements ')):,}"
-    count.hold(comes(page, f"{BOTH} && document.getElementById('size').textContent === 'Too large: {elements} elements'"),
-               f"of a circuit of {elements} elements it says {page.ask('document.getElementById(`size`).textContent')!r}")
+    size = "document.getElementById('size').textContent"
+    count.hold(comes(page, f"{BOTH} && {size} === 'Too large: {elements} elements'"),
+               f"of a circuit of {elements} elements it says {page.ask(size)!r}")
     settle(page)
-    outcome, is_stale = page.ask("[document.getElementById('outcome').textContent, document.body.classList.contains('stale')]")
-    steps, _, output = program.text(["machine", "=" + word, "100000"], table).removeprefix("halted ").partition("\noutput =")
-    count.hold(outcome == f"{int(steps):,} steps → {output.strip()}" and not is_stale, f"of a circuit that is too large it says {outcome!r}")
+    outcome = page.ask("document.getElementById('outcome').textContent")
+    is_stale = page.ask("document.body.classList.contains('stale')")
+    halted = program.text(["machine", "=" + word, "100000"], table).removeprefix("halted ")
+    steps, _, output = halted.partition("\noutput =")
+    count.hold(outcome == f"{int(steps):,} steps → {output.strip()}" and not is_stale,
+               f"of a circuit that is too large it says {outcome!r}")
     return Told(page, program)
 
 
@@ -187,10 +213,12 @@ def check_too_large(page, program, count):
     told = hold_too_large(page, program, TOO_LARGE["win"].split(), count)
     told.hold(page, count, "a window that is too large", list(range(told.end + 1)))
     given = page.wait(PLAYED % {"layer": "machine"})
-    count.hold(given == [told.end, 0], f"of a circuit that is too large it plays to {given}, and not to {told.end} and back")
+    count.hold(given == [told.end, 0],
+               f"of a circuit that is too large it plays to {given}, and not to {told.end} and back")
     page.visit(f"file://{PAGE}{link(m='palindrome', w='a' * TOO_MANY)}", EARLY)
-    steps = int(program.text(["machine", "=" + "a" * TOO_MANY, "100000"], page.ask("bench.current.run.table")).split()[1])
-    told = hold_too_large(page, program, ["1", str(TOO_MANY + 3), str(steps), "2"], count)
+    table = page.ask("bench.current.run.table")
+    steps = program.text(["machine", "=" + "a" * TOO_MANY, "100000"], table).split()[1]
+    told = hold_too_large(page, program, ["1", str(TOO_MANY + 3), steps, "2"], count)
     told.hold(page, count, f"{TOO_MANY} letters", [*range(0, told.end, 199), told.end])
     page.ask("bench.state.layer = 'quadruple'; bench.goTo(bench.current.run.end); bench.state.playing = 0; 0")
     page.ask("document.getElementById('playback').click(); 0")
@@ -203,7 +231,8 @@ def check_queue(page, count):
     script = broken(page, ("^run =111 ", "endless"))
     page.visit(f"file://{PAGE}{link(t=INCREMENT, w='111')}", EARLY)
     set_value(page, "word", "1011")
-    count.hold(comes(page, f"{RUNS} && bench.current.run.word === '1011' && bench.current.run.circuit.count > 0"), "a run queues behind another one that isn't wanted any more")
+    is_there = f"{RUNS} && bench.current.run.word === '1011' && bench.current.run.circuit.count > 0"
+    count.hold(comes(page, is_there), "a run queues behind another one that isn't wanted any more")
     page.call("Page.removeScriptToEvaluateOnNewDocument", identifier=script)
     count.hold(page.ask("!document.body.classList.contains('early')"), "behind it no circuit is shown")
 

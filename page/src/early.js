@@ -1,14 +1,14 @@
 // A run while its circuit is sought, or where there is none: the machine by itself, as `trace` tells it, and Bennett's
-// machine, as `moments` does, a text line each moment. They have what the panels ask of a run, but no circuit, and their
-// time is counted in their own steps. What a tape shows at a moment is read of its line where it is wanted.
+// machine, as `moments` does, a text line each moment. They have what the panels ask of a run, but no circuit, and
+// their time is counted in their own steps. What a tape shows at a moment is read of its line where it is wanted.
 import {answer, LANES, STATUS} from "./answer.js";
 import {holdsAt} from "./breaks.js";
 import {Moments} from "./moments.js";
 import {lettersOf} from "./table.js";
 import {matchOf} from "./texts.js";
 
-// How many steps of the machine by itself are asked for at most, and how many symbols on tapes; how many steps are shown
-// of one that runs on; and how many quadruples the copying takes beside four a letter.
+// How many steps of the machine by itself are asked for at most, and how many symbols on tapes; how many steps are
+// shown of one that runs on; and how many quadruples the copying takes beside four a letter.
 const MOST_TRACED = 10000, MOST_OWN_SYMBOLS = 2e6, MOST_SYMBOLS = 8e6, SHOWN_STEPS = 40, COPYING = 12;
 // How many symbols a picture of a long run is drawn of at most.
 const PICTURE_SYMBOLS = 5e5;
