@@ -4,7 +4,7 @@ tells it, and Bennett's machine, as `moments` does; both play, on and back.
 import json
 import re
 
-from shown import PAGE, RUNS, comes, settle
+from shown import PAGE, RUNS, comes, holds_time, settle
 from shown_editor import set_value
 from shown_faults import broken
 from shown_places import INCREMENT, link
@@ -46,6 +46,11 @@ PLAYED = """(async () => { const {state, play, goTo, RANGES} = bench, kept = RAN
 # A window with far too many cells; and a word so long that no window has a circuit.
 TOO_LARGE = {"win": "1 400 90000 400"}
 LETTERS, TOO_MANY = "abaabbabaababbaaba", 60
+# The longest task that is wanted on an idle machine, in milliseconds, while a long run of Bennett's machine is read.
+TASK = 100
+WATCH = """window.longest = 0; new PerformanceObserver(list => {
+  for (const it of list.getEntries()) window.longest = Math.max(window.longest, it.duration);
+}).observe({type: "longtask"}); 0"""
 
 
 def traced(program, word, table):
@@ -226,6 +231,18 @@ def check_too_large(page, program, count):
     page.ask("bench.pause(); 0")
 
 
+def check_reading_time(page, count):
+    """While a long run of Bennett's machine is read and drawn, nothing stands still for long."""
+    def measure():
+        page.visit(f"file://{PAGE}{link(m='palindrome', w='ab')}")
+        page.ask(WATCH)
+        set_value(page, "word", "a" * TOO_MANY)
+        comes(page, f"bench.current.run.word.length === {TOO_MANY} && {BOTH}")
+        settle(page, 300)
+        return page.ask("longest"), ""
+    holds_time(page, count, f"Bennett's machine on {TOO_MANY} letters, the longest task", TASK, measure)
+
+
 def check_queue(page, count):
     """A run that isn't wanted any more keeps no other one waiting."""
     script = broken(page, ("^run =111 ", "endless"))
@@ -245,5 +262,6 @@ def check_early(page, program, count):
     check_palindrome(page, program, count)
     page.call("Page.removeScriptToEvaluateOnNewDocument", identifier=script)
     check_too_large(page, program, count)
+    check_reading_time(page, count)
     check_queue(page, count)
     count.hold(not page.faults(), f"{page.faults()}")
