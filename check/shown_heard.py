@@ -103,7 +103,7 @@ def check_panels(page, count):
     speed = page.ask("[document.getElementById('speed').getAttribute('aria-valuetext'), document.getElementById('speedtext').textContent]")
     count.hold(speed[0] == speed[1] and speed[0], f"the speed is heard as {speed[0]!r}, and shown as {speed[1]!r}")
     pressed = [heard.name(it) for it in heard.nodes if it["role"]["value"] in ("button", "toggleButton") and heard.value(it, "pressed") == "true"]
-    count.hold(len(pressed) == 1 and pressed[0].startswith("Quadruple"), f"pressed are {pressed}")
+    count.hold(len(pressed) == 1 and pressed[0].startswith("Row step"), f"pressed are {pressed}")
     current = page.ask("[...document.querySelectorAll('#stages [aria-current=step]')].map(it => it.dataset.stage)")
     count.hold(current == [stage], f"the current stage is heard as {current}, and not {stage}")
     for act, wanted in (("document.getElementById('larger').click()", IN_DIAGRAM), ("document.getElementById('verdicts').click()", IN_ANSWERS)):
