@@ -46,6 +46,8 @@ PLAYED = """(async () => { const {state, play, goTo, RANGES} = bench, kept = RAN
 # A window with far too many cells; and a word so long that no window has a circuit.
 TOO_LARGE = {"win": "1 400 90000 400"}
 LETTERS, TOO_MANY = "abaabbabaababbaaba", 60
+# How many moments are looked at in one answer of the browser.
+AT_ONCE = 8
 # The longest task that is wanted on an idle machine, in milliseconds, while a long run of Bennett's machine is read.
 TASK = 100
 WATCH = """window.longest = 0; new PerformanceObserver(list => {
@@ -90,7 +92,10 @@ class Told:
         """Holds that at these moments the page shows the tapes, the row and the stage that are told."""
         page.ask("document.querySelector('[data-middle=table]').click(); 0")
         wrong = []
-        for q, (tapes, row, said) in zip(places, page.ask(SEEN % json.dumps(places))):
+        # Some at a time, since on a busy machine a hundred pictures take longer than an answer is waited for.
+        parts = [places[k:k + AT_ONCE] for k in range(0, len(places), AT_ONCE)]
+        seen = [it for part in parts for it in page.ask(SEEN % json.dumps(part))]
+        for q, (tapes, row, said) in zip(places, seen):
             state, right, number = told_moment(self.lines[q])
             stage = {"A": "compute", "B": "copy", "C": "retrace"}[state[0]]
             drawn = all(symbol == cells.get(cell, "_")
@@ -190,7 +195,7 @@ def check_palindrome(page, program, count):
     page.ask("letGo('moments'); 0")
     count.hold(comes(page, BOTH), "of the palindrome Bennett's machine isn't shown before its circuit")
     told = Told(page, program)
-    told.hold(page, count, "the palindrome, before its circuit", [*range(0, told.end, 5), told.end])
+    told.hold(page, count, "the palindrome, before its circuit", [*range(0, told.end, 13), told.end])
     given = page.wait(PLAYED % {"layer": "quadruple"})
     count.hold(given == [told.end, 0], f"the palindrome plays to {given}, and not to {told.end} and back")
 
