@@ -21,6 +21,7 @@ export class Workbench {
   }
 
   // A block of the module's memory with these bytes, or with so many that are open.
+  /** @param {Uint8Array | number} bytes */
   place(bytes) {
     const count = typeof bytes === "number" ? bytes : bytes.length;
     const at = this.code.malloc(BigInt(Math.max(count, 1)));
@@ -30,8 +31,11 @@ export class Workbench {
   }
 
   // One call with so much room: the code, the text or its front, and the length of the whole text.
+  /** @param {Uint8Array} words @param {Uint8Array} input @param {number} room */
   call(words, input, room) {
+    /** @type {any[]} */
     const blocks = [];
+    /** @param {Uint8Array | number} bytes */
     const place = bytes => {
       blocks.push(this.place(bytes));
       return blocks.at(-1);
@@ -47,6 +51,7 @@ export class Workbench {
   }
 
   // The answer to words and an input, as bytes. Where the text needs more room, the call is made once more with it.
+  /** @param {Uint8Array} words @param {Uint8Array} input */
   answer(words, input) {
     try {
       let answer = this.call(words, input, this.room);

@@ -67,6 +67,14 @@ def test_a_planted_null_is_seen(copy):
     assert made.returncode and "bank.js" in made.stdout, made.stdout
 
 
+def test_a_planted_parameter_without_a_type_is_seen(copy):
+    """In the modules of page/tsconfig.typed.json every parameter has a type; the others know at least what may be null."""
+    needs("tsc")
+    plant(copy, "page/src/texts.js", "/** @type {(place: number) => string} */\nexport const placeName", "export const placeName")
+    made = [run("tsc", "-p", f"page/{name}", cwd=copy) for name in ("tsconfig.json", "tsconfig.typed.json")]
+    assert not made[0].returncode and made[1].returncode and "texts.js" in made[1].stdout, [it.stdout for it in made]
+
+
 @pytest.mark.parametrize("path, right, wrong, test", [
     ("page/src/texts.js", "word => 4 * parseInt(word)", "word => 5 * parseInt(word)", "texts"),
     ("page/src/run.js", "now.bars[it.places[k] >> 2] = it.places[k] & 1", "now.bars[it.places[k] >> 2] = 1", "run"),

@@ -2,7 +2,7 @@
 // the program's answers.
 import {controlSaid} from "./control.js";
 import {frame} from "./frame.js";
-import {byId, current, dialog, escaped, isEarly, nameOf, state} from "./state.js";
+import {byId, current, dialog, escaped, hasLayer, isEarly, layerNow, nameOf} from "./state.js";
 import {symbolWord} from "./table.js";
 import {bankName, countWords, endWords, exitWords, number, ruleAt, TAPES} from "./words.js";
 
@@ -23,7 +23,7 @@ const PANELS = {
     "First it computes and keeps the history, then it copies the output, then it takes every step back and empties " +
       "the history. A triangle marks each head, a darker cell what was just written. Between two moments a cell within " +
         "a broken line has changed since; in its corner stands what it holds by now, where that is another symbol. Below stand the moves of the " +
-        "circuit for one quadruple, with what each costs, or the table of all quadruples.",
+        "circuit for one row of Bennett's table, with what each costs, or the whole table.",
   ]},
   circuit: {title: "The circuit", words: [
     "The whole machine as one circuit of rotary elements with one signal. Above is the map: the control, and a " +
@@ -37,7 +37,7 @@ const PANELS = {
     "The pink line is now. + and − make the part that is seen smaller and larger, the wheel too; the strip below shows " +
       "the whole with that part in a frame, which can be drawn along. Of a long run as many moments are drawn as have " +
         "room. A dot is a place where a breakpoint holds.",
-    "The second strip has the moves of the quadruple at work, as wide as they cost. The four buttons say what a step " +
+    "The second strip has the moves of the row at work, as wide as they cost. The four buttons say what a step " +
       "is; the arrow keys make one, on or back.",
   ]},
 };
@@ -59,6 +59,8 @@ const PAGES_ABOUT = {
     "Two wires share a track where they cover no place both. The broken line marks the place that most wires cover: " +
       "so many tracks are needed, and no more are used."],
 };
+
+const STEP_WORDS = {machine: "machine step", quadruple: "row step: one row of Bennett's table is followed", module: "move of a module", element: "step of the signal"};
 
 export function openAbout(panel) {
   const {title, words} = PANELS[panel], now = current.run ? nowWords(panel) : ["Nothing runs yet."];
@@ -93,7 +95,7 @@ function tapeWords({moment, q}) {
       : `the head is at cell ${tape.head}`;
     return `The ${TAPES[k + 1]} tape from cell ${tape.first} on: ${symbols}; ${head}.`;
   });
-  return [`Stage: ${moment.stage}. Quadruple ${q} of ${current.run.count - 1}, from state ${moment.name}.`,
+  return [`Stage: ${moment.stage}. Row step ${q} of ${current.run.count - 1}, from state ${moment.name}.`,
     `${rule.head} ${rule.more}`, ...tapes];
 }
 function circuitWords({e, at, bank, move}) {
@@ -112,14 +114,12 @@ function circuitWords({e, at, bank, move}) {
   return [count, window, where + far, full ? `The control: ${full}.` : ""].filter(Boolean);
 }
 function timeWords({e, q}) {
-  if (isEarly()) return [`The machine by itself makes ${number(current.run.end)} steps. Now: step ${number(e)}.`];
+  if (!hasLayer("quadruple")) return [`The machine by itself makes ${number(current.run.end)} steps. Now: step ${number(e)}.`];
   const {run} = current, parts = run.stageParts(), stages = parts.map((it, k) => {
     const isOpen = !run.isWhole && k === parts.length - 1;
-    return `${it.stage} from quadruple ${it.from} ${isOpen ? "on, as far as it is known by now" : `to ${it.to - 1}`}`;
+    return `${it.stage} from row step ${it.from} ${isOpen ? "on, as far as it is known by now" : `to ${it.to - 1}`}`;
   });
-  const count = `${countWords(run)} quadruples and ${endWords(run)} element steps`;
+  const isOne = isEarly(), count = `${countWords(run)} row steps${isOne ? "" : ` and ${endWords(run)} element steps`}`;
   return [`The run has ${count}: ${stages.join(", ")}.`,
-          `Now: quadruple ${number(q)}, element step ${number(e)}. A step is a ${state.layer === "element" ? "step " +
-            "of the signal" : state.layer === "module" ? "move of a module"
-              : {machine: "machine step", quadruple: "quadruple"}[state.layer]}.`];
+          `Now: row step ${number(q)}${isOne ? "" : `, element step ${number(e)}`}. A step is a ${STEP_WORDS[layerNow()]}.`];
 }

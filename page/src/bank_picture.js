@@ -167,7 +167,7 @@ function labelsPicture(grid, bars, place, isSlice) {
   for (let r = grid.first[1]; r <= Math.min(grid.last[1], rows - 1) && !isSlice; r++) {
     const y = grid.cy(r), isNow = place === 4 * (bank.base + r) + WEST;
     const line = lineOf(run, bank, r);
-    if (y > TOP && y < height - 6) body += label([line.name, `row ${r + 1}: ${line.words}`], isNow, "end", left - P * .32 - 3, y + 3);
+    if (y > TOP && y < height - 6) body += label([line.name, `port ${r + 1}: ${line.words}`], isNow, "end", left - P * .32 - 3, y + 3);
   }
   return body;
 }

@@ -43,9 +43,9 @@ export function renderCell() {
 function changeWords(run, first) {
   if (first === null) return "It is never changed.";
   const at = run.moments[first];
-  if (!at.tapes) return `First changed at quadruple ${number(first)}, in ${at.stage}.`;
+  if (!at.tapes) return `First changed at row step ${number(first)}, in ${at.stage}.`;
   const rule = at.stage === "compute" ? at.rule ?? Number(at.tapes[1]?.symbols[at.step]) : null;
-  return `First changed at quadruple ${number(first)}, in ${at.stage}${rule ? `, step ${at.step || 1}, by rule ${rule}` : ""}.`;
+  return `First changed at row step ${number(first)}, in ${at.stage}${rule ? `, step ${at.step || 1}, by rule ${rule}` : ""}.`;
 }
 
 // Goes to the first moment at which a cell is otherwise than at the start; where that isn't known it is looked for.
@@ -54,7 +54,7 @@ export async function goToFirst(it) {
   pause();
   let first = firstOf(run, it);
   if (first === undefined) {
-    const told = q => busy(`${nameOfCell(it)}: looked through to quadruple ${number(q)} …`);
+    const told = q => busy(`${nameOfCell(it)}: looked through to row step ${number(q)} …`);
     told(0);
     first = await run.findFirst(it.tape, it.cell, told);
     busy("");

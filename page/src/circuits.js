@@ -25,8 +25,8 @@ const FAULTS = {
 };
 const SAYINGS = {
   "text: empty\n": "Nothing is written there.", "word: state\n": "There is no such state.",
-    "word: line\n": "There is no such line.",
-  "text: no schedule\n": "There is no schedule.", "usage\n": "States and lines are counted from 1.",
+    "word: line\n": "There is no such port.",
+  "text: no schedule\n": "There is no schedule.", "usage\n": "States and ports are counted from 1.",
 };
 
 export const isConfiguration = given => /^\s*rotary/.test(given);
@@ -47,7 +47,7 @@ export function circuitFault({status, text, words}) {
     return `${where} ${line[2]} ${FAULTS[line[3]] ?? line[3]}.`;
   }
   if (record?.[3].startsWith("fields")) {
-    return `Line ${record[1]}: a move has four numbers: state, line, next state, line.`;
+    return `Line ${record[1]}: a move has four numbers: state, port, next state, port.`;
   }
   if (record) {
     const place = record[2] ? `, number ${record[2]}` : "";

@@ -30,7 +30,7 @@ export function openHelp() {
     ["<kbd>space</kbd>", "play and pause; with <kbd>shift</kbd> backward"],
       ["<kbd>←</kbd> <kbd>→</kbd>", "a step back, a step on"],
     ["<kbd>shift</kbd> <kbd>↑</kbd> <kbd>↓</kbd>",
-      "what a step is: machine step, quadruple, module move, element step"],
+      "what a step is: machine step, row step, module move, element step"],
     ["<kbd>shift</kbd> <kbd>←</kbd> <kbd>→</kbd>", "back, or on, to a breakpoint"],
       ["<kbd>Home</kbd> <kbd>End</kbd>", "the start, the end"],
     ["<kbd>ctrl</kbd> <kbd>Z</kbd>", "take the last change of the machine back; with <kbd>shift</kbd> make it again"],

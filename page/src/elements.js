@@ -10,10 +10,10 @@ const DESK_OPTIONS = CIRCUITS.map((it, k) => `<option value="${k}">${it.title}</
 const DESK_PAGE = `<div class="e-left">
     <select id="e-examples" aria-label="Circuits to begin with">${DESK_OPTIONS}</select>
     <p id="e-about" class="quiet"></p>
-    <label for="e-text">Moves (state, line, next state, line), or a configuration text</label>
+    <label for="e-text">Moves (state, port, next state, port), or a configuration text</label>
     <textarea id="e-text" spellcheck="false"></textarea>
     <div id="e-moves"><label for="e-state">in state</label> <input id="e-state" size="2" value="1" inputmode="numeric">
-      <label for="e-line">the signal at line</label> <input id="e-line" size="2" value="1" inputmode="numeric"></div>
+      <label for="e-line">the signal at port</label> <input id="e-line" size="2" value="1" inputmode="numeric"></div>
     <p id="e-fault" class="e-fault" role="status"></p>
     <p class="quiet">A box is an element with its bar. Along the bar the signal goes straight on; across it, it turns
     right

@@ -24,7 +24,7 @@ const ERASE_PAGE = `<div class="e-left">
     <p id="x-fault" class="e-fault" role="status"></p></div>
   <div class="e-right"><div id="x-ends" class="x-ends" role="status"></div>
     <h3 id="x-count"></h3><div id="x-table" class="x-table" tabindex="0" role="group"
-    aria-label="the quadruples of the erasing machine"></div></div>`;
+    aria-label="the rows of the erasing machine's table"></div></div>`;
 
 const eraser = /** @type {{box: HTMLElement, input: string, word: string, first: string}} */ (
   {input: "", word: "", first: ""});
@@ -49,7 +49,7 @@ async function takePair() {
   eraserPart("x-fault").textContent = eraseFault(made, first, second) || eraseFault(ended, first, second);
   if (made.status !== STATUS.done) return;
   const rows = made.text.split("\n").filter(Boolean);
-  eraserPart("x-count").textContent = `The erasing machine: ${number(rows.length)} quadruples`;
+  eraserPart("x-count").textContent = `The erasing machine: ${number(rows.length)} rows`;
   eraserPart("x-table").innerHTML = `<ol>${rows.map(row => `<li><code>${escaped(row)}</code></li>`).join("")}</ol>`;
   eraserPart("x-ends").innerHTML = endsText(ended, ran);
 }
@@ -59,7 +59,7 @@ const shownWord = it => it === "" ? '<span class="quiet">blank</span>' : `<code>
 // What both leave on the work tape and on the output tape.
 function endsText(ended, ran) {
   const run = readRun(ran.text), of = name => new RegExp(`^${name} =(.*)$`, "m").exec(ended.text)?.[1] ?? null;
-  const [kind, first, second] = ended.text.split(/\s+/), steps = it => `${number(Number(it))} quadruple steps`;
+  const [kind, first, second] = ended.text.split(/\s+/), steps = it => `${number(Number(it))} row steps`;
   const row = (name, cells) => `<tr><th scope="row">${name}</th>${cells.map(it => `<td>${it}</td>`).join("")}</tr>`;
   const bennett = run.exit === "end" ? [wordOf(run.tapes[0]), run.output].map(shownWord).concat(steps(run.quadruples))
     : ["", "", "it doesn't come to its end"];

@@ -8,7 +8,7 @@ import {redraw} from "./notices.js";
 import {speedWords} from "./play.js";
 import {heightOf, isPhone, put, widthOf} from "./sizes.js";
 import {followTime, renderWhole, spanOf, spanWords} from "./span.js";
-import {byId, current, isEarly, layerNow, state} from "./state.js";
+import {byId, current, hasLayer, layerNow, state} from "./state.js";
 import {counterWords} from "./words.js";
 
 const LEAST_NAME = 60, MOST_WHOLE = 4000, MOST_COLUMNS = 720, LEAST_COLUMNS = 48, FILM_SYMBOLS = 2e6, FIRST_PASS = 8;
@@ -95,12 +95,12 @@ export function renderTime(f) {
   it.setAttribute("aria-valuemin", 0);
   it.setAttribute("aria-valuemax", Number.isFinite(run.end) ? run.end : run.starts.at(-1));
   it.setAttribute("aria-valuenow", f.e);
-  it.setAttribute("aria-valuetext", isEarly() ? `step ${f.e} of ${run.end}, by itself` : run.isKnown(f.e) ? `${f.moment.stage}, quadruple ${f.q} of ${run.count - 1}`
+  it.setAttribute("aria-valuetext", !hasLayer("quadruple") ? `step ${f.e} of ${run.end}, by itself` : run.isKnown(f.e) ? `${f.moment.stage}, row step ${f.q} of ${run.count - 1}`
     : `element step ${f.e}, which the program runs to`);
   const values = counterWords(current, f, listed, isPhone());
   for (const button of byId("layers").children) {
     button.setAttribute("aria-pressed", button.dataset.layer === layerNow());
-    button.disabled = isEarly() && button.dataset.layer !== "machine";
+    button.disabled = !hasLayer(button.dataset.layer);
     const span = button.querySelector("span"), value = values[button.dataset.layer ?? ""];
     if (span && span.textContent !== value) span.textContent = value;
   }

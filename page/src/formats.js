@@ -8,7 +8,7 @@ import {NONE, SHIFTS, shown} from "./machines.js";
 import {List, Mapping, readYamlText} from "./yaml.js";
 
 const LONGEST_NAME = 32, SOURCE = "source code";
-const TABLE = "; it looks like a table of quintuples, which the program reads as it is";
+const TABLE = "; it looks like a table of rules, which the program reads as it is";
 
 // ---- which of the four
 
@@ -142,7 +142,7 @@ function haltingOf(machine, wanted, where) {
     throw new Error(`${where}: no state is called ${shown(wanted)}`);
   const halting = wanted === null ? machine.halting : [wanted];
   if (!halting.length)
-    throw new Error(`${where}: no state halts, so no last quintuple can be there; --halt names a state`);
+    throw new Error(`${where}: no state halts, so no last rule can be there; --halt names a state`);
   const leaves = machine.rules.find(it => halting.includes(it.state));
   if (leaves)
     throw new Error(`${leaves.place}: leaves ${shown(leaves.state)}, in which the machine halts; `

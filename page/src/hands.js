@@ -20,7 +20,7 @@ import {asPasted, changed, giveUp, OWN_WORDS, showOutcome, takeMachine, typed} f
 import {listed} from "./moves.js";
 import {redraw} from "./notices.js";
 import {keepPast, takeBack} from "./past.js";
-import {exportPicture} from "./picture.js";
+import {openPicture} from "./picture.js";
 import {chooseMiddle} from "./quadruples.js";
 import {openSaidOf} from "./said.js";
 import {openTasks, taskAtHand} from "./sheet.js";
@@ -28,15 +28,12 @@ import {chooseLayer, goTo, goToEnd, goToKnown, pause, play, runBreak, speedWords
 import {centreTime, moveTime, spanOf, wholeCount, wholeTime, zoomTime} from "./span.js";
 import {forgetSizes} from "./sizes.js";
 import {openStops} from "./stops.js";
-import {busy, byId, current, isTooLong, LAYERS, nameOf, state, toast} from "./state.js";
+import {busy, byId, current, isEarly, isTooLong, LAYERS, nameOf, state, toast} from "./state.js";
 import {takeTabs} from "./tabs.js";
 import {openVerdicts} from "./verdicts.js";
 import {openWorkshop} from "./workshop.js";
 import {endWords, number} from "./words.js";
 
-// What a picture of the whole is made of.
-export const PICTURES = ["own", "diagram", "three", "map", "overview", "bank", "filmpic"];
-export const TEXTS = "#own p,#stages b,#stages span,#rule .head,#rule .more,#three b,#three .tape>div>span,#size,#where,#what,#filmnames span,#stagenames span";
 // What comes as a whole, and not letter by letter: so many letters at least.
 const PASTES = new Set(["insertFromPaste", "insertFromDrop", "insertFromYank"]), LEAST_PASTED = 8, TYPING_REST = 300;
 const LEAST_DRAG = 4, TIME_FACTOR = 2, WHEEL_FACTOR = 1.25, THIRD = 1 / 3;
@@ -182,7 +179,7 @@ async function goToTime(run, time) {
   wantedTime = time;
   const isKnown = () => run.isWhole || run.moments.length > time + 1;
   if (!isKnown()) {
-    const told = () => busy(`the program comes to quadruple ${number(Math.floor(time))}: ${number(run.moments.length)} are known …`);
+    const told = () => busy(`the program comes to row step ${number(Math.floor(time))}: ${number(run.moments.length)} are known …`);
     told();
     await run.moreUntil(() => run !== current.run || wantedTime !== time || isKnown(), told);
     if (wantedTime === time) busy("");
@@ -360,8 +357,9 @@ function onHeader() {
   byId("picture").onclick = () => {
     const {run} = current;
     if (!run) return;
-    const where = `quadruple ${run.momentIndex(state.e)} of ${run.count - 1}, element step ${number(state.e)} of ${endWords(run)}`;
-    exportPicture(`Hithwelor · word ${state.word || "empty"} · ${where}`, PICTURES, TEXTS);
+    pause();
+    const where = `row step ${number(run.momentIndex(state.e))} of ${number(run.count - 1)}${isEarly() ? "" : `, element step ${number(state.e)} of ${endWords(run)}`}`;
+    openPicture(`Hithwelor · word ${state.word || "empty"} · ${where}`);
   };
 }
 function onKey(event) {

@@ -115,7 +115,7 @@ function elementWords({element}) {
   const bar = bars?.[element - bank.base], lies = bar === undefined ? "" : bar ? "lies, west to east" : "stands, north to south";
   const column_ = `column ${column + 1} of ${bank.columns}, for ${escaped(columnWords(run, bank, column))}`;
   const row_ = isMark ? "the mark below it: where its bar lies, that is the module's state"
-    : `row ${row + 1} of ${bank.rows}: <b>${escaped(lineOf(run, bank, row).words)}</b>`;
+    : `in the row of port ${row + 1} of ${bank.rows}: <b>${escaped(lineOf(run, bank, row).words)}</b>`;
   const before = run.circuit.bars[element], changed = bar === undefined ? "" : bar === before ? "as at the start" : "turned since the start";
   return {title: `Element ${number(element)}`, words: [`A rotary element of the module ${escaped(bankName(bank))}: ${column_}, ${row_}.`,
     lies ? `Its bar ${lies}, ${changed}. Along it the signal goes straight on; across it, it turns right and turns the bar.` : ""].filter(Boolean)};

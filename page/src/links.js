@@ -40,7 +40,7 @@ export function readLink(hash) {
   const window = it.get("win")?.split(" ").map(Number) ?? null;
   return {
     text: it.get("t") ?? example?.table ?? "", word: it.get("w") ?? example?.word ?? "", e: Number(it.get("e")) || 0,
-    layer: LAYERS.includes(layer) ? layer : "quadruple", asStandard: it.has("s") || Boolean(example?.letter), asTyped: it.has("u"),
+    layer: LAYERS.some(it => it === layer) ? layer : "quadruple", asStandard: it.has("s") || Boolean(example?.letter), asTyped: it.has("u"),
     ...keptIn(it), window: window?.length === 4 && window.every(Number.isInteger) ? window : null, example: example?.key ?? "",
   };
 }

@@ -1,8 +1,8 @@
 // From what is typed to a run: the program judges the table, it is brought into standard form where that is asked for, a
 // window is found, and the run's answers are fetched. What is wrong is said in words, with what the page can do about it.
-import {answer, isCutOff, STATUS} from "./answer.js";
+import {answer, isCutOff, LANES, STATUS, stopBusy} from "./answer.js";
 import {chips} from "./breaks.js";
-import {earlyRun} from "./early.js";
+import {bennettEarly, ownEarly} from "./early.js";
 import {editorText, markFaults} from "./editor.js";
 import {EXAMPLES} from "./examples.js";
 import {followRun, renderFilm, resetFilm} from "./film.js";
@@ -174,39 +174,52 @@ async function judge(text, given, isOld) {
 async function makeRun(table, isOld) {
   busy("looking for a window …");
   // What is typed meanwhile is another run's.
-  const {word, window} = state, made = {isThere: false, early: Promise.resolve(/** @type {any} */ (null))};
+  const {word, window} = state, made = {isThere: false, first: Promise.resolve(), early: /** @type {any} */ (null), told: /** @type {RunTold} */ ({rules: [], rows: []})};
   try {
-    const told = own => { made.early = tellEarly({table, word, own, window}, made, isOld); };
+    const told = own => { made.first = tellEarly({table, word, own, window}, made, isOld); };
     const found = await findRun(table, word, window, told);
     if (!isOld()) busy("its circuit, and its moments …");
-    return {run: await new Run(table, word, found).open(), found};
-  } catch (fault) {
-    if (fault instanceof Refused) fault.early = await made.early;
-    throw fault;
-  } finally {
+    const run = Object.assign(await new Run(table, word, found).open(), {told: made.told});
     made.isThere = true;
+    return {run, found};
+  } catch (fault) {
+    if (fault instanceof Refused) {
+      await made.first;
+      fault.early = made.early;
+    }
+    throw fault;
   }
 }
-// While the circuit is looked for the machine by itself is shown; where another machine is seen, a moment later, since most
-// circuits are found by then.
+// While the circuit is looked for the machine by itself is shown, and then Bennett's, which has both layers above the circuit;
+// where another machine is seen, a moment later, since most circuits are found by then. It is waited for the first of them.
 async function tellEarly(asked, made, isOld) {
-  const edition = state.editions, run = await earlyRun(asked).catch(() => null);
-  if (!run) return null;
-  if (current.run) await new Promise(done => setTimeout(done, EARLY_AFTER));
-  const early = {run: Object.assign(run, {edition}), found: {own: asked.own, window: run.window, text: ""}};
-  if (!isOld() && !made.isThere) showEarly(early);
-  return early;
+  const rest = new Promise(done => setTimeout(done, current.run ? EARLY_AFTER : 0)), {editions: edition} = state;
+  stopBusy(LANES.beside);
+  const tell = async asking => {
+    const run = await asking.catch(() => null);
+    if (!run || isOld()) return;
+    // What was told of one is known of the other, and of the run with its circuit; what is said of the circuit is said of both.
+    Object.assign(made.told, run.told.rules.length ? {rules: run.told.rules} : {rows: run.told.rows});
+    Object.assign(run, {edition, told: made.told, lacking: made.early?.run.lacking ?? run.lacking});
+    made.early = {run, found: {own: asked.own, window: run.window, text: ""}};
+    await rest;
+    if (!isOld() && !made.isThere) showEarly(made.early);
+  };
+  await tell(ownEarly(asked));
+  tell(bennettEarly(asked)).catch(console.error);
 }
 function showEarly(early) {
   if (current.run === early.run) return;
-  pause();
-  showAny(early, 0);
+  if (!isShownEarly(early.run)) pause();
+  showAny(early, stepKept(early.run, 0));
 }
-// Where a step of the machine by itself was gone to before the circuit was there, the same one is shown with it.
+// Where a step was gone to before the circuit was there, or Bennett's machine, the same one is shown with it.
 function stepKept(run, keep) {
-  const {run: before} = current, isSame = isEarly() && before.table === run.table && before.word === run.word;
-  return isSame && (state.e || state.playing) ? run.stops.machine[state.e] ?? run.starts.at(-1) ?? 0 : keep;
+  const before = /** @type {import("./early.js").Early} */ (/** @type {any} */ (current.run));
+  return isShownEarly(run) && (state.e || state.playing) ? before.stepWith(run, state.e) : keep;
 }
+// Whether what is shown is a run's, without its circuit.
+const isShownEarly = run => isEarly() && current.run.table === run.table && current.run.word === run.word;
 function showAny({run, found}, e) {
   Object.assign(current, {run, found});
   document.body.classList.toggle("early", run.circuit.count === 0);

@@ -6,5 +6,6 @@ export const NONE = "it is none of the four that are read: a machine of turingma
   + "of Morphett's simulator, or one line of bbchallenge";
 export const SHIFTS = {R: "+", L: "-", S: "0"};
 // A value of a file as it is named in a fault.
+/** @type {(value: any) => string} */
 export const shown = value => typeof value === "string" ? `'${value}'`
   : value === null ? "nothing" : "a list or mapping";

@@ -24,7 +24,7 @@ export function mapPicture(run, {bank, row, moment, hasLeft: isOut, width, heigh
 
 function controlPicture(control, isHere, height) {
   const {columns, rows, count} = control, middle = height / 2;
-  return `<g data-bank="0"><title>The finite control: ${columns} states, ${rows} lines, ${number(count)} elements</title>`
+  return `<g data-bank="0"><title>The finite control: ${columns} states, ${rows} ports, ${number(count)} elements</title>`
     + `<rect class="${isHere ? "here" : "box"}" x="13" y="6" width="72" height="${height - 12}" rx="7"/>`
     + `<text text-anchor="middle" x="49" y="${middle - 3}">control</text>`
     + `<text class="quiet small" text-anchor="middle" x="49" y="${middle + 12}">${columns} states</text></g>`;

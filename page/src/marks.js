@@ -4,7 +4,7 @@ import {LANES, STATUS} from "./answer.js";
 import {holdsAt} from "./breaks.js";
 import {marksChanged} from "./notices.js";
 import {spanOf} from "./span.js";
-import {breaksOf, byId, current, state} from "./state.js";
+import {breaksOf, byId, current, hasLayer, state} from "./state.js";
 import {matchOf} from "./texts.js";
 import {number} from "./words.js";
 
@@ -62,7 +62,7 @@ function askElements(run) {
   clearTimeout(marks.later);
   if (marks.run !== run || !wanted.length) marks.comes.clear();
   Object.assign(marks, {run, key});
-  if (!wanted.length) return;
+  if (!wanted.length || !run.layers.includes("element")) return;
   marks.later = setTimeout(async () => {
     for (const {element} of wanted) {
       const comes = await comesTo(run, element, Math.max(0, first - 1), last);
@@ -74,7 +74,7 @@ function askElements(run) {
 }
 // What is said where not all marks are shown, or a run is still looked through.
 export function marksWords() {
-  const said = elementsWanted().map(({element}) => {
+  const wanted = hasLayer("element") ? elementsWanted() : [], said = wanted.map(({element}) => {
     const it = marks.comes.get(element);
     if (!it) return `the program looks for element ${number(element)} …`;
     return it.isMore ? `of element ${number(element)} the first ${number(it.steps.length)} marks, there are more` : "";

@@ -11,7 +11,7 @@ const GLASS_REST = 300, FIRST_GLASS = 0;
 const GLASS_OPTIONS = CIRCUITS.map((it, k) => `<option value="${k}">${it.title}</option>`).join("");
 const GLASS_PAGE = `<div class="e-left">
     <select id="m-examples" aria-label="Circuits to begin with">${GLASS_OPTIONS}</select>
-    <label for="m-text">Moves (state, line, next state, line), or a configuration text</label>
+    <label for="m-text">Moves (state, port, next state, port), or a configuration text</label>
     <textarea id="m-text" spellcheck="false"></textarea><p id="m-fault" class="e-fault" role="status"></p>
     <p class="quiet">In a mirror each wire is turned round, and east and west are exchanged. It is made of the same
     element,

@@ -2,6 +2,7 @@
 // tells with a breakpoint at each state, some at a time. What the tapes show at one of them (`view`) comes with it where a
 // run is short; of a long one it is fetched where it is wanted, and kept while there is room.
 import {LANES, STATUS} from "./answer.js";
+import {LAYERS} from "./state.js";
 import {rulesOf, statesOf} from "./table.js";
 import {GREATEST, matchOf, readPlace, readView} from "./texts.js";
 
@@ -28,6 +29,9 @@ export class Moments {
   /** @type {{quadruple: number[], machine: number[]}} */ stops = {quadruple: [], machine: []};
   // Whether all are known; how many there are, where that is known before; the last element step, as far as it is known.
   isWhole = false;
+  // Whether they are a front of the run, beyond which nothing is told; and on which layers its steps are.
+  isPart = false;
+  /** @type {Layer[]} */ layers = LAYERS;
   /** @type {number | null} */ total = null;
   end = Infinity;
   // By which line the signal leaves, and with which moment the copying begins.
@@ -48,6 +52,9 @@ export class Moments {
   /** @type {Promise<boolean> | null} */ asking = null;
   /** @type {{q: number, promise: Promise<boolean>} | null} */ viewing = null;
   /** @type {Promise<any> | null} */ coming = null;
+  // What `trace` and `moments` told of it by now: which rule is followed next after so many steps of the machine by itself, and the
+  // place in Bennett's table of what is applied next at a moment, or -1.
+  /** @type {RunTold} */ told = {rules: [], rows: []};
   // What is said in place of a circuit, where there is none; and with which edition of what was typed it came.
   lacking = "";
   edition = 0;
@@ -138,8 +145,9 @@ export class Moments {
     const stage = name.startsWith("A") ? "compute" : "retrace", isRule = name.endsWith("'");
     return {name, stage, state: isRule ? null : this.states[digitsOf(name) - 1], rule: isRule ? digitsOf(name) : null};
   }
-  // Which rule led to a moment, where `trace` told it.
-  followedAt(q) { return this.moments[q - 1]?.applied ?? null; }
+  // Which rule is followed next at a moment in which the machine by itself is in a state: null where none is, undefined where it
+  // isn't told.
+  ruleNext({step, stage, rule}) { return stage === "compute" && rule === null ? this.told.rules[step] : undefined; }
   isKnown(e) { return this.isWhole || (this.starts.at(-1) ?? 0) > e; }
   // The moments up to a step, up to one of them, or all; false where the asking was stopped.
   async momentsTo(e) { return this.moreUntil(() => this.isKnown(e)); }

@@ -42,7 +42,7 @@ function firstRow(list, at) {
   return Math.max(0, Math.min(list.length - MOST_ROWS, Math.floor((at - MOST_ROWS / 2) / ROWS_ON) * ROWS_ON));
 }
 function tableOf({from, to, list}, first) {
-  const head = `<h3><span>For this quadruple</span><span class="quiet">${number(to - from)} element steps</span></h3>`;
+  const head = `<h3><span>For this row</span><span class="quiet">${number(to - from)} element steps</span></h3>`;
   if (list.isPart && !list.length) {
     return head + `<p class="quiet">${state.playing ? "Stop, or play slower, and they are listed." : "The program lists them …"}</p>`;
   }

@@ -1,9 +1,11 @@
 // For the worker: reads the places that a script of lines `step 1` was answered with, so that the page doesn't stand
 // still for it. A place is the number 4E + side of a line E.L. It judges nothing: the text is the program's own.
 const POINT = 46, LINE_END = 10, LEFT = 108;
+/** @type {Record<number, number>} */
 const SIDE_OF = {110: 0, 101: 1, 115: 2, 119: 3};
 
 // At most so many places, and whether the signal has left at the last one.
+/** @type {(text: Uint8Array, count: number) => {places: Int32Array, hasLeft: boolean}} */
 export function readPlaces(text, count) {
   const places = new Int32Array(count);
   let at = 0, found = 0, hasLeft = false;
@@ -21,6 +23,7 @@ export function readPlaces(text, count) {
 
 // Where among the places a move begins: the signal is about to enter the first column of a bank by one of its lines.
 // Banks are given by their first elements and by how many rows they have.
+/** @type {(read: {places: Int32Array, hasLeft: boolean}, banks: {bases: Int32Array, rows: Int32Array}) => Int32Array} */
 export function boundsOf({places, hasLeft}, {bases, rows}) {
   const found = [], last = places.length - (hasLeft ? 1 : 0);
   for (let k = 0; k < last; k++) {
@@ -30,6 +33,7 @@ export function boundsOf({places, hasLeft}, {bases, rows}) {
   }
   return Int32Array.from(found);
 }
+/** @type {(bases: Int32Array, element: number) => number} */
 function bankOfElement(bases, element) {
   let low = 0, high = bases.length;
   while (high - low > 1) {

@@ -89,7 +89,7 @@ export async function goToEnd() {
   const {run} = current;
   if (!run) return;
   pause();
-  const told = () => busy(`the program runs to the end: ${number(run.moments.length)} quadruples so far …`);
+  const told = () => busy(`the program runs to the end: ${number(run.moments.length)} row steps so far …`);
   if (!Number.isFinite(run.end)) {
     told();
     await run.moreUntil(() => run !== current.run, told);
@@ -97,10 +97,10 @@ export async function goToEnd() {
   }
   if (run === current.run && Number.isFinite(run.end)) goTo(run.end);
 }
-// Where a step was gone to that isn't known, and is given up: to the last moment that is known.
+// Where a step was gone to that isn't known, and is given up: to the last moment that is known with the one behind it.
 export function goToKnown() {
   const {run} = current;
-  if (run && !run.isKnown(state.e)) goTo(run.starts.at(-1) ?? 0);
+  if (run && !run.isKnown(state.e)) goTo(run.starts.at(-2) ?? 0);
 }
 export function chooseLayer(layer) {
   state.layer = layer;
@@ -221,7 +221,7 @@ export async function runBreak(direction) {
   pause();
   const {run} = current, way = direction > 0 ? "running on" : "running back";
   busy(`${way} …`);
-  const {step: e, hit: it} = await run.runTo(state.e, direction, state.breaks, q => busy(`${way}: quadruple ${number(q)} of ${number(run.count - 1)} …`));
+  const {step: e, hit: it} = await run.runTo(state.e, direction, state.breaks, q => busy(`${way}: row step ${number(q)} of ${number(run.count - 1)} …`));
   busy("");
   if (run !== current.run) return;
   goTo(e);

@@ -1,14 +1,16 @@
 // Bennett's quadruple table, as `bennett` printed it, with the quadruple that is at work marked. Which one that is, is
-// looked up: the one of the state that the program named, whose symbols are those that it showed under the heads.
+// told by `moments`, or looked up: the one of the state that the program named, whose symbols it showed under the heads.
 import {put} from "./sizes.js";
 import {byId, current, escaped, state} from "./state.js";
+import {TAPES} from "./words.js";
 
 const SHIFTED = {"+": "right", "-": "left", "0": "stays"};
 const table = {at: null, run: null};
 
 // The place of the quadruple that is made next at a moment, or -1 where there is none.
 export function quadrupleAt(run, q) {
-  const {name, tapes} = run.moments[q];
+  const {name, tapes} = run.moments[q], row = run.told.rows[q];
+  if (row !== undefined) return row;
   const scanned = tapes.map(tape => tape.head === null ? null : tape.symbols[tape.head - tape.first]);
   return run.quadruples.findIndex(row => row[0] === name && scanned.every((it, k) => row[1 + k] === "/"
     || row[1 + k] === it));
@@ -41,6 +43,9 @@ function tableText(run) {
   });
   return `<table><thead><tr>${heads.join("")}</tr></thead><tbody>${rows.join("")}</tbody></table>`;
 }
+// A row in words: the state, what it does with each tape, and the next state.
+export const rowWords = row => `in ${row[0]}, ${[1, 2, 3].map(tape => `${TAPES[tape]} ${actWords(row[tape], row[tape + 3])}`).join(", ")}, then ${row[7]}`;
+
 // What a quadruple does with one tape: it moves, or it reads a symbol and writes one.
 function actWords(read, write) {
   if (read === "/") return SHIFTED[write];

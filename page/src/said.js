@@ -1,6 +1,7 @@
 // What the program said for each picture: the words, the input and the text that it answered with, to read and to copy.
 // They are asked for anew as the dialog opens, so they are the program's own, for the step that is shown.
 import {answer} from "./answer.js";
+import {Early} from "./early.js";
 import {busy, byId, current, dialog, escaped, state} from "./state.js";
 import {number} from "./words.js";
 
@@ -14,7 +15,7 @@ function callsOf(panel) {
   const what = machine.given === state.text ? "the table as it was typed" : "the table as it was typed, its names spelled";
   const turned = machine.isStandard ? [{words: ["standard"], input: machine.given, what}] : [];
   const own = [...turned, {words: ["check"], ...table}, {words: ["machine", "=" + run.word, OWN_STEPS], ...table}];
-  if (!run.circuit.count) return [...own, {words: ["trace", "=" + run.word, String(run.end)], ...table}];
+  if (run instanceof Early) return [...own, ...run.calls()];
   const ran = run.isOpen ? ["run", ...run.words, at] : found.isFound ? ["run", "=" + run.word, "auto"] : ["run", ...run.words];
   return {
     machine: own,

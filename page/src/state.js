@@ -1,6 +1,7 @@
 // What is typed and chosen (`state`), the machine and the run that are shown (`current`), and small helpers of the page.
 // `text` is the table as it was typed, `names` how the program knows the names in it that it can't read. `accept` and
 // `reject` have names of states as they were typed, `places` where the diagram's states were put, as shares of its size.
+/** @type {Layer[]} */
 export const LAYERS = ["machine", "quadruple", "module", "element"];
 /** @type {Typed} */
 export const state = {
@@ -22,9 +23,10 @@ export function breaksOf(kind) { return /** @type {any[]} */ (state.breaks.filte
 // They are there once a run is shown; who may come before asks for it.
 export const current = /** @type {{run: import("./run.js").Run, found: Found, machine: Machine}} */ ({});
 
-// Whether what runs has no circuit yet, or none at all; and on which layer its steps are.
+// Whether what runs has no circuit yet, or none at all; whether it has a layer, and on which its steps are.
 export const isEarly = () => current.run?.circuit.count === 0;
-export const layerNow = () => isEarly() ? "machine" : state.layer;
+export const hasLayer = layer => !current.run || current.run.layers.includes(layer);
+export const layerNow = () => hasLayer(state.layer) ? state.layer : current.run.layers[current.run.layers.length - 1];
 
 /** @type {(id: string) => Box} */
 export const byId = id => /** @type {Box} */ (document.getElementById(id));

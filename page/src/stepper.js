@@ -80,8 +80,8 @@ export class Stepper {
 
 function placeWords(it, turned) {
   const side = sideOf(SIDES.indexOf(it.place.side)), {element} = it.place;
-  const place = it.hasLeft ? `the signal has left by the ${side} line of element ${element}`
-    : `the signal is about to enter element ${element} by the ${side} line`;
+  const place = it.hasLeft ? `the signal has left by the ${side} port of element ${element}`
+    : `the signal is about to enter element ${element} by the ${side} port`;
   return `step <b>${number(Number(it.steps))}</b> · ${place}${turned === null ? "" : ` · element ${turned} has
       turned`}`;
 }

@@ -1,6 +1,12 @@
 // Tabs: a click or an arrow key chooses one, and the others are left out of the way of the Tab key.
+/** @type {Record<string, number>} */
+const BY = {ArrowRight: 1, ArrowLeft: -1};
+/** @type {(list: Element) => HTMLElement[]} */
+const tabsOf = list => [.../** @type {NodeListOf<HTMLElement>} */ (list.querySelectorAll("[role=tab]"))];
+/** @type {(list: Element, choose: (tab: HTMLElement) => any) => void} */
 export function takeTabs(list, choose) {
-  const tabs = [...list.querySelectorAll("[role=tab]")];
+  const tabs = tabsOf(list);
+  /** @param {HTMLElement} it */
   const take = it => {
     markTab(list, it);
     choose(it);
@@ -8,7 +14,7 @@ export function takeTabs(list, choose) {
   for (const it of tabs) {
     it.addEventListener("click", () => take(it));
     it.addEventListener("keydown", event => {
-      const by = {ArrowRight: 1, ArrowLeft: -1}[event.key];
+      const by = BY[event.key];
       if (!by) return;
       event.preventDefault();
       event.stopPropagation();
@@ -18,8 +24,9 @@ export function takeTabs(list, choose) {
     });
   }
 }
+/** @type {(list: Element, chosen: Element) => void} */
 export function markTab(list, chosen) {
-  for (const it of list.querySelectorAll("[role=tab]")) {
+  for (const it of tabsOf(list)) {
     it.setAttribute("aria-selected", it === chosen);
     it.tabIndex = it === chosen ? 0 : -1;
   }

@@ -19,7 +19,7 @@ async function checkRows(values) {
     if (!isSame(values[bar + side], right)) wrong.push(`${bar}, in by ${side}`);
   }
   return judged(!wrong.length,
-    "Right, all eight. No two of the lines out and bars after are alike, so each has one row before it.",
+    "Right, all eight. No two of the ports out and bars after are alike, so each has one row before it.",
                 `Not yet: ${wrong.join("; ")}.`);
 }
 async function checkUndo(values) {
@@ -103,8 +103,8 @@ async function checkMirror(values) {
 export const CIRCUIT_TASKS = [
   {number: 1, title: "The eight rows", page: "elements", text: CIRCUITS[2].text,
    ask: ["Along the bar the signal goes straight on, and the bar stays. Across the bar it turns right, and turns the " +
-     "bar. Write the eight rows: the line out and the bar after, as “w\u00a0V”.",
-         "Then read your table backward. Is there one row behind each line out and bar after?"],
+     "bar. Write the eight rows: the port out and the bar after, as “w\u00a0V”.",
+         "Then read your table backward. Is there one row behind each port out and bar after?"],
    fields: CASES.map(({bar, side}) => ({key: bar + side, label: `${bar}, in by ${side}`, size: 4})), check: checkRows},
   {number: 2, title: "Undo by hand", page: "elements", text: UNDO,
    ask: ["Three steps were made, and the signal has left. Say where it was after two steps, after one and after " +
@@ -112,17 +112,17 @@ export const CIRCUIT_TASKS = [
    fields: [["after2", "after two"], ["after1", "after one"], ["after0", "after none"]].map(([key, label]) =>
      ({key, label, size: 9})), check: checkUndo},
   {number: 7, title: "A marked column", page: "elements", text: BANK,
-   ask: ["In state 1 the first column is marked, and the signal comes in by row 1. Follow it to the column of state " +
+   ask: ["In state 1 the first column is marked, and the signal comes in by port 1. Follow it to the column of state " +
      "2. How many steps are these, which bars turn on the way, and which of those end as they began?"],
    fields: [{key: "steps", label: "steps", size: 3}, {key: "turned", label: "elements that turn", size: 7},
      {key: "ended", label: "as they began", size: 7}], check: checkColumn},
   {number: 8, title: "What a move costs", page: "elements", text: BANK, start: ["2", "2"],
    ask: ["In a column of k rows without a mark, a signal that comes in by row i from the west takes 2(k − i) + 4 " +
      "steps to the east. Why?",
-         "The machine is in state 2, and the signal comes in by line 2. How many steps does the whole move take?"],
+         "The machine is in state 2, and the signal comes in by port 2. How many steps does the whole move take?"],
    fields: [{key: "steps", label: "steps", size: 4}], check: checkMove},
   {number: 9, title: "How far a reading goes", machine: {key: "least", word: "", window: [0, 2, 2, 1], e: 6540},
-   ask: ["The circuit of the least machine has made its first quadruple after 6,540 steps. The control has just sent " +
+   ask: ["The circuit of the least machine has made its first row step after 6,540 steps. The control has just sent " +
      "a command that reads tape 2, whose head is at cell 1.",
          "How many cells does the signal go through, there and back, before the answer is at the control? And after " +
            "how many element steps, from the start, is it there?"],
@@ -134,6 +134,6 @@ export const CIRCUIT_TASKS = [
    fields: [], act: "Let the program do it", check: checkByte},
   {number: 16, title: "Undone by a circuit", page: "mirror", text: UNDO,
    ask: ["Write the mirror of this circuit by hand: each wire turned round, east and west exchanged. Run it three " +
-     "steps on paper. By which line does the signal leave, and how do the bars stand?"],
+     "steps on paper. By which port does the signal leave, and how do the bars stand?"],
    fields: [{key: "place", label: "leaves by", size: 5}, {key: "bars", label: "bars", size: 5}], check: checkMirror},
 ];

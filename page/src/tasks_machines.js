@@ -51,7 +51,7 @@ async function checkErasing({rows}) {
                 "Right, and so it can't be done: nobody can tell afterwards whether a 1 or a 2 stood there. After " +
                   "the retracing there is no output left to copy.",
                 isErasing ? "They erase; do both go on in the same state, so that one path follows?"
-                  : "Wanted are two quadruples which read a 1 or a 2 on tape 2 and write a blank there.", said);
+                  : "Wanted are two rows which read a 1 or a 2 on tape 2 and write a blank there.", said);
 }
 async function checkCounts(values) {
   const [own, ran, least, leastRun] = await Promise.all([ask(["machine", "=111", "100"], exampleTable("increment")),
@@ -158,16 +158,16 @@ export const MACHINE_TASKS = [
      "change of one field, or by taking out one line."],
    fields: [], check: checkRepair},
   {number: 4, title: "A pair that forgets",
-   ask: ["These two quadruples set a bit on tape 1. What is lost? Make the pair reversible: it shall do the same on " +
+   ask: ["These two rows, written as those of Bennett's table, set a bit on tape 1. What is lost? Make the pair reversible: it shall do the same on " +
      "tape 1, and leave on tape 2 what is needed.",
          "A field for a tape that isn't read is /, and the field for its writing is then + − or 0."],
-   fields: [{key: "rows", label: "the two quadruples", rows: 3, value: FORGETS}], check: checkForgets},
+   fields: [{key: "rows", label: "the two rows", rows: 3, value: FORGETS}], check: checkForgets},
   {number: 5, title: "Why not erase the history?", machine: {key: "increment", word: "1011"},
    ask: ["After the copying the history is still full. Why doesn't Bennett's machine go back over it and write a " +
      "blank into each cell?",
-         "Write two quadruples that do so for a history with the numbers 1 and 2, and let the program test them: " +
+         "Write two rows that do so for a history with the numbers 1 and 2, and let the program test them: " +
            "from state E to state F, as E,/,1,/,… And why does the copy come before the retracing?"],
-   fields: [{key: "rows", label: "two quadruples", rows: 3}], check: checkErasing},
+   fields: [{key: "rows", label: "two rows", rows: 3}], check: checkErasing},
   {number: 6, title: "Steps and letters", machine: {key: "increment", word: "111"},
    ask: ["Where a machine halts after i steps with an output of L letters, its reversible machine takes 4i + 4L + 5 " +
      "steps.",

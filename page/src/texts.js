@@ -32,6 +32,7 @@ export function readView(lines, at = 0) {
 // A line E.L as one number, 4E + its side.
 /** @type {(word: string) => number} */
 export const readPlace = word => 4 * parseInt(word) + SIDES.indexOf(word.slice(-1));
+/** @type {(place: number) => string} */
 export const placeName = place => `${place >> 2}.${SIDES[place & 3]}`;
 
 /** @type {(text: string) => Outcome} */
@@ -57,10 +58,12 @@ export function readRun(text) {
 export function readCircuit(text) {
   const lines = text.split("\n"), count = Number(lines[1].split(" ")[1]);
   const bars = new Uint8Array(count), targets = new Int32Array(4 * count).fill(-1), sources = new Int32Array(4 * count).fill(-1);
+  /** @type {(element: number, side: number, into: number) => void} */
   const wire = (element, side, into) => {
     targets[4 * element + side] = into;
     sources[into] = 4 * element + side;
   };
+  /** @type {(element: number, side: number, word: string) => void} */
   const wireTo = (element, side, word) => { if (word !== "-") wire(element, side, readPlace(word)); };
   const [north, east, south, west] = [0, 1, 2, 3];
   let element = 0;

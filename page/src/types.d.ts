@@ -84,11 +84,14 @@ interface Found { own: Own; window: Window4; text: string; isFound?: boolean; is
 // ---- a run
 
 /** A time at which Bennett's machine comes to a state, `steps` in element steps, `step` in the machine's; what the tapes
-    show there is null where it isn't known. `applied` is the rule that is followed next, where `trace` told the moment. */
+    show there is null where it isn't known. */
 interface Moment {
   name: string; stage: Stage; state: string | null; rule: number | null; steps: number; place: number;
-  hasLeft: boolean; tapes: Tape[] | null; step: number | null; applied?: number | null;
+  hasLeft: boolean; tapes: Tape[] | null; step: number | null;
 }
+/** What the commands that tell have told of a run: rules from 1 on, or null, by the machine's steps; places in Bennett's table from 0
+    on, or -1, by the moments. */
+interface RunTold { rules: (number | null)[]; rows: number[] }
 /** A module of the circuit as it is laid out: its first element, rows and columns of elements, and how many it has. */
 interface Bank {
   kind: "control" | "cell"; base: number; rows: number; columns: number; count: number; number: number;
@@ -134,15 +137,26 @@ interface Task {
   check(values: any, choice: number): Promise<Judgement>;
 }
 
-// ---- the lesson
+// ---- pictures that are saved
 
-/** What is shown, as the steps of the lesson speak of it. */
-interface Shown { run: import("./run.js").Run; found: Found; machine: Machine }
-/** A step: its level, its two sentences, names that are seen there with what they mean, what is to be tried, and whether that was done. */
-interface LessonStep {
-  key: string; level: string; title: string; ask: string; words(shown: Shown): string[]; names?(shown: Shown, f: Frame): string[][];
-  done(it: {seen: Set<string>; shown: Shown; e: number}): boolean;
-}
+/** A part of a path, as SVG names it, with its points: M to one, L in a line, C in a cubic curve, Z back to where it began. */
+type PathPart = [string, ...number[][]];
+/** Red, green and blue up to 255, and how much of the colour covers. */
+interface Colour { rgb: number[]; alpha: number }
+/** What is drawn: a path, or words on a base line. `clip` is a box by its left, top, right and lower end, beyond which nothing of it
+    is seen; `alpha` covers as `Colour` has it. All lengths are pixels, y goes down. */
+type Shape = {fill: Colour | null; alpha: number; isGrey: boolean; clip: number[] | null} & ({
+  kind: "path"; parts: PathPart[]; stroke: Colour | null; width: number; dashes: number[]; isRound: boolean; joinsRound: boolean;
+} | {
+  kind: "words"; text: string; x: number; y: number; size: number; anchor: string; halo: {colour: Colour; width: number} | null;
+  isBold: boolean; isMono: boolean;
+});
+/** A picture: its size, what it is drawn on, and its shapes from the lowest to the uppermost. */
+interface Scene { width: number; height: number; ground: number[]; shapes: Shape[] }
+type PathShape = Extract<Shape, {kind: "path"}>;
+type WordsShape = Extract<Shape, {kind: "words"}>;
+/** How a picture is saved: in black and white or not, in which family of letters, and what it shows, in words. */
+interface SaveStyle { isGrey: boolean; family: "sans" | "serif" | "mono"; made: string }
 
 // ---- boxes of the page
 

@@ -10,7 +10,7 @@ import {renderQuadruples} from "./quadruples.js";
 import {diagramPicture} from "./diagram_picture.js";
 import {isLecture} from "./lecture.js";
 import {heightOf, isPhone, put, widthOf} from "./sizes.js";
-import {breaksOf, byId, current, editorLine, escaped, isEarly, nameOf, state} from "./state.js";
+import {breaksOf, byId, current, editorLine, escaped, hasLayer, isEarly, nameOf, state} from "./state.js";
 import {tapePicture} from "./tape_picture.js";
 import {markOf} from "./verdicts.js";
 import {bankName, ruleAt, spoken, TAPES} from "./words.js";
@@ -36,7 +36,7 @@ export function render(isLive = !state.playing) {
   }
   const tag = rule.rule ? `<span class="tagno">rule ${rule.rule}${rule.isBack ? ", undone" : ""}</span> ` : "";
   const between = betweenAt(current.run, f), told = betweenWords(between), aside = between.length ? ` <span class="aside" title="${escaped(told)}">${escaped(told)}</span>` : "";
-  const more = isEarly() ? "" : escaped(rule.more);
+  const more = hasLayer("quadruple") ? escaped(rule.more) : "";
   put("rule", `<p class="head">${tag}${escaped(rule.head)}</p><p class="more">${more}${aside}</p>`);
   renderTapes(f, between);
   renderCell();
@@ -46,15 +46,15 @@ export function render(isLive = !state.playing) {
   else {
     renderBank(f);
     renderMoves(f);
-    renderQuadruples(f);
   }
+  renderQuadruples(f);
   renderTime(f);
   if (isLive) say(f);
 }
 
 // In place of a circuit it is said why there is none.
 function renderLacking() {
-  for (const id of ["map", "controlsaid", "where", "overview", "bank", "quadruples", "strip"]) put(id, "");
+  for (const id of ["map", "controlsaid", "where", "overview", "bank", "strip"]) put(id, "");
   const words = `<span class="quiet">${escaped(current.run.lacking)}</span>`;
   put("what", words);
   put("moves", words);
@@ -73,7 +73,7 @@ function renderTapes({q, moment}, between) {
   // In a low window, as at 200 %, the cells are small and without numbers, so that all three tapes are in sight.
   const isLow = isPhone() && innerHeight <= LOW, longest = Math.max(...moment.tapes.map(it => it.symbols.length));
   const size = isLow ? LOW_CELL : cellSize(room, longest);
-  // The tapes that are told with the circuit have their room before.
+  // The tapes that are told later have their room before.
   const later = [2, 3].filter(tape => tape > moment.tapes.length).map(tape =>
     `<div class="tape" style="height:${size + 28}px"><div><b>${capital(TAPES[tape])}</b></div></div>`).join("");
   put("three", moment.tapes.map((tape, k) => {

@@ -16,14 +16,14 @@ export const countWords = run => run.total || run.isWhole ? number(run.count - 1
 export function counterWords({run, found}, {e, q, moment}, {moves, at}, isShort) {
   const steps = found.own.outcome === "running" ? "…" : number(found.own.steps);
   const element = isShort ? number(e) : `${number(e)} of ${endWords(run)}`;
-  if (!run.circuit.count) return {machine: `${number(e)} of ${steps}`, quadruple: "…", module: "·", element: "…"};
+  if (!run.layers.includes("quadruple")) return {machine: `${number(e)} of ${steps}`, quadruple: "…", module: "·", element: "…"};
   if (!run.isKnown(e)) return {machine: `… of ${steps}`, quadruple: `… of ${countWords(run)}`, module: "·", element};
   const isWhole = !moves?.list.isPart && (moves?.to ?? 0) > (moves?.from ?? 0), step = moment.step ?? "…";
   return {
     machine: {compute: `${step} of ${steps}`, copy: "copying"}[moment.stage] ?? `back at ${step}`,
     quadruple: `${number(q)} of ${countWords(run)}`,
     module: isWhole ? `${(at ?? -1) + 1} of ${moves.list.length}` : "·",
-    element,
+    element: run.circuit.count ? element : "…",
   };
 }
 
@@ -87,7 +87,9 @@ function computing(run, it, name) {
     const rule = run.rules[it.rule - 1];
     return {rule: it.rule, head: ruleWords(rule, name), more: `Now: note ${it.rule} in the history, ${SHIFT_WORDS[rule.shift]}.`};
   }
-  const number = run.rules.findIndex(rule => rule.state === it.state && rule.read === scanned) + 1, rule = run.rules[number - 1];
+  // Of a long run that isn't told so far it is looked up.
+  const next = run.ruleNext(it), number = next === undefined ? run.rules.findIndex(rule => rule.state === it.state && rule.read === scanned) + 1 : next ?? 0;
+  const rule = run.rules[number - 1];
   if (rule) {
     const does = isKept(rule) ? `leave the ${symbolWord(rule.read)}` : `write ${symbolWord(rule.write)}`;
     return {rule: number, head: ruleWords(rule, name), more: `Now: ${does}, move on in the history.`};
@@ -129,6 +131,6 @@ export function heardOf({symbols, first, head}) {
 }
 export const spoken = (run, e, q, name) => {
   const it = run.moments[q], words = ruleAt(run, q, name);
-  return `${it.stage}, quadruple ${q} of ${run.count - 1}, element step ${number(e)}. ${words.head} ${words.more} ` +
+  return `${it.stage}, row step ${q} of ${run.count - 1}, element step ${number(e)}. ${words.head} ${words.more} ` +
     it.tapes.map((tape, k) => `${TAPES[k + 1]}: ${heardOf(tape).symbols.map(symbolWord).join(" ")}, head at ${tape.head ?? "no cell"}`).join(". ");
 };

@@ -2,6 +2,7 @@
 import {Workbench} from "../../js/core.mjs";
 import {boundsOf, readPlaces} from "./places.js";
 
+/** @type {Workbench | null} */
 let bench = null;
 const coder = new TextEncoder();
 
@@ -18,6 +19,7 @@ onmessage = event => {
       return;
     }
     const {words, input, reading} = event.data;
+    if (!bench) throw new Error("no module came before");
     const {status, text} = bench.answer(coder.encode(words.join("\0")), coder.encode(input)), ms = spent();
     if (!reading || status !== 0) {
       post({kind: "answer", number, status, text, ms, memory: bench.memory()}, [text.buffer]);

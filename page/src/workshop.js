@@ -6,6 +6,7 @@ import {erasePage} from "./erase.js";
 import {farmPage} from "./farm.js";
 import {mirrorPage} from "./mirror.js";
 import {planPage} from "./plan.js";
+import {openPicture} from "./picture.js";
 import {openSaid} from "./said.js";
 import {byId, partOf} from "./state.js";
 import {markTab, takeTabs} from "./tabs.js";
@@ -28,13 +29,16 @@ function makeWorkshop() {
     `<div role="tabpanel" id="page-${it.key}" class="e-body" aria-labelledby="tab-${it.key}" hidden></div>`);
   workshop.box.innerHTML = `<div class="e-head"><h2>Workshop</h2><div role="tablist"
       aria-label="Pages of the workshop">${tabs.join("")}</div>
-    <span class="mini"><button id="e-texts" aria-label="what the program said of this page">Texts</button><button
+    <span class="mini"><button id="e-picture" title="what is seen, as SVG, PDF or TikZ">Picture</button><button id="e-texts" aria-label="what the program said of this page">Texts</button><button
     id="e-about-page" aria-label="this page, in words">?</button></span>
     <button id="e-close" class="plain" aria-label="close the workshop">×</button></div><div
     id="e-sheet"></div>${boxes.join("")}`;
   document.body.append(workshop.box);
-  takeTabs(workshop.box.querySelector("[role=tablist]"), it => choosePage(pageOf(it.dataset.page)));
+  takeTabs(workshop.box, it => choosePage(pageOf(it.dataset.page ?? "")));
   part("e-close").onclick = () => workshop.box.close();
+  part("e-picture").onclick = () => openPicture(`Hithwelor · ${workshop.page.title}`, [
+    {key: workshop.page.key, title: workshop.page.title.toLowerCase(), pictures: `#page-${workshop.page.key} svg`, texts: ""},
+  ]);
   part("e-texts").onclick = () => openSaid(workshop.page.title.toLowerCase(), workshop.page.calls());
   part("e-about-page").onclick = () => openAboutPage(workshop.page);
   workshop.box.addEventListener("keydown", onWorkshopKey);

@@ -10,24 +10,28 @@ const PIECES = new RegExp("<!-{2}(?:(?!--)[^])*-->|<!\\[CDATA\\[(?<data>[^]*?)\\
   + `|<\\?(?<target>${NAME})(?:\\s[^]*?)?\\?>|</(?<closed>${NAME})\\s*>`
   + `|<(?<opened>${NAME})(?<attributes>(?:\\s+${NAME}\\s*=\\s*(?:${VALUE}))*)\\s*(?<ends>/?)>`
   + "|(?<words>[^<]+)|(?<other><)", "gu");
+/** @type {Record<string, string>} */
 const ENTITIES = {lt: "<", gt: ">", amp: "&", quot: '"', apos: "'"};
 const NO_CHARACTER = /[\x00-\x08\x0b\x0c\x0e-\x1f\ufffe\uffff]/;
 export class NoXml extends Error {}
 
 // The character of a number, or a fault where there is none.
+/** @type {(code: number) => string} */
 function character(code) {
   if (code > 0x10ffff || code >= 0xd800 && code < 0xe000 || NO_CHARACTER.test(String.fromCodePoint(code)))
     throw new NoXml();
   return String.fromCodePoint(code);
 }
 // A text with its entities as what they stand for.
+/** @type {(text: string) => string} */
 function plain(text) {
-  return text.replace(/&([^;&]*)(;?)/g, (_, name, end) => {
+  return text.replace(/&([^;&]*)(;?)/g, (/** @type {string} */ _, /** @type {string} */ name, /** @type {string} */ end) => {
     const code = /^#x([0-9A-Fa-f]{1,6})$/.exec(name)?.[1], number = /^#(\d{1,7})$/.exec(name)?.[1];
     if (!end || !(code || number || Object.hasOwn(ENTITIES, name))) throw new NoXml();
     return code ? character(parseInt(code, 16)) : number ? character(Number(number)) : ENTITIES[name];
   });
 }
+/** @type {(text: string) => Map<string, string>} */
 function attributesOf(text) {
   const found = new Map();
   for (const [, name, value] of text.matchAll(ATTRIBUTE)) {
@@ -43,6 +47,7 @@ export function readXml(text) {
   /** @type {XmlElement} */
   const top = {tag: "", attributes: new Map(), parts: [], text: ""};
   const open = [top];
+  /** @param {string} words */
   const add = words => {
     const at = open[open.length - 1];
     if (at === top && /[^ \t\n]/.test(words)) throw new NoXml();

@@ -1,10 +1,8 @@
 // What tests/page takes of the page from within, as `bench`: the shipped page has nothing of it.
 import {answer, log} from "../src/answer.js";
 import {controlLabel, controlStates} from "../src/control.js";
-import {PICTURES, TEXTS} from "../src/hands.js";
 import {comesTo} from "../src/marks.js";
 import {limits} from "../src/moments.js";
-import {composed} from "../src/picture.js";
 import {frames, goTo, pause, play, RANGES, step, timings} from "../src/play.js";
 import {beginTask} from "../src/sheet.js";
 import {zoomTime} from "../src/span.js";
@@ -17,6 +15,6 @@ import {lineOf} from "../src/words.js";
 import {openWorkshop, pageOf} from "../src/workshop.js";
 
 Object.assign(globalThis, {bench: {
-  answer, beginTask, comesTo, composed, controlLabel, controlStates, current, frames, goTo, inTurn, limits, lineOf, log, longRuns,
-  openWorkshop, pageOf, pause, PICTURES, placeName, play, RANGES, render, state, step, TEXTS, timings, zoomTime,
+  answer, beginTask, comesTo, controlLabel, controlStates, current, frames, goTo, inTurn, limits, lineOf, log, longRuns,
+  openWorkshop, pageOf, pause, placeName, play, RANGES, render, state, step, timings, zoomTime,
 }});

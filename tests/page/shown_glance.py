@@ -148,7 +148,7 @@ def check_marked(page, count):
     })()""" % MARKED)
     count.hold(given[0] == 174 and not given[1], f"of {given[0]} columns the marked one is out of sight at {given[1]}")
     names = page.ask("[...document.querySelectorAll('#bank text title')].map(it => it.textContent)")
-    count.hold(any(it.startswith("row ") and ("written" in it or "answers" in it) for it in names) and any(it.startswith("state ") for it in names),
+    count.hold(any(it.startswith("port ") and ("written" in it or "answers" in it) for it in names) and any(it.startswith("state ") for it in names),
                f"names aren't told in words: {names[:4]}")
 
 

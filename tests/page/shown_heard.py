@@ -74,7 +74,7 @@ def live_regions(page):
 def spoken(program, table, words, e):
     """What has to be told of a step, by `view`."""
     view = program.text(["view", *words, str(e)], table).splitlines()
-    lines = [f"{view[6].split()[1]}, quadruple ", f" element step {e:,}."]
+    lines = [f"{view[6].split()[1]}, row step ", f" element step {e:,}."]
     for number, line in enumerate(view[3:6], 1):
         tape = read_tape(line, number, "view")
         lines.append(f"{['work', 'history', 'output'][number - 1]}: {' '.join(WORDS.get(it, it) for it in tape.symbols)}, head at {tape.head}")
@@ -98,12 +98,12 @@ def check_panels(page, count):
     slider = next(it for it in heard.nodes if it["role"]["value"] == "slider" and heard.name(it) == "Time")
     told = page.ask("document.getElementById('film').getAttribute('aria-valuetext')")
     q, count_q, stage = page.ask("(run => [run.momentIndex(bench.state.e), run.moments.length - 1, run.moments[run.momentIndex(bench.state.e)].stage])(bench.current.run)")
-    count.hold(told.startswith(f"{stage}, quadruple {q} of {count_q}") and slider["value"]["value"] == 900000,
+    count.hold(told.startswith(f"{stage}, row step {q} of {count_q}") and slider["value"]["value"] == 900000,
                f"the time line is heard as {told!r}, at {slider['value']}")
     speed = page.ask("[document.getElementById('speed').getAttribute('aria-valuetext'), document.getElementById('speedtext').textContent]")
     count.hold(speed[0] == speed[1] and speed[0], f"the speed is heard as {speed[0]!r}, and shown as {speed[1]!r}")
     pressed = [heard.name(it) for it in heard.nodes if it["role"]["value"] in ("button", "toggleButton") and heard.value(it, "pressed") == "true"]
-    count.hold(len(pressed) == 1 and pressed[0].startswith("Quadruple"), f"pressed are {pressed}")
+    count.hold(len(pressed) == 1 and pressed[0].startswith("Row step"), f"pressed are {pressed}")
     current = page.ask("[...document.querySelectorAll('#stages [aria-current=step]')].map(it => it.dataset.stage)")
     count.hold(current == [stage], f"the current stage is heard as {current}, and not {stage}")
     for act, wanted in (("document.getElementById('larger').click()", IN_DIAGRAM), ("document.getElementById('verdicts').click()", IN_ANSWERS)):

@@ -1,11 +1,10 @@
 """What the page keeps: machine, word and step over a reload, what Back closes, and what is seen while a run is sought."""
 import json
-import re
 
 from shown import PAGE, RUNS, comes, holds_time, reload, settle
 from shown_editor import set_value
 from shown_faults import broken
-from shown_places import INCREMENT, link
+from shown_places import INCREMENT
 
 LONG_WORD = "abaabbbaaba"
 # The longest task that is wanted on an idle machine, in milliseconds.
@@ -113,81 +112,6 @@ def check_too_long(page, count):
     count.hold(not page.faults(), f"{page.faults()}")
 
 
-# Calls of `run` are held where the page asks its worker, until they are let go: then nothing hangs on how long a circuit takes.
-HELD = """window.held = [];
-const post = Worker.prototype.postMessage;
-window.letGo = () => { window.held.splice(0).forEach(it => it()); window.held.push = it => it(); };
-Worker.prototype.postMessage = function (message, ...rest) {
-  const act = () => post.call(this, message, ...rest);
-  if (message?.words?.[0] === "run") window.held.push(act);
-  else act();
-};"""
-EARLY = "typeof bench === 'object' && bench.current.run?.circuit.count === 0"
-OWN = "[document.querySelector('#own p').textContent, [...document.querySelectorAll('#own [data-cell]')].map(it => it.querySelector('.symbol').textContent).join('')]"
-# A window with far too many cells.
-TOO_LARGE = {"win": "1 400 90000 400"}
-
-
-def traced(program, word, table):
-    """The state, and the tape from the first cell that is ever shown to the last one, at each moment."""
-    found = [re.fullmatch(r"\d+ (\S+) from (-?\d+) head (-?\d+) cells (\d+): (.*?)(?: rule \d+)?", line)
-             for line in program.text(["trace", "=" + word, "1000"], table).splitlines()[:-1]]
-    low, high = min(0, *(int(it[2]) for it in found)), max(len(word) + 1, *(int(it[2]) + int(it[4]) - 1 for it in found))
-    return [(it[1], "".join(it[5].split()).rjust(len(it[5].split()) + int(it[2]) - low, "_").ljust(high - low + 1, "_").replace("_", "·")) for it in found]
-
-
-def check_early(page, program, count):
-    """While a circuit is looked for the machine by itself is shown, moment by moment as `trace` tells it, and moves; with the circuit it is
-    at the same step. Where there is none, it stays, and the size is told with commas."""
-    script = page.call("Page.addScriptToEvaluateOnNewDocument", source=HELD)["identifier"]
-    page.visit(f"file://{PAGE}#m=increment", EARLY)
-    right = traced(program, "1011", INCREMENT)
-    for k, (name, tape) in enumerate(right):
-        page.ask(f"bench.goTo({k}); 0")
-        said, cells = page.ask(OWN)
-        count.hold(said == f"By itself, step {k}: in {name}" and cells == tape, f"before the circuit, step {k}: {said!r} with {cells!r}, and not {name} with {tape!r}")
-    count.hold(page.ask("bench.current.run.end") == len(right) - 1, f"before the circuit {page.ask('bench.current.run.end')} steps are shown")
-    page.ask("bench.goTo(0); document.getElementById('play').click(); 0")
-    count.hold(comes(page, "bench.state.e > 0"), "before the circuit nothing plays")
-    page.ask("bench.pause(); bench.goTo(4); 0")
-    page.strike("ArrowRight", 39)
-    count.hold(comes(page, "bench.state.e === 5"), f"a step before the circuit leads to {page.ask('bench.state.e')}")
-    for panel in ("machine", "circuit", "time"):
-        page.ask(f"document.querySelector('[data-said={panel}]').click(); 0")
-        count.hold(comes(page, "document.getElementById('dialog').open && document.getElementById('dialogbody').textContent.includes('trace =1011 11')"), f"the texts of {panel} lack the trace")
-        page.ask(f"document.getElementById('dialog').close(); document.querySelector('[data-about={panel}]').click(); document.getElementById('dialog').close(); 0")
-    page.ask("letGo(); 0")
-    count.hold(comes(page, "bench.current.run.circuit.count > 0") and page.ask("bench.current.run.moments[bench.current.run.momentIndex(bench.state.e)].step") == 5,
-               "with the circuit another step is shown")
-    settle(page, 300)
-    count.hold(page.ask("document.querySelectorAll('#bank .element').length > 20 && document.querySelectorAll('#three svg').length === 3"), "with the circuit its panel is empty")
-    page.visit(f"file://{PAGE}#m=increment&learn=machine", EARLY)
-    count.hold(comes(page, "document.querySelector('#learnpicture .l-tape svg') !== null"), "before the circuit Learn shows nothing")
-    page.ask("document.getElementById('learnplay').click(); 0")
-    count.hold(comes(page, "bench.state.e > 0"), "before the circuit Learn doesn't play")
-    page.ask("document.querySelector('#learntrail [data-level=row]').click(); 0")
-    count.hold("looked for" in page.ask("document.getElementById('learnpicture').innerText"), "before the circuit Learn doesn't say what a row waits for")
-    page.ask("letGo(); 0")
-    count.hold(comes(page, "document.querySelector('.l-moves .now') !== null"), "with the circuit Learn shows no row")
-    page.call("Page.removeScriptToEvaluateOnNewDocument", identifier=script)
-    page.visit(f"file://{PAGE}{link(t=INCREMENT, w='1011', **TOO_LARGE)}")
-    refused = program.text(["run", "=1011", *TOO_LARGE["win"].split()], INCREMENT)
-    elements = f"{int(refused.removeprefix('size: elements ')):,}"
-    size, outcome, stale = page.ask("[document.getElementById('size').textContent, document.getElementById('outcome').textContent, document.body.classList.contains('stale')]")
-    count.hold(size == f"Too large: {elements} elements" and outcome == "11 steps → 1100" and not stale, f"of a circuit that is too large it says {size!r}, {outcome!r}")
-    page.ask("document.getElementById('play').click(); 0")
-    count.hold(comes(page, "bench.state.e > 0"), "of a circuit that is too large the machine by itself doesn't play")
-    page.ask("bench.pause(); 0")
-    script = broken(page, ("^run =111 ", "endless"))
-    page.visit(f"file://{PAGE}{link(t=INCREMENT, w='111')}", EARLY)
-    set_value(page, "word", "1011")
-    count.hold(comes(page, f"{RUNS} && bench.current.run.word === '1011'"), "a run queues behind another one that isn't wanted any more")
-    page.call("Page.removeScriptToEvaluateOnNewDocument", identifier=script)
-    count.hold(page.ask("bench.current.run.circuit.count > 0 && !document.body.classList.contains('early')"), "behind it no circuit is shown")
-    count.hold(not page.faults(), f"{page.faults()}")
-
-
-def check_kept(page, program, count):
+def check_kept(page, count):
     for check in (check_reload, check_back, check_sought, check_end, check_too_long):
         check(page, count)
-    check_early(page, program, count)

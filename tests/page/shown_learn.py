@@ -11,7 +11,7 @@ from shown_places import link
 
 STEPS = ["machine", "past", "history", "stages", "row", "column", "element", "out"]
 # What is seen at a step's level.
-PICTURES = {"machine": ".l-tape svg", "past": ".l-tape svg", "history": ".l-tapes .tape:nth-child(3) svg", "stages": ".l-stages .now",
+PICTURES = {"machine": ".l-tape svg", "past": ".l-tape svg", "history": ".l-tapes .tape:nth-child(2) svg", "stages": ".l-stages .now",
             "row": ".l-moves .now", "column": ".l-bank .element.now", "element": ".rotary .bar", "out": ".l-tape svg"}
 TRIED = {"machine": ["learnplay"], "past": ["learntake"], "history": ["learnplay", "learntake"], "stages": [], "row": ["learnforth"],
          "column": ["learnplay", "learntake"], "element": ["learnforth", "learnback"], "out": []}
@@ -48,7 +48,7 @@ CUT = """(svg => {
   return [...svg.querySelectorAll("text")].filter(it => out(it.getBoundingClientRect())).map(it => it.textContent);
 })(document.querySelector(".l-bank svg"))"""
 UNTOLD = """(told => {
-  const kind = it => it.split(" ")[0], names = [...document.querySelectorAll(".l-bank text title")].filter(it => it.textContent.startsWith("row "));
+  const kind = it => it.split(" ")[0], names = [...document.querySelectorAll(".l-bank text title")].filter(it => it.textContent.startsWith("port "));
   return names.map(it => kind(it.nextSibling.textContent)).filter(it => !told.includes(it));
 })([...document.querySelectorAll(".l-names dt")].map(it => it.textContent.split(" ")[0]))"""
 # What is marked lies within the room of its picture.
@@ -88,7 +88,7 @@ def check_walk(page, name, machine, count):
             count.hold(rules[0] == list(range(1, rules[1] + 1)), f"{where}: of {rules[1]} rules the numbers {rules[0]} stand there")
         if step in ("row", "column"):
             names = page.ask("[...document.querySelectorAll('.l-names dt')].map(it => it.textContent)")
-            count.hold({"row": {"module", "control", "line", "row"}, "column": {"bank", "column", "row"}}[step] <= set(names), f"{where}: told are {names}")
+            count.hold({"row": {"module", "control", "port", "row"}, "column": {"bank", "column", "port"}}[step] <= set(names), f"{where}: told are {names}")
         if step == "column":
             count.hold(not page.ask(UNTOLD) and not page.ask(CUT), f"{where}: {page.ask(UNTOLD)} aren't told in words, {page.ask(CUT)} are cut")
         if step == "element":

@@ -207,7 +207,7 @@ def check_span(page, program, count):
     count.hold(one and two and abs(one[1] - one[0] - whole / 2) < .01 and abs(two[1] - two[0] - whole / 4) < .01 and two[0] <= 40 <= two[1],
                f"by + the window of {whole} moments is {one}, then {two}")
     words = page.ask("document.getElementById('spansaid').textContent")
-    count.hold(f"quadruples {int(two[0])} to {-int(-two[1] // 1) - 1}" in words, f"of the window {two} is said {words!r}")
+    count.hold(f"row steps {int(two[0])} to {-int(-two[1] // 1) - 1}" in words, f"of the window {two} is said {words!r}")
     box = page.ask("(box => [box.x, box.y, box.width, box.height])(document.getElementById('film').getBoundingClientRect())")
     for share in (.1, .5, .83):
         for kind in ("mousePressed", "mouseReleased"):
@@ -286,7 +286,7 @@ def check_firsts(page, program, draw, count):
             page.wait("""(async () => { const it = [...document.querySelectorAll("#cellbox button")].find(it => /Go there|When was/.test(it.textContent));
               it?.click(); for (let k = 0; k < 3000 && (k < 3 || document.getElementById("busy").textContent); k++) await new Promise(done => setTimeout(done, 40)); })()""")
             first = told.first_change(tape, cell)
-            right, words = (told.end, "never changed") if first is None else (told.starts()[first], f"First changed at quadruple {first},")
+            right, words = (told.end, "never changed") if first is None else (told.starts()[first], f"First changed at row step {first},")
             count.hold(comes(page, f"bench.state.e === {right} && document.getElementById('cellbox').textContent.includes({json.dumps(words)})"),
                        f"cell {cell} of tape {tape}: it leads to {page.ask('bench.state.e')} with {page.ask('document.getElementById(`cellbox`).textContent')!r}, "
                        f"and it first changes at {first}, step {right}")

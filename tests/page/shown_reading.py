@@ -63,7 +63,7 @@ def check_words(page, program, count):
                                                                   f"from state {view[2].split()[1]}.", *tapes],
             "circuit": [f"{int(ran.split()[1]):,} elements",
                         f"at element {int(re.match('element at ([0-9]+)', view[0])[1]):,}."],
-            "time": [f"{re.search('quadruple steps ([0-9]+)', ran)[1]} quadruples", f"element step {e:,}."],
+            "time": [f"{re.search('quadruple steps ([0-9]+)', ran)[1]} row steps", f"element step {e:,}."],
         }
         for panel, lines in told.items():
             said = page.ask(WORDS % panel)

@@ -120,7 +120,7 @@ def check_erase(page, program, count):
                          "it.textContent.replace('blank', ''))")
         if right[0] == "halted":
             told = [right[2].partition("=")[2] if len(right) > 2 else "", right[-1].partition("=")[2],
-                    f"{int(right[1]):,} quadruple steps"]
+                    f"{int(right[1]):,} row steps"]
             count.hold(cells == told, f"erase, {name}, {word!r}: {cells}, and not {told}")
         else:
             count.hold(cells[2].startswith("stuck in " + right[1]),

@@ -42,6 +42,7 @@ from counting import TOP, Count, text_of
 from firefox import firefox_at_hand
 from shown import PAGE, SHIPPED, Program, Shown, comes
 from shown_access import check_access
+from shown_early import check_early
 from shown_editor import check_editor
 from shown_faults import check_faults
 from shown_firefox import check_firefox
@@ -52,6 +53,7 @@ from shown_layout import check_layout
 from shown_learn import check_learn
 from shown_long import check_long
 from shown_pasted import check_pasted
+from shown_pictures import check_pictures
 from shown_places import PLACES, SEED, check_places
 from shown_reading import check_reading
 from shown_runs import MACHINES, check_machine, check_windows
@@ -219,9 +221,9 @@ def check_shipped(page, program, count):
     count.hold(said == wanted, f"the shipped page says {said!r}, and not {wanted!r}")
     page.strike("ArrowRight", 39)
     at = "document.getElementById('film').getAttribute('aria-valuetext')"
-    comes(page, f"{at}.startsWith('compute, quadruple 1 of ')")
+    comes(page, f"{at}.startsWith('compute, row step 1 of ')")
     said = page.ask(at)
-    count.hold(said == "compute, quadruple 1 of 65", f"a step of the shipped page comes to {said!r}")
+    count.hold(said == "compute, row step 1 of 65", f"a step of the shipped page comes to {said!r}")
     count.hold(page.ask("typeof bench") == "undefined" and not page.faults(), f"the shipped page has a hook, or faults: {page.faults()}")
 
 
@@ -253,7 +255,8 @@ def parts_of(program, asked, count):
         "pasted": lambda page: check_pasted(page, program, count),
         "reading": lambda page: check_reading(page, program, count), "access": lambda page: check_access(page, program, count),
         "layout": lambda page: check_layout(page, asked.pictures, count), "heard": lambda page: check_heard_all(page, program, count),
-        "faults": lambda page: check_faults(page, program, count), "kept": lambda page: check_kept(page, program, count),
+        "faults": lambda page: check_faults(page, program, count), "kept": lambda page: check_kept(page, count),
+        "early": lambda page: check_early(page, program, count), "pictures": lambda page: check_pictures(page, count),
         "rest": lambda page: check_rest(page, program, count),
     }
 

@@ -45,7 +45,7 @@ def read_machine(text, where, kind=None):
     """The machine of a text of one of the four programs."""
     kind = kind or kind_of(text)
     if kind is None:
-        more = "; it looks like a table of quintuples, which the program reads as it is" if is_table(text) else ""
+        more = "; it looks like a table of rules, which the program reads as it is" if is_table(text) else ""
         raise Fault(f"{where}: {NONE}{more}")
     return {"jflap": read_jflap, "line": read_line, "morphett": read_morphett, "yaml": read_yaml}[kind](text, where)
 
@@ -169,7 +169,7 @@ def halting_state(machine, wanted, where):
             raise Fault(f"{where}: no state is called {shown(wanted)}")
         halting = [wanted]
     if not halting:
-        raise Fault(f"{where}: no state halts, so no last quintuple can be there; --halt names a state")
+        raise Fault(f"{where}: no state halts, so no last rule can be there; --halt names a state")
     for rule in machine.rules:
         if rule.state in halting:
             raise Fault(f"{rule.place}: leaves {shown(rule.state)}, in which the machine halts; "

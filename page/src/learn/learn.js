@@ -7,7 +7,7 @@ import {redraw} from "../notices.js";
 import {chooseLayer, goTo, guard, pause, play, step} from "../play.js";
 import {quadrupleAt} from "../quadruples.js";
 import {forgetSizes, heightOf, put, widthOf} from "../sizes.js";
-import {byId, current, escaped, isEarly, nameOf, state} from "../state.js";
+import {byId, current, escaped, hasLayer, nameOf, state} from "../state.js";
 import {say} from "../view.js";
 import {number, ruleAt, shortBank} from "../words.js";
 import {
@@ -17,7 +17,9 @@ import {forkNear, pastsOf} from "./pasts.js";
 import {STEPS, stepOf} from "./steps.js";
 
 const KEPT_AS = "hithwelor learn";
-const PICTURES = {machine: machineLevel, history: tapesLevel, stages: stagesLevel, row: rowLevel, column: columnLevel, element: elementLevel};
+// The copy's tape is seen where something is copied.
+const historyLevel = (f, room) => tapesLevel(f, room, f.moment.stage === "compute" ? 2 : 3);
+const PICTURES = {machine: machineLevel, history: historyLevel, stages: stagesLevel, row: rowLevel, column: columnLevel, element: elementLevel};
 const LAYER_OF = {machine: "machine", history: "quadruple", stages: "quadruple", row: "module", column: "element", element: "element"};
 const INSIDE = ["row", "column", "element"];
 const SPEED_OF = {machine: 30, history: 30, stages: 62, row: 28, column: 34, element: 6};
@@ -59,7 +61,8 @@ export function openLearn(key = keptStep() ?? STEPS[0].key, begins = true) {
   byId("learn").hidden = false;
   endHints();
   guard.refuses = refuses;
-  guard.most = () => lesson.level === "machine" && current.run ? ownEnd(current.run) : Infinity;
+  // The copying is the next step's, so that of the history plays to where the machine halts.
+  guard.most = () => current.run && (lesson.level === "machine" || lesson.level === "history" && state.lesson === "history") ? ownEnd(current.run) : Infinity;
   toLevel(it.level);
 }
 export function closeLearn() {
@@ -152,7 +155,7 @@ export function renderLearn(isLive = !state.playing) {
   const f = frame(), {level, isRefused, from} = lesson;
   const room = {width: widthOf("learnpicture"), height: heightOf("learnpicture"), isRefused, from};
   put("learntrail", trailOf(f));
-  const isLacking = isEarly() && level !== "machine";
+  const isLacking = !hasLayer(LAYER_OF[level]);
   put("learnpicture", isLacking ? `<p class="quiet">${escaped(run.lacking)}</p>` : PICTURES[level](f, room));
   const row = /** @type {HTMLElement | null} */ (byId("learnpicture").querySelector("ol .now:not([data-stage])"));
   const list = row?.parentElement;

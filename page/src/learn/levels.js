@@ -3,7 +3,7 @@ import {bankPicture} from "../bank_picture.js";
 import {betweenAt} from "../between.js";
 import {diagramPicture} from "../diagram_picture.js";
 import {mapPicture} from "../map_picture.js";
-import {actText, quadrupleAt} from "../quadruples.js";
+import {quadrupleAt, rowWords} from "../quadruples.js";
 import {current, escaped, nameOf, state} from "../state.js";
 import {tapePicture} from "../tape_picture.js";
 import {markOf} from "../verdicts.js";
@@ -56,10 +56,11 @@ export function machineLevel(f, {width, height, isRefused, from = null}) {
   const tape = {...work, tape: 1}, size = sizeFor(width, tape.symbols.length, Math.min(76, height / 6)), before = run.moments[at - 1]?.tapes?.[0];
   const name = moment.state, hasHalted = name === run.rules[run.rules.length - 1].next;
   // The history, which isn't shown here, has the number of the rule that was followed.
-  const last = history ? Number(history.symbols[(history.head ?? 0) - history.first]) || null : run.followedAt(at);
+  const last = history ? Number(history.symbols[(history.head ?? 0) - history.first]) || null : run.told.rules[at - 1] ?? null;
   const words = `<p class="l-rule">${hasHalted ? "It has halted," : `Step ${moment.step}:`} in <b>${escaped(nameOf(name ?? ""))}</b>.</p>`;
   const picture = `<div class="l-tape">${tapePicture(tape, {width, size, before: before ?? null})}</div>`;
-  const list = rulesList(run, last);
+  // Which rule was its own the machine doesn't know, so none is marked there.
+  const list = rulesList(run, isRefused ? null : last);
   if (isRefused) return words + picture + pastsPicture(run, at, {width, size: Math.min(size, 40), from}) + list;
   const free = Math.max(120, Math.floor(height - size - 118 - RULES_HEIGHT));
   return words + picture + `<div class="l-diagram">${diagramPicture(run.rules, {
@@ -75,7 +76,7 @@ function pastsPicture(run, at, {width, size, from}) {
   // Where one rule alone fits, the nearest step is shown at which several do.
   const why = from ? `At step ${from} one rule alone fits` : "Step 0 is where it began";
   const went = from === null ? "" : `${why}, so here is the nearest step at which several fit. `;
-  const here = `${many} rules lead to what stands here, at step ${moment.step}, so it has ${String(many).toLowerCase()} pasts:`;
+  const here = `${many} rules lead to what stands here, at step ${moment.step}, so it has ${String(many).toLowerCase()} pasts, and nothing here says which was its own:`;
   const said = pasts.length > 1 ? `${went}It can't be taken back. ${here}`
     : pasts.length ? "Here one rule alone fits, and so it is at every step on this word. But the machine keeps nothing that would say so."
       : "This is where it began, so there is no past.";
@@ -109,7 +110,7 @@ export function rowLevel(f, {width, height}) {
   if (isOver(run, f.e)) return overWords(run);
   const from = run.starts[f.q], to = run.starts[f.q + 1] ?? run.end;
   const list = run.movesBetween(from, Math.max(to, from + 1));
-  const row = quadrupleAt(run, f.q), told = row < 0 ? "" : `row ${row + 1} of Bennett's table: ${run.quadruples[row][0]} ${actText(run.quadruples[row])} ${run.quadruples[row][7]}`;
+  const row = quadrupleAt(run, f.q), told = row < 0 ? "" : `row ${row + 1} of Bennett's table: ${rowWords(run.quadruples[row])}`;
   const map = mapPicture(run, {bank: f.bank, row: f.row, moment: f.moment, hasLeft: Boolean(f.at?.hasLeft), width, height: Math.min(200, Math.max(118, height * .34))});
   const at = list.findLastIndex(it => it.step <= f.e), first = Math.max(0, Math.min(list.length - MOST_MOVES, at - MOST_MOVES / 2));
   const rows = list.slice(first, first + MOST_MOVES).map((it, k) => {

@@ -1,6 +1,7 @@
 // The steps of the lesson: for each its level, two sentences, and a thing to try. `done` says whether that was tried, so that it
 // is ticked off. What is said is of the machine that runs, whichever it is.
 import {controlInFull, controlLabel, controlStates} from "../control.js";
+import {SHIFT_WORDS, symbolWord} from "../table.js";
 import {lineOf} from "../words.js";
 
 // The names that a bank's picture has beside its rows and above its columns: one of each kind, in words.
@@ -18,6 +19,15 @@ export function namesOf(run, bank) {
   if (bank.kind === "cell") found.set("head", ["▾1", "the column of a cell that holds 1 and has the head"]);
   return [...found.values()].map(it => it.slice(0, 2));
 }
+// The signs of the machine's picture: the blank, and a rule at its arrow.
+const SHIFT_LETTERS = {"+": "R", "-": "L", "0": "N"};
+/** @type {(rules: Rule[]) => string[][]} */
+function machineNames(rules) {
+  const {read, write, shift} = rules.find(it => it.read !== it.write) ?? rules[0], isKept = read === write;
+  return [["· and _", "blank: nothing is written in that cell"],
+    [`${read}${isKept ? "" : `→${write}`} ${SHIFT_LETTERS[shift]}`,
+     `a rule: on ${symbolWord(read)} ${isKept ? "" : `write ${symbolWord(write)} and `}${SHIFT_WORDS[shift]}; R is right, L left, N neither`]];
+}
 const isHalting = ({found}) => found?.own.outcome === "halted";
 
 /** @type {LessonStep[]} */
@@ -25,6 +35,7 @@ export const STEPS = [
   {key: "machine", level: "machine", title: "A machine",
    words: () => ["A Turing machine has a tape, a head that reads one cell, and a state; each step follows one rule, which writes a symbol, moves the head and names the next state.",
      "Here it runs by itself: the picture shows its states, and the thick arrow is the rule that was followed."],
+   names: ({run}) => machineNames(run.rules),
    ask: "Press Play.", done: ({seen}) => seen.has("played")},
   {key: "past", level: "machine", title: "Can it be taken back?",
    words: () => ["You see what stands there now, and nothing else: where two rules fit, it has two pasts, and the machine has forgotten which was its own.",
@@ -35,28 +46,28 @@ export const STEPS = [
      "The last number says which rule was followed last, so that step is undone, and its number is taken away."],
    ask: "Press Play for a while, and then Take it back.", done: ({seen}) => seen.has("took")},
   {key: "stages", level: "stages", title: "Compute, copy, retrace",
-   words: shown => ["A history is rubbish in the end, so the output is copied onto a third tape, and then every step is taken back until the history is empty again.",
-     isHalting(shown) ? "That is Bennett's machine of 1973: the hill is the history, which grows, stands while the output is copied, and goes."
-       : "That is Bennett's machine of 1973; on this word the machine doesn't halt, so nothing is copied, and its history is all that you see."],
+   words: shown => ["A full history is rubbish too, and to take every step back makes it blank again, but would take the output with it.",
+     isHalting(shown) ? "So Bennett's machine of 1973 first copies the output onto a blank third tape, which forgets nothing, and then goes back: the hill is the history, which grows, stands while it copies, and goes."
+       : "So Bennett's machine of 1973 would first copy the output onto a blank third tape; on this word the machine doesn't halt, so nothing is copied, and its history is all that you see."],
    ask: "Play it to its end, or draw along the hill.", done: ({shown, e}) => e >= shown.run.end || !isHalting(shown)},
   {key: "row", level: "row", title: "A row opens",
-   words: () => ["One row of Bennett's table is done by one signal in a circuit, from the control to the cells of the three tapes, and back with their answers.",
-     "Each line of the list is a move, into which module it goes and what it says there; each can be undone, since the module is made so."],
+   words: () => ["Bennett's machine has a table too, with rows where the machine has rules; one signal in a circuit does a row, from the control to the cells of the three tapes and back with their answers.",
+     "Each entry of the list is a move, into which module it goes and what it says there; each can be undone, since the module is made so."],
    names: () => [["module", "a part of the circuit: the control, or one cell of a tape"],
      ["control", "the module that has the state of Bennett's machine: it asks the cells, and their answers tell it what to do"],
-     ["line", "a wire by which the signal comes into a module; by which one it comes says what is wanted"],
-     ["row", "a line of Bennett's table: it has rows, as the machine has rules"]],
+     ["port", "where the signal comes into a module, or goes out of it; by which one it comes says what is wanted"],
+     ["row", "what Bennett's machine does in one step, on each of its three tapes"]],
    ask: "Step on, move by move.", done: ({seen}) => seen.has("stepped")},
   {key: "column", level: "column", title: "A move opens",
    words: () => ["A module is a bank of columns, and the one on amber is marked: it is the module's state, as a cell's symbol.",
-     "The signal comes in by a row, which is a question, looks for the marked column and marks another; the line by which it comes out is the answer."],
-   names: ({run}, f) => [["bank", "a module's elements, in columns and rows"], ["column", "one state of the module"],
-     ["row", "one line by which the signal comes in"],
+     "The signal comes in by a port, which is a question, looks for the marked column and marks another; the port by which it goes out is the answer."],
+   names: ({run}, f) => [["bank", "a module's elements, in columns"], ["column", "one state of the module"],
+     ["port", "where the signal comes in or goes out: each has a row of elements, and its name beside it"],
      ...(f.bank ? namesOf(run, f.bank) : [])],
    ask: "Play it, on and back.", done: ({seen}) => seen.has("played") || seen.has("took")},
   {key: "element", level: "element", title: "One element",
    words: () => ["All of it is made of one thing, the rotary element: along its bar the signal goes straight on, across it the signal turns right and turns the bar.",
-     "Of the eight cases no two end alike, so the line out and the bar tell what was before, and that is why every layer above can be taken back."],
+     "Of the eight cases no two end alike, so the port out and the bar tell what was before, and that is why every layer above can be taken back."],
    ask: "Step on and back, and find the row of the table each time.", done: ({seen}) => seen.has("stepped")},
   {key: "out", level: "machine", title: "Out again",
    words: () => ["You came down from a machine to one element, and all levels stand at the same moment: the trail above leads in and out.",
