@@ -49,7 +49,8 @@ def time_quadruples(program):
         "of one state, apart on tape 1": quadruples(lambda n: "A", lambda n: [f"{n}", "/", "/"], lambda n: "B"),
         "of one state, apart on tape 3": quadruples(lambda n: "A", lambda n: ["_", "_", f"{n}"], lambda n: "B"),
         "of 100 states, apart on tape 3": quadruples(
-            lambda n: f"A{n % 100}", lambda n: ["_", "_", f"{n}"], lambda n: f"B{n % 100}"),
+            lambda n: f"A{n % 100}", lambda n: ["_", "_", f"{n}"], lambda n: f"B{n % 100}"
+        ),
     }
     for name, table in tables.items():
         seconds, _, verdicts = timed(program, ["reversible"], table)
@@ -85,8 +86,13 @@ def launched(program, words, text, wanted=0):
     with tempfile.TemporaryFile() as source, tempfile.TemporaryFile() as sink:
         source.write(text)
         source.seek(0)
-        ran = subprocess.run([sys.executable, "-c", LAUNCH, program, *words], stdin=source, stdout=sink,
-                             stderr=subprocess.PIPE, check=True)
+        ran = subprocess.run(
+            [sys.executable, "-c", LAUNCH, program, *words],
+            stdin=source,
+            stdout=sink,
+            stderr=subprocess.PIPE,
+            check=True,
+        )
         sink.seek(0)
         out = sink.read()
     seconds, processor, kilobytes, status = ran.stderr.split()
@@ -121,9 +127,11 @@ def main():
         text = ring(order)
         seconds, memory, same = timed(program, ["step", "0"], text)
         assert same == text
-        print(f"ring of {RING} {name}, step 0: {seconds:.2f} s for {len(text) / 1e6:.1f} MB,"
-              f" {2 * len(text) / seconds / 1e6:.0f} MB a second read and written,"
-              f" peak {memory / RING:.0f} bytes an element")
+        print(
+            f"ring of {RING} {name}, step 0: {seconds:.2f} s for {len(text) / 1e6:.1f} MB,"
+            f" {2 * len(text) / seconds / 1e6:.0f} MB a second read and written,"
+            f" peak {memory / RING:.0f} bytes an element"
+        )
         longer, _, there = timed(program, ["step", str(count)], text)
         print(f"ring of {RING} {name}, step: {count / (longer - seconds) / 1e6:.0f} million steps a second")
         # the first step back makes the way back

@@ -84,8 +84,13 @@ def instructions(command, source, folder):
     if can_perf_count():
         counter = ["perf", "stat", "-x,", "-e", "instructions:u", "-o", said]
     else:
-        counter = ["valgrind", "--tool=cachegrind", "--cache-sim=no", "--cachegrind-out-file=/dev/null",
-                   f"--log-file={said}"]
+        counter = [
+            "valgrind",
+            "--tool=cachegrind",
+            "--cache-sim=no",
+            "--cachegrind-out-file=/dev/null",
+            f"--log-file={said}",
+        ]
     with open(source, "rb") as given:
         subprocess.run([*counter, *command], stdin=given, stdout=subprocess.DEVNULL, check=True)
     with open(said, encoding="utf-8") as file:
@@ -151,8 +156,11 @@ def text_tables(options, program, folder):
 def loops_in(folder):
     """The C loop of each compiler in each of its forms."""
     forms = {"C by {}": [], "blocks, {}": ["-DBLOCKS"]}
-    return {form.format(compiler): measuring.compiled("loop", compiler, folder, *flags)
-            for form, flags in forms.items() for compiler in measuring.compilers()}
+    return {
+        form.format(compiler): measuring.compiled("loop", compiler, folder, *flags)
+        for form, flags in forms.items()
+        for compiler in measuring.compilers()
+    }
 
 
 def loop_speeds(loop, order, count, steps):
@@ -210,6 +218,7 @@ def step_counts(program, folder):
         least = LEAST_STEPS.get(word, 0)
         many, few = (instructions([*command, word, str(n)], given, folder) for n in (COUNTED_STEPS, least))
         return (many - few) / (COUNTED_STEPS - least)
+
     row = ["one element", f"{counted(program, 'step', source):.1f}", f"{counted(program, 'back', moved):.1f}"]
     loops = loops_in(folder)
     row += [f"{counted([loop], '1', order) / 2:.1f}" for loop in loops.values()]
@@ -221,8 +230,11 @@ def step_tables(options, program, folder):
     """What steps take, in Markdown."""
     rows = []
     count = options.elements
-    for name, count, is_shuffled in (("one element", 1, False), (f"ring of {count:,} in order", count, False),
-                                     (f"ring of {count:,} shuffled", count, True)):
+    for name, count, is_shuffled in (
+        ("one element", 1, False),
+        (f"ring of {count:,} in order", count, False),
+        (f"ring of {count:,} shuffled", count, True),
+    ):
         rows += step_rows(options, program, folder, name, count, is_shuffled)
     heads = ["Million steps a second", "Program"]
     for who in loops_in(folder):
@@ -245,8 +257,11 @@ def board_tables(options, program, folder):
     row = [f"{elements:,}", *(f"{statistics.median(series):.3f}" for series in (whole, opened)), beside]
     told = measuring.table(["Elements", "`compile`, s", "`run` of no steps, s", "`compile` by the difference"], [row])
     widest = measuring.board_words(4 * options.elements)
-    commands = {"generate 4": ["generate", "4"], "run =1011 0 5 11 5": ["run", "=1011", "0", "5", "11", "5"],
-                " ".join(["compile", *widest]): ["compile", *widest]}
+    commands = {
+        "generate 4": ["generate", "4"],
+        "run =1011 0 5 11 5": ["run", "=1011", "0", "5", "11", "5"],
+        " ".join(["compile", *widest]): ["compile", *widest],
+    }
     found = in_turn({name: [*program, *command] for name, command in commands.items()}, table, options.runs)
     rows = []
     for name, series in found.items():

@@ -20,8 +20,12 @@ from hithwelor import answers
 from places import told_program
 
 TIMES = 5
-CASES = [["run", "=1011", "0", "5", "11", "5"], ["generate", "4"], ["run", "=1011", "0", "5", "6140", "5"],
-         ["compile", "=1011", "0", "5", "6140", "5"]]
+CASES = [
+    ["run", "=1011", "0", "5", "11", "5"],
+    ["generate", "4"],
+    ["run", "=1011", "0", "5", "6140", "5"],
+    ["compile", "=1011", "0", "5", "6140", "5"],
+]
 NODE = """const bench = require(process.argv[1]).workbench(), [words, input] = JSON.parse(require("fs").readFileSync(0));
 const ask = () => bench.answer(Buffer.from(words.join("\\0")), Buffer.from(input)), before = process.cpuUsage();
 ask();
@@ -39,22 +43,31 @@ def by_program(program, words, data):
         subprocess.run([program, *words], input=data, stdout=subprocess.DEVNULL)
         after = os.times()
         return after.children_user + after.children_system - before.children_user - before.children_system
+
     return best(once)
 
 
 def by_library(library, words, data):
     listed = "\0".join(words).encode()
+
     def once():
         before = time.process_time()
         library.answer(listed, data)
         return time.process_time() - before
+
     return best(once)
 
 
 def by_node(node, words, data):
     def once():
-        ran = subprocess.run([node, "-e", NODE, answers.COMMAND], input=json.dumps([words, data.decode()]), stdout=subprocess.PIPE, text=True)
+        ran = subprocess.run(
+            [node, "-e", NODE, answers.COMMAND],
+            input=json.dumps([words, data.decode()]),
+            stdout=subprocess.PIPE,
+            text=True,
+        )
         return float(ran.stdout)
+
     return best(once)
 
 
@@ -63,10 +76,14 @@ class Page(Browser):
 
     def seconds(self, words, data):
         """The best seconds of the clock that an answer takes in the page's worker."""
+
         def once():
-            expression = f"bench.answer({json.dumps(words)}, {json.dumps(data.decode())}).then(() => bench.log.at(-1).program)"
+            expression = (
+                f"bench.answer({json.dumps(words)}, {json.dumps(data.decode())}).then(() => bench.log.at(-1).program)"
+            )
             it = self.call("Runtime.evaluate", expression=expression, returnByValue=True, awaitPromise=True)
             return it["result"]["value"] / 1000
+
         return best(once)
 
 
@@ -83,10 +100,12 @@ def main():
         print(f"the page's first picture after {time.perf_counter() - began:.2f} s")
     for words in CASES:
         data = b"" if words[0] == "generate" else increment
-        told = [f"program {by_program(program, words, data):.3f}" if program else "program -",
-                f"library {by_library(answers.Library(path), words, data):.3f}" if path else "library -",
-                f"node {by_node(node, words, data):.3f}" if node else "node -",
-                f"page {page.seconds(words, data):.3f}" if page else "page -"]
+        told = [
+            f"program {by_program(program, words, data):.3f}" if program else "program -",
+            f"library {by_library(answers.Library(path), words, data):.3f}" if path else "library -",
+            f"node {by_node(node, words, data):.3f}" if node else "node -",
+            f"page {page.seconds(words, data):.3f}" if page else "page -",
+        ]
         print(f"{' '.join(words)}: {', '.join(told)}", flush=True)
     if page:
         page.__exit__()

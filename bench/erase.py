@@ -53,8 +53,11 @@ def time_machine(program, name, table, word):
     text = table + b"%\n" + table
     quadruples = len(launched(program, ["erase"], text)[3].splitlines())
     loops = sorted(seconds(program, text, word, STEPS) - seconds(program, text, word, 0) for _ in range(RUNS))
-    print(f"{name}, {quadruples} quadruples: " + " ".join(f"{loop:.3f}" for loop in loops)
-          + f" s, {STEPS / max(loops[0], 0.001) / 1e6:.1f} million steps a second")
+    print(
+        f"{name}, {quadruples} quadruples: "
+        + " ".join(f"{loop:.3f}" for loop in loops)
+        + f" s, {STEPS / max(loops[0], 0.001) / 1e6:.1f} million steps a second"
+    )
 
 
 def main():
@@ -65,8 +68,12 @@ def main():
     for states in (2, 100, 1246):
         time_machine(program, f"round trip in {states} states each way", round_trip(states), word)
     many = string.ascii_letters + string.digits
-    time_machine(program, f"round trip in one state each way over {len(many)} letters", one_state_a_way(many),
-                 (many * LENGTH)[:LENGTH])
+    time_machine(
+        program,
+        f"round trip in one state each way over {len(many)} letters",
+        one_state_a_way(many),
+        (many * LENGTH)[:LENGTH],
+    )
 
 
 if __name__ == "__main__":

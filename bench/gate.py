@@ -77,8 +77,11 @@ def row(crate, minutes):
     edits = len(os.listdir(folder)) if os.path.isdir(folder) else 0
     shown = [f"{minutes[kind]:.1f}" if kind in minutes else "-" for kind in KINDS]
     code, rest = lines_in(crate, ["src"], ".rt"), lines_in(crate, ["specs", "proofs"], ".antt")
-    return (f"| `{crate}` | {code:,} | {code + rest:,} | {tests_in(crate)} | {edits} | " + " | ".join(shown)
-            + f" | {sum(minutes.values()):.1f} |")
+    return (
+        f"| `{crate}` | {code:,} | {code + rest:,} | {tests_in(crate)} | {edits} | "
+        + " | ".join(shown)
+        + f" | {sum(minutes.values()):.1f} |"
+    )
 
 
 def table(taken):
@@ -88,8 +91,10 @@ def table(taken):
     for crate, kind, seconds in taken.values():
         if crate in minutes:
             minutes[crate][kind] = minutes[crate].get(kind, 0) + seconds / 60
-    lines = ["| Crate | Lines of code | Lines in all | Tests | Edits | Proofs | Tests proved | Edits tried | Minutes |",
-             "|---|---|---|---|---|---|---|---|---|"]
+    lines = [
+        "| Crate | Lines of code | Lines in all | Tests | Edits | Proofs | Tests proved | Edits tried | Minutes |",
+        "|---|---|---|---|---|---|---|---|---|",
+    ]
     lines += [row(crate, minutes[crate]) for crate in minutes]
     total = sum(sum(each.values()) for each in minutes.values())
     return lines + ["", f"{total:.0f} processor minutes in all."]

@@ -26,7 +26,7 @@ sys.dont_write_bytecode = True
 from bench import RING_IN_TWO, TOP
 import measuring
 
-SIZES = [1000 * 2 ** power for power in range(12)] + [RING_IN_TWO]
+SIZES = [1000 * 2**power for power in range(12)] + [RING_IN_TWO]
 LEAST = os.path.join(TOP, "examples", "least.csv")
 # Its board on the empty word has so many elements beside its history's cells, and so many for each of them.
 LEAST_BASE, LEAST_CELL = 1042, 90
@@ -92,8 +92,10 @@ def measure(options):
                 found.append(ring_figures(program, path, options.runs))
             board, seconds = board_figures(program, elements, folder, options.runs)
             (in_order, read_in_order), (mixed, read_mixed) = found
-            print(f"{elements},{in_order:.1f},{mixed:.1f},{read_in_order:.4f},{read_mixed:.4f},{board},{seconds:.4f}",
-                  flush=True)
+            print(
+                f"{elements},{in_order:.1f},{mixed:.1f},{read_in_order:.4f},{read_mixed:.4f},{board},{seconds:.4f}",
+                flush=True,
+            )
     print(f"# {measuring.circumstances(load)}, the best of {options.runs}")
 
 
@@ -116,9 +118,18 @@ def pyplot():
     except ImportError:
         sys.exit("--plot needs matplotlib: install it by pip, or as python3-matplotlib")
     matplotlib.use("Agg")
-    matplotlib.rcParams.update({"svg.hashsalt": "hithwelor", "font.size": 9, "font.family": "sans-serif",
-                                "svg.fonttype": "none", "axes.spines.top": False, "axes.spines.right": False})
+    matplotlib.rcParams.update(
+        {
+            "svg.hashsalt": "hithwelor",
+            "font.size": 9,
+            "font.family": "sans-serif",
+            "svg.fonttype": "none",
+            "axes.spines.top": False,
+            "axes.spines.right": False,
+        }
+    )
     from matplotlib import pyplot as it
+
     return it
 
 
@@ -130,12 +141,13 @@ def size_told(size):
 def draw_panel(axes, title, series, sizes):
     """One panel: its series over the elements, and a mark for each cache that they come to fill."""
     for label, places, values, colour, style in series:
-        axes.plot(places, values, style, color=colour, linewidth=1.6, markersize=4, markerfacecolor="white",
-                  label=label)
+        axes.plot(
+            places, values, style, color=colour, linewidth=1.6, markersize=4, markerfacecolor="white", label=label
+        )
     axes.set_xscale("log")
     axes.set_title(title, loc="left", fontsize=10, pad=26)
     axes.set_xlabel("elements")
-    axes.set_xticks([10 ** power for power in range(3, 7)], [f"{10 ** power:,}" for power in range(3, 7)])
+    axes.set_xticks([10**power for power in range(3, 7)], [f"{10 ** power:,}" for power in range(3, 7)])
     axes.grid(axis="y", color="#e4e4e4", linewidth=0.8)
     axes.set_axisbelow(True)
     most = max(max(places) for _, places, *_ in series)
@@ -144,8 +156,17 @@ def draw_panel(axes, title, series, sizes):
         if place > most:
             continue
         axes.axvline(place, color="#888", linewidth=0.9, linestyle=(0, (2, 3)))
-        axes.annotate(f"{name}\n{size_told(size)}", (place, 1), xycoords=("data", "axes fraction"), xytext=(0, 2),
-                      textcoords="offset points", ha="center", va="bottom", fontsize=7.5, color="#666")
+        axes.annotate(
+            f"{name}\n{size_told(size)}",
+            (place, 1),
+            xycoords=("data", "axes fraction"),
+            xytext=(0, 2),
+            textcoords="offset points",
+            ha="center",
+            va="bottom",
+            fontsize=7.5,
+            color="#666",
+        )
     axes.legend(frameon=False, fontsize=8.5)
 
 
@@ -154,14 +175,26 @@ def plot(path, picture):
     columns, sizes = measured(path)
     figure, (left, right) = pyplot().subplots(1, 2, figsize=(10, 4.4), layout="constrained")
     places = columns["elements"]
-    draw_panel(left, "million steps a second", [
-        ("ring in order", places, columns["steps in order"], BLUE, "o-"),
-        ("ring shuffled", places, columns["steps shuffled"], RED, "s--")], sizes)
+    draw_panel(
+        left,
+        "million steps a second",
+        [
+            ("ring in order", places, columns["steps in order"], BLUE, "o-"),
+            ("ring shuffled", places, columns["steps shuffled"], RED, "s--"),
+        ],
+        sizes,
+    )
     left.set_ylim(0, None)
-    draw_panel(right, "seconds", [
-        ("step 0, ring in order", places, columns["reading in order"], BLUE, "o-"),
-        ("step 0, ring shuffled", places, columns["reading shuffled"], RED, "s--"),
-        ("compile", columns["board"], columns["compile"], GREY, "^:")], sizes)
+    draw_panel(
+        right,
+        "seconds",
+        [
+            ("step 0, ring in order", places, columns["reading in order"], BLUE, "o-"),
+            ("step 0, ring shuffled", places, columns["reading shuffled"], RED, "s--"),
+            ("compile", columns["board"], columns["compile"], GREY, "^:"),
+        ],
+        sizes,
+    )
     right.set_yscale("log")
     right.yaxis.set_major_formatter(lambda value, _: f"{value:g}")
     figure.savefig(picture, metadata={"Date": None})

@@ -36,13 +36,15 @@ def options_of():
     parser = argparse.ArgumentParser(description=__doc__, formatter_class=argparse.RawDescriptionHelpFormatter)
     measuring.add_program(parser)
     parser.add_argument("--runs", type=int, default=3, metavar="N", help="how often each is run (3)")
-    parser.add_argument("--most", type=int, default=2_000_000_000, metavar="N", help="the most element steps one by one")
+    parser.add_argument(
+        "--most", type=int, default=2_000_000_000, metavar="N", help="the most element steps one by one"
+    )
     parser.add_argument("--letters", type=int, default=LENGTHS[-1], metavar="N", help="the longest word")
     return parser.parse_args()
 
 
 def palindrome(letters):
-    half = ("abaababbb" * letters)[:letters // 2]
+    half = ("abaababbb" * letters)[: letters // 2]
     return half + half[::-1]
 
 
@@ -60,8 +62,9 @@ def row_of(program, letters, options, folder):
         return None
     said = ran.stdout
     window = re.search(r"^window (.*)$", said, flags=re.M)[1].split()
-    elements, steps, quadruple = (int(re.search(rf"^{name} (\d+)$", said, flags=re.M)[1])
-                                  for name in ("elements", "steps", "quadruple steps"))
+    elements, steps, quadruple = (
+        int(re.search(rf"^{name} (\d+)$", said, flags=re.M)[1]) for name in ("elements", "steps", "quadruple steps")
+    )
     words = [word, *window]
     making = best([*program, "view", *words, "0"], TABLE, options.runs)
     run = best([*program, "run", *words], TABLE, options.runs) - making

@@ -24,9 +24,13 @@ Run = namedtuple("Run", "processor memory")
 
 def add_program(parser):
     """The option that says what is measured."""
-    parser.add_argument("--program", metavar="COMMAND", default=os.path.join(TOP, "crates/bn_main/out/bn_main"),
-                        help="the program: a path, or any command line that takes the words of the commands behind its"
-                        " own, as 'node bin/hithwelor' (crates/bn_main/out/bn_main)")
+    parser.add_argument(
+        "--program",
+        metavar="COMMAND",
+        default=os.path.join(TOP, "crates/bn_main/out/bn_main"),
+        help="the program: a path, or any command line that takes the words of the commands behind its"
+        " own, as 'node bin/hithwelor' (crates/bn_main/out/bn_main)",
+    )
 
 
 def program_of(options):
@@ -95,8 +99,13 @@ def write_board(path, program, elements, folder):
 
 def add_texts(parser):
     """The option that says which texts are measured."""
-    parser.add_argument("--texts", default="", metavar="WORDS", help="only those whose names have these words,"
-                        " as 'in order' or 'version 1'; their names are in the tables' first column")
+    parser.add_argument(
+        "--texts",
+        default="",
+        metavar="WORDS",
+        help="only those whose names have these words,"
+        " as 'in order' or 'version 1'; their names are in the tables' first column",
+    )
 
 
 def texts(program, elements, folder, words):
@@ -124,8 +133,10 @@ def circumstances(load):
     """When and beside what it was measured; `load` is the load at the beginning."""
     loads = sorted([load, os.getloadavg()[0]])
     nice = f", at niceness {os.nice(0)}" if os.nice(0) else ""
-    return (f"Measured on {datetime.date.today()} with a load of {loads[0]:.0f} to {loads[1]:.0f} on {os.cpu_count()}"
-            f" cores{nice}")
+    return (
+        f"Measured on {datetime.date.today()} with a load of {loads[0]:.0f} to {loads[1]:.0f} on {os.cpu_count()}"
+        f" cores{nice}"
+    )
 
 
 def table(heads, rows):

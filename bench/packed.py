@@ -150,8 +150,11 @@ def main():
         sys.exit("build the program first: tools/prove")
     shuffled = list(range(RING))
     random.Random(1973).shuffle(shuffled)
-    cases = (("one element", [0], 400_000_000), (f"ring of {RING} in order", list(range(RING)), 400_000_000),
-             (f"ring of {RING} shuffled", shuffled, 20_000_000))
+    cases = (
+        ("one element", [0], 400_000_000),
+        (f"ring of {RING} in order", list(range(RING)), 400_000_000),
+        (f"ring of {RING} shuffled", shuffled, 20_000_000),
+    )
     with tempfile.TemporaryDirectory() as folder:
         loop = c_loop(folder)
         for name, order, count in cases:

@@ -24,13 +24,17 @@ from shown_times import check_times
 
 def main():
     parser = argparse.ArgumentParser(description=__doc__, formatter_class=argparse.RawDescriptionHelpFormatter)
-    parser.add_argument("factor", metavar="FACTOR", type=float, nargs="?", default=2, help="how many times what is aimed at")
+    parser.add_argument(
+        "factor", metavar="FACTOR", type=float, nargs="?", default=2, help="how many times what is aimed at"
+    )
     parser.add_argument("--long", action="store_true", help="long runs too")
     parser.add_argument("--program", metavar="PATH", type=os.path.abspath, help="the program to compare with")
     asked, count, browser = parser.parse_args(), Count(), browser_at_hand()
     program = asked.program or told_program() or told_program("--module")
     if not program or not browser:
-        sys.exit(f"bench/page_times.py: {'no Chromium is installed' if program else 'nothing is here that answers'}: tools/setup")
+        sys.exit(
+            f"bench/page_times.py: {'no Chromium is installed' if program else 'nothing is here that answers'}: tools/setup"
+        )
     with open(PAGE, "w", encoding="utf-8", newline="\n") as file:
         file.write(bundle.checked_text())
     with Shown(browser) as page:

@@ -28,11 +28,25 @@ import measuring
 
 # With what the names begin of the functions that serve one part alone.
 PARTS = {
-    "reading": ("bn_netlist::read", "bn_netlist::front", "bn_netlist::pieces", "bn_netlist::bytes",
-                "bn_netlist::draft", "bn_netlist::entries", "bn_netlist::finish",
-                "bn_netlist::forms", "bn_netlist::stage", "bn_netlist::take_line"),
-    "packing": ("bn_packed::bars::Bars::of", "bn_packed::ends", "bn_packed::packed::Packed::from_wires",
-                "bn_packed::wires::Wires::from_wires", "bn_packed::wiring"),
+    "reading": (
+        "bn_netlist::read",
+        "bn_netlist::front",
+        "bn_netlist::pieces",
+        "bn_netlist::bytes",
+        "bn_netlist::draft",
+        "bn_netlist::entries",
+        "bn_netlist::finish",
+        "bn_netlist::forms",
+        "bn_netlist::stage",
+        "bn_netlist::take_line",
+    ),
+    "packing": (
+        "bn_packed::bars::Bars::of",
+        "bn_packed::ends",
+        "bn_packed::packed::Packed::from_wires",
+        "bn_packed::wires::Wires::from_wires",
+        "bn_packed::wiring",
+    ),
     "writing": ("bn_netlist::write", "bn_reply_circuits::stream::give_config"),
 }
 REST = "rest"
@@ -47,8 +61,12 @@ def options_of():
     parser = argparse.ArgumentParser(description=__doc__, formatter_class=argparse.RawDescriptionHelpFormatter)
     measuring.add_program(parser)
     parser.add_argument("--by", choices=("perf", "callgrind"), help="perf where it takes samples, else callgrind")
-    parser.add_argument("--elements", type=int, metavar="N",
-                        help="of version 1; of version 2 four times as many (1,048,576, by callgrind 100,000)")
+    parser.add_argument(
+        "--elements",
+        type=int,
+        metavar="N",
+        help="of version 1; of version 2 four times as many (1,048,576, by callgrind 100,000)",
+    )
     measuring.add_texts(parser)
     parser.add_argument("--runs", type=int, default=3, metavar="N", help="by perf, how often each is run (3)")
     parser.add_argument("--functions", type=int, default=12, metavar="N", help="how many functions are told (12)")
@@ -77,10 +95,16 @@ def sampled(command, source, folder):
     """The functions of one run's samples, in the order of time."""
     data = os.path.join(folder, "samples")
     with open(source, "rb") as given:
-        subprocess.run([*PERF, "-o", data, *command], stdin=given, stdout=subprocess.DEVNULL, check=True,
-                       stderr=subprocess.DEVNULL)
-    said = subprocess.run(["perf", "script", "-i", data, "-F", "ip,sym"], check=True, text=True,
-                          stdout=subprocess.PIPE, stderr=subprocess.DEVNULL).stdout
+        subprocess.run(
+            [*PERF, "-o", data, *command], stdin=given, stdout=subprocess.DEVNULL, check=True, stderr=subprocess.DEVNULL
+        )
+    said = subprocess.run(
+        ["perf", "script", "-i", data, "-F", "ip,sym"],
+        check=True,
+        text=True,
+        stdout=subprocess.PIPE,
+        stderr=subprocess.DEVNULL,
+    ).stdout
     return [short(line.split(None, 1)[1]) for line in said.splitlines() if line.strip()]
 
 
@@ -89,7 +113,7 @@ def parts_under_way(names):
     own = [part_of(name) for name in names]
     last = max((place for place, part in enumerate(own) if part), default=-1)
     found = []
-    for part in own[:last + 1]:
+    for part in own[: last + 1]:
         found.append(part or (found[-1] if found else REST))
     return found + [REST] * (len(names) - len(found))
 
@@ -145,8 +169,13 @@ def by_instructions(command, source, folder):
     """Instructions by part, and by function and part."""
     said = os.path.join(folder, "calls")
     with open(source, "rb") as given:
-        subprocess.run([*CALLGRIND, f"--callgrind-out-file={said}", *command], stdin=given, check=True,
-                       stdout=subprocess.DEVNULL, stderr=subprocess.DEVNULL)
+        subprocess.run(
+            [*CALLGRIND, f"--callgrind-out-file={said}", *command],
+            stdin=given,
+            check=True,
+            stdout=subprocess.DEVNULL,
+            stderr=subprocess.DEVNULL,
+        )
     own, calls = costs(said)
     parts, functions = Counter(), defaultdict(Counter)
     for name, share in shared(own, calls).items():

@@ -26,9 +26,15 @@ def increments(rounds):
         right, carry, left = f"R{number}", f"P{number}", f"L{number}"
         after = f"+,R{number + 1}" if number < rounds else "0,F"
         entries += [
-            f"{right},0,0,+,{right}", f"{right},1,1,+,{right}", f"{right},_,_,-,{carry}",
-            f"{carry},1,0,-,{carry}", f"{carry},0,1,-,{left}", f"{carry},_,1,-,{left}",
-            f"{left},0,0,-,{left}", f"{left},1,1,-,{left}", f"{left},_,_,{after}",
+            f"{right},0,0,+,{right}",
+            f"{right},1,1,+,{right}",
+            f"{right},_,_,-,{carry}",
+            f"{carry},1,0,-,{carry}",
+            f"{carry},0,1,-,{left}",
+            f"{carry},_,1,-,{left}",
+            f"{left},0,0,-,{left}",
+            f"{left},1,1,-,{left}",
+            f"{left},_,_,{after}",
         ]
     return ("\n".join(entries) + "\n").encode()
 
@@ -54,11 +60,15 @@ def time_increments(program, rounds):
     read, _, _ = best(program, ["step", "0"], compiled)
     assert f"\nsteps {steps}\n" in last[:200].decode() and b"\nexit end\n" in out
     loop, bare = whole - opened, stepped - read
-    print(f"increments, k = {rounds}: {elements} elements, {steps} steps, run {whole:.2f} s,"
-          f" peak {memory / elements:.0f} bytes an element")
+    print(
+        f"increments, k = {rounds}: {elements} elements, {steps} steps, run {whole:.2f} s,"
+        f" peak {memory / elements:.0f} bytes an element"
+    )
     if bare > 0.05:
-        print(f"  loop of run: {steps / loop / 1e6:.0f} million steps a second; step: {steps / bare / 1e6:.0f};"
-              f" run makes {bare / loop:.2f} of its speed")
+        print(
+            f"  loop of run: {steps / loop / 1e6:.0f} million steps a second; step: {steps / bare / 1e6:.0f};"
+            f" run makes {bare / loop:.2f} of its speed"
+        )
 
 
 def windows_before(program, word, table, found):
@@ -80,9 +90,11 @@ def time_found(program, word):
     given, _, last = best(program, ["run", f"={word}", *map(str, found)], table)
     tried = windows_before(program, word, table, found)
     steps, before = number_behind("steps", last), sum(made for _, made in tried)
-    print(f"run ={word} auto: {1000 * searched:.1f} ms, in the window {' '.join(map(str, found))} that it finds"
-          f" {1000 * given:.1f} ms; {len(tried)} rounds before the last one make {before} steps beside its {steps},"
-          f" which is {before / (before + steps):.0%} of all")
+    print(
+        f"run ={word} auto: {1000 * searched:.1f} ms, in the window {' '.join(map(str, found))} that it finds"
+        f" {1000 * given:.1f} ms; {len(tried)} rounds before the last one make {before} steps beside its {steps},"
+        f" which is {before / (before + steps):.0%} of all"
+    )
 
 
 def time_widest(program):
@@ -90,8 +102,10 @@ def time_widest(program):
     table, words = increments(1), ["=1011", "0", "5", "1527", "5"]
     for command in ("compile", "run"):
         seconds, memory, _ = best(program, [command, *words], table)
-        print(f"{command} {' '.join(words)}, 1048048 elements: {seconds:.2f} s,"
-              f" peak {memory / 1048048:.0f} bytes an element")
+        print(
+            f"{command} {' '.join(words)}, 1048048 elements: {seconds:.2f} s,"
+            f" peak {memory / 1048048:.0f} bytes an element"
+        )
 
 
 def main():

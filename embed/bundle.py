@@ -9,12 +9,16 @@ import zlib
 TOP = os.path.dirname(os.path.dirname(os.path.abspath(__file__)))
 OUT = os.path.join(TOP, "embed", "out")
 # What a browser may do with the page: run the one script that it has, and the module; draw. Nothing goes out.
-POLICY = ("default-src 'none'; script-src 'sha256-{script}' 'wasm-unsafe-eval'; worker-src blob:; "
-          "style-src 'unsafe-inline'; img-src data: blob:; base-uri 'none'; form-action 'none'")
+POLICY = (
+    "default-src 'none'; script-src 'sha256-{script}' 'wasm-unsafe-eval'; worker-src blob:; "
+    "style-src 'unsafe-inline'; img-src data: blob:; base-uri 'none'; form-action 'none'"
+)
 # Modules are strict by themselves, what esbuild makes of them isn't.
 STRICT = '"use strict";'
-COMMAND_HEAD = ("#!/usr/bin/env node\n"
-                "// Made by embed/build of js/core.mjs, js/command.mjs and js/hithwelor.wasm: change those.\n" + STRICT)
+COMMAND_HEAD = (
+    "#!/usr/bin/env node\n"
+    "// Made by embed/build of js/core.mjs, js/command.mjs and js/hithwelor.wasm: change those.\n" + STRICT
+)
 # The page's script and style have neither comments nor line ends: an eighth of its bytes. Their sources are page/src.
 SMALL = "--minify-whitespace"
 COMMAND_END = "if (require.main === module) process.exitCode = module.exports.main();"
@@ -44,10 +48,23 @@ def pack_module():
 def esbuild(entry, made, head, *more):
     """The bundle of an entry. Both are given by their paths from the top, which are in it: so its bytes are the same
     wherever it is made. Whatever esbuild says, warnings too, is a fault."""
-    words = ["esbuild", entry, "--bundle", "--target=es2022", "--charset=utf8", "--loader:.wasm=binary",
-             "--loader:.z=binary", "--loader:.txt=text", "--log-level=warning", "--log-limit=0", f"--banner:js={head}",
-             # What no module takes stays: the page for the checks is then the same script with more behind it.
-             "--tree-shaking=false", f"--outfile=embed/out/{made}", *more]
+    words = [
+        "esbuild",
+        entry,
+        "--bundle",
+        "--target=es2022",
+        "--charset=utf8",
+        "--loader:.wasm=binary",
+        "--loader:.z=binary",
+        "--loader:.txt=text",
+        "--log-level=warning",
+        "--log-limit=0",
+        f"--banner:js={head}",
+        # What no module takes stays: the page for the checks is then the same script with more behind it.
+        "--tree-shaking=false",
+        f"--outfile=embed/out/{made}",
+        *more,
+    ]
     ran = subprocess.run(words, cwd=TOP, stdout=subprocess.PIPE, stderr=subprocess.STDOUT, text=True)
     if ran.returncode or ran.stdout:
         raise Bundle(ran.stdout.strip())
@@ -86,5 +103,6 @@ def checked_text():
 
 def command_text():
     """The command: one script of node with the module."""
-    return esbuild("embed/single.mjs", "command.cjs", COMMAND_HEAD, "--format=cjs", "--platform=node",
-                   f"--footer:js={COMMAND_END}")
+    return esbuild(
+        "embed/single.mjs", "command.cjs", COMMAND_HEAD, "--format=cjs", "--platform=node", f"--footer:js={COMMAND_END}"
+    )

@@ -35,7 +35,23 @@ def link(kit, path, *words, exports=(EXPORT,)):
         listed = os.path.join(work, "exports.map")
         with open(listed, "w", encoding="utf-8") as file:
             file.write(f"{{ global: {'; '.join(exports)}; local: *; }};\n")
-        ran = subprocess.run([compiler(), "-shared", "-o", path, f"-Wl,--version-script={listed}", "-Wl,--whole-archive", STATIC,
-                              "-Wl,--no-whole-archive", os.path.join(kit, "c", "liblibc_c.a"), "-Wl,-z,defs", *words],
-                             stdout=subprocess.PIPE, stderr=subprocess.STDOUT, text=True, errors="replace")
+        ran = subprocess.run(
+            [
+                compiler(),
+                "-shared",
+                "-o",
+                path,
+                f"-Wl,--version-script={listed}",
+                "-Wl,--whole-archive",
+                STATIC,
+                "-Wl,--no-whole-archive",
+                os.path.join(kit, "c", "liblibc_c.a"),
+                "-Wl,-z,defs",
+                *words,
+            ],
+            stdout=subprocess.PIPE,
+            stderr=subprocess.STDOUT,
+            text=True,
+            errors="replace",
+        )
     return ran.stdout if ran.returncode else None

@@ -7,8 +7,16 @@ TOP = os.path.dirname(os.path.dirname(os.path.abspath(__file__)))
 CRATE = "bn_embed"
 RECORD = "page/sources.sha256"
 # What the page and the command are made of besides the crates and the toolchain.
-PARTS = ["embed/build", "embed/bundle.py", "embed/heap.c", "embed/narrow.py", "embed/single.mjs", "js/command.mjs",
-         "js/core.mjs", "page/src"]
+PARTS = [
+    "embed/build",
+    "embed/bundle.py",
+    "embed/heap.c",
+    "embed/narrow.py",
+    "embed/single.mjs",
+    "js/command.mjs",
+    "js/core.mjs",
+    "page/src",
+]
 MADE = ["page/hithwelor.html", "bin/hithwelor", "js/hithwelor.wasm"]
 # How the name of a source ends. What an editor leaves beside it is none.
 ENDINGS = (".rt", ".antt", ".js", ".mjs", ".css", ".html", ".svg")
@@ -32,11 +40,13 @@ def uses():
 def crates_below():
     """The crates on which the library stands, in the order of crates.txt."""
     all_uses, found = uses(), set()
+
     def visit(crate):
         for it in all_uses[crate]:
             if it in all_uses and it not in found:
                 found.add(it)
                 visit(it)
+
     visit(CRATE)
     return [it for it in all_uses if it in found]
 
@@ -48,8 +58,11 @@ def files_of(path):
         return [path]
     found = []
     for folder, _, names in os.walk(os.path.join(TOP, path)):
-        found += [os.path.relpath(os.path.join(folder, name), TOP) for name in names
-                  if name.endswith(ENDINGS) and not name.startswith((".", "#"))]
+        found += [
+            os.path.relpath(os.path.join(folder, name), TOP)
+            for name in names
+            if name.endswith(ENDINGS) and not name.startswith((".", "#"))
+        ]
     return sorted(found)
 
 

@@ -8,7 +8,11 @@ TOP = os.path.dirname(os.path.dirname(os.path.abspath(__file__)))
 
 def version():
     made = os.path.join(TOP, "PKG-INFO")
-    path, pattern = (made, r"^Version: (\S+)") if os.path.exists(made) else (os.path.join(TOP, "CHANGELOG.md"), r"^## (\d+\.\d+\.\d+) ")
+    path, pattern = (
+        (made, r"^Version: (\S+)")
+        if os.path.exists(made)
+        else (os.path.join(TOP, "CHANGELOG.md"), r"^## (\d+\.\d+\.\d+) ")
+    )
     with open(path, encoding="utf-8") as file:
         told = re.search(pattern, file.read(), flags=re.M)[1]
     return told if path == made else told + ("+dev" if os.environ.get("HITHWELOR_DEV") else "")

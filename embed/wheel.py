@@ -19,7 +19,7 @@ def platform_of(library):
         wanted = [(int(major), int(minor)) for major, minor in re.findall(rb"\0GLIBC_(\d+)\.(\d+)", file.read())]
     if not here.startswith("linux_") or not wanted:
         return here
-    return "manylinux_{}_{}_".format(*max(wanted)) + here[len("linux_"):]
+    return "manylinux_{}_{}_".format(*max(wanted)) + here[len("linux_") :]
 
 
 class Beside(BuildHookInterface):

@@ -17,8 +17,13 @@ def comparisons(record_property):
 
 def pytest_terminal_summary(terminalreporter):
     """How much was compared in tests that hold many things."""
-    told = [number for report in terminalreporter.stats.get("passed", []) if report.when == "call"
-            for name, number in report.user_properties if name == "comparisons"]
+    told = [
+        number
+        for report in terminalreporter.stats.get("passed", [])
+        if report.when == "call"
+        for name, number in report.user_properties
+        if name == "comparisons"
+    ]
     if told:
         terminalreporter.write_line(f"{sum(told):,} comparisons in {len(told)} tests that hold many")
 

@@ -91,10 +91,16 @@ def machine(system, tmp_path):
 def pytest_addoption(parser):
     parser.addoption("--drawn", metavar="N", type=int, help="how many runs are drawn where a test draws them")
     parser.addoption("--seed", metavar="S", type=int, default=1, help="other runs are drawn")
-    parser.addoption("--program", metavar="PATH", help="a program in place of the proved one, as one that was proved elsewhere")
+    parser.addoption(
+        "--program", metavar="PATH", help="a program in place of the proved one, as one that was proved elsewhere"
+    )
     parser.addoption("--places", metavar="N", type=int, help="how many places of the page are drawn")
-    parser.addoption("--pictures", metavar="FOLDER", type=os.path.abspath, help="photographs of the page are kept there")
-    parser.addoption("--every", action="store_true", help="refuse every allocation, of larger inputs too: some ten minutes")
+    parser.addoption(
+        "--pictures", metavar="FOLDER", type=os.path.abspath, help="photographs of the page are kept there"
+    )
+    parser.addoption(
+        "--every", action="store_true", help="refuse every allocation, of larger inputs too: some ten minutes"
+    )
 
 
 def pytest_configure(config):
@@ -156,6 +162,7 @@ def program(pytestconfig):
 def answering():
     """What answers the package of Python: the shared library, or one process of node."""
     from hithwelor import answers
+
     try:
         return answers.way()
     except answers.Unavailable as fault:

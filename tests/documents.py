@@ -84,8 +84,10 @@ class Example:
             return [f"  the page says: status {self.wanted_status}, and it is {self.status}"]
         if not self.is_shown:
             return ["  the page shows no output"]
-        return ["  the page shows, among others:" if self.is_part else "  the page shows:",
-                *(f"    {line}" for line in self.wanted)]
+        return [
+            "  the page shows, among others:" if self.is_part else "  the page shows:",
+            *(f"    {line}" for line in self.wanted),
+        ]
 
 
 def row_of(page, number, line):
@@ -230,15 +232,18 @@ def tried_by_one(jobs):
 
 def answers_by(program):
     """What answers words and inputs: the program of this path, or with none the one that the words name."""
+
     def answer(job):
         words, data = job
-        ran = subprocess.run([program or words[0], *words[1:]], input=data, stdout=subprocess.PIPE,
-                             stderr=subprocess.DEVNULL, cwd=TOP)
+        ran = subprocess.run(
+            [program or words[0], *words[1:]], input=data, stdout=subprocess.PIPE, stderr=subprocess.DEVNULL, cwd=TOP
+        )
         return ran.stdout, ran.returncode
 
     def answers(jobs):
         with ThreadPoolExecutor(len(os.sched_getaffinity(0))) as pool:
             return list(pool.map(answer, jobs))
+
     return answers
 
 

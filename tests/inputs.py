@@ -38,7 +38,7 @@ BATCH, SECONDS, ROOM = 200, 60, 4 << 30
 DONE, USAGE, STUCK, WINDOW, INSIDE = 0, 2, 10, 11, 12
 
 N = r"(?:0|[1-9]\d*)"
-WORD = r'[!-~]*'
+WORD = r"[!-~]*"
 PLACE = rf"{N}\.[nesw]"
 FAULT = r"(?:syntax|too many|target|end wired|left wired|start fed|two sources|order|spelling)"
 RECORD = rf"(?:empty|record {N} (?:too many|fields|field \d (?:name|symbol|shift|number)))"
@@ -46,38 +46,71 @@ FORM = rf"(?:S1 {N} {N}|S2|S3 {N}|S4|S5 {N})"
 REFUSALS = {
     USAGE: "usage",
     3: rf"text: (?:line {N} {FAULT}|(?:second )?{RECORD}|no script|no second|no schedule|script line {N} (?:form|no state|same break"
-       rf"|no break)|board {N} line {N} {FAULT}|schedule line {N} (?:form|board))",
+    rf"|no break)|board {N} line {N} {FAULT}|schedule line {N} (?:form|board))",
     4: rf"machine: (?:(?:second )?{FORM}|halting {N}|domain {N} {N}|range {N} {N})",
     5: rf"word: (?:{N}|{N} {N}|state|line)",
     6: rf"size: (?:input|word needs {N}|elements {N}|quintuples {N}|quadruples {N})",
 }
 TEXT = rf"rotary [12]\nelements {N}\nstart {PLACE}\nend {PLACE}\nsteps {N}\n(?:at|left) {PLACE}\n(?:[ecr] [^\n]+\n)+"
 TAPES = rf"(?:tape [123] from -?{N} head (?:-?{N}|\?):[^\n]*\n){{3}}"
-RUN = rf"elements {N}\n(?:exit [^\n]+|inside {PLACE})\nsteps {N}\n(?:quadruple steps {N}\n)?{TAPES}(?:output ={WORD}\n)?"
+RUN = (
+    rf"elements {N}\n(?:exit [^\n]+|inside {PLACE})\nsteps {N}\n(?:quadruple steps {N}\n)?{TAPES}(?:output ={WORD}\n)?"
+)
 QUADRUPLES = rf"(?:[^,\n]+(?:,[^,\n]+){{7}}\n)+"
 VIEW = rf"element (?:at|left) {PLACE} steps {N}\n[^\n]+\nquadruple [^\n]+\n{TAPES}machine [^\n]+\n"
 # The form of a command's text, by its statuses.
 FORMS = {
-    "step": {DONE: TEXT}, "back": {DONE: TEXT}, "migrate": {DONE: TEXT}, "mirror": {DONE: TEXT},
+    "step": {DONE: TEXT},
+    "back": {DONE: TEXT},
+    "migrate": {DONE: TEXT},
+    "mirror": {DONE: TEXT},
     "plan": {DONE: rf"elements {N}\nwires {N}\ntracks {N}\ndensest {N}\n(?:wire {PLACE} {PLACE} track {N}\n)*"},
-    "realise": {DONE: TEXT}, "compile": {DONE: TEXT},
+    "realise": {DONE: TEXT},
+    "compile": {DONE: TEXT},
     "check": {DONE: rf"standard states {N} symbols {N} quintuples {N}\n"},
     "machine": {DONE: rf"halted {N}\noutput ={WORD}\n", STUCK: rf"stuck [^\n]+ [!-~] {N}\n", INSIDE: rf"running {N}\n"},
-    "trace": {status: rf"(?:{N} [^ \n]+ from -?{N} head -?{N} cells {N}:(?: [!-~])+(?: rule {N})?\n)+{last}\n"
-              for status, last in ((DONE, rf"halted {N}"), (STUCK, rf"stuck [^\n]+ [!-~] {N}"), (INSIDE, rf"running {N}"))},
-    "moments": {status: rf"(?:{N} [^ \n]+(?: tape [123] from -?{N} head -?{N} cells {N}:(?: [!-~]+)+?){{3}}(?: rule {N})?\n)+{last}\n"
-                for status, last in ((DONE, rf"halted {N}"), (STUCK, rf"stuck [^ \n]+(?: [!-~]+){{3}} {N}"), (INSIDE, rf"running {N}"))},
+    "trace": {
+        status: rf"(?:{N} [^ \n]+ from -?{N} head -?{N} cells {N}:(?: [!-~])+(?: rule {N})?\n)+{last}\n"
+        for status, last in ((DONE, rf"halted {N}"), (STUCK, rf"stuck [^\n]+ [!-~] {N}"), (INSIDE, rf"running {N}"))
+    },
+    "moments": {
+        status: rf"(?:{N} [^ \n]+(?: tape [123] from -?{N} head -?{N} cells {N}:(?: [!-~]+)+?){{3}}(?: rule {N})?\n)+{last}\n"
+        for status, last in (
+            (DONE, rf"halted {N}"),
+            (STUCK, rf"stuck [^ \n]+(?: [!-~]+){{3}} {N}"),
+            (INSIDE, rf"running {N}"),
+        )
+    },
     "inverse": {DONE: QUADRUPLES},
     "reversible": {DONE: rf"deterministic (?:yes|no {N} {N})\nreversible (?:yes|no {N} {N})\n"},
-    "bennett": {DONE: QUADRUPLES}, "standard": {DONE: r"(?:[^,\n]+(?:,[^,\n]+){4}\n)+"},
+    "bennett": {DONE: QUADRUPLES},
+    "standard": {DONE: r"(?:[^,\n]+(?:,[^,\n]+){4}\n)+"},
     "run": {status: rf"(?:window {N} {N} {N} {N}\n)?{RUN}" for status in (DONE, STUCK, WINDOW, INSIDE)},
-    "view": {DONE: VIEW}, "session": {DONE: rf"(?:{VIEW}|(?:at|left) {PLACE} steps {N}(?: break \w+)?\n|(?:break|drop) \w+\n)*"},
+    "view": {DONE: VIEW},
+    "session": {DONE: rf"(?:{VIEW}|(?:at|left) {PLACE} steps {N}(?: break \w+)?\n|(?:break|drop) \w+\n)*"},
     "generate": {DONE: rf"increments {N}\n{RUN}"},
-    "erase": {DONE: rf"{QUADRUPLES}|halted {N}\nwork ={WORD}\noutput ={WORD}\n", STUCK: rf"stuck [^\n]+ {N}\n", INSIDE: rf"running {N}\n"},
+    "erase": {
+        DONE: rf"{QUADRUPLES}|halted {N}\nwork ={WORD}\noutput ={WORD}\n",
+        STUCK: rf"stuck [^\n]+ {N}\n",
+        INSIDE: rf"running {N}\n",
+    },
     "farm": {DONE: rf"(?:{TEXT}%\n)*(?:[+-] {N} {N}\n)*"},
 }
 TEXT_COMMANDS = ["step", "back", "migrate", "mirror", "plan"]
-TABLE_COMMANDS = ["check", "machine", "trace", "moments", "bennett", "standard", "run", "view", "compile", "reversible", "inverse", "realise"]
+TABLE_COMMANDS = [
+    "check",
+    "machine",
+    "trace",
+    "moments",
+    "bennett",
+    "standard",
+    "run",
+    "view",
+    "compile",
+    "reversible",
+    "inverse",
+    "realise",
+]
 
 
 def read(name):
@@ -85,24 +118,35 @@ def read(name):
         return file.read()
 
 
-EXAMPLES = {name: read(name) for name in sorted(os.listdir(os.path.join(TOP, "examples"))) if name.endswith((".csv", ".txt"))}
+EXAMPLES = {
+    name: read(name) for name in sorted(os.listdir(os.path.join(TOP, "examples"))) if name.endswith((".csv", ".txt"))
+}
 ARE_TEXTS = [data for data in EXAMPLES.values() if data.startswith(b"rotary") and b"%" not in data]
 ARE_TABLES = [data for name, data in EXAMPLES.items() if name.endswith(".csv")]
 
 
 # ---- inputs
 
+
 def drawn_table(draw):
     """A table of quintuples of few states and letters: a start and an end as standard form wants them, and what is drawn between."""
-    states, letters = ["A", "B", "C"][:draw.randrange(1, 4)], "_01"
-    rows = [(f"{state},{read},{draw.choice(letters)},{draw.choice('-0+')},{draw.choice(states + ['H'] * 2)}")
-            for state in states for read in letters if draw.random() < 0.8]
+    states, letters = ["A", "B", "C"][: draw.randrange(1, 4)], "_01"
+    rows = [
+        (f"{state},{read},{draw.choice(letters)},{draw.choice('-0+')},{draw.choice(states + ['H'] * 2)}")
+        for state in states
+        for read in letters
+        if draw.random() < 0.8
+    ]
     return "\n".join(["S,_,_,+,A", *rows, "H,_,_,0,F"]).encode() + b"\n"
 
 
 def drawn_text(draw):
     """A circuit: a bank whose moves are a permutation, or elements with wires at random."""
-    made = bank(draw.randrange(1, 4), draw.randrange(1, 4), 0, draw.random()) if draw.random() < 0.5 else tangle(draw.randrange(1, 7), draw.random())
+    made = (
+        bank(draw.randrange(1, 4), draw.randrange(1, 4), 0, draw.random())
+        if draw.random() < 0.5
+        else tangle(draw.randrange(1, 7), draw.random())
+    )
     return text_of(list(zip(made.bars, made.targets)), made.start, made.end, made.place).encode()
 
 
@@ -114,20 +158,25 @@ def changed_bytes(draw, data, other):
     low, high = min(i, j), max(i, j)
     kind = draw.randrange(8)
     if kind == 0:
-        return data[:i] + bytes([draw.choice([draw.randrange(256), draw.choice(data)])]) + data[i + 1:]
+        return data[:i] + bytes([draw.choice([draw.randrange(256), draw.choice(data)])]) + data[i + 1 :]
     if kind == 1:
-        return data[:i] + data[i + 1:]
+        return data[:i] + data[i + 1 :]
     if kind == 2:
-        return data[:i] + data[i:i + 1] + data[i:]
+        return data[:i] + data[i : i + 1] + data[i:]
     if kind == 3 and low < high:
-        return data[:low] + data[high:high + 1] + data[low + 1:high] + data[low:low + 1] + data[high + 1:]
+        return data[:low] + data[high : high + 1] + data[low + 1 : high] + data[low : low + 1] + data[high + 1 :]
     if kind == 4:
         return data[:i]
     if kind == 5:
         return data + draw.choice([b"\n", b"0", b"%\n", b"\xef\xbb\xbf", other])
     if kind == 6:
-        return data[:i] + other[draw.randrange(len(other) + 1):] if other else data
-    return re.sub(rb"\d+", lambda found: str(max(0, int(found[0]) + draw.choice([-1, 1]))).encode() if found.start() >= i else found[0], data, count=1 + draw.randrange(20))
+        return data[:i] + other[draw.randrange(len(other) + 1) :] if other else data
+    return re.sub(
+        rb"\d+",
+        lambda found: str(max(0, int(found[0]) + draw.choice([-1, 1]))).encode() if found.start() >= i else found[0],
+        data,
+        count=1 + draw.randrange(20),
+    )
 
 
 def changed_lines(draw, data):
@@ -145,7 +194,9 @@ def changed_lines(draw, data):
         lines[i], lines[j] = lines[j], lines[i]
     else:
         parts = re.split(rb"([ ,])", lines[i])
-        parts[draw.randrange(0, len(parts), 2)] = draw.choice([b"0", b"1", b"-", b"_", b"/", b"", b"99", b"4611686018427387904"])
+        parts[draw.randrange(0, len(parts), 2)] = draw.choice(
+            [b"0", b"1", b"-", b"_", b"/", b"", b"99", b"4611686018427387904"]
+        )
         lines[i] = b"".join(parts)
     return b"".join(lines)
 
@@ -163,16 +214,28 @@ def drawn_words(draw, name):
     number = lambda *limits: str(draw.choice(limits))
     word = "=" + "".join(draw.choice("01") for _ in range(draw.randrange(4)))
     window = [number(0, 1), number(1, 2, 3), number(0, 1, 2, 3, 5), number(1, 2, 3)]
-    forms = {"step": [number(0, 1, 2, 7, 100)], "back": [number(0, 1, 5)], "machine": [word, number(0, 1, 7, 40)], "trace": [word, number(0, 1, 7, 40)], "moments": [word, number(0, 1, 7, 40)],
-             "realise": [number(1, 2, 3), number(1, 2)], "compile": [word, *window], "run": [word, *window],
-             "view": [word, *window, number(0, 1, 1000, 9999)], "session": [word, *window], "generate": ["1"]}
+    forms = {
+        "step": [number(0, 1, 2, 7, 100)],
+        "back": [number(0, 1, 5)],
+        "machine": [word, number(0, 1, 7, 40)],
+        "trace": [word, number(0, 1, 7, 40)],
+        "moments": [word, number(0, 1, 7, 40)],
+        "realise": [number(1, 2, 3), number(1, 2)],
+        "compile": [word, *window],
+        "run": [word, *window],
+        "view": [word, *window, number(0, 1, 1000, 9999)],
+        "session": [word, *window],
+        "generate": ["1"],
+    }
     words = [name, *forms.get(name, [])]
     if name == "run" and draw.random() < 0.2:
         words.append(number(0, 1, 500, 5000))
     if name == "erase" and draw.random() < 0.5:
         words += [word, number(0, 5, 200)]
     if draw.random() < 0.03:
-        words = draw.choice([words[:-1], words + ["0"], [name.upper(), *words[1:]], [*words[:-1], "01"], [*words[:-1], ""]])
+        words = draw.choice(
+            [words[:-1], words + ["0"], [name.upper(), *words[1:]], [*words[:-1], "01"], [*words[:-1], ""]]
+        )
     return words
 
 
@@ -182,11 +245,25 @@ def drawn_case(draw):
     if kind < 0.35:
         name, base, others = draw.choice(TEXT_COMMANDS), draw.choice([*ARE_TEXTS, drawn_text(draw)]), ARE_TEXTS
     elif kind < 0.75:
-        name, base, others = draw.choice(TABLE_COMMANDS), draw.choice([*ARE_TABLES, drawn_table(draw), drawn_table(draw)]), ARE_TABLES
+        name, base, others = (
+            draw.choice(TABLE_COMMANDS),
+            draw.choice([*ARE_TABLES, drawn_table(draw), drawn_table(draw)]),
+            ARE_TABLES,
+        )
     else:
         name = draw.choice(["session", "erase", "farm"])
-        base, others = draw.choice([EXAMPLES[{"session": "least-session.txt", "erase": "not-twice.txt", "farm": "two-boards.txt"}[name]],
-                                    drawn_table(draw) + b"%\n" + drawn_table(draw), drawn_text(draw) + b"%\n+ 1 3\n- 1 1\n"]), ARE_TEXTS + ARE_TABLES
+        base, others = (
+            draw.choice(
+                [
+                    EXAMPLES[
+                        {"session": "least-session.txt", "erase": "not-twice.txt", "farm": "two-boards.txt"}[name]
+                    ],
+                    drawn_table(draw) + b"%\n" + drawn_table(draw),
+                    drawn_text(draw) + b"%\n+ 1 3\n- 1 1\n",
+                ]
+            ),
+            ARE_TEXTS + ARE_TABLES,
+        )
     return drawn_words(draw, name), drawn_input(draw, base, others)
 
 
@@ -223,14 +300,29 @@ HOSTILE = [
     ("realise 3 1", EXAMPLES["two-moves.csv"], 5, "word: state"),
 ]
 # Commands whose input is tried with each of its fronts.
-CUT = [("step 1", "across.txt"), ("back 1", "two-columns.txt"), ("plan", "eight-rows.txt"), ("migrate", "two-elements.txt"),
-       ("mirror", "two-columns.txt"), ("check", "increment.csv"), ("machine =1011 40", "increment.csv"), ("bennett", "least.csv"),
-       ("standard", "not.csv"), ("reversible", "reversible.csv"), ("realise 1 1", "two-moves.csv"), ("compile = 0 2 2 1", "least.csv"),
-       ("run = 0 2 2 1", "least.csv"), ("view = 0 2 2 1 6539", "least.csv"), ("session = 0 2 2 1", "least-session.txt"),
-       ("erase =1 40", "not-twice.txt"), ("farm", "two-boards.txt")]
+CUT = [
+    ("step 1", "across.txt"),
+    ("back 1", "two-columns.txt"),
+    ("plan", "eight-rows.txt"),
+    ("migrate", "two-elements.txt"),
+    ("mirror", "two-columns.txt"),
+    ("check", "increment.csv"),
+    ("machine =1011 40", "increment.csv"),
+    ("bennett", "least.csv"),
+    ("standard", "not.csv"),
+    ("reversible", "reversible.csv"),
+    ("realise 1 1", "two-moves.csv"),
+    ("compile = 0 2 2 1", "least.csv"),
+    ("run = 0 2 2 1", "least.csv"),
+    ("view = 0 2 2 1 6539", "least.csv"),
+    ("session = 0 2 2 1", "least-session.txt"),
+    ("erase =1 40", "not-twice.txt"),
+    ("farm", "two-boards.txt"),
+]
 
 
 # ---- what an answer must be
+
 
 def form_fault(words, status, text):
     """What is wrong with an answer's form, or None."""
@@ -256,7 +348,10 @@ def law_fault(ask, words, data, text):
         return "two mirrors aren't the circuit"
     if name == "migrate" and again("migrate") != text:
         return "a migrated text isn't its own migrated text"
-    if name == "check" and again("reversible", on=ask(["bennett"], data)[1].encode()) != "deterministic yes\nreversible yes\n":
+    if (
+        name == "check"
+        and again("reversible", on=ask(["bennett"], data)[1].encode()) != "deterministic yes\nreversible yes\n"
+    ):
         return "Bennett's machine isn't reversible"
     if name == "farm" and again("farm").rpartition("%\n")[0] != data.decode().rpartition("%\n")[0]:
         return "the undoing schedule doesn't restore the boards"
@@ -274,21 +369,26 @@ def judged(ask, words, data):
 
 # ---- who answers
 
+
 def by_way(way):
     """Answers by the shared library, or by one process of node."""
+
     def ask(words, data):
         status, text = way.answer(b"\0".join(word.encode() for word in words), data)
         return status, text.decode("ascii")
+
     return ask
 
 
 def by_program(program):
     """Answers by the program, a process each."""
+
     def ask(words, data):
         ran = subprocess.run([program, *words], input=data, stdout=subprocess.PIPE, stderr=subprocess.PIPE)
         if ran.stderr:
             raise RuntimeError(f"on standard error: {ran.stderr[:80]!r}")
         return ran.returncode, ran.stdout.decode("ascii")
+
     return ask
 
 
@@ -296,7 +396,12 @@ def batch(library, program, seed, number):
     """How often each command came to each status, and the faults of so many inputs: (words, input, what is wrong). An answer
     that takes too long ends the process."""
     resource.setrlimit(resource.RLIMIT_AS, (ROOM, ROOM))
-    ask, draw, ends, found = by_way(answers.Library(library)) if library else by_program(program), random.Random(seed), Counter(), []
+    ask, draw, ends, found = (
+        by_way(answers.Library(library)) if library else by_program(program),
+        random.Random(seed),
+        Counter(),
+        [],
+    )
     for _ in range(number):
         words, data = drawn_case(draw)
         signal.alarm(SECONDS)

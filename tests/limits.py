@@ -102,7 +102,12 @@ def word_of(count, letters):
 
 def endless():
     """A machine in standard form of 200 quintuples that goes right for ever."""
-    entries = ["S,_,_,+,R", "R,_,_,+,R", *(f"U{number},_,_,0,U{number + 1}" for number in range(1, 198)), "U198,_,_,0,F"]
+    entries = [
+        "S,_,_,+,R",
+        "R,_,_,+,R",
+        *(f"U{number},_,_,0,U{number + 1}" for number in range(1, 198)),
+        "U198,_,_,0,F",
+    ]
     return ("\n".join(entries) + "\n").encode()
 
 
@@ -126,35 +131,58 @@ def a_table_of_the_most_quintuples(by):
     word = word_of(MOST_QUINTUPLES, LETTERS)
     counted = f"standard states {MOST_QUINTUPLES + 1} symbols 91 quintuples {MOST_QUINTUPLES}"
     by.expect("check", ["check"], table, [counted])
-    by.expect("one quintuple too many", ["check"], chain(MOST_QUINTUPLES + 1, LETTERS),
-              [f"text: record {MOST_QUINTUPLES + 1} too many"], TEXT)
-    by.expect("machine", ["machine", "=" + word, str(MOST_MACHINE_STEPS)], table,
-              [f"halted {MOST_QUINTUPLES}", "output ="])
+    by.expect(
+        "one quintuple too many",
+        ["check"],
+        chain(MOST_QUINTUPLES + 1, LETTERS),
+        [f"text: record {MOST_QUINTUPLES + 1} too many"],
+        TEXT,
+    )
+    by.expect(
+        "machine", ["machine", "=" + word, str(MOST_MACHINE_STEPS)], table, [f"halted {MOST_QUINTUPLES}", "output ="]
+    )
 
 
 @case
 def a_trace_of_the_most_steps(by):
     last = f"{MOST_MACHINE_STEPS} A from {MOST_MACHINE_STEPS} head {MOST_MACHINE_STEPS} cells 1: _ rule 2"
-    by.expect("a trace of as many steps as may be", ["trace", "=", str(MOST_MACHINE_STEPS)], WALKING,
-              lambda lines: len(lines) == MOST_MACHINE_STEPS + 2 and lines[-1] == f"running {MOST_MACHINE_STEPS}"
-              and lines[-2] == last, INSIDE)
+    by.expect(
+        "a trace of as many steps as may be",
+        ["trace", "=", str(MOST_MACHINE_STEPS)],
+        WALKING,
+        lambda lines: len(lines) == MOST_MACHINE_STEPS + 2
+        and lines[-1] == f"running {MOST_MACHINE_STEPS}"
+        and lines[-2] == last,
+        INSIDE,
+    )
     by.expect("a trace of one step more", ["trace", "=", str(MOST_MACHINE_STEPS + 1)], WALKING, ["usage"], USAGE)
 
 
 @case
 def a_word_of_100000_letters(by):
     first = "0 S from 0 head 0 cells 100001: _" + " 1" * 100_000 + " rule 1"
-    by.expect("a trace on a word of 100,000 letters", ["trace", "=" + "1" * 100_000, "2"], WALKING,
-              lambda lines: len(lines) == 4 and lines[0] == first, INSIDE)
-    by.expect("machine on a word of 100,000 letters", ["machine", "=" + "1" * 100_000, str(MOST_MACHINE_STEPS)],
-              increments(1), ["halted 200004", "output =1" + "0" * 100_000])
+    by.expect(
+        "a trace on a word of 100,000 letters",
+        ["trace", "=" + "1" * 100_000, "2"],
+        WALKING,
+        lambda lines: len(lines) == 4 and lines[0] == first,
+        INSIDE,
+    )
+    by.expect(
+        "machine on a word of 100,000 letters",
+        ["machine", "=" + "1" * 100_000, str(MOST_MACHINE_STEPS)],
+        increments(1),
+        ["halted 200004", "output =1" + "0" * 100_000],
+    )
 
 
 @case
 def bennett_of_the_most_quintuples(by):
     table = chain(MOST_QUINTUPLES, LETTERS)
     listed = by.expect("bennett", ["bennett"], table, lambda lines: len(lines) == 4 * MOST_QUINTUPLES + 2 * 91 + 3)
-    by.hold(f"bennett in under {BENNETT_SECONDS} seconds", by.seconds < BENNETT_SECONDS * slowness(), f"{by.seconds:.2f} s")
+    by.hold(
+        f"bennett in under {BENNETT_SECONDS} seconds", by.seconds < BENNETT_SECONDS * slowness(), f"{by.seconds:.2f} s"
+    )
     by.expect("reversible of it", ["reversible"], listed, ["deterministic yes", "reversible yes"])
     by.expect("standard", ["standard"], chain(1000, LETTERS[:3]), lambda lines: len(lines) == 1000 + 3 + 1)
 
@@ -163,15 +191,25 @@ def bennett_of_the_most_quintuples(by):
 def a_table_of_the_most_quadruples(by):
     apart = quadruples(lambda n: f"a{n}", lambda n: ["_", "/", "/"], lambda n: f"b{n}")
     by.expect("20,000 quadruples", ["reversible"], apart, ["deterministic yes", "reversible yes"])
-    by.expect("one quadruple too many", ["reversible"], apart + b"A,_,/,/,_,0,0,B\n",
-              [f"text: record {MOST_QUADRUPLES + 1} too many"], TEXT)
+    by.expect(
+        "one quadruple too many",
+        ["reversible"],
+        apart + b"A,_,/,/,_,0,0,B\n",
+        [f"text: record {MOST_QUADRUPLES + 1} too many"],
+        TEXT,
+    )
 
 
 @case
 def moments_of_the_most_steps(by):
     running = b"A,/,/,/,+,-,0,B\nB,_,/,/,_,0,0,A\nC,_,_,_,_,_,_,F\n"
-    by.expect("moments of as many steps as may be", ["moments", "=", str(MOST_MACHINE_STEPS)], running,
-              lambda lines: len(lines) == MOST_MACHINE_STEPS + 2 and lines[-1] == f"running {MOST_MACHINE_STEPS}", INSIDE)
+    by.expect(
+        "moments of as many steps as may be",
+        ["moments", "=", str(MOST_MACHINE_STEPS)],
+        running,
+        lambda lines: len(lines) == MOST_MACHINE_STEPS + 2 and lines[-1] == f"running {MOST_MACHINE_STEPS}",
+        INSIDE,
+    )
     by.expect("moments of one step more", ["moments", "=", str(MOST_MACHINE_STEPS + 1)], running, ["usage"], USAGE)
 
 
@@ -184,10 +222,20 @@ def erasing_two_large_tables(by):
     large, word = chain(2496, letters), word_of(2496, letters)
     most = 4 * (2 * 2496) + 4 * 3 + 6
     by.expect("erase", ["erase"], large + b"%\n" + large, lambda lines: len(lines) == most)
-    by.expect("too many quadruples", ["erase"], large + b"%\n" + chain(2600, letters),
-              [f"size: quadruples {4 * (2496 + 2600) + 4 * 3 + 6}"], SIZE)
-    by.expect("a run of the most steps", ["erase", "=" + word, str(MOST_MACHINE_STEPS)], large + b"%\n" + large,
-              lambda lines: lines[0].startswith("stuck G"), STUCK)
+    by.expect(
+        "too many quadruples",
+        ["erase"],
+        large + b"%\n" + chain(2600, letters),
+        [f"size: quadruples {4 * (2496 + 2600) + 4 * 3 + 6}"],
+        SIZE,
+    )
+    by.expect(
+        "a run of the most steps",
+        ["erase", "=" + word, str(MOST_MACHINE_STEPS)],
+        large + b"%\n" + large,
+        lambda lines: lines[0].startswith("stuck G"),
+        STUCK,
+    )
 
 
 @case
@@ -195,8 +243,13 @@ def erasing_on_a_long_word(by):
     copying = b"S,_,_,+,A\nA,1,1,+,A\nA,_,_,-,B\nB,1,1,-,B\nB,_,_,0,F\n"
     ones = "1" * 100_000
     steps = 4 * 2 * (2 * 100_000 + 3) + 4 * 200_000 + 10
-    by.expect("a long word", ["erase", "=" + ones, str(MOST_MACHINE_STEPS)], copying + b"%\n" + copying,
-              [f"running {MOST_MACHINE_STEPS}"] if steps > MOST_MACHINE_STEPS else [f"halted {steps}"], INSIDE)
+    by.expect(
+        "a long word",
+        ["erase", "=" + ones, str(MOST_MACHINE_STEPS)],
+        copying + b"%\n" + copying,
+        [f"running {MOST_MACHINE_STEPS}"] if steps > MOST_MACHINE_STEPS else [f"halted {steps}"],
+        INSIDE,
+    )
 
 
 # ---- circuits of the most elements, and runs of the most steps
@@ -236,8 +289,12 @@ def one_element_too_many(by):
 @case
 def a_ring_in_version_2(by):
     text = ring(list(range(RING_IN_TWO)), 2)
-    there = by.expect("a ring in version 2, once round", ["step", str(RING_IN_TWO)], text,
-                      lambda lines: lines[4] == f"steps {RING_IN_TWO}")
+    there = by.expect(
+        "a ring in version 2, once round",
+        ["step", str(RING_IN_TWO)],
+        text,
+        lambda lines: lines[4] == f"steps {RING_IN_TWO}",
+    )
     back = by.expect("and back", ["back", str(MOST_STEPS)], there, lambda lines: lines[4] == "steps 0")
     by.hold("it is the same text", back == text)
     by.hold("migrated it stays", by.answer(["migrate"], text)[0] == text)
@@ -245,15 +302,22 @@ def a_ring_in_version_2(by):
     by.hold("mirrored twice it is the same text", by.answer(["mirror"], image)[0] == text)
     by.expect("its floor plan", ["plan"], text, lambda lines: len(lines) == RING_IN_TWO + 4)
     by.expect("a farm of it alone", ["farm"], text + b"%\n+ 1 5\n", lambda lines: lines[-1] == "- 1 5")
-    by.expect("a farm with one element too many", ["farm"], text + b"%\n" + one_element() + b"%\n",
-              [f"size: elements {RING_IN_TWO + 1}"], SIZE)
+    by.expect(
+        "a farm with one element too many",
+        ["farm"],
+        text + b"%\n" + one_element() + b"%\n",
+        [f"size: elements {RING_IN_TWO + 1}"],
+        SIZE,
+    )
 
 
 @case
 def a_farm_of_1000_boards(by):
     boards = (one_element() + b"%\n") * 1000
     events = "".join(f"{'+-'[number % 3 == 2]} {number * 7 % 1000 + 1} {number % 5 + 1}\n" for number in range(100_000))
-    there = by.expect("1,000 boards under 100,000 events", ["farm"], boards + events.encode(), lambda lines: len(lines) > 8000)
+    there = by.expect(
+        "1,000 boards under 100,000 events", ["farm"], boards + events.encode(), lambda lines: len(lines) > 8000
+    )
     back = by.answer(["farm"], there)[0]
     by.hold("undone it is the same farm", back[: len(boards)] == boards)
 
@@ -263,15 +327,33 @@ def a_table_of_the_most_moves(by):
     moves = [(n % 2048 + 1, n // 2048 + 1, 2048 - n % 2048, 32 - n // 2048) for n in range(MOST_MOVES - 1)]
     moves.append((2048, 2047, 2048, 2047))
     table = "".join(f"{q},{i},{to},{out}\n" for q, i, to, out in moves)
-    bank = by.expect("realise", ["realise", "1", "1"], table.encode(), lambda lines: lines[1] == f"elements {RING_IN_TWO}")
-    by.expect("a run of at most 2^62 steps", ["step", str(MOST_STEPS)], bank, lambda lines: lines[5].startswith("left "))
+    bank = by.expect(
+        "realise", ["realise", "1", "1"], table.encode(), lambda lines: lines[1] == f"elements {RING_IN_TWO}"
+    )
+    by.expect(
+        "a run of at most 2^62 steps", ["step", str(MOST_STEPS)], bank, lambda lines: lines[5].startswith("left ")
+    )
     without = (table.replace("1,1,2048,32\n", "", 1) + "2048,2046,2048,32\n").encode()
-    by.expect("a state and a line without a move", ["realise", "1", "1"], without,
-              lambda lines: lines[1] == f"elements {RING_IN_TWO}")
-    by.expect("one move too many", ["realise", "1", "1"], (table + "1,2047,1,2047\n").encode(),
-              [f"text: record {MOST_MOVES + 1} too many"], TEXT)
-    by.expect("one line too many", ["realise", "1", "1"], without.replace(b"2048,2047,2048,2047", b"2048,2048,2048,2048"),
-              ["size: elements 4196352"], SIZE)
+    by.expect(
+        "a state and a line without a move",
+        ["realise", "1", "1"],
+        without,
+        lambda lines: lines[1] == f"elements {RING_IN_TWO}",
+    )
+    by.expect(
+        "one move too many",
+        ["realise", "1", "1"],
+        (table + "1,2047,1,2047\n").encode(),
+        [f"text: record {MOST_MOVES + 1} too many"],
+        TEXT,
+    )
+    by.expect(
+        "one line too many",
+        ["realise", "1", "1"],
+        without.replace(b"2048,2047,2048,2047", b"2048,2048,2048,2048"),
+        ["size: elements 4196352"],
+        SIZE,
+    )
 
 
 # ---- boards of the widest window, and sessions of long scripts
@@ -280,9 +362,15 @@ def a_table_of_the_most_moves(by):
 @case
 def a_board_of_the_widest_window(by):
     table = increments(1)
-    compiled = by.expect("compile", ["compile", *WIDEST], table, lambda lines: lines[1] == f"elements {WIDEST_ELEMENTS}")
-    by.expect("a text of four million elements again", ["step", "0"], compiled,
-              lambda lines: lines[1] == f"elements {WIDEST_ELEMENTS}")
+    compiled = by.expect(
+        "compile", ["compile", *WIDEST], table, lambda lines: lines[1] == f"elements {WIDEST_ELEMENTS}"
+    )
+    by.expect(
+        "a text of four million elements again",
+        ["step", "0"],
+        compiled,
+        lambda lines: lines[1] == f"elements {WIDEST_ELEMENTS}",
+    )
 
 
 @case
@@ -291,47 +379,82 @@ def runs_in_the_widest_window(by):
     by.expect("run", ["run", *WIDEST], table, lambda lines: "output =1100" in lines)
     by.expect("view", ["view", *WIDEST, str(MOST_STEPS)], table, lambda lines: "exit end" in lines)
     by.expect("one element too many", ["run", "=1011", "0", "5", "6141", "5"], table, ["size: elements 4194796"], SIZE)
-    by.expect("a breakpoint on the last element of the widest board", ["session", *WIDEST],
-              table + b"%\n" + f"break e element {last}\ngo {MOST_STEPS}\n".encode(),
-              lambda lines: lines[1].startswith(f"at {last}.") and lines[1].endswith(" break e"))
+    by.expect(
+        "a breakpoint on the last element of the widest board",
+        ["session", *WIDEST],
+        table + b"%\n" + f"break e element {last}\ngo {MOST_STEPS}\n".encode(),
+        lambda lines: lines[1].startswith(f"at {last}.") and lines[1].endswith(" break e"),
+    )
 
 
 @case
 def boards_of_long_tapes(by):
     table = increments(1)
-    by.expect("a long work tape", ["run", "=1011", "11000", "5", "11", "5"], table,
-              lambda lines: lines[0] == "elements 1004136" and lines[-1] == "output =1100")
-    by.expect("a long output tape", ["run", "=1011", "0", "5", "11", "11000"], table,
-              lambda lines: lines[0] == "elements 1003686" and lines[-1] == "output =1100")
+    by.expect(
+        "a long work tape",
+        ["run", "=1011", "11000", "5", "11", "5"],
+        table,
+        lambda lines: lines[0] == "elements 1004136" and lines[-1] == "output =1100",
+    )
+    by.expect(
+        "a long output tape",
+        ["run", "=1011", "0", "5", "11", "11000"],
+        table,
+        lambda lines: lines[0] == "elements 1003686" and lines[-1] == "output =1100",
+    )
 
 
 @case
 def boards_of_large_tables(by):
-    by.expect("a board of 100 quintuples", ["run", "=", "0", "1", "1", "1"], chain(100, LETTERS[:3]),
-              lambda lines: lines[0] == "elements 278888", STUCK)
-    by.expect("a board of 4,000 quintuples", ["run", "=", "0", "1", "1", "1"], chain(MOST_QUINTUPLES, LETTERS[:3]),
-              ["size: elements 385513088"], SIZE)
+    by.expect(
+        "a board of 100 quintuples",
+        ["run", "=", "0", "1", "1", "1"],
+        chain(100, LETTERS[:3]),
+        lambda lines: lines[0] == "elements 278888",
+        STUCK,
+    )
+    by.expect(
+        "a board of 4,000 quintuples",
+        ["run", "=", "0", "1", "1", "1"],
+        chain(MOST_QUINTUPLES, LETTERS[:3]),
+        ["size: elements 385513088"],
+        SIZE,
+    )
 
 
 @case
 def a_session_of_many_labels(by):
     labels = "".join(f"break L{number} element {number % 1000}\n" for number in range(50_000)) + "drop L0\n"
-    by.expect("a script of 50,000 labels", ["session", "=", "0", "2", "2", "1"], LEAST + b"%\n" + labels.encode(),
-              lambda lines: len(lines) == 50_001)
+    by.expect(
+        "a script of 50,000 labels",
+        ["session", "=", "0", "2", "2", "1"],
+        LEAST + b"%\n" + labels.encode(),
+        lambda lines: len(lines) == 50_001,
+    )
 
 
 @case
 def a_session_of_many_lines(by):
-    script = "".join(f"break L{number} element {number}\n" for number in range(100)) + "view\n" + "step 1\nback 1\n" * 50_000
-    by.expect("a script of 100,101 lines", ["session", "=", "0", "2", "2", "1"], LEAST + b"%\n" + script.encode(),
-              lambda lines: len(lines) == 100_000 + 100 + 7)
+    script = (
+        "".join(f"break L{number} element {number}\n" for number in range(100)) + "view\n" + "step 1\nback 1\n" * 50_000
+    )
+    by.expect(
+        "a script of 100,101 lines",
+        ["session", "=", "0", "2", "2", "1"],
+        LEAST + b"%\n" + script.encode(),
+        lambda lines: len(lines) == 100_000 + 100 + 7,
+    )
 
 
 @case
 def generated_increments(by):
     for rounds in EXPECTED:
-        by.expect(f"generate {rounds}", ["generate", str(rounds)], b"",
-                  lambda lines, rounds=rounds: [it for it in lines if not it.startswith("tape ")] == expected_lines(rounds))
+        by.expect(
+            f"generate {rounds}",
+            ["generate", str(rounds)],
+            b"",
+            lambda lines, rounds=rounds: [it for it in lines if not it.startswith("tape ")] == expected_lines(rounds),
+        )
 
 
 # ---- windows that the program finds, up to the first circuit that is too large
@@ -339,6 +462,10 @@ def generated_increments(by):
 
 @case
 def a_window_that_is_found(by):
-    by.expect("a window is found", ["run", "=1011", "auto"], increments(1),
-              lambda lines: lines[0] == "window 1 8 16 8" and lines[-1] == "output =1100")
+    by.expect(
+        "a window is found",
+        ["run", "=1011", "auto"],
+        increments(1),
+        lambda lines: lines[0] == "window 1 8 16 8" and lines[-1] == "output =1100",
+    )
     by.expect("a machine that runs on", ["run", "=", "auto"], endless(), ["size: elements 6057744"], SIZE)

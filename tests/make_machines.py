@@ -52,9 +52,11 @@ TURING = {
     "download.yaml": f"name: binary increment\nsource code: |\n{indented(INCREMENT)}{POSITIONS}",
     "download-stripped.yaml": f"name: binary increment\nsource code: |-\n{indented(INCREMENT.rstrip())}\n{POSITIONS}",
     "download-kept.yaml": f"source code: |+\n{indented(INCREMENT + chr(10) + chr(10))}{POSITIONS}",
-    "download-folded.yaml": "name: folded\nsource code: >\n" + indented(COMPLEMENT.replace("\n", "\n\n").replace("\n\n  ", "\n  ").replace("\n\n    ", "\n    ")),
+    "download-folded.yaml": "name: folded\nsource code: >\n"
+    + indented(COMPLEMENT.replace("\n", "\n\n").replace("\n\n  ", "\n  ").replace("\n\n    ", "\n    ")),
     "download-quoted.yaml": f"name: quoted\nsource code: {quoted(COMPLEMENT)}\npositions: {{}}\n",
-    "download-indented.yaml": "source code: |2\n" + indented("  # a comment first\n" + COMPLEMENT).replace("    # a", "    # a", 1),
+    "download-indented.yaml": "source code: |2\n"
+    + indented("  # a comment first\n" + COMPLEMENT).replace("    # a", "    # a", 1),
     "download-begins.yaml": f"---\n# from turingmachine.io\nname: 'it''s complement'\nsource code: |  # the machine\n{indented(COMPLEMENT, 4)}",
     "begins.yaml": f"---\n{COMPLEMENT}...\n",
     "windows.yaml": ("\ufeff" + INCREMENT).replace("\n", "\r\n"),
@@ -122,7 +124,8 @@ start state: go
 blank: ' '
 input: 101
 """,
-    "flow.yaml": "{}\n".replace("{}", "table: {go: {0: R, 1: {write: 0, R: go}, ' ': {L: stop}}, stop: {}}") + "blank: ' '\nstart state: go\n",
+    "flow.yaml": "{}\n".replace("{}", "table: {go: {0: R, 1: {write: 0, R: go}, ' ': {L: stop}}, stop: {}}")
+    + "blank: ' '\nstart state: go\n",
     "names.yaml": """blank: ' '
 start state: q_0
 table:
@@ -146,7 +149,8 @@ table:
   accept:
   reject:
 """,
-    "spaces.yaml": "\n\n" + COMPLEMENT.replace("\n", "   \n").replace("_: {L: done}", "_ :   { L :   done }  # the end"),
+    "spaces.yaml": "\n\n"
+    + COMPLEMENT.replace("\n", "   \n").replace("_: {L: done}", "_ :   { L :   done }  # the end"),
     "empty-state.yaml": COMPLEMENT.replace("done: {}", "done: ~"),
     # what is refused
     "no-halt.yaml": "blank: ' '\nstart state: a\ntable:\n  a:\n    ' ': R\n",
@@ -163,28 +167,52 @@ table:
 }
 
 
-def jflap_7(states, rules, kind="block", between="", head='<?xml version="1.0" encoding="UTF-8" standalone="no"?>', more="", comment=True):
+def jflap_7(
+    states,
+    rules,
+    kind="block",
+    between="",
+    head='<?xml version="1.0" encoding="UTF-8" standalone="no"?>',
+    more="",
+    comment=True,
+):
     """A file as JFLAP 7 writes it: states as (id, name, marks) and rules as (from, to, read, write, move)."""
-    lines = [head + ("<!--Created with JFLAP 6.4.-->" if comment else "") + f"<structure>{between}", f"\t<type>turing</type>{between}", *more.splitlines(),
-             f"\t<automaton>{between}", f"\t\t<!--The list of states.-->{between}"]
+    lines = [
+        head + ("<!--Created with JFLAP 6.4.-->" if comment else "") + f"<structure>{between}",
+        f"\t<type>turing</type>{between}",
+        *more.splitlines(),
+        f"\t<automaton>{between}",
+        f"\t\t<!--The list of states.-->{between}",
+    ]
     for number, name, marks in states:
         tag = f"\t\t\t<tag>Machine{number}</tag>{between}\n" if kind == "block" else ""
-        lines += [f'\t\t<{kind} id="{number}" name="{name}">{between}', f"{tag}\t\t\t<x>{90 + 100 * number}.0</x>{between}", f"\t\t\t<y>98.0</y>{between}",
-                  *(f"\t\t\t<{it}/>{between}" for it in marks), f"\t\t</{kind}>{between}"]
+        lines += [
+            f'\t\t<{kind} id="{number}" name="{name}">{between}',
+            f"{tag}\t\t\t<x>{90 + 100 * number}.0</x>{between}",
+            f"\t\t\t<y>98.0</y>{between}",
+            *(f"\t\t\t<{it}/>{between}" for it in marks),
+            f"\t\t</{kind}>{between}",
+        ]
     lines.append(f"\t\t<!--The list of transitions.-->{between}")
     for start, end, read, write, move in rules:
-        told = "".join(f"\t\t\t<{tag}>{text}</{tag}>{between}\n" if text else f"\t\t\t<{tag}/>{between}\n"
-                       for tag, text in (("from", start), ("to", end), ("read", read), ("write", write), ("move", move)))
+        told = "".join(
+            f"\t\t\t<{tag}>{text}</{tag}>{between}\n" if text else f"\t\t\t<{tag}/>{between}\n"
+            for tag, text in (("from", start), ("to", end), ("read", read), ("write", write), ("move", move))
+        )
         lines += [f"\t\t<transition>{between}", told.rstrip("\n"), f"\t\t</transition>{between}"]
     if kind == "block":
         lines += [f"\t\t<Machine{number}/>{between}" for number, _, _ in states]
     return "\n".join([*lines, f"\t</automaton>{between}", "</structure>", ""])
 
 
-FLIP = ([(0, "q0", ["initial"]), (1, "q1", ["final"])],
-        [("0", "0", "a", "b", "R"), ("0", "0", "b", "a", "R"), ("0", "1", "", "", "L")])
-COUNT = ([(0, "q0", ["initial"]), (1, "q1", []), (2, "q2", ["final"])],
-         [("0", "0", "1", "1", "R"), ("0", "1", "", "1", "L"), ("1", "1", "1", "1", "L"), ("1", "2", "", "", "S")])
+FLIP = (
+    [(0, "q0", ["initial"]), (1, "q1", ["final"])],
+    [("0", "0", "a", "b", "R"), ("0", "0", "b", "a", "R"), ("0", "1", "", "", "L")],
+)
+COUNT = (
+    [(0, "q0", ["initial"]), (1, "q1", []), (2, "q2", ["final"])],
+    [("0", "0", "1", "1", "R"), ("0", "1", "", "1", "L"), ("1", "1", "1", "1", "L"), ("1", "2", "", "", "S")],
+)
 
 
 def jflap_8(states, rules, kind="turing", tapes=None, blank="\u25a1"):
@@ -192,17 +220,41 @@ def jflap_8(states, rules, kind="turing", tapes=None, blank="\u25a1"):
     state = lambda number, name: f"<state><name>{name}</name><id>{number}</id></state>"
     named = {str(number): name for number, name, _ in states}
     of = lambda mark: "".join(state(number, name) for number, name, marks in states if mark in marks)
-    lines = ['<?xml version="1.0" encoding="UTF-8" standalone="no"?>', '<structure type="editor_panel">', '<structure type="transition_graph">',
-             f'<structure type="{kind}">', f'<structure type="state_set">{"".join(state(*it[:2]) for it in states)}</structure>',
-             f'<structure type="start_state">{of("initial")}</structure>', f'<structure type="final_states">{of("final")}</structure>',
-             '<structure type="input_alph"><symbol>a</symbol><symbol>b</symbol></structure>', '<structure type="transition_set">']
+    lines = [
+        '<?xml version="1.0" encoding="UTF-8" standalone="no"?>',
+        '<structure type="editor_panel">',
+        '<structure type="transition_graph">',
+        f'<structure type="{kind}">',
+        f'<structure type="state_set">{"".join(state(*it[:2]) for it in states)}</structure>',
+        f'<structure type="start_state">{of("initial")}</structure>',
+        f'<structure type="final_states">{of("final")}</structure>',
+        '<structure type="input_alph"><symbol>a</symbol><symbol>b</symbol></structure>',
+        '<structure type="transition_set">',
+    ]
     for start, end, read, write, move in rules:
-        parts = [(f"{tag}{it}", text) for it in (range(tapes) if tapes else [""])
-                 for tag, text in (("read", read or blank), ("write", write or blank), ("move", move))]
-        lines.append("<transition>" + "".join(f"<{end_}>{f'<name>{named[it]}</name><id>{it}</id>'}</{end_}>" for end_, it in (("from", start), ("to", end)))
-                     + "".join(f"<{tag}>{text}</{tag}>" for tag, text in parts) + "</transition>")
-    lines += ["</structure>", *([f"<tape_num>{tapes}</tape_num>"] if tapes else []), "</structure>", "<state_point_map/>", "</structure>",
-              "</structure>", ""]
+        parts = [
+            (f"{tag}{it}", text)
+            for it in (range(tapes) if tapes else [""])
+            for tag, text in (("read", read or blank), ("write", write or blank), ("move", move))
+        ]
+        lines.append(
+            "<transition>"
+            + "".join(
+                f"<{end_}>{f'<name>{named[it]}</name><id>{it}</id>'}</{end_}>"
+                for end_, it in (("from", start), ("to", end))
+            )
+            + "".join(f"<{tag}>{text}</{tag}>" for tag, text in parts)
+            + "</transition>"
+        )
+    lines += [
+        "</structure>",
+        *([f"<tape_num>{tapes}</tape_num>"] if tapes else []),
+        "</structure>",
+        "<state_point_map/>",
+        "</structure>",
+        "</structure>",
+        "",
+    ]
     return "\n".join(lines)
 
 
@@ -210,7 +262,8 @@ def two_tapes():
     """As JFLAP 7 writes a machine of two tapes."""
     tape = lambda number: f'<read tape="{number}">a</read><write tape="{number}"/><move tape="{number}">R</move>'
     return jflap_7(FLIP[0], [], more="\t<tapes>2</tapes>").replace(
-        "\t\t<Machine0/>", f"\t\t<transition><from>0</from><to>1</to>{tape(1)}{tape(2)}</transition>\n\t\t<Machine0/>")
+        "\t\t<Machine0/>", f"\t\t<transition><from>0</from><to>1</to>{tape(1)}{tape(2)}</transition>\n\t\t<Machine0/>"
+    )
 
 
 SAME = ([(0, "q", ["initial"]), (1, "q", []), (2, "q", ["final"])], COUNT[1])
@@ -247,7 +300,7 @@ JFLAP = {
     "finite-automaton.jff": jflap_7(*FLIP).replace(">turing<", ">fa<"),
     "finite-automaton-8.jff": jflap_8(*FLIP, kind="fsa"),
     "no-type.jff": jflap_7(*FLIP).replace("<type>turing</type>", ""),
-    "block.jff": jflap_7(*FLIP).replace("<Machine1/>", "<Machine1><block id=\"0\" name=\"q0\"/></Machine1>"),
+    "block.jff": jflap_7(*FLIP).replace("<Machine1/>", '<Machine1><block id="0" name="q0"/></Machine1>'),
     "not-a.jff": jflap_7(*FLIP).replace("<read>a</read>", "<read>!a</read>"),
     "any.jff": jflap_7(*FLIP).replace("<write>a</write>", "<write>~</write>"),
     "move.jff": jflap_7(*FLIP).replace("<move>L</move>", "<move>U</move>"),
@@ -320,7 +373,9 @@ MORPHETT = {
     "any-both.txt": "0 1 1 r 1\n1 1 1 r 0\n* * * l halt\n",
     "same-state.txt": "0 0 1 r *\n0 1 0 r *\n0 _ _ l halt\n",
     "stays.txt": "0 0 1 * go\n0 1 0 * go\n0 _ _ l halt\ngo * * r 0\n",
-    "named.txt": FLIPPING.replace("0 0 1 r 0", "start 0 1 r start").replace("0 1 0 r 0", "start 1 0 r start").replace("0 _ *", "start _ *"),
+    "named.txt": FLIPPING.replace("0 0 1 r 0", "start 0 1 r start")
+    .replace("0 1 0 r 0", "start 1 0 r start")
+    .replace("0 _ *", "start _ *"),
     "names.txt": FLIPPING.replace("0 _ * l halt", "0 _ * l q_back\nq_back * * l q_back\nq_back _ _ r halt"),
     "last-without-end.txt": ADDING.rstrip(),
     "after-halt.txt": ADDING + "halt 1 1 r 0\n",
@@ -336,12 +391,36 @@ MORPHETT = {
 }
 
 LINES = [
-    "1RB1LB_1LA1RZ", "1RB1RZ_1LB0RC_1LC1LA", "1RB1RZ_0RC1RB_1LC1LA", "1RB1LB_1LA0LC_1RZ1LD_1RD0RA", "1RB1LC_1RC1RB_1RD0LE_1LA1LD_1RZ0LA",
-    "1RB2LB1RZ_2LA2RB1LB", "1RB2LA1RA1RA_1LB1LA3RB1RZ", "1RB---_1LA0RB", "1RB1LA_0LA---", "1RB0LC_1LA1RC_1RZ1LB", "1RB1LC_1LB1RA_1LA1RZ",
-    "1RB1RH_1LB0RC_1LC1LA", "1RB1LB_1LA0LC_---1LD_1RD0RA", "1RB1LD_1RC0LA_0LB1RZ_1LA1LC", "1RB0RB_1LA1RZ", "1RB1RZ_1LA1LB", "0RB1LA_1LA1RZ",
-    "1RB1RZ_0LB1RA", "1LB1RB_1RA1RZ", "1RB1LE_0RC0RB_1RD0LA_1LD1LB_---0RC", "1RB2LB1RZ_2LA2RB---", "1RZ", "1RB3RB5RZ0LA1RB2LA_2LA2RA4RB1RZ0LB4RA",
+    "1RB1LB_1LA1RZ",
+    "1RB1RZ_1LB0RC_1LC1LA",
+    "1RB1RZ_0RC1RB_1LC1LA",
+    "1RB1LB_1LA0LC_1RZ1LD_1RD0RA",
+    "1RB1LC_1RC1RB_1RD0LE_1LA1LD_1RZ0LA",
+    "1RB2LB1RZ_2LA2RB1LB",
+    "1RB2LA1RA1RA_1LB1LA3RB1RZ",
+    "1RB---_1LA0RB",
+    "1RB1LA_0LA---",
+    "1RB0LC_1LA1RC_1RZ1LB",
+    "1RB1LC_1LB1RA_1LA1RZ",
+    "1RB1RH_1LB0RC_1LC1LA",
+    "1RB1LB_1LA0LC_---1LD_1RD0RA",
+    "1RB1LD_1RC0LA_0LB1RZ_1LA1LC",
+    "1RB0RB_1LA1RZ",
+    "1RB1RZ_1LA1LB",
+    "0RB1LA_1LA1RZ",
+    "1RB1RZ_0LB1RA",
+    "1LB1RB_1RA1RZ",
+    "1RB1LE_0RC0RB_1RD0LA_1LD1LB_---0RC",
+    "1RB2LB1RZ_2LA2RB---",
+    "1RZ",
+    "1RB3RB5RZ0LA1RB2LA_2LA2RA4RB1RZ0LB4RA",
 ]
-REFUSED = {"no-halt.txt": "1RB1LA_1LA1RB", "uneven.txt": "1RB1LB_1LA", "symbol.txt": "1RB1LB_3LA1RZ", "symbols.txt": "1RA" * 11}
+REFUSED = {
+    "no-halt.txt": "1RB1LA_1LA1RB",
+    "uneven.txt": "1RB1LB_1LA",
+    "symbol.txt": "1RB1LB_3LA1RZ",
+    "symbols.txt": "1RA" * 11,
+}
 
 NONE = {
     "table.csv": "S,_,_,+,T\nT,_,_,0,F\n",
@@ -349,7 +428,7 @@ NONE = {
     "machine.json": '{"blank": " ", "start state": "a", "table": {"a": {"0": "R"}}}\n',
     "list.json": '["1RB1LB", "1LA1RZ"]\n',
     "page.html": "<!DOCTYPE html>\n<html><body><p>1RB1LB_1LA1RZ</p></body></html>\n",
-    "other.xml": "<?xml version=\"1.0\"?>\n<machine><state/></machine>\n",
+    "other.xml": '<?xml version="1.0"?>\n<machine><state/></machine>\n',
     "words.txt": "A machine that adds one.\n",
     "empty.txt": "",
     "blank.txt": "\n\n  \n",
@@ -361,7 +440,13 @@ NONE = {
 
 def all_files():
     lines = {f"line-{number:02}.txt": line + "\n" for number, line in enumerate(LINES, 1)}
-    return {"turingmachine.io": TURING, "jflap": JFLAP, "morphett": MORPHETT, "bbchallenge": {**lines, **REFUSED}, "none": NONE}
+    return {
+        "turingmachine.io": TURING,
+        "jflap": JFLAP,
+        "morphett": MORPHETT,
+        "bbchallenge": {**lines, **REFUSED},
+        "none": NONE,
+    }
 
 
 def main():

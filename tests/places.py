@@ -18,8 +18,11 @@ CACHE = os.path.join(os.environ.get("XDG_CACHE_HOME") or os.path.expanduser("~/.
 # The folders of a machine's own commands, as every user has them on the path.
 SYSTEM = ["/usr/local/bin", "/usr/bin", "/bin", "/usr/sbin", "/sbin"]
 # What a machine may lack, by the names that its commands begin with.
-TOOLS = {"rt": r"rt(-.*)?|rattle(-.*)?", "node": r"node|nodejs|npm|npx",
-         "python": r"python.*|pip.*|pydoc.*|pytest.*|py\.test.*|idle.*"}
+TOOLS = {
+    "rt": r"rt(-.*)?|rattle(-.*)?",
+    "node": r"node|nodejs|npm|npx",
+    "python": r"python.*|pip.*|pydoc.*|pytest.*|py\.test.*|idle.*",
+}
 PROGRAM = os.path.join("crates", "bn_main", "out", "bn_main")
 LIST = os.path.join("crates", "bn_main", "out", "sources.sha256")
 # README's first command, and its answer.
@@ -83,8 +86,9 @@ def run(words, path=os.defpath, cwd=TOP, seconds=120, env=None, **more):
     one is given."""
     if "input" not in more and "stdin" not in more:
         more["stdin"] = subprocess.DEVNULL
-    return subprocess.run(words, cwd=cwd, env=env or environment(path), capture_output=True, text=True, timeout=seconds,
-                          **more)
+    return subprocess.run(
+        words, cwd=cwd, env=env or environment(path), capture_output=True, text=True, timeout=seconds, **more
+    )
 
 
 class Spent:
@@ -168,9 +172,12 @@ def pythons(least=(3, 9)):
     """Every Python from this version on that is found, a path for each: on the path, of the system, and of pyenv."""
     pyenv = os.environ.get("PYENV_ROOT") or os.path.expanduser("~/.pyenv")
     found = {}
-    for path in [*(f"/usr/bin/python3.{it}" for it in range(9, 20)),
-                 *sorted(glob.glob(f"{pyenv}/versions/3.*/bin/python3")),
-                 *(shutil.which(f"python3.{it}") for it in range(9, 20)), shutil.which("python3")]:
+    for path in [
+        *(f"/usr/bin/python3.{it}" for it in range(9, 20)),
+        *sorted(glob.glob(f"{pyenv}/versions/3.*/bin/python3")),
+        *(shutil.which(f"python3.{it}") for it in range(9, 20)),
+        shutil.which("python3"),
+    ]:
         version = path and os.path.exists(path) and version_of(path)
         if version and version >= least:
             found.setdefault(version[:2], path)

@@ -51,6 +51,7 @@ def bank(states, lines, marked, seed):
 
     def element(state, row):
         return state * (lines + 1) + row
+
     rows = []
     for state in range(states):
         for row in range(lines):
@@ -59,8 +60,12 @@ def bank(states, lines, marked, seed):
             goal = moves[(state, row)]
             rows.append(("V", [north, east, Line(element(state, row + 1), "n"), Line(element(*goal), "e")]))
         bottom = element(state, lines)
-        rows.append(("H" if state == marked else "V",
-                     [Line(bottom - 1, "s"), None, Line(bottom, "s"), Line(element(state, 0), "n")]))
+        rows.append(
+            (
+                "H" if state == marked else "V",
+                [Line(bottom - 1, "s"), None, Line(bottom, "s"), Line(element(state, 0), "n")],
+            )
+        )
     return read_configuration(text_of(rows, Line(0, "w"), Line(element(states - 1, 0), "e"), Line(0, "w")))
 
 

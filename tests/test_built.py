@@ -53,8 +53,9 @@ def test_times_of_files_say_nothing(built):
     assert not counts(built)
 
 
-@pytest.mark.parametrize("name", ["crates/bn_io/src/lib.rt~", "crates/bn_main/specs/.Lib.antt.swp",
-                                  "crates/bn_io/src/notes.txt"])
+@pytest.mark.parametrize(
+    "name", ["crates/bn_io/src/lib.rt~", "crates/bn_main/specs/.Lib.antt.swp", "crates/bn_io/src/notes.txt"]
+)
 def test_an_untracked_file_beside_the_sources_disturbs_nothing(built, name):
     places.write(os.path.join(built, name), "what an editor leaves\n")
     assert counts(built)
@@ -101,7 +102,10 @@ def test_the_workbench_without_the_toolchain_names_what_answers(clone, machine, 
 
 def test_the_workbench_that_builds_names_what_answers_before(own_clone, machine):
     """The toolchain's stand-in builds nothing: what is said before it fails is what matters."""
-    ran = run([os.path.join(own_clone, "workbench"), "step", "1"], path=machine(lacks=["rt", "node"], rt="#!/bin/sh\nexit 1\n"))
+    ran = run(
+        [os.path.join(own_clone, "workbench"), "step", "1"],
+        path=machine(lacks=["rt", "node"], rt="#!/bin/sh\nexit 1\n"),
+    )
     assert ran.returncode == 1 and "an answer before that, in a minute or two: ./try step 1 < FILE\n" in ran.stderr
 
 

@@ -18,8 +18,25 @@ from places import TOP, crates, rooms, text_of
 ARCHITECTURE = "docs/ARCHITECTURE.md"
 OF_OTHER_DAYS = ["docs/CHECK-TIMES.md"]
 MOST_CHAIN = 13
-PLACES = ["*.md", "docs/*.md", "docs/*.1", "examples/*.md", "python/*.md", "js/*.md", "page/*.md", "check/*", "tests/*.py", "tests/*/*.py", "embed/*",
-          "tools/*", "tools/*/*", "bench/*.py", "workbench", "try", ".ci/run"]
+PLACES = [
+    "*.md",
+    "docs/*.md",
+    "docs/*.1",
+    "examples/*.md",
+    "python/*.md",
+    "js/*.md",
+    "page/*.md",
+    "check/*",
+    "tests/*.py",
+    "tests/*/*.py",
+    "embed/*",
+    "tools/*",
+    "tools/*/*",
+    "bench/*.py",
+    "workbench",
+    "try",
+    ".ci/run",
+]
 
 
 def uses():
@@ -35,10 +52,12 @@ def uses():
 def longest_chain(below):
     """The crates of a longest chain, from the top down."""
     chains = {}
+
     def chain(crate):
         if crate not in chains:
             chains[crate] = [crate, *max(map(chain, below[crate]), key=len, default=[])]
         return chains[crate]
+
     return max(map(chain, below), key=len)
 
 
@@ -85,7 +104,9 @@ ROOMS = rooms()
 
 
 def test_the_list_has_each_folder_and_no_other():
-    assert {os.path.basename(os.path.dirname(path)) for path in glob.glob(os.path.join(TOP, "crates", "*", "src"))} == set(crates())
+    assert {
+        os.path.basename(os.path.dirname(path)) for path in glob.glob(os.path.join(TOP, "crates", "*", "src"))
+    } == set(crates())
 
 
 def test_no_chain_of_crates_makes_the_first_build_slow():
@@ -96,7 +117,9 @@ def test_the_picture_has_the_rooms():
     assert sorted(name for floor in drawn() for name, _ in floor) == sorted(room for room, _, _ in ROOMS)
 
 
-@pytest.mark.parametrize("room, of_room", [(room, of_room) for room, _, of_room in ROOMS], ids=[room for room, _, _ in ROOMS])
+@pytest.mark.parametrize(
+    "room, of_room", [(room, of_room) for room, _, of_room in ROOMS], ids=[room for room, _, _ in ROOMS]
+)
 def test_the_picture_has_the_crates_of_a_room(room, of_room):
     names = dict(found for floor in drawn() for found in floor)
     assert sorted(written_out(names.get(room, []), of_room)) == sorted(of_room)
@@ -129,10 +152,15 @@ def test_the_number_of_crates_is_told():
     assert re.findall(r"^(\d+) crates", text_of(ARCHITECTURE), flags=re.M)[:1] == [str(len(crates()))]
 
 
-PAGES = sorted(os.path.relpath(path, TOP) for path in {path for place in PLACES for path in glob.glob(os.path.join(TOP, place))}
-               if os.path.isfile(path))
+PAGES = sorted(
+    os.path.relpath(path, TOP)
+    for path in {path for place in PLACES for path in glob.glob(os.path.join(TOP, place))}
+    if os.path.isfile(path)
+)
 # The tables of crates: the page, and the rows.
-TABLES = [(page, rows) for page in PAGES if page.endswith(".md") for head, rows in tables(text_of(page)) if head == "Crate"]
+TABLES = [
+    (page, rows) for page in PAGES if page.endswith(".md") for head, rows in tables(text_of(page)) if head == "Crate"
+]
 
 
 @pytest.mark.parametrize("page, rows", TABLES, ids=[page for page, _ in TABLES])
@@ -140,11 +168,17 @@ def test_a_table_of_crates_has_each_in_order(page, rows):
     flat = [it for row in rows for it in re.findall(r"bn_\w+", row[0])]
     assert flat == crates()
     said = {room: what for room, what, _ in ROOMS}
-    told = {re.fullmatch(r"\*\*(\w+)\*\*", row[0])[1]: row[1] for row in rows if re.fullmatch(r"\*\*(\w+)\*\*", row[0]) and len(row) > 1}
+    told = {
+        re.fullmatch(r"\*\*(\w+)\*\*", row[0])[1]: row[1]
+        for row in rows
+        if re.fullmatch(r"\*\*(\w+)\*\*", row[0]) and len(row) > 1
+    }
     assert told == {room: said.get(room) for room in told}
 
 
 @pytest.mark.parametrize("page", [it for it in PAGES if it not in OF_OTHER_DAYS])
 def test_each_name_of_a_crate_is_that_of_one(page):
     found = sorted(set(re.findall(r"\bbn_[a-z]\w*", text_of(page))) - {"bn_x"})
-    assert not [it for it in found if not any(crate == it or it.endswith("_") and crate.startswith(it) for crate in crates())]
+    assert not [
+        it for it in found if not any(crate == it or it.endswith("_") and crate.startswith(it) for crate in crates())
+    ]

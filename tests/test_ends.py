@@ -31,9 +31,13 @@ NUMBER = 400
 
 def drawn_machine(draw):
     """Quintuples in standard form of up to three states and two letters between the start and the end."""
-    states, letters = ["A", "B", "C"][:draw.randrange(1, 4)], "_01"
-    rows = [(state, read, draw.choice(letters), draw.choice("-0++"), draw.choice(states + ["H"]))
-            for state in states for read in letters if draw.random() < 0.85]
+    states, letters = ["A", "B", "C"][: draw.randrange(1, 4)], "_01"
+    rows = [
+        (state, read, draw.choice(letters), draw.choice("-0++"), draw.choice(states + ["H"]))
+        for state in states
+        for read in letters
+        if draw.random() < 0.85
+    ]
     return [("S", "_", "_", "+", "A"), *rows, ("H", "_", "_", "0", "F")]
 
 
@@ -65,7 +69,7 @@ def copied(work, numbers, window):
         output += letter
     history_tape, start = history(numbers, len(numbers)), work.head
     for cell in range(1, len(output) + 2):
-        copy = Tape(output[:cell - 1], cell - 1)
+        copy = Tape(output[: cell - 1], cell - 1)
         if start + cell > right:
             work.head = None
             return "window 1 right", (work, history_tape, copy), None
@@ -97,7 +101,12 @@ def ended(rows, word, window):
         head = work.head + SHIFTS[shift]
         if not -left <= head <= right:
             work.head = None
-            return f"window 1 {'left' if head < 0 else 'right'}", (work, history(numbers, len(numbers) + 1), Tape()), None, len(numbers)
+            return (
+                f"window 1 {'left' if head < 0 else 'right'}",
+                (work, history(numbers, len(numbers) + 1), Tape()),
+                None,
+                len(numbers),
+            )
         work.head, state = head, after
         numbers.append(number)
     raise AssertionError("the history ends every run")
@@ -145,11 +154,23 @@ def test_what_a_run_ends_with_is_what_the_machine_alone_tells(drawn, answering):
     rows, word, window = drawn
     table = "".join(",".join(row) + "\n" for row in rows).encode()
     status, lines = told(answers.answer(["run", f"={word}", *map(str, window)], table))
-    assert lines == expected(rows, word, window), f"run ={word} {' '.join(map(str, window))} of {table!r}: status {status}"
+    assert lines == expected(
+        rows, word, window
+    ), f"run ={word} {' '.join(map(str, window))} of {table!r}: status {status}"
 
 
 def test_each_kind_of_exit_is_drawn(pytestconfig):
     """Of runs as many as are drawn by itself each kind is among them."""
     kinds = {re.sub(r"stuck .*", "stuck", expected(*run)[1]) for run in drawn_runs(pytestconfig)}
-    assert kinds == {"exit end", "exit stuck", "exit window 1 left", "exit window 1 right", "exit window 2 right",
-                     "exit window 3 right"} or (pytestconfig.getoption("--drawn") or NUMBER) < NUMBER
+    assert (
+        kinds
+        == {
+            "exit end",
+            "exit stuck",
+            "exit window 1 left",
+            "exit window 1 right",
+            "exit window 2 right",
+            "exit window 3 right",
+        }
+        or (pytestconfig.getoption("--drawn") or NUMBER) < NUMBER
+    )

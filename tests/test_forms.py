@@ -17,13 +17,23 @@ FRONT = "tools/lib/front.sh"
 FORMATS = "docs/FORMATS.md"
 MAN_PAGE = "docs/workbench.1"
 # The kind of word that stands for each letter of a form.
-KINDS = {**dict.fromkeys(["=W", "=W1", "=W2", "=W3"], "Letters"), "auto": "Auto", "E": "Count greatest", "Q": "Ordinal MOST_COUNT", "I": "Ordinal MOST_COUNT", "k": "Ordinal MOST_INCREMENTS",
-         **dict.fromkeys(["l1", "r1", "n", "r3"], "Count MOST_COUNT")}
+KINDS = {
+    **dict.fromkeys(["=W", "=W1", "=W2", "=W3"], "Letters"),
+    "auto": "Auto",
+    "E": "Count greatest",
+    "Q": "Ordinal MOST_COUNT",
+    "I": "Ordinal MOST_COUNT",
+    "k": "Ordinal MOST_INCREMENTS",
+    **dict.fromkeys(["l1", "r1", "n", "r3"], "Count MOST_COUNT"),
+}
 # Words that have no form, and what is said to them in one line.
 FAULTS = [
     ([], "no command is named"),
     (["check", "examples/least.csv"], "examples/least.csv is a file: write < examples/least.csv"),
-    (["examples/least.csv"], "examples/least.csv is a file: name a command first, and give it the file by < examples/least.csv"),
+    (
+        ["examples/least.csv"],
+        "examples/least.csv is a file: name a command first, and give it the file by < examples/least.csv",
+    ),
     (["generate", "examples/least.csv"], "examples/least.csv is a file, and generate reads none"),
     (["generate", "examples"], "examples is a folder, and generate reads none"),
     (["check", "."], ". is a folder: check reads a file, by < FILE"),
@@ -52,12 +62,15 @@ FAULTS = [
     (["machine", "=1011"], "as many words are wanted as in `machine =W n`"),
     (["erase", "=1"], "as many words are wanted as in `erase` or `erase =W n`"),
 ]
-GREATEST = {"greatest": 2 ** 62, "MOST_COUNT": 2 ** 20}
+GREATEST = {"greatest": 2**62, "MOST_COUNT": 2**20}
 
 
 def kind_of(number, allowed):
     """The kind of a number's word, by the limits of what is allowed."""
-    for limit, kind in [(rf"\bIsOrdinal {number}\b", "Ordinal MOST_COUNT"), (rf"\bIsRoundCount {number}\b", "Ordinal MOST_INCREMENTS")]:
+    for limit, kind in [
+        (rf"\bIsOrdinal {number}\b", "Ordinal MOST_COUNT"),
+        (rf"\bIsRoundCount {number}\b", "Ordinal MOST_INCREMENTS"),
+    ]:
         if re.search(limit, allowed):
             return kind
     return "Count " + re.search(rf"\b{number} ≤ (\w+)", allowed)[1]
@@ -111,7 +124,9 @@ def synopsis(page):
     """The lines of the man page's synopsis."""
     part = re.search(r"^\.SH SYNOPSIS\n(.*?)^\.SH", page, flags=re.M | re.S)[1]
     for form in part.split(".br\n"):
-        yield " ".join(unquoted(*it) for it in re.findall(r"^\.(\w+) (.*)$", form, flags=re.M)).replace("./workbench ", "")
+        yield " ".join(unquoted(*it) for it in re.findall(r"^\.(\w+) (.*)$", form, flags=re.M)).replace(
+            "./workbench ", ""
+        )
 
 
 def described(page):
@@ -165,7 +180,9 @@ def test_the_commands_that_read_nothing_are_the_programs():
 
 def said_by_bash(script, *words):
     """What a line of bash prints, from the top."""
-    ran = subprocess.run(["bash", "-c", script, "-", *words], cwd=TOP, stdout=subprocess.PIPE, stderr=subprocess.STDOUT, text=True)
+    ran = subprocess.run(
+        ["bash", "-c", script, "-", *words], cwd=TOP, stdout=subprocess.PIPE, stderr=subprocess.STDOUT, text=True
+    )
     return ran.stdout.rstrip("\n")
 
 

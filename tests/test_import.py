@@ -22,38 +22,100 @@ FLIP_AB = {"abb": "baa", "a": "b"}
 COUNT = {"11": "111", "": "1"}
 # What machines give, by what they were written for: the output for each word.
 GIVE = {
-    **{f"turingmachine.io/{name}": ADD for name in (
-        "increment.yaml", "download.yaml", "download-stripped.yaml", "download-kept.yaml", "windows.yaml")},
-    **{f"turingmachine.io/{name}": FLIP for name in (
-        "complement.yaml", "download-folded.yaml", "download-quoted.yaml", "download-indented.yaml",
-        "download-begins.yaml", "begins.yaml",
-        "two-lines.yaml", "quotes.yaml", "spaces.yaml", "empty-state.yaml")},
+    **{
+        f"turingmachine.io/{name}": ADD
+        for name in ("increment.yaml", "download.yaml", "download-stripped.yaml", "download-kept.yaml", "windows.yaml")
+    },
+    **{
+        f"turingmachine.io/{name}": FLIP
+        for name in (
+            "complement.yaml",
+            "download-folded.yaml",
+            "download-quoted.yaml",
+            "download-indented.yaml",
+            "download-begins.yaml",
+            "begins.yaml",
+            "two-lines.yaml",
+            "quotes.yaml",
+            "spaces.yaml",
+            "empty-state.yaml",
+        )
+    },
     "turingmachine.io/next-line.yaml": {"1011": "0100"},
     "turingmachine.io/keys.yaml": {"1011": "1011"},
     "turingmachine.io/synonyms.yaml": {"ab": "ab"},
     "turingmachine.io/table-first.yaml": {"101": "101"},
     "turingmachine.io/flow.yaml": {"101": "000"},
     "turingmachine.io/names.yaml": {"111": "111"},
-    **{f"jflap/{name}": FLIP_AB for name in (
-        "flip-7.jff", "flip-7-returns.jff", "flip-4.jff", "flip-8.jff", "empty-blank-8.jff", "square-blank.jff",
-        "no-head.jff", "windows.jff",
-        "names.jff", "no-names.jff", "single-quotes.jff", "tag.jff", "one-tape-7.jff", "cdata.jff")},
-    **{f"jflap/{name}": COUNT for name in (
-        "count-7.jff", "count-4.jff", "count-8.jff", "count-8-tm.jff", "one-tape-8.jff", "same-names.jff",
-        "same-names-8.jff", "same-names-again.jff")},
-    **{f"morphett/{name}": ADD for name in (
-        "add.txt", "comments.txt", "breakpoints.txt", "windows.txt", "tabs.txt", "capitals.txt", "wide.txt",
-        "last-without-end.txt", "after-halt.txt")},
-    **{f"morphett/{name}": FLIP for name in (
-        "flip.txt", "halts.txt", "halts-capital.txt", "any-symbol.txt", "same-state.txt", "stays.txt", "named.txt")},
+    **{
+        f"jflap/{name}": FLIP_AB
+        for name in (
+            "flip-7.jff",
+            "flip-7-returns.jff",
+            "flip-4.jff",
+            "flip-8.jff",
+            "empty-blank-8.jff",
+            "square-blank.jff",
+            "no-head.jff",
+            "windows.jff",
+            "names.jff",
+            "no-names.jff",
+            "single-quotes.jff",
+            "tag.jff",
+            "one-tape-7.jff",
+            "cdata.jff",
+        )
+    },
+    **{
+        f"jflap/{name}": COUNT
+        for name in (
+            "count-7.jff",
+            "count-4.jff",
+            "count-8.jff",
+            "count-8-tm.jff",
+            "one-tape-8.jff",
+            "same-names.jff",
+            "same-names-8.jff",
+            "same-names-again.jff",
+        )
+    },
+    **{
+        f"morphett/{name}": ADD
+        for name in (
+            "add.txt",
+            "comments.txt",
+            "breakpoints.txt",
+            "windows.txt",
+            "tabs.txt",
+            "capitals.txt",
+            "wide.txt",
+            "last-without-end.txt",
+            "after-halt.txt",
+        )
+    },
+    **{
+        f"morphett/{name}": FLIP
+        for name in (
+            "flip.txt",
+            "halts.txt",
+            "halts-capital.txt",
+            "any-symbol.txt",
+            "same-state.txt",
+            "stays.txt",
+            "named.txt",
+        )
+    },
     "morphett/any-state.txt": {"111": "111"},
     "morphett/names.txt": {"10": "01"},
 }
 # How many steps machines of bbchallenge make on the blank tape.
 STEPS = {"line-01.txt": 6, "line-02.txt": 21, "line-04.txt": 107, "line-06.txt": 38}
 # The halting state, where it has to be named.
-HALT = {"morphett/palindrome.txt": "halt-accept", "morphett/two-halts.txt": "halt",
-        "turingmachine.io/verdicts.yaml": "accept"}
+HALT = {
+    "morphett/palindrome.txt": "halt-accept",
+    "morphett/two-halts.txt": "halt",
+    "turingmachine.io/verdicts.yaml": "accept",
+}
 WORDS = {"morphett/palindrome.txt": ["1001", "10"], "turingmachine.io/verdicts.yaml": ["11", "1"]}
 
 
@@ -69,8 +131,9 @@ def by_page(any_node):
 
 def told_by(node, script, given):
     """What a script of this folder says to what it is given, by node."""
-    ran = subprocess.run([node, os.path.join(places.TOP, "tests", script)], input=json.dumps(given), capture_output=True,
-                         text=True)
+    ran = subprocess.run(
+        [node, os.path.join(places.TOP, "tests", script)], input=json.dumps(given), capture_output=True, text=True
+    )
     assert ran.returncode == 0, ran.stderr[-2000:]
     return json.loads(ran.stdout)
 
@@ -81,6 +144,7 @@ def reader():
     sys.path.insert(0, os.path.join(places.TOP, "tools", "lib"))
     import machine_files
     from workbench_text import Fault
+
     return machine_files, Fault
 
 
@@ -121,9 +185,30 @@ def test_page_and_tools_read_alike(by_page, reader, path):
 
 
 # What is put into a file at random.
-PIECES = [*"[]{}:,'\"#|>-? \n\t&*~;!<>/_01ab\\%@`=\r", "---", "? ", "<read>", "</read>", '<state id="0"/>', "&amp;",
-          "source code: |\n", "\u25a1", "table:", "  ", "halt", "<![CDATA[", "]]>", "<!--", "-->", "null", "{R: a}", "[a, b]",
-          "* * * r 0", "\xe9", "\U0001f600"]
+PIECES = [
+    *"[]{}:,'\"#|>-? \n\t&*~;!<>/_01ab\\%@`=\r",
+    "---",
+    "? ",
+    "<read>",
+    "</read>",
+    '<state id="0"/>',
+    "&amp;",
+    "source code: |\n",
+    "\u25a1",
+    "table:",
+    "  ",
+    "halt",
+    "<![CDATA[",
+    "]]>",
+    "<!--",
+    "-->",
+    "null",
+    "{R: a}",
+    "[a, b]",
+    "* * * r 0",
+    "\xe9",
+    "\U0001f600",
+]
 
 
 def changed(draw, texts):
@@ -132,7 +217,7 @@ def changed(draw, texts):
     for _ in range(draw.randint(1, 4)):
         at, other = draw.randrange(len(text) + 1), draw.choice(texts)
         begin, behind = draw.randrange(len(other) + 1), at + draw.choice([0, 0, draw.randint(1, 6)])
-        put = draw.choice([draw.choice(PIECES), "", other[begin:begin + draw.randint(1, 40)]])
+        put = draw.choice([draw.choice(PIECES), "", other[begin : begin + draw.randint(1, 40)]])
         text = text[:at] + put + text[behind:]
     return text
 
@@ -166,7 +251,7 @@ def champion(line):
     line alone."""
     groups, tape, at, state, steps = line.split("_"), {}, 0, 0, 0
     while 0 <= state < len(groups):
-        rule = groups[state][3 * tape.get(at, 0):][:3]
+        rule = groups[state][3 * tape.get(at, 0) :][:3]
         tape[at], at, state, steps = int(rule[0]), at + (1 if rule[1] == "R" else -1), ord(rule[2]) - 65, steps + 1
     letters = 0
     while tape.get(at - letters, 0):
@@ -186,7 +271,13 @@ def test_a_line_of_bbchallenge_makes_as_many_steps(by_page, name):
 
 @pytest.mark.parametrize("path", [f"none/{it}" for it in all_files()["none"]] + ["turingmachine.io/top-list.yaml"])
 def test_what_is_none_of_the_four_says_so_and_names_them(by_page, path):
-    for name in ("turingmachine.io", "JFLAP 4 to 8", "Morphett's simulator", "one line of bbchallenge", "none of the four"):
+    for name in (
+        "turingmachine.io",
+        "JFLAP 4 to 8",
+        "Morphett's simulator",
+        "one line of bbchallenge",
+        "none of the four",
+    ):
         assert name in by_page[path]["fault"]
 
 
@@ -197,8 +288,11 @@ def test_a_machine_of_two_tapes_is_refused_plainly(by_page):
 
 
 def test_states_of_one_name_are_told_apart(by_page):
-    for path, names in (("jflap/same-names.jff", ["q", "q.1", "q.2"]), ("jflap/same-names-8.jff", ["q", "q.1", "q.2"]),
-                        ("jflap/same-names-again.jff", ["q", "q.2", "q.2.2"])):
+    for path, names in (
+        ("jflap/same-names.jff", ["q", "q.1", "q.2"]),
+        ("jflap/same-names-8.jff", ["q", "q.1", "q.2"]),
+        ("jflap/same-names-again.jff", ["q", "q.2", "q.2.2"]),
+    ):
         assert sorted(by_page[path]["names"]) == names
         assert len(set(by_page[path]["table"].replace("\n", ",").split(",")) & {*names}) == 3
         rows = [line.split(",") for line in by_page[path]["opened"]["table"].splitlines()]
@@ -226,9 +320,20 @@ def imported(path, *words):
     return subprocess.run([tool, *words, os.path.join(FOLDER, path)], capture_output=True, text=True)
 
 
-@pytest.mark.parametrize("path", ["jflap/tag.jff", "jflap/two-tapes.jff", "turingmachine.io/download.yaml",
-                                  "turingmachine.io/two-lines.yaml", "none/table.csv", "none/machine.json",
-                                  "jflap/flip-8.jff", "morphett/add.txt", "bbchallenge/line-05.txt"])
+@pytest.mark.parametrize(
+    "path",
+    [
+        "jflap/tag.jff",
+        "jflap/two-tapes.jff",
+        "turingmachine.io/download.yaml",
+        "turingmachine.io/two-lines.yaml",
+        "none/table.csv",
+        "none/machine.json",
+        "jflap/flip-8.jff",
+        "morphett/add.txt",
+        "bbchallenge/line-05.txt",
+    ],
+)
 def test_the_tool_gives_a_table_or_one_line(path):
     ran = imported(path)
     assert ran.returncode in (0, 2) and "Traceback" not in ran.stderr

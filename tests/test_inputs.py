@@ -69,8 +69,10 @@ def shares(request):
     told = ["--library", library] if library else [request.getfixturevalue("proved_program")]
     drawn = request.config.getoption("--drawn") or (BY_LIBRARY if library else BY_PROCESSES)
     seed = SEED + request.config.getoption("--seed") - 1
-    calls = [[sys.executable, "-B", inputs.__file__, str(seed), str(first), str(SHARES), str(drawn), *told]
-             for first in range(SHARES)]
+    calls = [
+        [sys.executable, "-B", inputs.__file__, str(seed), str(first), str(SHARES), str(drawn), *told]
+        for first in range(SHARES)
+    ]
     environment = {**os.environ, "PYTHONPATH": os.path.join(places.TOP, "tests")}
     ran = [subprocess.Popen(call, cwd=places.TOP, stdout=subprocess.PIPE, text=True, env=environment) for call in calls]
     return [(it.communicate()[0].splitlines(), it.returncode) for it in ran]
@@ -91,9 +93,14 @@ def test_inputs_that_are_drawn(shares, share, comparisons):
     comparisons(sum(it["number"] for it in batches))
 
 
-@pytest.mark.parametrize("words, status, text", [
-    (["check"], 0, "standard states 4 symbols 3\n"), (["check"], 7, "read fault\n"), (["step", "1"], 3, "text: line 0x syntax\n"),
-    (["machine", "=1", "4"], 12, "halted 3\n"),
-])
+@pytest.mark.parametrize(
+    "words, status, text",
+    [
+        (["check"], 0, "standard states 4 symbols 3\n"),
+        (["check"], 7, "read fault\n"),
+        (["step", "1"], 3, "text: line 0x syntax\n"),
+        (["machine", "=1", "4"], 12, "halted 3\n"),
+    ],
+)
 def test_an_answer_of_another_form_is_seen(words, status, text):
     assert inputs.form_fault(words, status, text)

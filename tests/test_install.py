@@ -128,8 +128,15 @@ def test_npm_installs_the_folder_of_the_package(own_clone, tmp_path, any_node, n
     needs("npm")
     project = tmp_path / "project"
     places.write(str(project / "package.json"), '{"private": true}\n')
-    home = {**os.environ, "HOME": str(tmp_path), "npm_config_cache": str(tmp_path / "cache"), "npm_config_offline": "true",
-            "npm_config_update_notifier": "false", "npm_config_audit": "false", "npm_config_fund": "false"}
+    home = {
+        **os.environ,
+        "HOME": str(tmp_path),
+        "npm_config_cache": str(tmp_path / "cache"),
+        "npm_config_offline": "true",
+        "npm_config_update_notifier": "false",
+        "npm_config_audit": "false",
+        "npm_config_fund": "false",
+    }
     ran = run(["npm", "install", os.path.join(own_clone, "js")], cwd=str(project), env=home)
     assert ran.returncode == 0, ran.stderr
     ask = 'import("hithwelor").then(it => it.load()).then(it => console.log(it.answer(["nonsense"]).status))'
@@ -177,8 +184,10 @@ def test_completion_in_zsh(install, tmp_path, needs):
     prefix = str(tmp_path / "prefix")
     install("--prefix", prefix)
     completions = f"{prefix}/share/zsh/site-functions/_hithwelor"
-    script = ("_describe() { eval \"print -l -- \\\"\\${${2}[@]}\\\"\" }; _files() { print files }; CURRENT=2; "
-              f"source {completions}; CURRENT=3; source {completions}")
+    script = (
+        '_describe() { eval "print -l -- \\"\\${${2}[@]}\\"" }; _files() { print files }; CURRENT=2; '
+        f"source {completions}; CURRENT=3; source {completions}"
+    )
     ran = run(["zsh", "-f", "-c", script])
     lines = ran.stdout.splitlines()
     assert ran.returncode == 0 and "bennett:Bennett's reversible machine of this machine" in lines
@@ -194,8 +203,11 @@ def test_completion_in_fish(install, tmp_path, needs):
 
     def completed(line):
         script = f"source {completions}; complete -C '{line}'"
-        ran = run(["fish", "--no-config", "-c", script], cwd=str(tmp_path / "room"),
-                  env=places.environment(f"{prefix}/bin:/usr/bin:/bin", HOME=str(tmp_path)))
+        ran = run(
+            ["fish", "--no-config", "-c", script],
+            cwd=str(tmp_path / "room"),
+            env=places.environment(f"{prefix}/bin:/usr/bin:/bin", HOME=str(tmp_path)),
+        )
         return dict(it.partition("\t")[::2] for it in ran.stdout.splitlines())
 
     assert set(completed("hithwelor mi")) == {"migrate", "mirror"}

@@ -77,8 +77,10 @@ def test_the_man_page_is_there(prefix):
 
 def completed(prefix, path, begin):
     """What the installed completion of bash makes of a beginning."""
-    script = (f". {prefix}/share/bash-completion/completions/hithwelor; COMP_WORDS=(hithwelor {begin}) COMP_CWORD=1; "
-              "_hithwelor; echo ${COMPREPLY[@]}")
+    script = (
+        f". {prefix}/share/bash-completion/completions/hithwelor; COMP_WORDS=(hithwelor {begin}) COMP_CWORD=1; "
+        "_hithwelor; echo ${COMPREPLY[@]}"
+    )
     return run(["bash", "-c", script], path=path).stdout.strip()
 
 

@@ -36,8 +36,10 @@ const worker = new Worker("./worker.mjs", {type: "module"});
 worker.onmessage = event => { window.there = event.data.text ?? event.data.fault; };
 worker.postMessage({number: 1, words: ["run", "=", "auto"], input: table});
 </script>"""
-BROWSERS = {"Chromium": (browser_at_hand, Browser, lambda it, address: it.call("Page.navigate", url=address)),
-            "Firefox": (firefox_at_hand, Firefox, lambda it, address: it.go(address))}
+BROWSERS = {
+    "Chromium": (browser_at_hand, Browser, lambda it, address: it.call("Page.navigate", url=address)),
+    "Firefox": (firefox_at_hand, Firefox, lambda it, address: it.go(address)),
+}
 
 
 def run(words, **more):
@@ -66,7 +68,9 @@ def test_its_module_is_that_of_the_page_and_the_command():
 @pytest.mark.engine
 def test_its_own_tests_pass(node):
     program = told_program()
-    ran = run([node, "--test", "test"], cwd=JS, env={**os.environ, **({"HITHWELOR_PROGRAM": program} if program else {})})
+    ran = run(
+        [node, "--test", "test"], cwd=JS, env={**os.environ, **({"HITHWELOR_PROGRAM": program} if program else {})}
+    )
     found = dict(re.findall(r"^# (pass|fail) (\d+)", ran.stdout, flags=re.M))
     assert ran.returncode == 0 and found["fail"] == "0" and int(found["pass"]) >= LEAST_TESTS, ran.stdout[-3000:]
 
@@ -75,8 +79,15 @@ def test_its_own_tests_pass(node):
 def home(tmp_path_factory):
     """The environment of npm without a network and without a home."""
     room = str(tmp_path_factory.mktemp("home"))
-    return {**os.environ, "HOME": room, "npm_config_cache": os.path.join(room, "cache"), "npm_config_offline": "true",
-            "npm_config_update_notifier": "false", "npm_config_audit": "false", "npm_config_fund": "false"}
+    return {
+        **os.environ,
+        "HOME": room,
+        "npm_config_cache": os.path.join(room, "cache"),
+        "npm_config_offline": "true",
+        "npm_config_update_notifier": "false",
+        "npm_config_audit": "false",
+        "npm_config_fund": "false",
+    }
 
 
 def packed(to, home):
@@ -98,7 +109,11 @@ def installed(tmp_path_factory, home, needs):
     """A folder in which the tarball is installed."""
     needs("npm")
     folder = tmp_path_factory.mktemp("other")
-    for name, text in {"package.json": '{"private": true}\n', "ask.mjs": ASK, "types.mts": text_of("js", "test", "types.ts")}.items():
+    for name, text in {
+        "package.json": '{"private": true}\n',
+        "ask.mjs": ASK,
+        "types.mts": text_of("js", "test", "types.ts"),
+    }.items():
         (folder / name).write_text(text, encoding="utf-8")
     ran = run(["npm", "install", packed(str(tmp_path_factory.mktemp("tarball")), home)], cwd=folder, env=home)
     assert ran.returncode == 0, ran.stdout[-1000:]
@@ -110,21 +125,42 @@ def test_the_installed_package_answers(installed, node):
 
 
 def test_the_installed_command_answers(installed, node):
-    assert run([node, os.path.join("node_modules", ".bin", "hithwelor"), "check"], cwd=installed, input=TABLE).stdout == SAID
+    assert (
+        run([node, os.path.join("node_modules", ".bin", "hithwelor"), "check"], cwd=installed, input=TABLE).stdout
+        == SAID
+    )
 
 
 def test_the_types(installed, needs):
     needs("tsc")
-    ran = run(["tsc", "--noEmit", "--strict", "--target", "es2022", "--module", "node16", "--moduleResolution", "node16",
-               "--lib", "es2022,dom", "types.mts"], cwd=installed)
+    ran = run(
+        [
+            "tsc",
+            "--noEmit",
+            "--strict",
+            "--target",
+            "es2022",
+            "--module",
+            "node16",
+            "--moduleResolution",
+            "node16",
+            "--lib",
+            "es2022,dom",
+            "types.mts",
+        ],
+        cwd=installed,
+    )
     assert ran.returncode == 0, ran.stdout
 
 
 class Handler(http.server.SimpleHTTPRequestHandler):
     """The package as a server has it, and the page that asks."""
 
-    extensions_map = {**http.server.SimpleHTTPRequestHandler.extensions_map, ".mjs": "text/javascript",
-                      ".wasm": "application/wasm"}
+    extensions_map = {
+        **http.server.SimpleHTTPRequestHandler.extensions_map,
+        ".mjs": "text/javascript",
+        ".wasm": "application/wasm",
+    }
 
     def do_GET(self):
         if self.path == "/":

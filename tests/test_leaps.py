@@ -28,8 +28,10 @@ LONGEST = 3_000_000
 
 def by_program(path):
     """What answers words and an input by running a program: its text."""
+
     def ask(words, data):
         return subprocess.run([path, *words], input=data, stdout=subprocess.PIPE, stderr=subprocess.DEVNULL).stdout
+
     return ask
 
 
@@ -65,7 +67,7 @@ class Drawn:
         for number, ((at, last, names), size) in enumerate(zip(tapes, sizes), 1):
             head, shown = "?", []
             for cell in range(at, last + 1):
-                column = marked(bars[first:first + size], 2 * len(names) + 9)
+                column = marked(bars[first : first + size], 2 * len(names) + 9)
                 shown.append("?" if column is None else names[column % len(names)])
                 if column is not None and column >= len(names):
                     head = cell
@@ -75,7 +77,7 @@ class Drawn:
 
 def marked(bars, height):
     """The marked column of a bank: the first one whose bottom lies flat."""
-    return next((number for number, bar in enumerate(bars[height - 1::height]) if bar == "H"), None)
+    return next((number for number, bar in enumerate(bars[height - 1 :: height]) if bar == "H"), None)
 
 
 def budgets_of(drawn, steps, elements, draw):

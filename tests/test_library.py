@@ -22,8 +22,13 @@ DRAWN = 500
 FULL, NO_MEMORY = 8, 9
 PACKAGE_PAGE = os.path.join(TOP, "python", "README.md")
 # What C has for the types of the call's parameters; an allocator isn't passed.
-IN_C = {"Global": [], "&[u8]": ["const uint8_t *{0}", "size_t {0}_length"], "&mut [u8]": ["uint8_t *{0}", "size_t {0}_length"],
-        "&mut u64": ["uint64_t *{0}"], "u32": ["uint32_t"]}
+IN_C = {
+    "Global": [],
+    "&[u8]": ["const uint8_t *{0}", "size_t {0}_length"],
+    "&mut [u8]": ["uint8_t *{0}", "size_t {0}_length"],
+    "&mut u64": ["uint64_t *{0}"],
+    "u32": ["uint32_t"],
+}
 # A heap that refuses what is asked of it from one time on.
 FAILING = """#include <stddef.h>
 void *__real_malloc(size_t);
@@ -54,6 +59,7 @@ def test_the_header_declares_the_call_of_the_crate():
 
 # ---- words and inputs
 
+
 def examples():
     """The examples' files that are inputs, by their names."""
     folder = os.path.join(TOP, "examples")
@@ -63,23 +69,51 @@ def examples():
 def drawn():
     """Words and inputs, the same ones in each run: commands and words that are none, inputs as they are, cut or changed."""
     draw, files = random.Random(46), examples()
-    texts, names = list(files.values()), ["step", "back", "check", "machine", "standard", "bennett", "reversible", "realise", "compile",
-                                          "run", "view", "session", "plan", "migrate", "generate", "erase"]
+    texts, names = list(files.values()), [
+        "step",
+        "back",
+        "check",
+        "machine",
+        "standard",
+        "bennett",
+        "reversible",
+        "realise",
+        "compile",
+        "run",
+        "view",
+        "session",
+        "plan",
+        "migrate",
+        "generate",
+        "erase",
+    ]
     numbers = lambda k: [str(draw.choice([0, 1, 2, 3, 5, 8, 13, 40])) for _ in range(k)]
     word = lambda: "=" + "".join(draw.choice("01") for _ in range(draw.randrange(6)))
-    forms = {"machine": lambda: [word(), str(draw.randrange(200))], "step": lambda: numbers(1), "back": lambda: numbers(1),
-             "realise": lambda: numbers(2), "compile": lambda: [word(), *numbers(4)], "generate": lambda: ["1"],
-             "run": lambda: draw.choice([[word(), *numbers(4)], [word(), *numbers(5)]]), "view": lambda: [word(), *numbers(5)],
-             "session": lambda: [word(), *numbers(4)], "erase": lambda: draw.choice([[], [word(), str(draw.randrange(400))]])}
+    forms = {
+        "machine": lambda: [word(), str(draw.randrange(200))],
+        "step": lambda: numbers(1),
+        "back": lambda: numbers(1),
+        "realise": lambda: numbers(2),
+        "compile": lambda: [word(), *numbers(4)],
+        "generate": lambda: ["1"],
+        "run": lambda: draw.choice([[word(), *numbers(4)], [word(), *numbers(5)]]),
+        "view": lambda: [word(), *numbers(5)],
+        "session": lambda: [word(), *numbers(4)],
+        "erase": lambda: draw.choice([[], [word(), str(draw.randrange(400))]]),
+    }
     found = []
     for _ in range(DRAWN):
         name = draw.choice(names)
         words, data = [name, *forms.get(name, lambda: [])()], draw.choice(texts)
         if draw.random() < 0.15:
-            words = draw.choice([[], [""], [name, ""], ["nonsense"], [name + " 1"], words + ["0"], words[:-1], [b"=\xff", *words]])
+            words = draw.choice(
+                [[], [""], [name, ""], ["nonsense"], [name + " 1"], words + ["0"], words[:-1], [b"=\xff", *words]]
+            )
         if draw.random() < 0.4 and data:
             at = draw.randrange(len(data))
-            data = draw.choice([data[:at], data[:at] + bytes([draw.randrange(256)]) + data[at + 1:], data[:at] + b"\0" + data[at:]])
+            data = draw.choice(
+                [data[:at], data[:at] + bytes([draw.randrange(256)]) + data[at + 1 :], data[:at] + b"\0" + data[at:]]
+            )
         found.append(([it if isinstance(it, bytes) else it.encode() for it in words], data))
     return found
 
@@ -87,10 +121,14 @@ def drawn():
 @pytest.fixture(scope="module")
 def cases(proved_program):
     """The drawn words and inputs, each with what the program answers."""
+
     def run(case):
         words, data = case
-        ran = subprocess.run([proved_program.encode(), *words], input=data, stdout=subprocess.PIPE, stderr=subprocess.DEVNULL)
+        ran = subprocess.run(
+            [proved_program.encode(), *words], input=data, stdout=subprocess.PIPE, stderr=subprocess.DEVNULL
+        )
         return ran.returncode, ran.stdout
+
     found = drawn()
     with ThreadPoolExecutor(len(os.sched_getaffinity(0))) as pool:
         return list(zip(found, pool.map(run, found)))
@@ -125,8 +163,13 @@ def test_drawn_words_and_inputs(request, kind, cases, comparisons):
 
 # ---- the shared library
 
-IN_ROOMS = [(b"check", "increment.csv"), (b"check", None), (b"", None), (b"run\0=\0" b"0\0" b"2\0" b"2\0" b"1", "least.csv"),
-            (b"bennett", "increment.csv")]
+IN_ROOMS = [
+    (b"check", "increment.csv"),
+    (b"check", None),
+    (b"", None),
+    (b"run\0=\0" b"0\0" b"2\0" b"2\0" b"1", "least.csv"),
+    (b"bennett", "increment.csv"),
+]
 
 
 @pytest.mark.engine
@@ -146,8 +189,9 @@ def test_an_output_with_less_just_enough_and_more_room(library, words, name, com
 
 
 @pytest.mark.engine
-@pytest.mark.parametrize("words", [b"step\0" b"1\0", b"step\0\0" b"1", b"\0step\0" b"1", b"step 1", b"step\0" b"1\xff", b"\xff",
-                                   b"", b"\0"])
+@pytest.mark.parametrize(
+    "words", [b"step\0" b"1\0", b"step\0\0" b"1", b"\0step\0" b"1", b"step 1", b"step\0" b"1\xff", b"\xff", b"", b"\0"]
+)
 def test_words_with_bytes_0_and_that_are_not_utf_8(library, words):
     assert library.answer(words, read("examples", "across.txt")) == (2, b"usage\n")
 
@@ -172,8 +216,9 @@ def failing(linkable, tmp_path_factory):
 
 
 @pytest.mark.engine
-@pytest.mark.parametrize("words, name", [(b"check", "increment.csv"), (b"step\0" b"1", "across.txt"),
-                                         (b"run\0=\0auto", "least.csv")])
+@pytest.mark.parametrize(
+    "words, name", [(b"check", "increment.csv"), (b"step\0" b"1", "across.txt"), (b"run\0=\0auto", "least.csv")]
+)
 def test_each_allocation_failing_and_all_behind_it(failing, words, name, comparisons):
     """Code 9, and an output as it was; with none of them failing, the answer."""
     library, heap, data = answers.Library(failing), ctypes.CDLL(failing), read("examples", name)
@@ -188,7 +233,7 @@ def test_each_allocation_failing_and_all_behind_it(failing, words, name, compari
             assert taken.value == 0 and output.raw == b"\xaa" * room, f"allocation {number} failing"
             number += 1
     assert 0 < number, "no allocation of it failed"
-    assert number == MOST_FAILURES or (code, output.raw[:taken.value]) == right, f"after {number} failures"
+    assert number == MOST_FAILURES or (code, output.raw[: taken.value]) == right, f"after {number} failures"
     comparisons(number + 2)
 
 
@@ -196,14 +241,19 @@ def test_each_allocation_failing_and_all_behind_it(failing, words, name, compari
 def test_the_example_in_c(shared_library, tmp_path):
     program = str(tmp_path / "example")
     words = ["-Wall", "-Werror", f"-I{TOP}/embed", os.path.join(TOP, "embed", "example.c"), shared_library]
-    ran = subprocess.run([compiler(), *words, f"-Wl,-rpath,{os.path.dirname(shared_library)}", "-o", program],
-                         stdout=subprocess.PIPE, stderr=subprocess.STDOUT, text=True)
+    ran = subprocess.run(
+        [compiler(), *words, f"-Wl,-rpath,{os.path.dirname(shared_library)}", "-o", program],
+        stdout=subprocess.PIPE,
+        stderr=subprocess.STDOUT,
+        text=True,
+    )
     assert ran.returncode == 0, ran.stdout
     wanted = b"rotary 1\nelements 1\nstart 0.n\nend 0.w\nsteps 1\nleft 0.w\ne 0 V - - - -\n"
     assert subprocess.run([program], stdout=subprocess.PIPE).stdout == wanted
 
 
 # ---- the package
+
 
 @pytest.mark.engine
 @pytest.mark.parametrize("kind", ["library", "node"])
@@ -216,7 +266,9 @@ def test_the_examples_of_the_packages_page(request, kind, monkeypatch, compariso
         request.getfixturevalue("module")
         monkeypatch.delenv(answers.VARIABLE, raising=False)
         monkeypatch.setattr(answers, "SHARED", [])
-    failed, tried = doctest.testfile(PACKAGE_PAGE, module_relative=False, encoding="utf-8", globs={"__name__": "__main__"})
+    failed, tried = doctest.testfile(
+        PACKAGE_PAGE, module_relative=False, encoding="utf-8", globs={"__name__": "__main__"}
+    )
     for way in answers._kept:
         if isinstance(way, answers.Node):
             way.close()

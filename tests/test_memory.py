@@ -42,18 +42,39 @@ void *realloc(void *p, size_t n) { return fails() ? 0 : __libc_realloc(p, n); }
 
 # Commands with the example that each reads.
 SMALL = [
-    ("step 3", "two-elements.txt"), ("step 1", "two-columns.txt"), ("back 2", "two-elements.txt"), ("plan", "eight-rows.txt"),
-    ("migrate", "two-elements.txt"), ("mirror", "two-columns.txt"), ("check", "increment.csv"), ("check", "faulty.csv"),
-    ("machine =1011 40", "increment.csv"), ("reversible", "reversible.csv"), ("moments = 5", "reversible.csv"), ("bennett", "increment.csv"),
-    ("standard", "not.csv"), ("realise 1 1", "two-moves.csv"), ("compile = 0 2 2 1", "least.csv"),
-    ("run = 0 2 2 1", "least.csv"), ("run = 0 2 2 1 1564", "least.csv"), ("run = auto", "least.csv"),
-    ("view = 0 2 2 1 6539", "least.csv"), ("session = 0 2 2 1", "least-session.txt"), ("generate 1", None),
-    ("erase", "least-twice.txt"), ("erase =1 40", "not-twice.txt"), ("farm", "two-boards.txt"), ("Step 1", None),
+    ("step 3", "two-elements.txt"),
+    ("step 1", "two-columns.txt"),
+    ("back 2", "two-elements.txt"),
+    ("plan", "eight-rows.txt"),
+    ("migrate", "two-elements.txt"),
+    ("mirror", "two-columns.txt"),
+    ("check", "increment.csv"),
+    ("check", "faulty.csv"),
+    ("machine =1011 40", "increment.csv"),
+    ("reversible", "reversible.csv"),
+    ("moments = 5", "reversible.csv"),
+    ("bennett", "increment.csv"),
+    ("standard", "not.csv"),
+    ("realise 1 1", "two-moves.csv"),
+    ("compile = 0 2 2 1", "least.csv"),
+    ("run = 0 2 2 1", "least.csv"),
+    ("run = 0 2 2 1 1564", "least.csv"),
+    ("run = auto", "least.csv"),
+    ("view = 0 2 2 1 6539", "least.csv"),
+    ("session = 0 2 2 1", "least-session.txt"),
+    ("generate 1", None),
+    ("erase", "least-twice.txt"),
+    ("erase =1 40", "not-twice.txt"),
+    ("farm", "two-boards.txt"),
+    ("Step 1", None),
 ]
 # The same on larger inputs, for --every.
 LARGE = [
-    ("compile =1011 0 5 11 5", "increment.csv"), ("run =1011 0 5 11 5", "increment.csv"), ("run =1011 auto", "increment.csv"),
-    ("view =1011 0 5 11 5 100000", "increment.csv"), ("generate 2", None),
+    ("compile =1011 0 5 11 5", "increment.csv"),
+    ("run =1011 0 5 11 5", "increment.csv"),
+    ("run =1011 auto", "increment.csv"),
+    ("view =1011 0 5 11 5 100000", "increment.csv"),
+    ("generate 2", None),
 ]
 
 
@@ -81,8 +102,14 @@ class Refusals:
 
     def run(self, words, data, **variables):
         """The status, the output and the errors."""
-        ran = subprocess.run([self.program, *words], input=data, stdout=subprocess.PIPE, stderr=subprocess.PIPE, timeout=SECONDS,
-                             env={"LD_PRELOAD": self.heap, **variables})
+        ran = subprocess.run(
+            [self.program, *words],
+            input=data,
+            stdout=subprocess.PIPE,
+            stderr=subprocess.PIPE,
+            timeout=SECONDS,
+            env={"LD_PRELOAD": self.heap, **variables},
+        )
         return ran.returncode, ran.stdout, ran.stderr
 
     def count_of(self, words, data):
@@ -94,6 +121,7 @@ class Refusals:
 
     def faults(self, words, data, numbers, own):
         """What went wrong, for each number and both ways to refuse."""
+
         def one(case):
             number, only = case
             try:
@@ -105,6 +133,7 @@ class Refusals:
             if errors or not (is_own or is_front):
                 return f"  allocation {number}, {'alone' if only else 'and all behind'}: status {status}, {text[:60]!r} {errors[:60]!r}"
             return None
+
         with ThreadPoolExecutor(len(os.sched_getaffinity(0))) as pool:
             return list(pool.map(one, [(number, only) for number in numbers for only in (0, 1)]))
 

@@ -36,7 +36,9 @@ def shown(cells, head):
 
 def applies(row, state, tapes, heads):
     """Whether a quadruple applies."""
-    return row[0] == state and all(read in ("/", cells.get(head, BLANK)) for read, cells, head in zip(row[1:4], tapes, heads))
+    return row[0] == state and all(
+        read in ("/", cells.get(head, BLANK)) for read, cells, head in zip(row[1:4], tapes, heads)
+    )
 
 
 def told(rows, words, most):
@@ -45,7 +47,11 @@ def told(rows, words, most):
     state, heads, lines = rows[0][0], [0, 0, 0], []
     for step in range(most + 1):
         final = state == rows[-1][7]
-        rule = None if final else next((number for number, row in enumerate(rows, 1) if applies(row, state, tapes, heads)), None)
+        rule = (
+            None
+            if final
+            else next((number for number, row in enumerate(rows, 1) if applies(row, state, tapes, heads)), None)
+        )
         told_tapes = " ".join(f"tape {number} {shown(*tape)}" for number, tape in enumerate(zip(tapes, heads), 1))
         lines.append(f"{step} {state} {told_tapes}" + (f" rule {rule}" if rule else ""))
         if final:
@@ -78,8 +84,13 @@ def drawn_words(draw):
 
 def places(line):
     """What the tapes hold by a line, or by lines: of each the head, and the symbols but for the blank, by their places."""
-    return {tape: (int(head), {int(first) + number: symbol for number, symbol in enumerate(symbols.split()) if symbol != BLANK})
-            for tape, first, head, symbols in re.findall(TAPE, line)}
+    return {
+        tape: (
+            int(head),
+            {int(first) + number: symbol for number, symbol in enumerate(symbols.split()) if symbol != BLANK},
+        )
+        for tape, first, head, symbols in re.findall(TAPE, line)
+    }
 
 
 def drawn_soon(draw):
@@ -119,9 +130,18 @@ def test_words_on_three_tapes(words_of_three, answering):
         test = "domain" if failing[0] == "deterministic" else "range"
         assert (status, text.decode()) == (4, f"machine: {test} {failing[2]} {failing[3]}\n")
         return
-    known = [{row[number] for row in rows if row[1 + tape] != "/" for number in (1 + tape, 4 + tape)} for tape in range(3)]
-    foreign = next(((tape + 1, place) for tape, word in enumerate(words) for place, letter in enumerate(word, 1)
-                    if letter not in known[tape]), None)
+    known = [
+        {row[number] for row in rows if row[1 + tape] != "/" for number in (1 + tape, 4 + tape)} for tape in range(3)
+    ]
+    foreign = next(
+        (
+            (tape + 1, place)
+            for tape, word in enumerate(words)
+            for place, letter in enumerate(word, 1)
+            if letter not in known[tape]
+        ),
+        None,
+    )
     if foreign:
         assert (status, text.decode()) == (5, f"word: {foreign[0]} {foreign[1]}\n")
         return
@@ -136,8 +156,15 @@ def test_the_inverse_goes_through_the_same_moments_backward(run, answering):
     forth = text.decode().splitlines()
     if status:
         return
-    output = answers.answer(["machine", f"={word}", str(most)], table_of(rows).encode())[1].decode().split("output =")[1].strip()
-    status, text = answers.answer(["moments", f"={word}", "=", f"={output}", str(4 * most)], answers.answer(["inverse"], table)[1])
+    output = (
+        answers.answer(["machine", f"={word}", str(most)], table_of(rows).encode())[1]
+        .decode()
+        .split("output =")[1]
+        .strip()
+    )
+    status, text = answers.answer(
+        ["moments", f"={word}", "=", f"={output}", str(4 * most)], answers.answer(["inverse"], table)[1]
+    )
     back = text.decode().splitlines()
     assert status == 0 and back[-1] == forth[-1]
     said = lambda line: line.split(" ", 1)[1].split(" rule ")[0]
@@ -149,28 +176,41 @@ def test_a_word_is_moved_to_another_tape(answering):
     table = b"S,/,_,/,+,_,0,A\nA,1,/,/,_,+,0,B\nB,/,_,/,+,1,0,A\nA,_,/,/,_,0,0,H\n"
     status, text = answers.answer(["moments", "=11", "50"], table)
     assert status == 0 and text.decode().splitlines()[-2:] == [
-        "6 H tape 1 from 3 head 3 cells 1: _ tape 2 from 1 head 2 cells 2: 1 1 tape 3 from 0 head 0 cells 1: _", "halted 6"]
+        "6 H tape 1 from 3 head 3 cells 1: _ tape 2 from 1 head 2 cells 2: 1 1 tape 3 from 0 head 0 cells 1: _",
+        "halted 6",
+    ]
 
 
 @pytest.mark.engine
-@pytest.mark.parametrize("words, table, status, text", [
-    (["moments", "=", "5"], b"", 3, b"text: empty\n"),
-    (["moments", "=", "5"], b"A,/,_,/,+,2,9,B\n", 3, b"text: record 1 field 7 shift\n"),
-    (["moments", "=2", "5"], b"A,/,_,/,+,2,0,B\nA,_,/,/,_,+,0,B\n", 4, b"machine: domain 1 2\n"),
-    (["moments", "=2", "5"], b"A,/,_,/,+,1,0,B\nC,/,_,/,+,1,0,B\n", 4, b"machine: range 1 2\n"),
-    (["moments", "=2", "5"], b"A,1,_,/,1,2,0,B\n", 5, b"word: 1\n"),
-    (["moments", "=1_", "5"], b"A,1,_,/,1,2,0,B\n", 5, b"word: 2\n"),
-    (["moments", "=", "=12", "=", "5"], b"A,1,_,/,1,22,0,B\n", 5, b"word: 2 1\n"),
-    (["moments", "=11", "=", "=1", "5"], b"A,1,_,/,1,22,0,B\n", 5, b"word: 3 1\n"),
-    (["moments", "=3", "=3", "=1", "5"], b"A,1,_,/,1,22,0,B\n", 5, b"word: 1 1\n"),
-    (["moments", "=", "0"], b"A,/,_,/,+,2,0,B\n", 12,
-     b"0 A tape 1 from 0 head 0 cells 1: _ tape 2 from 0 head 0 cells 1: _ tape 3 from 0 head 0 cells 1: _ rule 1\nrunning 0\n"),
-    (["moments", "=1", "5"], b"A,1,_,/,1,22,0,B\n", 10,
-     b"0 A tape 1 from 0 head 0 cells 2: _ 1 tape 2 from 0 head 0 cells 1: _ tape 3 from 0 head 0 cells 1: _\nstuck A _ _ _ 0\n"),
-    (["moments", "=", "1048577"], b"A,/,_,/,+,2,0,B\n", 2, b"usage\n"),
-    (["moments", "=", "=", "5"], b"A,/,_,/,+,2,0,B\n", 2, b"usage\n"),
-    (["moments", "5"], b"", 2, b"usage\n"),
-])
+@pytest.mark.parametrize(
+    "words, table, status, text",
+    [
+        (["moments", "=", "5"], b"", 3, b"text: empty\n"),
+        (["moments", "=", "5"], b"A,/,_,/,+,2,9,B\n", 3, b"text: record 1 field 7 shift\n"),
+        (["moments", "=2", "5"], b"A,/,_,/,+,2,0,B\nA,_,/,/,_,+,0,B\n", 4, b"machine: domain 1 2\n"),
+        (["moments", "=2", "5"], b"A,/,_,/,+,1,0,B\nC,/,_,/,+,1,0,B\n", 4, b"machine: range 1 2\n"),
+        (["moments", "=2", "5"], b"A,1,_,/,1,2,0,B\n", 5, b"word: 1\n"),
+        (["moments", "=1_", "5"], b"A,1,_,/,1,2,0,B\n", 5, b"word: 2\n"),
+        (["moments", "=", "=12", "=", "5"], b"A,1,_,/,1,22,0,B\n", 5, b"word: 2 1\n"),
+        (["moments", "=11", "=", "=1", "5"], b"A,1,_,/,1,22,0,B\n", 5, b"word: 3 1\n"),
+        (["moments", "=3", "=3", "=1", "5"], b"A,1,_,/,1,22,0,B\n", 5, b"word: 1 1\n"),
+        (
+            ["moments", "=", "0"],
+            b"A,/,_,/,+,2,0,B\n",
+            12,
+            b"0 A tape 1 from 0 head 0 cells 1: _ tape 2 from 0 head 0 cells 1: _ tape 3 from 0 head 0 cells 1: _ rule 1\nrunning 0\n",
+        ),
+        (
+            ["moments", "=1", "5"],
+            b"A,1,_,/,1,22,0,B\n",
+            10,
+            b"0 A tape 1 from 0 head 0 cells 2: _ 1 tape 2 from 0 head 0 cells 1: _ tape 3 from 0 head 0 cells 1: _\nstuck A _ _ _ 0\n",
+        ),
+        (["moments", "=", "1048577"], b"A,/,_,/,+,2,0,B\n", 2, b"usage\n"),
+        (["moments", "=", "=", "5"], b"A,/,_,/,+,2,0,B\n", 2, b"usage\n"),
+        (["moments", "5"], b"", 2, b"usage\n"),
+    ],
+)
 def test_what_is_refused_and_the_smallest(words, table, status, text, answering):
     assert answers.answer(words, table) == (status, text)
 
@@ -180,7 +220,9 @@ def test_a_long_run_has_a_line_each_moment(answering):
     status, text = answers.answer(["moments", "=", "100000"], b"A,/,_,/,+,_,-,B\nB,_,/,/,_,0,0,A\nC,_,_,_,_,_,_,F\n")
     lines = text.decode().splitlines()
     assert status == 12 and len(lines) == 100_002 and lines[-1] == "running 100000"
-    assert lines[-2].startswith("100000 A tape 1 from 50000 head 50000 cells 1: _ tape 2 from 0 head 0 cells 1: _ tape 3 from -50000")
+    assert lines[-2].startswith(
+        "100000 A tape 1 from 50000 head 50000 cells 1: _ tape 2 from 0 head 0 cells 1: _ tape 3 from -50000"
+    )
 
 
 @pytest.mark.engine
@@ -195,7 +237,11 @@ def test_sessions_show_the_same_moments(answering, request):
         states = dict.fromkeys(name for row in rows_of(reversible) for name in (row[0], row[7]))
         breaks = [f"break s{number} state {name}" for number, name in enumerate(states)]
         script = "\n".join([*breaks, *["go 4000000000\nview"] * len(moments)]) + "\n"
-        played = answers.answer(["session", f"={word}", *window], table + b"%\n" + script.encode())[1].decode().splitlines()
-        views = [played[at:at + 7] for at in range(len(breaks) + 1, len(played), 8)]
+        played = (
+            answers.answer(["session", f"={word}", *window], table + b"%\n" + script.encode())[1].decode().splitlines()
+        )
+        views = [played[at : at + 7] for at in range(len(breaks) + 1, len(played), 8)]
         assert [view[2].split()[1] for view in views] == [line.split()[1] for line in moments], f"{word} of {table!r}"
-        assert [places("\n".join(view[3:6])) for view in views] == [places(line) for line in moments], f"{word} of {table!r}"
+        assert [places("\n".join(view[3:6])) for view in views] == [
+            places(line) for line in moments
+        ], f"{word} of {table!r}"

@@ -70,15 +70,23 @@ def test_a_planted_null_is_seen(copy):
 def test_a_planted_parameter_without_a_type_is_seen(copy):
     """In the modules of page/tsconfig.typed.json every parameter has a type; the others know at least what may be null."""
     needs("tsc")
-    plant(copy, "page/src/texts.js", "/** @type {(place: number) => string} */\nexport const placeName", "export const placeName")
+    plant(
+        copy,
+        "page/src/texts.js",
+        "/** @type {(place: number) => string} */\nexport const placeName",
+        "export const placeName",
+    )
     made = [run("tsc", "-p", f"page/{name}", cwd=copy) for name in ("tsconfig.json", "tsconfig.typed.json")]
     assert not made[0].returncode and made[1].returncode and "texts.js" in made[1].stdout, [it.stdout for it in made]
 
 
-@pytest.mark.parametrize("path, right, wrong, test", [
-    ("page/src/texts.js", "word => 4 * parseInt(word)", "word => 5 * parseInt(word)", "texts"),
-    ("page/src/run.js", "now.bars[it.places[k] >> 2] = it.places[k] & 1", "now.bars[it.places[k] >> 2] = 1", "run"),
-])
+@pytest.mark.parametrize(
+    "path, right, wrong, test",
+    [
+        ("page/src/texts.js", "word => 4 * parseInt(word)", "word => 5 * parseInt(word)", "texts"),
+        ("page/src/run.js", "now.bars[it.places[k] >> 2] = it.places[k] & 1", "now.bars[it.places[k] >> 2] = 1", "run"),
+    ],
+)
 def test_a_planted_wrong_digit_is_seen(copy, path, right, wrong, test):
     needs("node")
     assert run("node", "--test", f"page/test/{test}.test.js", cwd=copy).returncode == 0
@@ -98,9 +106,13 @@ def test_pages_are_bundled_in_a_copy_without_the_toolchain(copy):
     assert [(copy / path).read_bytes() for path in MADE] == before
 
 
-@pytest.mark.parametrize("script, words", [
-    ("echo 0.99.9", "esbuild 0.99.9 would give other bytes"), (None, "esbuild isn't installed"),
-])
+@pytest.mark.parametrize(
+    "script, words",
+    [
+        ("echo 0.99.9", "esbuild 0.99.9 would give other bytes"),
+        (None, "esbuild isn't installed"),
+    ],
+)
 def test_another_esbuild_is_refused_in_a_line(copy, tmp_path_factory, script, words):
     folder = tmp_path_factory.mktemp("programs")
     if script:

@@ -62,12 +62,18 @@ def test_the_edits_of_a_wrong_body_turn_the_files_that_are_told(body, edits, tol
     assert [re.search(r"^file: (.*)$", text_of(it), flags=re.M)[1] for it in edits] == told
 
 
-@pytest.mark.parametrize("old, new, said", [
-    ("# bn_x\n", "# other\n", "its head isn't `# bn_x`"), ("- `crates`", "`crates`", "its section Calls isn't a list"),
-    ("`crates`", "`nowhere`", "its section Calls names `nowhere`, which is nowhere in the crates"),
-    ("## Limits\n\nNone.\n\n", "", "its sections aren't Calls, Proved, Limits, Only tested"),
-])
+@pytest.mark.parametrize(
+    "old, new, said",
+    [
+        ("# bn_x\n", "# other\n", "its head isn't `# bn_x`"),
+        ("- `crates`", "`crates`", "its section Calls isn't a list"),
+        ("`crates`", "`nowhere`", "its section Calls names `nowhere`, which is nowhere in the crates"),
+        ("## Limits\n\nNone.\n\n", "", "its sections aren't Calls, Proved, Limits, Only tested"),
+    ],
+)
 def test_a_fault_in_the_page_of_a_crate_is_seen(old, new, said):
-    text = "# bn_x\n\nFor all.\n" + "\n".join(f"\n## {it}\n\n{'- `crates`' if it == 'Calls' else 'None.'}\n" for it in pages.SECTIONS)
+    text = "# bn_x\n\nFor all.\n" + "\n".join(
+        f"\n## {it}\n\n{'- `crates`' if it == 'Calls' else 'None.'}\n" for it in pages.SECTIONS
+    )
     assert pages.Page(text).faults("bn_x", {"crates"}) == []
     assert said in pages.Page(text.replace(old, new)).faults("bn_x", {"crates"})

@@ -22,8 +22,12 @@ def test_each_picture_of_a_definition_is_what_is_drawn(tmp_path):
     subprocess.run([sys.executable, "-B", DRAW, str(tmp_path)], check=True)
     names = sorted(os.listdir(tmp_path))
     assert names
-    differing = [name for name in names if not os.path.exists(os.path.join(PICTURES, name))
-                 or bytes_of(os.path.join(PICTURES, name)) != bytes_of(tmp_path / name)]
+    differing = [
+        name
+        for name in names
+        if not os.path.exists(os.path.join(PICTURES, name))
+        or bytes_of(os.path.join(PICTURES, name)) != bytes_of(tmp_path / name)
+    ]
     assert not differing
 
 

@@ -19,7 +19,7 @@ TOP = os.path.dirname(os.path.dirname(os.path.abspath(__file__)))
 RELEASE = os.path.join(TOP, "tools", "release")
 TABLE = os.path.join(TOP, "examples", "increment.csv")
 # What an installed package is asked.
-USE = r'''
+USE = r"""
 import hithwelor, sys
 table = open(sys.argv[1]).read()
 machine = hithwelor.Machine.open(sys.argv[1])
@@ -34,7 +34,7 @@ try:
 except hithwelor.Refused as refused:
     assert refused.status == 5
 print(hithwelor.version(), type(hithwelor.way()).__name__)
-'''
+"""
 ASK = """import {load} from "hithwelor";
 const {Machine} = await load();
 console.log(new Machine("S,_,_,+,T\\nT,_,_,0,F\\n").check());
@@ -120,13 +120,20 @@ def test_the_archive_by_its_own_readme(released, tmp_path):
     if not has_program and not shutil.which("node", path="/usr/bin:/bin"):
         pytest.skip("neither the proved program nor a node of the system stands here")
     for command, output in first_commands():
-        ran = subprocess.run(["bash", "-c", command], cwd=top, capture_output=True, text=True, timeout=60,
-                             env={"PATH": "/usr/bin:/bin", "HOME": "/nonexistent", "LC_ALL": "C.UTF-8"})
+        ran = subprocess.run(
+            ["bash", "-c", command],
+            cwd=top,
+            capture_output=True,
+            text=True,
+            timeout=60,
+            env={"PATH": "/usr/bin:/bin", "HOME": "/nonexistent", "LC_ALL": "C.UTF-8"},
+        )
         assert (ran.returncode, ran.stdout) == (0, output), ran.stderr
         assert ("answered by the proved program" if has_program else "answered by the module") in ran.stderr
 
 
 # ---- the Python package
+
 
 def wheels(released):
     return sorted(released.glob("*.whl"))
@@ -134,8 +141,12 @@ def wheels(released):
 
 def test_all_modules_are_in_the_wheels(released):
     package = os.path.join(TOP, "python", "hithwelor")
-    known = {os.path.relpath(os.path.join(at, name), os.path.dirname(package))
-             for at, _, names in os.walk(package) for name in names if "__pycache__" not in at}
+    known = {
+        os.path.relpath(os.path.join(at, name), os.path.dirname(package))
+        for at, _, names in os.walk(package)
+        for name in names
+        if "__pycache__" not in at
+    }
     assert wheels(released)
     for path in wheels(released):
         with zipfile.ZipFile(path) as file:
@@ -148,17 +159,33 @@ def test_all_modules_are_in_the_wheels(released):
 def test_the_archive_of_sources_makes_the_same_wheel(released, tmp_path):
     with tarfile.open(only(released, "hithwelor-*+dev.tar.gz")) as file:
         file.extractall(tmp_path)
-    source, = tmp_path.iterdir()
-    builders = [it for it in [sys.executable, "/usr/bin/python3"] if run([it, "-c", "import build, hatchling"]).returncode == 0]
-    moment = subprocess.run(["git", "log", "-1", "--format=%ct"], cwd=TOP, stdout=subprocess.PIPE, text=True).stdout.strip()
-    words = [builders[0], "-m", "build", "--no-isolation", "--skip-dependency-check", "--wheel", "--outdir", tmp_path, source]
+    (source,) = tmp_path.iterdir()
+    builders = [
+        it for it in [sys.executable, "/usr/bin/python3"] if run([it, "-c", "import build, hatchling"]).returncode == 0
+    ]
+    moment = subprocess.run(
+        ["git", "log", "-1", "--format=%ct"], cwd=TOP, stdout=subprocess.PIPE, text=True
+    ).stdout.strip()
+    words = [
+        builders[0],
+        "-m",
+        "build",
+        "--no-isolation",
+        "--skip-dependency-check",
+        "--wheel",
+        "--outdir",
+        tmp_path,
+        source,
+    ]
     made = run(words, env={**os.environ, "SOURCE_DATE_EPOCH": moment})
     assert made.returncode == 0, made.stdout
     wheel = only(tmp_path, "*.whl")
     assert wheel.read_bytes() == (released / wheel.name).read_bytes()
 
 
-@pytest.mark.parametrize("pattern", ["*-any.whl", "*-manylinux_*.whl"], ids=["with the module", "with the shared library"])
+@pytest.mark.parametrize(
+    "pattern", ["*-any.whl", "*-manylinux_*.whl"], ids=["with the module", "with the shared library"]
+)
 def test_a_wheel_is_installed_and_answers(released, tmp_path, python, pattern):
     use_wheel(only(released, pattern), python, tmp_path)
 
@@ -218,12 +245,20 @@ def test_plot_draws_from_the_wheel(released, tmp_path):
 
 # ---- the package of JavaScript
 
+
 def test_the_tarball_is_installed_and_answers(released, tmp_path, node, needs):
     needs("npm")
     (tmp_path / "package.json").write_text('{"private": true}\n')
     (tmp_path / "ask.mjs").write_text(ASK)
-    home = {**os.environ, "HOME": str(tmp_path), "npm_config_cache": str(tmp_path / "cache"), "npm_config_offline": "true",
-            "npm_config_update_notifier": "false", "npm_config_audit": "false", "npm_config_fund": "false"}
+    home = {
+        **os.environ,
+        "HOME": str(tmp_path),
+        "npm_config_cache": str(tmp_path / "cache"),
+        "npm_config_offline": "true",
+        "npm_config_update_notifier": "false",
+        "npm_config_audit": "false",
+        "npm_config_fund": "false",
+    }
     ran = run(["npm", "install", only(released, "hithwelor-js-*.tgz")], cwd=tmp_path, env=home)
     assert ran.returncode == 0, ran.stdout
     assert run([node, "ask.mjs"], cwd=tmp_path).stdout == LEAST_SAID

@@ -17,13 +17,15 @@ def test_prove_without_the_toolchain(clone, machine):
 
 def test_prove_notes_what_it_built(own_clone):
     """Where the build is done and the sources are as they were, what stands counts as that of these sources."""
-    script = ("import importlib.machinery, importlib.util, sys\n"
-              "loader = importlib.machinery.SourceFileLoader('prove', sys.argv[1])\n"
-              "module = importlib.util.module_from_spec(importlib.util.spec_from_loader('prove', loader))\n"
-              "loader.exec_module(module)\n"
-              "before = module.digests()\n"
-              "if len(sys.argv) > 2: open(sys.argv[2], 'a').write('\\n')\n"
-              "module.noted('bn_main', before)\n")
+    script = (
+        "import importlib.machinery, importlib.util, sys\n"
+        "loader = importlib.machinery.SourceFileLoader('prove', sys.argv[1])\n"
+        "module = importlib.util.module_from_spec(importlib.util.spec_from_loader('prove', loader))\n"
+        "loader.exec_module(module)\n"
+        "before = module.digests()\n"
+        "if len(sys.argv) > 2: open(sys.argv[2], 'a').write('\\n')\n"
+        "module.noted('bn_main', before)\n"
+    )
     places.write(os.path.join(own_clone, places.PROGRAM), "#!/bin/sh\n", is_run=True)
     tool = os.path.join(own_clone, "tools", "prove")
     assert run(["python3", "-B", "-c", script, tool]).returncode == 0
@@ -57,8 +59,12 @@ def test_the_gate_runs_everything_proved_and_every_test():
 @pytest.mark.parametrize("closed, status, output", [("<&-", 7, "read fault\n"), (">&-", 8, "")])
 def test_the_package_with_a_closed_input_or_output(clone, machine, any_node, python, closed, status, output):
     path = machine(node=any_node, python=python)
-    ran = run(["bash", "-c", f"python3 -B -m hithwelor check {closed}"], path=path, cwd=os.path.join(clone, "python"),
-              **({} if "<" in closed else {"input": "S,_,_,+,T\nT,_,_,0,F\n"}))
+    ran = run(
+        ["bash", "-c", f"python3 -B -m hithwelor check {closed}"],
+        path=path,
+        cwd=os.path.join(clone, "python"),
+        **({} if "<" in closed else {"input": "S,_,_,+,T\nT,_,_,0,F\n"}),
+    )
     assert (ran.returncode, ran.stdout, ran.stderr) == (status, output, "")
 
 
@@ -175,11 +181,14 @@ def gate_of(own_clone, machine, status, more=""):
 
 
 @pytest.mark.slow
-@pytest.mark.parametrize("proved, more, status, counts", [
-    (0, "", 0, "3 passed, 0 failed, 1 skipped"),
-    (0, "\n\ndef test_three():\n    assert 1 == 2\n", 1, "3 passed, 1 failed, 1 skipped"),
-    (3, "", 3, "3 passed, 0 failed, 1 skipped"),
-])
+@pytest.mark.parametrize(
+    "proved, more, status, counts",
+    [
+        (0, "", 0, "3 passed, 0 failed, 1 skipped"),
+        (0, "\n\ndef test_three():\n    assert 1 == 2\n", 1, "3 passed, 1 failed, 1 skipped"),
+        (3, "", 3, "3 passed, 0 failed, 1 skipped"),
+    ],
+)
 def test_the_gate_ends_in_what_was_skipped_and_one_line(own_clone, machine, proved, more, status, counts):
     given, lines = gate_of(own_clone, machine, proved, more)
     assert lines[:2] == ["rt: stand-in", "the setup of tools"] and given == status, lines

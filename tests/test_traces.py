@@ -27,11 +27,16 @@ def traced(rows, word, most):
         shown = [place for place, letter in cells.items() if letter != BLANK] + [head]
         first, last = min(shown), max(shown)
         scanned = cells.get(head, BLANK)
-        rule = None if state == rows[-1][4] else next(
-            (number for number, row in enumerate(rows, 1) if row[:2] == (state, scanned)), None)
+        rule = (
+            None
+            if state == rows[-1][4]
+            else next((number for number, row in enumerate(rows, 1) if row[:2] == (state, scanned)), None)
+        )
         letters = " ".join(cells.get(place, BLANK) for place in range(first, last + 1))
-        lines.append(f"{step} {state} from {first} head {head} cells {last - first + 1}: {letters}"
-                     + (f" rule {rule}" if rule else ""))
+        lines.append(
+            f"{step} {state} from {first} head {head} cells {last - first + 1}: {letters}"
+            + (f" rule {rule}" if rule else "")
+        )
         if state == rows[-1][4]:
             return 0, [*lines, f"halted {step}"]
         if rule is None:
@@ -47,7 +52,10 @@ def drawn_quadruples(draw):
     """Quadruples of few states and symbols, which needn't pass any test."""
     rows = []
     for _ in range(draw.randrange(1, 7)):
-        tapes = [(draw.choice("_ab"), draw.choice("_ab")) if draw.random() < 0.5 else ("/", draw.choice("-0+")) for _ in range(3)]
+        tapes = [
+            (draw.choice("_ab"), draw.choice("_ab")) if draw.random() < 0.5 else ("/", draw.choice("-0+"))
+            for _ in range(3)
+        ]
         rows.append([draw.choice("PQR"), *(read for read, _ in tapes), *(act for _, act in tapes), draw.choice("PQR")])
     return rows
 
@@ -86,7 +94,9 @@ def pytest_generate_tests(metafunc):
 def test_a_trace_is_the_run_moment_by_moment(run, answering):
     rows, word, most = run
     status, text = answers.answer(["trace", f"={word}", str(most)], table_of(rows).encode())
-    assert (status, text.decode().splitlines()) == traced(rows, word, most), f"trace ={word} {most} of {table_of(rows)!r}"
+    assert (status, text.decode().splitlines()) == traced(
+        rows, word, most
+    ), f"trace ={word} {most} of {table_of(rows)!r}"
 
 
 @pytest.mark.engine
@@ -98,20 +108,27 @@ def test_an_inverse_is_the_table_turned_round(quadruples, answering):
 
 
 @pytest.mark.engine
-@pytest.mark.parametrize("words, table, status, text", [
-    (["trace", "=2", "5"], b"S,_,_,+,T\nT,1,1,0,T\nT,_,_,0,F\n", 5, b"word: 1\n"),
-    (["trace", "=", "5"], b"S,_,_,+,T\nT,_,1,0,F\n", 4, b"machine: S4\n"),
-    (["trace", "=", "5"], b"S,_,_,+,T\nt,_,_,0,F\n", 10,
-     b"0 S from 0 head 0 cells 1: _ rule 1\n1 T from 1 head 1 cells 1: _\nstuck T _ 1\n"),
-    (["trace", "=", "5"], b"S,_,_,+\n", 3, b"text: record 1 fields\n"),
-    (["trace", "=", "1048577"], b"S,_,_,+,T\nT,_,_,0,F\n", 2, b"usage\n"),
-    (["trace", "="], b"", 2, b"usage\n"),
-    (["trace", "=", "0"], b"S,_,_,+,T\nT,_,_,0,F\n", 12, b"0 S from 0 head 0 cells 1: _ rule 1\nrunning 0\n"),
-    (["inverse"], b"", 3, b"text: empty\n"),
-    (["inverse"], b"A,/,_,/,+,2,0\n", 3, b"text: record 1 fields\n"),
-    (["inverse"], b"A,/,_,/,+,2,9,B\n", 3, b"text: record 1 field 7 shift\n"),
-    (["inverse", "0"], b"A,/,_,/,+,2,0,B\n", 2, b"usage\n"),
-])
+@pytest.mark.parametrize(
+    "words, table, status, text",
+    [
+        (["trace", "=2", "5"], b"S,_,_,+,T\nT,1,1,0,T\nT,_,_,0,F\n", 5, b"word: 1\n"),
+        (["trace", "=", "5"], b"S,_,_,+,T\nT,_,1,0,F\n", 4, b"machine: S4\n"),
+        (
+            ["trace", "=", "5"],
+            b"S,_,_,+,T\nt,_,_,0,F\n",
+            10,
+            b"0 S from 0 head 0 cells 1: _ rule 1\n1 T from 1 head 1 cells 1: _\nstuck T _ 1\n",
+        ),
+        (["trace", "=", "5"], b"S,_,_,+\n", 3, b"text: record 1 fields\n"),
+        (["trace", "=", "1048577"], b"S,_,_,+,T\nT,_,_,0,F\n", 2, b"usage\n"),
+        (["trace", "="], b"", 2, b"usage\n"),
+        (["trace", "=", "0"], b"S,_,_,+,T\nT,_,_,0,F\n", 12, b"0 S from 0 head 0 cells 1: _ rule 1\nrunning 0\n"),
+        (["inverse"], b"", 3, b"text: empty\n"),
+        (["inverse"], b"A,/,_,/,+,2,0\n", 3, b"text: record 1 fields\n"),
+        (["inverse"], b"A,/,_,/,+,2,9,B\n", 3, b"text: record 1 field 7 shift\n"),
+        (["inverse", "0"], b"A,/,_,/,+,2,0,B\n", 2, b"usage\n"),
+    ],
+)
 def test_what_is_refused_and_the_smallest(words, table, status, text, answering):
     assert answers.answer(words, table) == (status, text)
 

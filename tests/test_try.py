@@ -33,9 +33,17 @@ def test_the_toolchain_isnt_asked_where_node_answers(clone, machine, any_node):
     assert ran.stdout == RUN_ANSWER and BY_MODULE in ran.stderr
 
 
-@pytest.mark.parametrize("name", ["page/src/app.js~", "page/src/.app.js.swp", "page/src/#app.js#",
-                                  "page/src/app.js.orig",
-                                  "crates/bn_io/src/lib.rt~", "crates/bn_io/src/.lib.rt.swp"])
+@pytest.mark.parametrize(
+    "name",
+    [
+        "page/src/app.js~",
+        "page/src/.app.js.swp",
+        "page/src/#app.js#",
+        "page/src/app.js.orig",
+        "crates/bn_io/src/lib.rt~",
+        "crates/bn_io/src/.lib.rt.swp",
+    ],
+)
 def test_a_backup_file_among_the_sources_disturbs_nothing(own_clone, machine, any_node, name):
     places.write(os.path.join(own_clone, name), "what an editor leaves\n")
     ran = tried(own_clone, machine(node=any_node))
@@ -52,8 +60,10 @@ def test_node_without_python_answers(clone, machine, any_node):
 def test_where_nothing_answers_the_message_names_what_is_there(clone, machine, any_node, tmp_path):
     places.write(str(tmp_path / "old.js"), OLD_JS)
     old = OLD_NODE.format(node=any_node, room=tmp_path)
-    for path, named in ((machine(), "node isn't on the path"),
-                        (machine(node=old), "node is v16.20.2, and the module needs 18 or later")):
+    for path, named in (
+        (machine(), "node isn't on the path"),
+        (machine(node=old), "node is v16.20.2, and the module needs 18 or later"),
+    ):
         ran = tried(clone, path)
         assert (ran.returncode, ran.stdout, ran.stderr.count("\n")) == (1, "", 1)
         for told in ("the proved program isn't built", named, "command rt isn't on the path"):
@@ -80,8 +90,9 @@ def test_the_toolchain_without_python_is_told_so(clone, machine):
     """The toolchain's command is a program of Python: no limit of it is blamed where that is lacking."""
     ran = tried(clone, machine(rt="#!/usr/bin/env python3\n"))
     assert (ran.returncode, ran.stdout) == (1, "")
-    assert ran.stderr.splitlines()[-1] == ("try: no answer: the command rt needs Python 3.9 or later, and python3 isn't "
-                                           "on the path")
+    assert ran.stderr.splitlines()[-1] == (
+        "try: no answer: the command rt needs Python 3.9 or later, and python3 isn't " "on the path"
+    )
     assert "ten minutes" not in ran.stderr
 
 

@@ -28,8 +28,14 @@ def checked(top, *words):
     """What mypy says in a folder."""
     if not shutil.which("mypy"):
         pytest.skip("mypy isn't installed: tools/setup")
-    return subprocess.run(["mypy", "--cache-dir", os.devnull, *words], cwd=top, stdout=subprocess.PIPE, stderr=subprocess.STDOUT,
-                          text=True, env={**os.environ, "MYPYPATH": ":".join(MODULES)})
+    return subprocess.run(
+        ["mypy", "--cache-dir", os.devnull, *words],
+        cwd=top,
+        stdout=subprocess.PIPE,
+        stderr=subprocess.STDOUT,
+        text=True,
+        env={**os.environ, "MYPYPATH": ":".join(MODULES)},
+    )
 
 
 def test_the_package_has_types():
@@ -37,8 +43,9 @@ def test_the_package_has_types():
     assert ran.returncode == 0, ran.stdout
 
 
-@pytest.mark.parametrize("folders", [["tools", "tools/build", "tools/lib", "embed", "check"], ["bench"], ["docs/pictures"]],
-                         ids=" ".join)
+@pytest.mark.parametrize(
+    "folders", [["tools", "tools/build", "tools/lib", "embed", "check"], ["bench"], ["docs/pictures"]], ids=" ".join
+)
 def test_tools_and_measures_agree_with_their_types(folders):
     programs = [path for folder in folders for path in programs_of(folder)]
     assert programs
@@ -46,10 +53,13 @@ def test_tools_and_measures_agree_with_their_types(folders):
     assert ran.returncode == 0, ran.stdout
 
 
-@pytest.mark.parametrize("path, right, wrong, told", [
-    ("texts.py", "int(words[1]), output=output", "words[1], output=output", "arg-type"),
-    ("sweep/rows.py", "return code, counts, found or window", "return counts, code, found", "return-value"),
-])
+@pytest.mark.parametrize(
+    "path, right, wrong, told",
+    [
+        ("texts.py", "int(words[1]), output=output", "words[1], output=output", "arg-type"),
+        ("sweep/rows.py", "return code, counts, found or window", "return counts, code, found", "return-value"),
+    ],
+)
 def test_a_planted_fault_is_seen(tmp_path, path, right, wrong, told):
     shutil.copytree(os.path.join(TOP, "python", "hithwelor"), tmp_path / "python" / "hithwelor")
     shutil.copy(os.path.join(TOP, "pyproject.toml"), tmp_path)

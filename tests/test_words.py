@@ -16,14 +16,17 @@ def tried(clone, machine, any_node):
     return call
 
 
-@pytest.mark.parametrize("words, hint", [
-    (["check", "."], ". is a folder: check reads a file, by < FILE"),
-    (["check", "nofile.csv"], "there is no file nofile.csv here"),
-    (["check", "no/file"], "there is no file no/file here"),
-    (["refused"], "refused is a folder: name a command first"),
-    (["check", "least.csv"], "least.csv is a file: write < least.csv"),
-    (["generate", "nofile.csv"], "nofile.csv is no word of generate, which reads no file either"),
-])
+@pytest.mark.parametrize(
+    "words, hint",
+    [
+        (["check", "."], ". is a folder: check reads a file, by < FILE"),
+        (["check", "nofile.csv"], "there is no file nofile.csv here"),
+        (["check", "no/file"], "there is no file no/file here"),
+        (["refused"], "refused is a folder: name a command first"),
+        (["check", "least.csv"], "least.csv is a file: write < least.csv"),
+        (["generate", "nofile.csv"], "nofile.csv is no word of generate, which reads no file either"),
+    ],
+)
 def test_a_word_that_names_a_folder_or_no_file_is_told(tried, words, hint):
     ran = tried(*words)
     assert (ran.returncode, ran.stdout) == (2, "usage\n")

@@ -9,8 +9,22 @@ from .answers import NoMemory, Unavailable, answer, way
 from .machine import Machine
 from .texts import Exit, Outcome, Refused, Run, Session, Tape, View, Window
 
-__all__ = ["Exit", "Machine", "NoMemory", "Outcome", "Refused", "Run", "Session", "Tape", "Unavailable", "View", "Window",
-           "answer", "version", "way"]
+__all__ = [
+    "Exit",
+    "Machine",
+    "NoMemory",
+    "Outcome",
+    "Refused",
+    "Run",
+    "Session",
+    "Tape",
+    "Unavailable",
+    "View",
+    "Window",
+    "answer",
+    "version",
+    "way",
+]
 
 
 def version() -> str:
@@ -20,6 +34,7 @@ def version() -> str:
     from importlib import metadata
 
     from .answers import HERE, TOP, first_that_stands
+
     told = first_that_stands([os.path.join(TOP, "CHANGELOG.md"), os.path.join(TOP, "version")])
     if told and HERE == os.path.join(TOP, "python", "hithwelor"):
         with open(told, encoding="utf-8") as file:

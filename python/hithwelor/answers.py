@@ -47,8 +47,15 @@ class Library:
         self.path, self.kept = path, threading.local()
         self.call = ctypes.CDLL(path).hithwelor_answer
         self.call.restype = ctypes.c_uint32
-        self.call.argtypes = [ctypes.c_char_p, ctypes.c_size_t, ctypes.c_char_p, ctypes.c_size_t,
-                              ctypes.c_void_p, ctypes.c_size_t, ctypes.POINTER(ctypes.c_uint64)]
+        self.call.argtypes = [
+            ctypes.c_char_p,
+            ctypes.c_size_t,
+            ctypes.c_char_p,
+            ctypes.c_size_t,
+            ctypes.c_void_p,
+            ctypes.c_size_t,
+            ctypes.POINTER(ctypes.c_uint64),
+        ]
 
     def answer_into(self, words: bytes, data: bytes, output: ctypes.Array[ctypes.c_char]) -> tuple[int, int]:
         """One call with this output: the code, and the length of the whole text."""
@@ -76,7 +83,9 @@ class Node:
     def __init__(self, node: str, command: str) -> None:
         self.path = f"{node} {command}"
         self.lock = threading.Lock()
-        self.child = subprocess.Popen([node, "-e", SERVE, os.path.abspath(command)], stdin=subprocess.PIPE, stdout=subprocess.PIPE)
+        self.child = subprocess.Popen(
+            [node, "-e", SERVE, os.path.abspath(command)], stdin=subprocess.PIPE, stdout=subprocess.PIPE
+        )
         self.sink, self.source = piped(self.child.stdin), piped(self.child.stdout)
         atexit.register(self.close)
 
@@ -111,7 +120,9 @@ class Node:
     def __enter__(self) -> Node:
         return self
 
-    def __exit__(self, kind: type[BaseException] | None, fault: BaseException | None, trace: TracebackType | None) -> None:
+    def __exit__(
+        self, kind: type[BaseException] | None, fault: BaseException | None, trace: TracebackType | None
+    ) -> None:
         self.close()
 
 
@@ -151,8 +162,10 @@ def way() -> Library | Node:
             elif node and command:
                 _kept.append(Node(node, command))
             else:
-                raise Unavailable(f"nothing is here that answers: build the shared library by embed/build, name it by {VARIABLE}, "
-                                  "or install node")
+                raise Unavailable(
+                    f"nothing is here that answers: build the shared library by embed/build, name it by {VARIABLE}, "
+                    "or install node"
+                )
         return _kept[0]
 
 

@@ -33,11 +33,18 @@ def forms() -> dict[str, str]:
 
 def help_text(version: str) -> str:
     """The whole of it."""
-    lines = [f"hithwelor {version}: a verified workbench for reversible computing", "",
-             "    hithwelor WORDS < INPUT      or      python3 -m hithwelor WORDS < INPUT", "",
-             "The words are one of these:"]
+    lines = [
+        f"hithwelor {version}: a verified workbench for reversible computing",
+        "",
+        "    hithwelor WORDS < INPUT      or      python3 -m hithwelor WORDS < INPUT",
+        "",
+        "The words are one of these:",
+    ]
     lines += [f"  {form:{WIDTH}} {what}" for form, what in forms().items()]
-    lines += ["All but `generate` read standard input. `=W` is `=` and the letters of the word.", "",
-              "The package's own:"]
+    lines += [
+        "All but `generate` read standard input. `=W` is `=` and the letters of the word.",
+        "",
+        "The package's own:",
+    ]
     lines += [f"  {form:{WIDTH}} {what}" for form, what in OWN.items()]
     return "".join(f"{line}\n" for line in lines)

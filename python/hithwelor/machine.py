@@ -28,7 +28,9 @@ class Machine:
 
     def ask(self, words: Iterable[object], *statuses: int, data: str | None = None) -> str:
         """The program's answer to words and this table, as text; a status that isn't one of these is Refused."""
-        return checked(*answer([str(word) for word in words], self.table if data is None else data), *(statuses or (DONE,)))
+        return checked(
+            *answer([str(word) for word in words], self.table if data is None else data), *(statuses or (DONE,))
+        )
 
     def check(self) -> str:
         """The verdict on standard form, as the program prints it."""
@@ -94,5 +96,8 @@ class Machine:
         return f"Machine({self.table!r})"
 
     def _repr_html_(self) -> str:
-        rows = "".join(f"<tr>{''.join(f'<td>{html.escape(it)}</td>' for it in line.split(','))}</tr>" for line in self.table.splitlines())
+        rows = "".join(
+            f"<tr>{''.join(f'<td>{html.escape(it)}</td>' for it in line.split(','))}</tr>"
+            for line in self.table.splitlines()
+        )
         return f"<table><tr><th>state</th><th>read</th><th>write</th><th>move</th><th>next</th></tr>{rows}</table>"

@@ -22,8 +22,16 @@ from .sweep.rows import COLUMNS, ELEMENTS, FORM, MACHINE, OUTCOME, OUTPUT, QUADR
 
 ENDINGS = (".svg", ".png")
 MOST_NAMES = 40
-COLOURS = {"halted": "#2c6da3", "end": "#2c6da3", "compiled": "#2c6da3", "stuck": "#e0a030", "window": "#c0392b",
-           "running": "#8e6bb0", "time": "#555", "refused": "#bbb"}
+COLOURS = {
+    "halted": "#2c6da3",
+    "end": "#2c6da3",
+    "compiled": "#2c6da3",
+    "stuck": "#e0a030",
+    "window": "#c0392b",
+    "running": "#8e6bb0",
+    "time": "#555",
+    "refused": "#bbb",
+}
 
 
 # The points of a series, each once and in their order.
@@ -54,6 +62,7 @@ def canvas() -> Any:
     matplotlib.use("Agg")
     matplotlib.rcParams["svg.hashsalt"] = "hithwelor"
     from matplotlib import pyplot
+
     return pyplot
 
 
@@ -84,7 +93,9 @@ def draw_steps(axes: Any, rows: list[Row]) -> None:
         elif row[QUADRUPLE]:
             series[f"{name}: quadruple steps"][length, int(row[QUADRUPLE])] = None
     if not series:
-        raise Fault("no row of the table has steps of `machine` or quadruple steps of `run`, so there is nothing to plot")
+        raise Fault(
+            "no row of the table has steps of `machine` or quadruple steps of `run`, so there is nothing to plot"
+        )
     scatter(axes, series)
     if beside:
         axes.plot(*zip(*beside), ".", markersize=3, color="#222", label="4i + 4L + 5, of the machine's rows")
@@ -123,6 +134,7 @@ def lines_of(rows: list[Row]) -> list[str]:
     def line(row: Row) -> str:
         given = counts[row[MACHINE], row[FORM], row[WINDOW]] >= len(words[row[MACHINE]])
         return f"{named(row)} {row[WINDOW] if given else '(found window)'}".strip()
+
     return list(map(line, rows))
 
 

@@ -10,7 +10,16 @@ from collections.abc import Iterable, Iterator, Sequence
 from dataclasses import dataclass, field
 from typing import ClassVar, overload
 
-STATUSES = {2: "usage", 3: "text", 4: "machine", 5: "word", 6: "size", 7: "read fault", 8: "write fault", 9: "no memory"}
+STATUSES = {
+    2: "usage",
+    3: "text",
+    4: "machine",
+    5: "word",
+    6: "size",
+    7: "read fault",
+    8: "write fault",
+    9: "no memory",
+}
 
 # A window of the three tapes: l1, r1, n, r3.
 Window = tuple[int, int, int, int]
@@ -61,7 +70,11 @@ class Tape:
     @property
     def word(self) -> str:
         """The symbols without the blanks at both ends."""
-        return "".join(self.symbols).strip("_") if all(len(it) == 1 for it in self.symbols) else " ".join(self.symbols).strip("_ ")
+        return (
+            "".join(self.symbols).strip("_")
+            if all(len(it) == 1 for it in self.symbols)
+            else " ".join(self.symbols).strip("_ ")
+        )
 
     def __getitem__(self, position: int) -> str:
         """The symbol at a position; beyond the cells that are shown that is an IndexError."""
@@ -75,7 +88,9 @@ class Tape:
             style = "border:1px solid #999;padding:2px 7px;text-align:center;font-family:monospace"
             if place == self.head:
                 style += ";border:3px solid #c33"
-            cells.append(f'<td style="{style}" title="cell {place}">{"&middot;" if symbol == "_" else html.escape(symbol)}</td>')
+            cells.append(
+                f'<td style="{style}" title="cell {place}">{"&middot;" if symbol == "_" else html.escape(symbol)}</td>'
+            )
         return f'<tr><th style="text-align:left;padding-right:8px">{self.NAMES[self.number]}</th>{"".join(cells)}</tr>'
 
     def _repr_html_(self) -> str:
@@ -159,9 +174,16 @@ class Run:
             raise ValueError("a run tells its window, or it is given")
         quadruples = told.get("quadruple")
         output = told.get("output")
-        return cls(window, int(told["elements"]), Exit.read(told.get("exit", "inside")), int(told["steps"]),
-                   int(quadruples.removeprefix("steps ")) if quadruples else None, tuple(tapes),
-                   None if output is None else output.removeprefix("="), text)
+        return cls(
+            window,
+            int(told["elements"]),
+            Exit.read(told.get("exit", "inside")),
+            int(told["steps"]),
+            int(quadruples.removeprefix("steps ")) if quadruples else None,
+            tuple(tapes),
+            None if output is None else output.removeprefix("="),
+            text,
+        )
 
     def _repr_html_(self) -> str:
         told = self.text.split("\ntape ")[0].splitlines()
@@ -172,7 +194,8 @@ class Run:
 @dataclass(frozen=True)
 class View:
     """Every layer at one step: `place` is the line of the element (as `12.w`), and `has_left` says whether the signal has
-    left by it; then the `module`, the state of Bennett's machine, the `tapes`, the `stage` and what the machine itself does."""
+    left by it; then the `module`, the state of Bennett's machine, the `tapes`, the `stage` and what the machine itself does.
+    """
 
     place: str
     has_left: bool
@@ -185,7 +208,8 @@ class View:
     text: str = field(default="", repr=False)
 
     MACHINE: ClassVar[re.Pattern[str]] = re.compile(
-        r"machine (compute|copy|retrace) ((?:state \S+|quintuple \d+) step (?:\d+|\?))")
+        r"machine (compute|copy|retrace) ((?:state \S+|quintuple \d+) step (?:\d+|\?))"
+    )
 
     @classmethod
     def read(cls, lines: Sequence[str]) -> View:
@@ -194,8 +218,17 @@ class View:
         element = matched(re.fullmatch(r"element (at|left) (\S+) steps (\d+)", lines[0]), lines[0], "an element")
         quadruple = matched(re.fullmatch(r"quadruple (\S+)", lines[2]), lines[2], "a quadruple")
         machine = matched(cls.MACHINE.fullmatch(lines[6]), lines[6], "a machine")
-        return cls(element[2], element[1] == "left", int(element[3]), lines[1], quadruple[1], tuple(map(Tape.read, lines[3:6])),
-                   machine[1], machine[2], "".join(f"{line}\n" for line in lines[:7]))
+        return cls(
+            element[2],
+            element[1] == "left",
+            int(element[3]),
+            lines[1],
+            quadruple[1],
+            tuple(map(Tape.read, lines[3:6])),
+            machine[1],
+            machine[2],
+            "".join(f"{line}\n" for line in lines[:7]),
+        )
 
     @property
     def lines(self) -> list[str]:
@@ -203,7 +236,13 @@ class View:
         return self.text.splitlines()
 
     def _repr_html_(self) -> str:
-        told = [self.stage, f"{self.machine}", f"quadruple {self.quadruple}", f"{self.module}", f"element step {self.steps}"]
+        told = [
+            self.stage,
+            f"{self.machine}",
+            f"quadruple {self.quadruple}",
+            f"{self.module}",
+            f"element step {self.steps}",
+        ]
         return f"<p>{' &middot; '.join(map(html.escape, told))}</p>{tapes_html(self.tapes)}"
 
 
@@ -220,7 +259,7 @@ class Session:
         answers: list[View | str] = []
         while at < len(lines):
             if lines[at].startswith("element "):
-                answers.append(View.read(lines[at:at + 7]))
+                answers.append(View.read(lines[at : at + 7]))
                 at += 7
             else:
                 answers.append(lines[at])
@@ -234,12 +273,17 @@ class Session:
         return iter(self.answers)
 
     @overload
-    def __getitem__(self, place: int) -> View | str: ...
+    def __getitem__(self, place: int) -> View | str:
+        ...
+
     @overload
-    def __getitem__(self, place: slice) -> tuple[View | str, ...]: ...
+    def __getitem__(self, place: slice) -> tuple[View | str, ...]:
+        ...
 
     def __getitem__(self, place: int | slice) -> View | str | tuple[View | str, ...]:
         return self.answers[place]
 
     def _repr_html_(self) -> str:
-        return "".join(it._repr_html_() if isinstance(it, View) else f"<pre>{html.escape(it)}</pre>" for it in self.answers)
+        return "".join(
+            it._repr_html_() if isinstance(it, View) else f"<pre>{html.escape(it)}</pre>" for it in self.answers
+        )

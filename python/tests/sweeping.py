@@ -74,7 +74,7 @@ def without_seconds(data):
 @functools.cache
 def whole(length):
     """The table of `machine` and `run` on all words of the increment up to a length, made without workers."""
-    machine, = cases.tables_of([INCREMENT], print)
+    (machine,) = cases.tables_of([INCREMENT], print)
     words = cases.AllWords(machine.letters, 0, length)
     plan = cases.Plan((machine,), (words,), cases.kinds_of(["machine", "run"], [cases.AUTO], cases.MOST_STEPS))
     return table.HEAD + rows.work(plan.batch(0, plan.groups)).text.encode()
@@ -101,8 +101,12 @@ class Sweeps(unittest.TestCase):
 
     def start(self, *words, blocked=(), python=sys.executable, **more):
         """A command of the package, started."""
-        return subprocess.Popen([python, "-m", "hithwelor", *map(str, words)], cwd=self.folder,
-                                env=environment(blocked, self.blocks), **more)
+        return subprocess.Popen(
+            [python, "-m", "hithwelor", *map(str, words)],
+            cwd=self.folder,
+            env=environment(blocked, self.blocks),
+            **more,
+        )
 
     def call(self, *words, blocked=(), python=sys.executable):
         """The status, the output and what was said."""

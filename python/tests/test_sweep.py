@@ -17,14 +17,16 @@ class Cases(unittest.TestCase):
         self.assertEqual([words[number] for number in range(words.count)], ["", "0", "1", "00", "01", "10", "11"])
         self.assertEqual(cases.AllWords("", 0, 3).count, 1)
         self.assertEqual(cases.AllWords("abc", 2, 2)[8], "cc")
-        self.assertEqual(cases.AllWords("01", 30, 30)[2 ** 29 + 5], "1" + "0" * 26 + "101")
+        self.assertEqual(cases.AllWords("01", 30, 30)[2**29 + 5], "1" + "0" * 26 + "101")
 
     def test_drawn_words_are_the_same_in_each_run(self):
         self.assertEqual(cases.drawn("01", 0, 5, 6, 3).words, cases.drawn("01", 0, 5, 6, 3).words)
         self.assertEqual(cases.drawn("01", 4, 4, 5, 1).words, ["1100", "1100", "0100", "0110", "1100"])
 
     def test_parts_are_all_groups_once(self):
-        plan = cases.Plan((cases.Table("a", b""),) * 2, (cases.AllWords("01", 0, 2), cases.Listed(["x"])), (cases.Kind("machine"),))
+        plan = cases.Plan(
+            (cases.Table("a", b""),) * 2, (cases.AllWords("01", 0, 2), cases.Listed(["x"])), (cases.Kind("machine"),)
+        )
         bounds = [plan.part(number, 3) for number in (1, 2, 3)]
         self.assertEqual(bounds, [(0, 2), (2, 5), (5, 8)])
         self.assertEqual([words for _, words in plan.batch(5, 8).parts], [("10", "11"), ("x",)])
@@ -49,7 +51,11 @@ class Comparison(unittest.TestCase):
 
     def test_what_has_no_answer_is_not_compared(self):
         machine = self.row("halted", "11", output="1100")
-        for other in (self.row("window 1 left", "9", status="11"), self.row("word: 1", status="5"), self.row("time", status="")):
+        for other in (
+            self.row("window 1 left", "9", status="11"),
+            self.row("word: 1", status="5"),
+            self.row("time", status=""),
+        ):
             self.assertIsNone(rows.agrees(machine, other))
         self.assertIsNone(rows.agrees(self.row("running", "9", status="12"), self.row("end", "9", "65", "1100")))
         self.assertTrue(rows.agrees(self.row("stuck Go 1", "1", status="10"), self.row("stuck Go 1", "9", status="10")))
@@ -58,22 +64,32 @@ class Comparison(unittest.TestCase):
 class Rows(Sweeps):
     def test_each_form_has_its_counts(self):
         words = self.file("words", "1011\n")
-        self.assertEqual(self.sweep(INCREMENT, "--words", words, "--form", "machine", "run", "compile", "--window", "0,5,11,5"), [
-            f"{INCREMENT},machine,1011,,0,halted,11,,,1100",
-            f"{INCREMENT},run,1011,0 5 11 5,0,end,2507884,65,14136,1100",
-            f"{INCREMENT},compile,1011,0 5 11 5,0,compiled,,,14136,"])
+        self.assertEqual(
+            self.sweep(INCREMENT, "--words", words, "--form", "machine", "run", "compile", "--window", "0,5,11,5"),
+            [
+                f"{INCREMENT},machine,1011,,0,halted,11,,,1100",
+                f"{INCREMENT},run,1011,0 5 11 5,0,end,2507884,65,14136,1100",
+                f"{INCREMENT},compile,1011,0 5 11 5,0,compiled,,,14136,",
+            ],
+        )
 
     def test_windows_are_found_and_erased_machines_counted(self):
         machine = os.path.join(TOP, "examples", "not.csv")
-        self.assertEqual(self.sweep(machine, "--length", 1, "--letters", "1", "--form", "erase", "run", "compile"), [
-            f"{machine},erase,1,,0,halted,,58,,0",
-            f"{machine},run,1,1 2 8 2,0,end,618518,29,7580,0",
-            f"{machine},compile,1,1 2 8 2,0,compiled,,,7580,"])
+        self.assertEqual(
+            self.sweep(machine, "--length", 1, "--letters", "1", "--form", "erase", "run", "compile"),
+            [
+                f"{machine},erase,1,,0,halted,,58,,0",
+                f"{machine},run,1,1 2 8 2,0,end,618518,29,7580,0",
+                f"{machine},compile,1,1 2 8 2,0,compiled,,,7580,",
+            ],
+        )
 
     def test_a_machine_is_brought_into_standard_form_where_that_is_asked(self):
         machine = os.path.join(TOP, "examples", "complement.csv")
-        self.assertEqual(self.sweep(machine, "--words", self.file("words", "1011\n"), "--standard"),
-                         [f"{machine},standard machine,1011,,0,halted,11,,,0100"])
+        self.assertEqual(
+            self.sweep(machine, "--words", self.file("words", "1011\n"), "--standard"),
+            [f"{machine},standard machine,1011,,0,halted,11,,,0100"],
+        )
 
     def test_the_machine_agrees_with_its_circuit(self):
         status, out, said = self.call("sweep", INCREMENT, "--up-to", 3, "--check", "--out", self.table, "--jobs", 2)
@@ -96,9 +112,11 @@ def children_of(running):
 
 def workers_of(running):
     """The numbers of the processes that answer for it; Python's own tracker of resources is none."""
+
     def words(child):
         with open(f"/proc/{child}/cmdline", "rb") as file:
             return file.read()
+
     return [child for child in children_of(running) if b"spawn_main" in words(child)]
 
 
@@ -147,9 +165,10 @@ class Resumed(Sweeps):
         self.assert_goes_on()
 
     def test_ctrl_c_and_a_death_end_no_sweep_of_large_batches_by_waiting(self):
-        words = self.file("words", "".join(f"{number:060b}\n" for number in range(0, 2 ** 60, 2 ** 60 // 300_000)))
-        running = self.start("sweep", INCREMENT, "--words", words, "--jobs", 2, "--out", self.table,
-                             stderr=subprocess.PIPE)
+        words = self.file("words", "".join(f"{number:060b}\n" for number in range(0, 2**60, 2**60 // 300_000)))
+        running = self.start(
+            "sweep", INCREMENT, "--words", words, "--jobs", 2, "--out", self.table, stderr=subprocess.PIPE
+        )
         self.wait_for_rows(1000, running)
         os.kill(workers_of(running)[0], signal.SIGKILL)
         self.wait_for_rows(5000, running)
@@ -223,8 +242,10 @@ class Wrong(Sweeps):
         status, out, said = self.call("sweep", none, INCREMENT, "--words", self.file("words", "1x\n1\n"))
         self.assertEqual(status, 0)
         self.assert_line(said, "tell a refusal: 3, the first", "text: record 1 fields", "isn't a table of quintuples")
-        self.assertEqual([line.split(",")[4:6] for line in out.splitlines()[1:]],
-                         [["3", "text: record 1 fields"]] * 2 + [["5", "word: 2"], ["0", "halted"]])
+        self.assertEqual(
+            [line.split(",")[4:6] for line in out.splitlines()[1:]],
+            [["3", "text: record 1 fields"]] * 2 + [["5", "word: 2"], ["0", "halted"]],
+        )
 
     def test_a_folder_without_machines_is_told_and_passed_over(self):
         status, out, said = self.call("sweep", self.folder, LEAST, "--up-to", 0)
@@ -233,11 +254,17 @@ class Wrong(Sweeps):
         self.assertEqual(self.call("sweep", self.folder, "--up-to", 0)[0], 2)
 
     def test_words_that_have_no_form_say_what_to_do(self):
-        for words, part in (([LEAST], "--up-to"), ([LEAST, "--up-to", "01x"], "is no number"), ([LEAST, "--up-to", 1, "--resume"], "--out"),
-                            (["nonesuch.csv", "--up-to", 1], "No such file"), (["generate:0", "--up-to", 1], "from 1 to 444"),
-                            ([LEAST, "--up-to", 1, "--form", "run", "--window", "1,2"], "l1,r1,n,r3"),
-                            ([LEAST, "--up-to", 1, "--part", "3/2"], "K from 1 to N"), ([LEAST, "--words", self.file("w")], "no word"),
-                            ([LEAST, "--up-to", 1, "--form", "run", "--check"], "name both")):
+        for words, part in (
+            ([LEAST], "--up-to"),
+            ([LEAST, "--up-to", "01x"], "is no number"),
+            ([LEAST, "--up-to", 1, "--resume"], "--out"),
+            (["nonesuch.csv", "--up-to", 1], "No such file"),
+            (["generate:0", "--up-to", 1], "from 1 to 444"),
+            ([LEAST, "--up-to", 1, "--form", "run", "--window", "1,2"], "l1,r1,n,r3"),
+            ([LEAST, "--up-to", 1, "--part", "3/2"], "K from 1 to N"),
+            ([LEAST, "--words", self.file("w")], "no word"),
+            ([LEAST, "--up-to", 1, "--form", "run", "--check"], "name both"),
+        ):
             ran = [str(word) for word in words]
             with self.assertRaises(Fault, msg=ran) as told:
                 command.sweep(ran)

@@ -25,8 +25,13 @@ class Scheduled(Sweeps):
 
     def serve(self, *words):
         """A process of Dask, which is killed at the end."""
-        it = subprocess.Popen([python_with("distributed"), *words], cwd=self.blocks, env=environment((), self.blocks),
-                              stdout=subprocess.DEVNULL, stderr=subprocess.DEVNULL)
+        it = subprocess.Popen(
+            [python_with("distributed"), *words],
+            cwd=self.blocks,
+            env=environment((), self.blocks),
+            stdout=subprocess.DEVNULL,
+            stderr=subprocess.DEVNULL,
+        )
         self.addCleanup(it.wait)
         self.addCleanup(it.kill)
         return it
@@ -45,15 +50,18 @@ class Scheduled(Sweeps):
 
     def killed_in_the_middle(self, named, process):
         """A sweep by this cluster, of which a process is killed in the middle: status, output and what was said."""
-        running = self.start(*self.WORDS, *named, python=python_with("distributed"), stdout=subprocess.PIPE,
-                             stderr=subprocess.PIPE)
+        running = self.start(
+            *self.WORDS, *named, python=python_with("distributed"), stdout=subprocess.PIPE, stderr=subprocess.PIPE
+        )
         self.wait_for_rows(20, running)
         process.kill()
         out, said = running.communicate(timeout=PATIENCE)
         return running.returncode, out.decode(), said.decode()
 
     def test_what_is_missing_is_said(self):
-        status, _, said = self.call("sweep", LEAST, "--up-to", 0, "--scheduler", "tcp://127.0.0.1:9", blocked=["distributed"])
+        status, _, said = self.call(
+            "sweep", LEAST, "--up-to", 0, "--scheduler", "tcp://127.0.0.1:9", blocked=["distributed"]
+        )
         self.assertEqual(status, 2)
         self.assert_line(said, "python3-distributed")
 
@@ -100,6 +108,7 @@ class Plots(Sweeps):
     def test_a_table_is_plotted(self):
         def plot(*words):
             self.assertEqual(self.call("plot", self.table, *words, python=python_with("matplotlib")), (0, "", ""))
+
         self.call("sweep", INCREMENT, "--up-to", 3, "--check", "--window", "auto", "0,5,11,5", "--out", self.table)
         plot()
         first = self.content(os.path.join(self.folder, "table.svg"))

@@ -87,8 +87,9 @@ class Shown(Browser):
         until = time.monotonic() + PATIENCE
         while not self.ask(ready):
             if time.monotonic() > until:
-                raise OSError(f"{address[:80]}: no run is shown; the page says "
-                              f"{self.ask('document.body.innerText')[:200]!r}")
+                raise OSError(
+                    f"{address[:80]}: no run is shown; the page says " f"{self.ask('document.body.innerText')[:200]!r}"
+                )
             time.sleep(0.05)
 
     def wait(self, expression):
@@ -101,14 +102,21 @@ class Shown(Browser):
     def strike(self, key, number, text="", shift=False):
         """A key of the keyboard, by its name and its number."""
         for kind in ("keyDown" if text else "rawKeyDown", "keyUp"):
-            self.call("Input.dispatchKeyEvent", type=kind, key=key, code=key, windowsVirtualKeyCode=number, modifiers=8
-                      if shift else 0,
-                      **({"text": text} if text and kind == "keyDown" else {}))
+            self.call(
+                "Input.dispatchKeyEvent",
+                type=kind,
+                key=key,
+                code=key,
+                windowsVirtualKeyCode=number,
+                modifiers=8 if shift else 0,
+                **({"text": text} if text and kind == "keyDown" else {}),
+            )
 
     def asked_for(self):
         """The addresses outside the file that were asked for."""
-        found = [it["params"]["request"]["url"] for it in self.events
-                 if it.get("method") == "Network.requestWillBeSent"]
+        found = [
+            it["params"]["request"]["url"] for it in self.events if it.get("method") == "Network.requestWillBeSent"
+        ]
         return [it for it in found if not it.startswith(("file:", "data:", "blob:", "about:"))]
 
 
@@ -141,10 +149,12 @@ def reload(page, ready=RUNS):
             return page.ask(f"window.isOld === undefined && ({ready})")
         except OSError:
             return False
+
     return soon(is_ready)
 
 
 # ---- time
+
 
 def slowness(page):
     """How many times as long a piece of work takes in this browser now as where nothing else runs: the longest of some."""

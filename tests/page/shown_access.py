@@ -59,9 +59,25 @@ CONTRAST = """(() => {
 # A text that the check of contrast has to find.
 FAINT = "Object.assign(document.querySelector('.tag'), {textContent: 'faint'}).style.color = '#99a'; 0"
 # What can be used: each of these wants a name.
-USED = {"button", "textbox", "searchbox", "combobox", "slider", "tab", "spinbutton", "checkbox", "link", "image", "img",
-        "dialog", "tabpanel",
-        "navigation", "group", "complementary", "region"}
+USED = {
+    "button",
+    "textbox",
+    "searchbox",
+    "combobox",
+    "slider",
+    "tab",
+    "spinbutton",
+    "checkbox",
+    "link",
+    "image",
+    "img",
+    "dialog",
+    "tabpanel",
+    "navigation",
+    "group",
+    "complementary",
+    "region",
+}
 FOCUSED = """(() => {
   const it = document.activeElement;
   if (!it || it === document.body) return null;
@@ -77,29 +93,48 @@ MISSED = """[...(document.querySelector("dialog[open]") ?? document).querySelect
     && (document.querySelector("dialog[open]") || !it.closest("dialog")) && it.dataset.came !== "1")
   .map(it => it.id || it.getAttribute("aria-label") || it.textContent.slice(0, 20))"""
 # What is seen when: an address, and what is done there.
-SCENES = [("the start", "#m=least", ""),
-          ("retracing", "#m=increment&e=1700000", "document.getElementById('tab-table').click()"),
-          ("a fault", "#m=least",
-           "const it = document.getElementById('table'); it.value = 'S,_,_,R,T\\n'; it.dispatchEvent(new Event('input'))"),
-          ("a cell", "#m=increment&e=900000",
-           "document.querySelector('#three [data-cell]').dispatchEvent(new MouseEvent('click', {bubbles: true}))"),
-          ("texts", "#m=least", "document.querySelector('[data-said=tapes]').click()"), ("help", "#m=least",
-                                                                                         "document.getElementById('help').click()"),
-          ("stops", "#m=least", "document.getElementById('addstop').click()"), ("exercises", "#m=least",
-                                                                                "document.getElementById('tasks').click()"),
-          ("an exercise", "#m=least", "bench.beginTask(6); document.getElementById('taskcheck').click()"),
-          ("a diagram", "#m=complement&ac=[\"Halt\"]", "document.getElementById('larger').click(); document.getElementById('d-state').value = 'Scan'; "
-           "document.getElementById('d-state').dispatchEvent(new Event('change'))"),
-          ("answers", "#m=least&ac=[\"F\"]&ws=[\"\"]", "document.getElementById('verdicts').click(); document.getElementById('v-try').click()"),
-          ("elements", "#m=least", "bench.openWorkshop('elements'); document.getElementById('e-forth').click()"),
-          ("mirror", "#m=least", "bench.openWorkshop('mirror')"), ("two boards", "#m=least",
-                                                                   "bench.openWorkshop('farm'); document.getElementById('f-line').click()"),
-          ("Learn", "#m=increment&learn=machine", ""), ("two pasts", "#m=increment&learn=past", "document.getElementById('learntake').click()"),
-          ("a history", "#m=increment&learn=history&e=500500", ""), ("stages", "#m=increment&learn=stages&e=1700000", ""),
-          ("a row", "#m=increment&learn=row&e=500500", ""), ("a bank", "#m=increment&learn=column&e=500500", ""),
-          ("one element", "#m=increment&learn=element&e=500500", ""),
-          ("erase", "#m=least", "bench.openWorkshop('erase')"), ("floor plan", "#m=least",
-                                                                 "bench.openWorkshop('plan')")]
+SCENES = [
+    ("the start", "#m=least", ""),
+    ("retracing", "#m=increment&e=1700000", "document.getElementById('tab-table').click()"),
+    (
+        "a fault",
+        "#m=least",
+        "const it = document.getElementById('table'); it.value = 'S,_,_,R,T\\n'; it.dispatchEvent(new Event('input'))",
+    ),
+    (
+        "a cell",
+        "#m=increment&e=900000",
+        "document.querySelector('#three [data-cell]').dispatchEvent(new MouseEvent('click', {bubbles: true}))",
+    ),
+    ("texts", "#m=least", "document.querySelector('[data-said=tapes]').click()"),
+    ("help", "#m=least", "document.getElementById('help').click()"),
+    ("stops", "#m=least", "document.getElementById('addstop').click()"),
+    ("exercises", "#m=least", "document.getElementById('tasks').click()"),
+    ("an exercise", "#m=least", "bench.beginTask(6); document.getElementById('taskcheck').click()"),
+    (
+        "a diagram",
+        '#m=complement&ac=["Halt"]',
+        "document.getElementById('larger').click(); document.getElementById('d-state').value = 'Scan'; "
+        "document.getElementById('d-state').dispatchEvent(new Event('change'))",
+    ),
+    (
+        "answers",
+        '#m=least&ac=["F"]&ws=[""]',
+        "document.getElementById('verdicts').click(); document.getElementById('v-try').click()",
+    ),
+    ("elements", "#m=least", "bench.openWorkshop('elements'); document.getElementById('e-forth').click()"),
+    ("mirror", "#m=least", "bench.openWorkshop('mirror')"),
+    ("two boards", "#m=least", "bench.openWorkshop('farm'); document.getElementById('f-line').click()"),
+    ("Learn", "#m=increment&learn=machine", ""),
+    ("two pasts", "#m=increment&learn=past", "document.getElementById('learntake').click()"),
+    ("a history", "#m=increment&learn=history&e=500500", ""),
+    ("stages", "#m=increment&learn=stages&e=1700000", ""),
+    ("a row", "#m=increment&learn=row&e=500500", ""),
+    ("a bank", "#m=increment&learn=column&e=500500", ""),
+    ("one element", "#m=increment&learn=element&e=500500", ""),
+    ("erase", "#m=least", "bench.openWorkshop('erase')"),
+    ("floor plan", "#m=least", "bench.openWorkshop('plan')"),
+]
 
 
 def scene(page, fragment, act):
@@ -127,8 +162,10 @@ def check_scenes(page, count):
                 scheme(page, shade)
                 page.wait("new Promise(done => setTimeout(done, 100))")
                 given = page.ask(CONTRAST % LEAST)
-                count.hold(given["count"] >= 10 and not given["low"], f"{name}, {shade}, {width} wide: of {given['count']} texts"
-                           f" these are too faint: {given['low']}")
+                count.hold(
+                    given["count"] >= 10 and not given["low"],
+                    f"{name}, {shade}, {width} wide: of {given['count']} texts" f" these are too faint: {given['low']}",
+                )
             wide = page.ask("document.documentElement.scrollWidth")
             count.hold(wide <= width, f"{name}, {width} wide: the page is {wide} wide")
             check_names(page, name, count)
@@ -147,8 +184,11 @@ def seen_nodes(page):
 def check_names(page, name, count):
     """In the accessibility tree each thing that can be used, each picture and each part has a name."""
     nodes = seen_nodes(page)
-    nameless = [it["role"]["value"] for it in nodes
-                if it["role"]["value"] in USED and not it.get("name", {}).get("value", "").strip()]
+    nameless = [
+        it["role"]["value"]
+        for it in nodes
+        if it["role"]["value"] in USED and not it.get("name", {}).get("value", "").strip()
+    ]
     count.hold(len(nodes) > 20 and not nameless, f"{name}: without a name are {nameless} of {len(nodes)}")
 
 
@@ -180,13 +220,28 @@ def walk(page, most):
 def check_keyboard(page, count):
     """Tab comes to all that can be used, and marks it; keys alone step, set a breakpoint, run to it, and step in the workshop."""
     for name, fragment, act in SCENES:
-        if name not in ("the start", "stops", "a diagram", "answers", "an exercise", "elements", "mirror", "two boards", "erase", "two pasts", "a row", "a bank"):
+        if name not in (
+            "the start",
+            "stops",
+            "a diagram",
+            "answers",
+            "an exercise",
+            "elements",
+            "mirror",
+            "two boards",
+            "erase",
+            "two pasts",
+            "a row",
+            "a bank",
+        ):
             continue
         scene(page, fragment, act)
         unmarked = walk(page, 120)
         missed = page.ask(MISSED)
-        count.hold(not missed and not unmarked,
-                   f"{name}: the Tab key doesn't come to {missed}, and no mark is seen on {unmarked}")
+        count.hold(
+            not missed and not unmarked,
+            f"{name}: the Tab key doesn't come to {missed}, and no mark is seen on {unmarked}",
+        )
     scene(page, "#m=increment", "")
     page.strike("ArrowRight", 39)
     count.hold(comes(page, "bench.state.e === bench.current.run.stops.quadruple[1]"), "→ doesn't make a step")
@@ -201,15 +256,19 @@ def check_keyboard(page, count):
     page.strike("ArrowRight", 39, shift=True)
     comes(page, "bench.state.e === bench.current.run.cellChange(1, 4, bench.current.run.stops.quadruple[1], 1)")
     e, right = page.ask("[bench.state.e, bench.current.run.cellChange(1, 4, bench.current.run.stops.quadruple[1], 1)]")
-    count.hold(breaks == json.dumps([{"kind": "cell", "tape": 1, "cell": 4}], separators=(",", ":")) and e == right,
-               f"by keys the breakpoints are {breaks}, and shift → comes to {e}, not {right}")
+    count.hold(
+        breaks == json.dumps([{"kind": "cell", "tape": 1, "cell": 4}], separators=(",", ":")) and e == right,
+        f"by keys the breakpoints are {breaks}, and shift → comes to {e}, not {right}",
+    )
     scene(page, "#m=least", "bench.openWorkshop('mirror')")
     page.ask("document.getElementById('m-forth').focus(); 0")
     for _ in range(3):
         page.strike("Enter", 13, "\r")
     page.wait("bench.inTurn(() => {})")
-    count.hold(page.ask("document.getElementById('m-place').textContent").startswith("step 3"),
-               "by keys the circuit beside its mirror isn't stepped")
+    count.hold(
+        page.ask("document.getElementById('m-place').textContent").startswith("step 3"),
+        "by keys the circuit beside its mirror isn't stepped",
+    )
     page.strike("Escape", 27)
     count.hold(not page.ask("document.getElementById('workshop').open"), "Esc doesn't close the workshop")
 
@@ -218,12 +277,16 @@ def check_motion(page, count):
     """Nothing moves by itself; where less motion is asked for nothing glides, and what plays stands for a while."""
     page.call("Emulation.setEmulatedMedia", features=[{"name": "prefers-reduced-motion", "value": "reduce"}])
     scene(page, "#m=increment", "")
-    gliding = page.ask("""[...document.querySelectorAll("*")].filter(it => {
+    gliding = page.ask(
+        """[...document.querySelectorAll("*")].filter(it => {
       const style = getComputedStyle(it);
       return style.transitionDuration.split(",").some(time => parseFloat(time) > 0) || style.animationName !== "none" || style.scrollBehavior === "smooth";
-    }).map(it => it.id || it.tagName)""")
-    count.hold(not gliding and page.ask("bench.state.e === 0 && bench.state.playing === 0"),
-               f"with less motion {gliding} glide, or it plays by itself")
+    }).map(it => it.id || it.tagName)"""
+    )
+    count.hold(
+        not gliding and page.ask("bench.state.e === 0 && bench.state.playing === 0"),
+        f"with less motion {gliding} glide, or it plays by itself",
+    )
     # How long each picture stood, by the times at which it was drawn, so that a slow machine is none the worse.
     page.ask("bench.state.layer = 'module'; bench.state.speed = 100; bench.frames.length = 0; bench.play(1); 0")
     came = comes(page, "bench.frames.length >= 4")

@@ -71,7 +71,7 @@ def told_moment(line):
     """A text line of `moments`: the state, for each tape its cells and its head, and the number of the row, or 0."""
     begin, *tapes = re.split(r" ?tape \d from ", line)
     row = re.search(r" rule (\d+)$", tapes[-1])
-    tapes[-1] = tapes[-1][:row.start()] if row else tapes[-1]
+    tapes[-1] = tapes[-1][: row.start()] if row else tapes[-1]
     read = []
     for it in tapes:
         first, head, _, cells = re.fullmatch(r"(-?\d+) head (-?\d+) cells (\d+): (.*)", it).groups()
@@ -93,13 +93,14 @@ class Told:
         page.ask("document.querySelector('[data-middle=table]').click(); 0")
         wrong = []
         # Some at a time, since on a busy machine a hundred pictures take longer than an answer is waited for.
-        parts = [places[k:k + AT_ONCE] for k in range(0, len(places), AT_ONCE)]
+        parts = [places[k : k + AT_ONCE] for k in range(0, len(places), AT_ONCE)]
         seen = [it for part in parts for it in page.ask(SEEN % json.dumps(part))]
         for q, (tapes, row, said) in zip(places, seen):
             state, right, number = told_moment(self.lines[q])
             stage = {"A": "compute", "B": "copy", "C": "retrace"}[state[0]]
-            drawn = all(symbol == cells.get(cell, "_")
-                        for (seen, _), (cells, _) in zip(tapes, right) for cell, symbol in seen)
+            drawn = all(
+                symbol == cells.get(cell, "_") for (seen, _), (cells, _) in zip(tapes, right) for cell, symbol in seen
+            )
             near = all(any(cell == head for cell, _ in seen) for seen, head in tapes)
             if not (len(tapes) == 3 and drawn and near and [it[1] for it in tapes] == [it[1] for it in right]):
                 wrong.append(f"the tapes of moment {q} are {json.dumps(tapes)[:300]}")
@@ -116,8 +117,10 @@ def check_own(page, program, count):
     for k, (name, tape) in enumerate(right):
         page.ask(f"bench.goTo({k}); 0")
         said, cells = page.ask(OWN)
-        count.hold(said == f"By itself, step {k}: in {name}" and cells == tape,
-                   f"before the circuit, step {k}: {said!r} with {cells!r}, and not {name} with {tape!r}")
+        count.hold(
+            said == f"By itself, step {k}: in {name}" and cells == tape,
+            f"before the circuit, step {k}: {said!r} with {cells!r}, and not {name} with {tape!r}",
+        )
     end = page.ask("bench.current.run.end")
     count.hold(end == len(right) - 1, f"before the circuit {end} steps are shown")
     page.ask("bench.goTo(0); document.getElementById('play').click(); 0")
@@ -134,8 +137,9 @@ def check_texts(page, words, count):
     has_words = f"document.getElementById('dialogbody').textContent.includes('{words}')"
     for panel in ("machine", "circuit", "time"):
         page.ask(f"document.querySelector('[data-said={panel}]').click(); 0")
-        count.hold(comes(page, f"document.getElementById('dialog').open && {has_words}"),
-                   f"the texts of {panel} lack {words}")
+        count.hold(
+            comes(page, f"document.getElementById('dialog').open && {has_words}"), f"the texts of {panel} lack {words}"
+        )
         page.ask(f"{close}; document.querySelector('[data-about={panel}]').click(); {close}; 0")
 
 
@@ -144,21 +148,27 @@ def check_bennett(page, program, count):
     step = "bench.current.run.moments[bench.current.run.momentIndex(bench.state.e)].step"
     before = page.ask(step)
     page.ask("letGo('moments'); 0")
-    count.hold(comes(page, BOTH) and page.ask(step) == before == 5,
-               f"with Bennett's machine another step is shown: {page.ask(step)}, and not {before}")
+    count.hold(
+        comes(page, BOTH) and page.ask(step) == before == 5,
+        f"with Bennett's machine another step is shown: {page.ask(step)}, and not {before}",
+    )
     told = Told(page, program)
     told.hold(page, count, "before the circuit", list(range(told.end + 1)))
     enabled = page.ask("[...document.querySelectorAll('#layers button:enabled')].map(it => it.dataset.layer)")
     count.hold(enabled == ["machine", "quadruple"], f"before the circuit there are the layers {enabled}")
     for layer in enabled:
         given = page.wait(PLAYED % {"layer": layer})
-        count.hold(given == [told.end, 0],
-                   f"before the circuit, on the layer {layer}, it plays to {given}, and not to {told.end} and back")
+        count.hold(
+            given == [told.end, 0],
+            f"before the circuit, on the layer {layer}, it plays to {given}, and not to {told.end} and back",
+        )
     check_texts(page, f"moments =1011 {told.end}", count)
     page.ask("bench.goTo(7); letGo('run'); 0")
     moment = "bench.current.run.momentIndex(bench.state.e)"
-    count.hold(comes(page, "bench.current.run.circuit.count > 0") and page.ask(moment) == 7,
-               f"with the circuit moment {page.ask(moment)} is shown")
+    count.hold(
+        comes(page, "bench.current.run.circuit.count > 0") and page.ask(moment) == 7,
+        f"with the circuit moment {page.ask(moment)} is shown",
+    )
     settle(page, 300)
     seen = page.ask("['#bank .element', '#three svg'].map(it => document.querySelectorAll(it).length)")
     count.hold(seen[0] > 20 and seen[1] == 3, f"with the circuit {seen[0]} elements and {seen[1]} tapes are drawn")
@@ -167,24 +177,32 @@ def check_bennett(page, program, count):
 def check_learn_early(page, count):
     """Learn has both layers before the circuit, and says what the others wait for."""
     page.visit(f"file://{PAGE}#m=increment&learn=machine", EARLY)
-    count.hold(comes(page, "document.querySelector('#learnpicture .l-tape svg') !== null"),
-               "before the circuit Learn shows nothing")
+    count.hold(
+        comes(page, "document.querySelector('#learnpicture .l-tape svg') !== null"),
+        "before the circuit Learn shows nothing",
+    )
     page.ask("document.getElementById('learnplay').click(); 0")
     count.hold(comes(page, "bench.state.e > 0"), "before the circuit Learn doesn't play")
     page.ask("letGo('moments'); 0")
     comes(page, BOTH)
     for level, tapes in (("history", 2), ("stages", 3)):
         page.ask(f"document.querySelector('#learntrail [data-level={level}]').click(); bench.goTo(0); 0")
-        count.hold(comes(page, f"document.querySelectorAll('#learnpicture .l-tapes svg').length === {tapes}"),
-                   f"before the circuit Learn doesn't show {tapes} tapes at {level}")
+        count.hold(
+            comes(page, f"document.querySelectorAll('#learnpicture .l-tapes svg').length === {tapes}"),
+            f"before the circuit Learn doesn't show {tapes} tapes at {level}",
+        )
         page.ask("document.getElementById('learnplay').click(); 0")
         count.hold(comes(page, "bench.state.e > 3"), f"before the circuit Learn doesn't play at {level}")
         page.ask("document.getElementById('learntake').click(); 0")
-        count.hold(comes(page, "bench.state.playing === 0 && bench.state.e === 0"),
-                   f"before the circuit Learn isn't taken back at {level}")
+        count.hold(
+            comes(page, "bench.state.playing === 0 && bench.state.e === 0"),
+            f"before the circuit Learn isn't taken back at {level}",
+        )
     page.ask("document.querySelector('#learntrail [data-level=row]').click(); 0")
-    count.hold("looked for" in page.ask("document.getElementById('learnpicture').innerText"),
-               "before the circuit Learn doesn't say what a row waits for")
+    count.hold(
+        "looked for" in page.ask("document.getElementById('learnpicture').innerText"),
+        "before the circuit Learn doesn't say what a row waits for",
+    )
     page.ask("letGo('run'); 0")
     count.hold(comes(page, "document.querySelector('.l-moves .now') !== null"), "with the circuit Learn shows no row")
 
@@ -206,15 +224,19 @@ def hold_too_large(page, program, words, count):
     refused = program.text(["run", "=" + word, *words], table)
     elements = f"{int(refused.removeprefix('size: elements ')):,}"
     size = "document.getElementById('size').textContent"
-    count.hold(comes(page, f"{BOTH} && {size} === 'Too large: {elements} elements'"),
-               f"of a circuit of {elements} elements it says {page.ask(size)!r}")
+    count.hold(
+        comes(page, f"{BOTH} && {size} === 'Too large: {elements} elements'"),
+        f"of a circuit of {elements} elements it says {page.ask(size)!r}",
+    )
     settle(page)
     outcome = page.ask("document.getElementById('outcome').textContent")
     is_stale = page.ask("document.body.classList.contains('stale')")
     halted = program.text(["machine", "=" + word, "100000"], table).removeprefix("halted ")
     steps, _, output = halted.partition("\noutput =")
-    count.hold(outcome == f"{int(steps):,} steps → {output.strip()}" and not is_stale,
-               f"of a circuit that is too large it says {outcome!r}")
+    count.hold(
+        outcome == f"{int(steps):,} steps → {output.strip()}" and not is_stale,
+        f"of a circuit that is too large it says {outcome!r}",
+    )
     return Told(page, program)
 
 
@@ -223,8 +245,9 @@ def check_too_large(page, program, count):
     told = hold_too_large(page, program, TOO_LARGE["win"].split(), count)
     told.hold(page, count, "a window that is too large", list(range(told.end + 1)))
     given = page.wait(PLAYED % {"layer": "machine"})
-    count.hold(given == [told.end, 0],
-               f"of a circuit that is too large it plays to {given}, and not to {told.end} and back")
+    count.hold(
+        given == [told.end, 0], f"of a circuit that is too large it plays to {given}, and not to {told.end} and back"
+    )
     page.visit(f"file://{PAGE}{link(m='palindrome', w='a' * TOO_MANY)}", EARLY)
     table = page.ask("bench.current.run.table")
     steps = program.text(["machine", "=" + "a" * TOO_MANY, "100000"], table).split()[1]
@@ -238,6 +261,7 @@ def check_too_large(page, program, count):
 
 def check_reading_time(page, count):
     """While a long run of Bennett's machine is read and drawn, nothing stands still for long."""
+
     def measure():
         page.visit(f"file://{PAGE}{link(m='palindrome', w='ab')}")
         page.ask(WATCH)
@@ -245,6 +269,7 @@ def check_reading_time(page, count):
         comes(page, f"bench.current.run.word.length === {TOO_MANY} && {BOTH}")
         settle(page, 300)
         return page.ask("longest"), ""
+
     holds_time(page, count, f"Bennett's machine on {TOO_MANY} letters, the longest task", TASK, measure)
 
 

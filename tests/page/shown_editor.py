@@ -38,7 +38,9 @@ FIELD = """(([line, field, value]) => {
 
 
 def set_value(page, name, value, kind="input"):
-    page.ask(f"(it => {{ it.value = {json.dumps(value)}; it.dispatchEvent(new Event('{kind}', {{bubbles: true}})); }})(document.getElementById('{name}'))")
+    page.ask(
+        f"(it => {{ it.value = {json.dumps(value)}; it.dispatchEvent(new Event('{kind}', {{bubbles: true}})); }})(document.getElementById('{name}'))"
+    )
 
 
 def text_shown(page):
@@ -46,6 +48,7 @@ def text_shown(page):
 
 
 # ---- accept and reject
+
 
 def rest_of(program, table, final, names, word):
     """How the program says that a machine comes out on a word: its state as it was typed, and the steps."""
@@ -64,20 +67,30 @@ def answer_of(rest, accept, reject):
 
 def check_verdicts(page, program, draw, count):
     """What the page says that a machine answers, on its word and on many at once."""
-    standard = program.text(["standard"], "".join(
-        line for line in BOOK.replace("q_", "q-").splitlines(keepends=True)))
+    standard = program.text(["standard"], "".join(line for line in BOOK.replace("q_", "q-").splitlines(keepends=True)))
     order = list(dict.fromkeys(it for row in BOOK.split() for it in (row.split(",")[0], row.split(",")[4])))
-    cases = [("Parity", link(t=PARITY, w="1001", ac='["Yes"]', rj='["No"]'), PARITY, "No", lambda it: it, ["Yes"], ["No"]),
-             ("a book's", link(t=BOOK, n=json.dumps(BOOK_NAMES), s="1", w="11", ac='["q_yes"]', rj='["q_no"]'), standard, "q_no",
-              lambda it: order[int(it[1:]) - 1], ["q_yes"], ["q_no"]),
-             ("Add one", link(t=INCREMENT, w="1", ac='["Halt"]'), INCREMENT, "Halt", lambda it: it, ["Halt"], [])]
+    cases = [
+        ("Parity", link(t=PARITY, w="1001", ac='["Yes"]', rj='["No"]'), PARITY, "No", lambda it: it, ["Yes"], ["No"]),
+        (
+            "a book's",
+            link(t=BOOK, n=json.dumps(BOOK_NAMES), s="1", w="11", ac='["q_yes"]', rj='["q_no"]'),
+            standard,
+            "q_no",
+            lambda it: order[int(it[1:]) - 1],
+            ["q_yes"],
+            ["q_no"],
+        ),
+        ("Add one", link(t=INCREMENT, w="1", ac='["Halt"]'), INCREMENT, "Halt", lambda it: it, ["Halt"], []),
+    ]
     for name, fragment, table, final, names, accept, reject in cases:
         page.visit(f"file://{PAGE}{fragment}")
         word = page.ask("bench.state.word")
         rest, steps, _ = rest_of(program, table, final, names, word)
         outcome = page.ask("document.getElementById('outcome').textContent")
-        count.hold(outcome.startswith(f"{answer_of(rest, accept, reject)} · ") and steps in outcome,
-                   f"{name} on {word}: the page says {outcome!r}, and it comes to rest in {rest} after {steps}")
+        count.hold(
+            outcome.startswith(f"{answer_of(rest, accept, reject)} · ") and steps in outcome,
+            f"{name} on {word}: the page says {outcome!r}, and it comes to rest in {rest} after {steps}",
+        )
         letters = "1" if name == "a book's" else "01"
         words = ["", *("".join(draw.choice(letters) for _ in range(draw.randint(1, 9))) for _ in range(40)), "12", "1x"]
         if name == "a book's":
@@ -98,8 +111,11 @@ def check_verdicts(page, program, draw, count):
                 letter = said.split()[2].replace("_", "blank") if status == 10 else ""
                 right = [it or "empty", answer, steps, f"{rest}, on {letter}" if status == 10 else rest, output]
             count.hold(row == right, f"{name} on {it!r}: the page's row is {row}, and not {right}")
-        count.hold(len(given["rows"]) == len(words) and f"{counts['accepts']} accepted, {counts['rejects']} rejected" in given["said"],
-                   f"{name}: {len(given['rows'])} rows of {len(words)}, and {given['said']!r}, not {counts}")
+        count.hold(
+            len(given["rows"]) == len(words)
+            and f"{counts['accepts']} accepted, {counts['rejects']} rejected" in given["said"],
+            f"{name}: {len(given['rows'])} rows of {len(words)}, and {given['said']!r}, not {counts}",
+        )
     check_kinds(page, count)
 
 
@@ -108,22 +124,37 @@ def check_kinds(page, count):
     page.visit(f"file://{PAGE}{link(t=PARITY, w='1001')}")
     page.ask("document.getElementById('verdicts').click(); 0")
     for state, kind in (("Yes", "accept"), ("No", "reject")):
-        page.ask(f"(it => {{ it.value = '{kind}'; it.dispatchEvent(new Event('change')); }})(document.querySelector('[data-kind={state}]'))")
+        page.ask(
+            f"(it => {{ it.value = '{kind}'; it.dispatchEvent(new Event('change')); }})(document.querySelector('[data-kind={state}]'))"
+        )
     page.ask("document.getElementById('dialog').close(); 0")
-    signs = page.ask("[...document.querySelectorAll('#diagram [data-state]')].filter(it => it.querySelector('.sign'))"
-                     ".map(it => it.dataset.state + it.querySelector('.sign').textContent).sort().join(' ')")
+    signs = page.ask(
+        "[...document.querySelectorAll('#diagram [data-state]')].filter(it => it.querySelector('.sign'))"
+        ".map(it => it.dataset.state + it.querySelector('.sign').textContent).sort().join(' ')"
+    )
     outcome = page.ask("document.getElementById('outcome').textContent")
     page.ask("document.getElementById('share').click(); 0")
     settle(page)
     address = page.ask("location.href")
     asked = urllib.parse.parse_qs(address.partition("#")[2])
-    count.hold(signs == "No✗ Yes✓" and outcome.startswith("accepts · ") and text_shown(page) == PARITY
-               and asked.get("ac") == ['["Yes"]'] and asked.get("rj") == ['["No"]'] and asked.get("t") == [PARITY],
-               f"accept and reject: the diagram has {signs!r}, the outcome is {outcome!r}, the link {address[-90:]}")
+    count.hold(
+        signs == "No✗ Yes✓"
+        and outcome.startswith("accepts · ")
+        and text_shown(page) == PARITY
+        and asked.get("ac") == ['["Yes"]']
+        and asked.get("rj") == ['["No"]']
+        and asked.get("t") == [PARITY],
+        f"accept and reject: the diagram has {signs!r}, the outcome is {outcome!r}, the link {address[-90:]}",
+    )
     page.visit(address)
-    count.hold(page.ask("[bench.state.accept, bench.state.reject]") == [["Yes"], ["No"]], "the link of accept and reject doesn't lead to them")
+    count.hold(
+        page.ask("[bench.state.accept, bench.state.reject]") == [["Yes"], ["No"]],
+        "the link of accept and reject doesn't lead to them",
+    )
     page.ask("document.getElementById('verdicts').click(); 0")
-    page.ask("(it => { it.value = ''; it.dispatchEvent(new Event('change')); })(document.querySelector('[data-kind=Yes]'))")
+    page.ask(
+        "(it => { it.value = ''; it.dispatchEvent(new Event('change')); })(document.querySelector('[data-kind=Yes]'))"
+    )
     page.ask("document.getElementById('dialog').close(); 0")
     page.ask("document.getElementById('undo').click(); 0")
     settle(page)
@@ -131,6 +162,7 @@ def check_kinds(page, count):
 
 
 # ---- the diagram
+
 
 def box_of(page, state):
     return next(it["box"] for it in page.ask(DIAGRAM)["states"] if it["name"] == state)
@@ -141,9 +173,21 @@ def middle(box):
 
 
 def drag(page, start, end):
-    for kind, (x, y) in (("mousePressed", start), ("mouseMoved", ((start[0] + end[0]) / 2, (start[1] + end[1]) / 2)),
-                         ("mouseMoved", end), ("mouseReleased", end)):
-        page.call("Input.dispatchMouseEvent", type=kind, x=x, y=y, button="left", buttons=0 if kind == "mouseReleased" else 1, clickCount=1)
+    for kind, (x, y) in (
+        ("mousePressed", start),
+        ("mouseMoved", ((start[0] + end[0]) / 2, (start[1] + end[1]) / 2)),
+        ("mouseMoved", end),
+        ("mouseReleased", end),
+    ):
+        page.call(
+            "Input.dispatchMouseEvent",
+            type=kind,
+            x=x,
+            y=y,
+            button="left",
+            buttons=0 if kind == "mouseReleased" else 1,
+            clickCount=1,
+        )
 
 
 def check_moved(page, count):
@@ -152,22 +196,32 @@ def check_moved(page, count):
     page.ask("document.getElementById('larger').click(); 0")
     settle(page)
     here, room = box_of(page, "Add"), page.ask(DIAGRAM)["room"]
-    goal = room[0] + (room[2] - room[0]) * .3, room[1] + (room[3] - room[1]) * .55
+    goal = room[0] + (room[2] - room[0]) * 0.3, room[1] + (room[3] - room[1]) * 0.55
     drag(page, middle(here), goal)
     there = middle(box_of(page, "Add"))
-    count.hold(abs(there[0] - goal[0]) < 3 and abs(there[1] - goal[1]) < 3, f"Add is dragged to {goal}, and stands at {there}")
-    page.ask("[...document.querySelectorAll('#d-picture [data-state]')].find(it => it.dataset.state === 'Home').focus(); 0")
+    count.hold(
+        abs(there[0] - goal[0]) < 3 and abs(there[1] - goal[1]) < 3, f"Add is dragged to {goal}, and stands at {there}"
+    )
+    page.ask(
+        "[...document.querySelectorAll('#d-picture [data-state]')].find(it => it.dataset.state === 'Home').focus(); 0"
+    )
     before = middle(box_of(page, "Home"))
     for key, number in (("ArrowLeft", 37), ("ArrowLeft", 37), ("ArrowUp", 38)):
         page.strike(key, number)
     after, focused = middle(box_of(page, "Home")), page.ask("document.activeElement.dataset.state")
     wide, high = room[2] - room[0], room[3] - room[1]
-    count.hold(abs(before[0] - after[0] - .05 * wide) < 4 and abs(before[1] - after[1] - .025 * high) < 4 and focused == "Home",
-               f"by arrow keys Home goes from {before} to {after}, and {focused} has the focus")
+    count.hold(
+        abs(before[0] - after[0] - 0.05 * wide) < 4
+        and abs(before[1] - after[1] - 0.025 * high) < 4
+        and focused == "Home",
+        f"by arrow keys Home goes from {before} to {after}, and {focused} has the focus",
+    )
     page.strike("Enter", 13, "\r")
     count.hold(page.ask("document.getElementById('d-state').value") == "Home", "Enter doesn't choose a state")
-    label = page.ask("""(it => { const box = it.getBoundingClientRect(); return [box.left + box.width / 2, box.top + box.height / 2, it.textContent]; })(
-      [...document.querySelectorAll('#d-picture [data-rule="4"]')][0])""")
+    label = page.ask(
+        """(it => { const box = it.getBoundingClientRect(); return [box.left + box.width / 2, box.top + box.height / 2, it.textContent]; })(
+      [...document.querySelectorAll('#d-picture [data-rule="4"]')][0])"""
+    )
     for kind in ("mousePressed", "mouseReleased"):
         page.call("Input.dispatchMouseEvent", type=kind, x=label[0], y=label[1], button="left", clickCount=1)
     settle(page)
@@ -177,20 +231,37 @@ def check_moved(page, count):
     settle(page)
     address, places = page.ask("location.href"), page.ask("bench.state.places")
     page.visit(address)
-    count.hold(page.ask("bench.state.places") == places and set(places) == {"Add", "Home"}, f"the link keeps {page.ask('bench.state.places')}, not {places}")
+    count.hold(
+        page.ask("bench.state.places") == places and set(places) == {"Add", "Home"},
+        f"the link keeps {page.ask('bench.state.places')}, not {places}",
+    )
     small = page.ask("(it => [it.left, it.width])(document.querySelector('#diagram svg').getBoundingClientRect())")
-    shown = page.ask("(it => it.left + it.width / 2)(document.querySelector('#diagram [data-state=Add] rect').getBoundingClientRect())")
-    count.hold(abs((shown - small[0]) / small[1] - places["Add"][0]) < .03, f"in the small diagram Add stands at {(shown - small[0]) / small[1]}")
-    start = page.ask("(it => [it.left + it.width / 2, it.top + it.height / 2])(document.querySelector('#diagram [data-state=Go] rect').getBoundingClientRect())")
+    shown = page.ask(
+        "(it => it.left + it.width / 2)(document.querySelector('#diagram [data-state=Add] rect').getBoundingClientRect())"
+    )
+    count.hold(
+        abs((shown - small[0]) / small[1] - places["Add"][0]) < 0.03,
+        f"in the small diagram Add stands at {(shown - small[0]) / small[1]}",
+    )
+    start = page.ask(
+        "(it => [it.left + it.width / 2, it.top + it.height / 2])(document.querySelector('#diagram [data-state=Go] rect').getBoundingClientRect())"
+    )
     drag(page, start, (start[0] + 30, start[1] + 12))
-    count.hold("Go" in page.ask("bench.state.places") and not page.ask("bench.state.breaks.length"), "in the small diagram Go isn't dragged")
+    count.hold(
+        "Go" in page.ask("bench.state.places") and not page.ask("bench.state.breaks.length"),
+        "in the small diagram Go isn't dragged",
+    )
     page.ask("document.getElementById('undo').click(); 0")
     settle(page)
     count.hold("Go" not in page.ask("bench.state.places"), "that a state was dragged isn't taken back")
-    start = page.ask("(it => [it.left + it.width / 2, it.top + it.height / 2])(document.querySelector('#diagram [data-state=Go] rect').getBoundingClientRect())")
+    start = page.ask(
+        "(it => [it.left + it.width / 2, it.top + it.height / 2])(document.querySelector('#diagram [data-state=Go] rect').getBoundingClientRect())"
+    )
     drag(page, start, start)
     said = page.ask("document.getElementById('lens')?.innerText ?? ''")
-    count.hold("State Go" in said and not page.ask("bench.state.breaks.length"), f"a click on a state tells {said[:60]!r}")
+    count.hold(
+        "State Go" in said and not page.ask("bench.state.breaks.length"), f"a click on a state tells {said[:60]!r}"
+    )
     page.ask("document.getElementById('lensstop').click(); 0")
     count.hold(page.ask("bench.state.breaks.map(it => it.state)") == ["Go"], "the lens of a state doesn't stop there")
 
@@ -198,13 +269,17 @@ def check_moved(page, count):
 def many_states(number):
     """A machine of so many states that go on and back."""
     names = [f"State{k}" for k in range(number - 1)]
-    rows = [f"{name},{letter},{letter},+,{names[1 + (k * step + 3) % (number - 2)]}" for k, name in enumerate(names) if k
-            for letter, step in (("0", 1), ("1", 7))]
+    rows = [
+        f"{name},{letter},{letter},+,{names[1 + (k * step + 3) % (number - 2)]}"
+        for k, name in enumerate(names)
+        if k
+        for letter, step in (("0", 1), ("1", 7))
+    ]
     return "\n".join([f"{names[0]},_,_,+,{names[1]}", *rows, f"{names[-1]},_,_,0,Halt", ""])
 
 
 def overlaps(a, b):
-    return min(a[2], b[2]) - max(a[0], b[0]) > .5 and min(a[3], b[3]) - max(a[1], b[1]) > .5
+    return min(a[2], b[2]) - max(a[0], b[0]) > 0.5 and min(a[3], b[3]) - max(a[1], b[1]) > 0.5
 
 
 def check_readable(page, count):
@@ -216,11 +291,23 @@ def check_readable(page, count):
         settle(page)
         given = page.ask(DIAGRAM)
         states, room = given["states"], given["room"]
-        crossed = [(a["name"], b["name"]) for k, a in enumerate(states) for b in states[:k] if overlaps(a["box"], b["box"])]
-        outside = [it["name"] for it in states if it["box"][0] < room[0] or it["box"][1] < room[1] or it["box"][2] > room[2] or it["box"][3] > room[3]]
-        small = [it["name"] for it in states if it["size"] < 10 or it["shown"].rstrip("…") != it["name"][:len(it["shown"].rstrip("…"))]]
-        count.hold(len(states) == 30 and not crossed and not outside and not small,
-                   f"{width} wide: of {len(states)} states {crossed[:3]} lie over one another, {outside[:3]} outside, {small[:3]} are small")
+        crossed = [
+            (a["name"], b["name"]) for k, a in enumerate(states) for b in states[:k] if overlaps(a["box"], b["box"])
+        ]
+        outside = [
+            it["name"]
+            for it in states
+            if it["box"][0] < room[0] or it["box"][1] < room[1] or it["box"][2] > room[2] or it["box"][3] > room[3]
+        ]
+        small = [
+            it["name"]
+            for it in states
+            if it["size"] < 10 or it["shown"].rstrip("…") != it["name"][: len(it["shown"].rstrip("…"))]
+        ]
+        count.hold(
+            len(states) == 30 and not crossed and not outside and not small,
+            f"{width} wide: of {len(states)} states {crossed[:3]} lie over one another, {outside[:3]} outside, {small[:3]} are small",
+        )
     page.call("Emulation.setDeviceMetricsOverride", width=1680, height=1050, deviceScaleFactor=1, mobile=False)
     page.visit(f"file://{PAGE}{link(t=many_states(90), w='01')}")
     page.ask("document.getElementById('larger').click(); 0")
@@ -228,7 +315,10 @@ def check_readable(page, count):
     states = page.ask(DIAGRAM)["states"]
     crossed = [(a["name"], b["name"]) for k, a in enumerate(states) for b in states[:k] if overlaps(a["box"], b["box"])]
     names = {it["name"] for it in states}
-    count.hold(len(states) == 60 and not crossed and {"State70", "State74", "State54"} <= names, f"of ninety states {len(states)} are seen, {crossed[:3]} over one another")
+    count.hold(
+        len(states) == 60 and not crossed and {"State70", "State74", "State54"} <= names,
+        f"of ninety states {len(states)} are seen, {crossed[:3]} over one another",
+    )
 
 
 def choose(page, state):
@@ -293,10 +383,16 @@ def check_changed(page, program, draw, count):
             drawn = {it["name"] for it in page.ask(DIAGRAM)["states"]}
             status, answer = program.answer(["check"], right)
             words = answer.split()
-            is_said = f"In standard form: {words[2]} states, {words[6]} rules" in said if status == 0 else said and "In standard form:" not in said
+            is_said = (
+                f"In standard form: {words[2]} states, {words[6]} rules" in said
+                if status == 0
+                else said and "In standard form:" not in said
+            )
             states = {it for row in right.split() for it in (row.split(",")[0], row.split(",")[4])}
-            count.hold(shown == right and is_said and drawn == states,
-                       f"{name}, {kind}: the text is {shown!r}, not {right!r}; it says {said!r} where the program says {answer!r}")
+            count.hold(
+                shown == right and is_said and drawn == states,
+                f"{name}, {kind}: the text is {shown!r}, not {right!r}; it says {said!r} where the program says {answer!r}",
+            )
         for right in texts[-2::-1]:
             page.ask("document.activeElement.blur(); 0")
             control_z(page)
@@ -305,8 +401,12 @@ def check_changed(page, program, draw, count):
         page.ask("document.getElementById('d-close').click(); document.getElementById('redo').click(); 0")
         settle(page)
         count.hold(text_shown(page) == texts[1], f"{name}: what was taken back isn't made again")
-    refused = [("d-rename", "d-name", "Odd", "There is a state Odd already."), ("d-rename", "d-name", "", "A name is wanted"),
-               ("d-change", "d-other", "1", "a letter of the table already"), ("d-change", "d-other", ",", "One character is wanted")]
+    refused = [
+        ("d-rename", "d-name", "Odd", "There is a state Odd already."),
+        ("d-rename", "d-name", "", "A name is wanted"),
+        ("d-change", "d-other", "1", "a letter of the table already"),
+        ("d-change", "d-other", ",", "One character is wanted"),
+    ]
     page.visit(f"file://{PAGE}{link(t=PARITY, w='1')}")
     page.ask("document.getElementById('larger').click(); 0")
     choose(page, "Even")
@@ -320,9 +420,12 @@ def check_changed(page, program, draw, count):
 
 # ---- names and the gutter
 
+
 def gutter(page):
-    return page.ask("[...document.querySelectorAll('#lines > div')].filter(it => it.firstChild).map(it => "
-                    "[it.querySelector('i').textContent, it.querySelector('b')?.textContent ?? null, it.className])")
+    return page.ask(
+        "[...document.querySelectorAll('#lines > div')].filter(it => it.firstChild).map(it => "
+        "[it.querySelector('i').textContent, it.querySelector('b')?.textContent ?? null, it.className])"
+    )
 
 
 def check_names_kept(page, program, count):
@@ -330,26 +433,38 @@ def check_names_kept(page, program, count):
     page.visit(f"file://{PAGE}#m=least")
     set_value(page, "table", SUM)
     settle(page, 400)
-    said, told = page.ask("[document.getElementById('verdict').textContent, document.querySelector('#verdict .note').title]")
-    count.hold(said.startswith("Read as ") and "names spelled" in told and text_shown(page) == SUM,
-               f"names: it says {said[:80]!r}, and the editor has {text_shown(page)!r}")
+    said, told = page.ask(
+        "[document.getElementById('verdict').textContent, document.querySelector('#verdict .note').title]"
+    )
+    count.hold(
+        said.startswith("Read as ") and "names spelled" in told and text_shown(page) == SUM,
+        f"names: it says {said[:80]!r}, and the editor has {text_shown(page)!r}",
+    )
     set_value(page, "word", "1011")
     settle(page, 400)
     spelled = SUM.replace("q_", "q-")
     given, table = page.ask("[bench.current.machine.given, bench.current.machine.table]")
-    count.hold(text_shown(page) == SUM and given == spelled and table == program.text(["standard"], spelled),
-               f"names: the program gets {given!r}, and the editor has {text_shown(page)!r}")
+    count.hold(
+        text_shown(page) == SUM and given == spelled and table == program.text(["standard"], spelled),
+        f"names: the program gets {given!r}, and the editor has {text_shown(page)!r}",
+    )
     seen = page.ask("[...document.querySelectorAll('#diagram [data-state] text')].map(it => it.textContent)")
     count.hold({"q_0", "q_1", "q_2", "q_3"} <= set(seen), f"names: the diagram shows {seen}")
     rows, numbers = [line.split(",") for line in table.splitlines()], gutter(page)
     right = [[str(k + 1), str(k + 2)] for k in range(5)]
-    alike = all(rows[int(rule) - 1][1:4] == SUM.splitlines()[int(line) - 1].split(",")[1:4] for line, rule, _ in numbers if rule)
+    alike = all(
+        rows[int(rule) - 1][1:4] == SUM.splitlines()[int(line) - 1].split(",")[1:4] for line, rule, _ in numbers if rule
+    )
     count.hold([it[:2] for it in numbers] == right and alike, f"the gutter has {numbers}, and not {right}")
     set_value(page, "table", SUM.replace("q_1,1,1,+,q_1", "q_1,1,1,*,q_1"))
     settle(page, 400)
     numbers, said = gutter(page), page.ask("document.getElementById('verdict').textContent")
-    count.hold([it[0] for it in numbers if it[2] == "fault"] == ["3"] and said.startswith("Line 3:") and all(it[1] is None for it in numbers),
-               f"the fault in line 3: the gutter has {numbers}, and it says {said[:60]!r}")
+    count.hold(
+        [it[0] for it in numbers if it[2] == "fault"] == ["3"]
+        and said.startswith("Line 3:")
+        and all(it[1] is None for it in numbers),
+        f"the fault in line 3: the gutter has {numbers}, and it says {said[:60]!r}",
+    )
     set_value(page, "table", "\n" + INCREMENT.replace("Add,", "\nAdd,", 1))
     settle(page, 400)
     lines = page.ask("document.getElementById('table').value").split("\n")
@@ -366,13 +481,23 @@ def check_names_kept(page, program, count):
 
 def control_z(page, shift=False):
     for kind in ("rawKeyDown", "keyUp"):
-        page.call("Input.dispatchKeyEvent", type=kind, key="Z" if shift else "z", code="KeyZ", windowsVirtualKeyCode=90, modifiers=10 if shift else 2)
+        page.call(
+            "Input.dispatchKeyEvent",
+            type=kind,
+            key="Z" if shift else "z",
+            code="KeyZ",
+            windowsVirtualKeyCode=90,
+            modifiers=10 if shift else 2,
+        )
 
 
 def check_typed(page, program, count):
     """What is typed in the table, or as the word, is taken back by Ctrl Z, and made again with shift."""
     page.visit(f"file://{PAGE}{link(t=INCREMENT, w='11')}")
-    for field, typed, shown in (("table", "Z", lambda: text_shown(page)), ("word", "0", lambda: page.ask("document.getElementById('word').value"))):
+    for field, typed, shown in (
+        ("table", "Z", lambda: text_shown(page)),
+        ("word", "0", lambda: page.ask("document.getElementById('word').value")),
+    ):
         before = shown()
         page.ask(f"(it => {{ it.focus(); it.setSelectionRange(0, 0); }})(document.getElementById('{field}'))")
         page.call("Input.insertText", text=typed)
@@ -383,11 +508,16 @@ def check_typed(page, program, count):
         back = shown()
         control_z(page, shift=True)
         settle(page)
-        count.hold(after == typed + before and back == before and shown() == after,
-                   f"typed in {field}: {before[:20]!r}, {after[:20]!r}, taken back {back[:20]!r}, made again {shown()[:20]!r}")
+        count.hold(
+            after == typed + before and back == before and shown() == after,
+            f"typed in {field}: {before[:20]!r}, {after[:20]!r}, taken back {back[:20]!r}, made again {shown()[:20]!r}",
+        )
         control_z(page)
         settle(page)
-    said, right = page.ask("document.getElementById('outcome').textContent"), program.text(["machine", "=11", "100"], INCREMENT).split()
+    said, right = (
+        page.ask("document.getElementById('outcome').textContent"),
+        program.text(["machine", "=11", "100"], INCREMENT).split(),
+    )
     count.hold(said.startswith(f"{right[1]} steps → {right[3][1:]}"), f"what was taken back runs with {said!r}")
 
 
@@ -396,7 +526,9 @@ def check_rows(page, count):
     page.visit(f"file://{PAGE}{link(t=PARITY, w='1')}")
     page.ask("document.getElementById('larger').click(); 0")
     settle(page)
-    page.ask("(it => { it.focus(); it.select(); })(document.querySelector('#d-rules [data-line=\"3\"] [data-field=\"2\"]')); 0")
+    page.ask(
+        '(it => { it.focus(); it.select(); })(document.querySelector(\'#d-rules [data-line="3"] [data-field="2"]\')); 0'
+    )
     places = []
     for typed in ("0", "", "Odd2"):
         if typed:
@@ -404,13 +536,22 @@ def check_rows(page, count):
             page.call("Input.insertText", text=typed)
         page.strike("Tab", 9)
         settle(page)
-        places.append(page.ask("(it => [it.closest('[data-line]')?.dataset.line ?? '', it.dataset.field ?? it.id])(document.activeElement)"))
-    count.hold(text_shown(page) == PARITY.replace("Even,1,1,+,Odd", "Even,1,0,+,Odd2") and places == [["3", "3"], ["3", "4"], ["3", "5"]],
-               f"by keys the text is {text_shown(page)!r}, and Tab goes to {places}")
+        places.append(
+            page.ask(
+                "(it => [it.closest('[data-line]')?.dataset.line ?? '', it.dataset.field ?? it.id])(document.activeElement)"
+            )
+        )
+    count.hold(
+        text_shown(page) == PARITY.replace("Even,1,1,+,Odd", "Even,1,0,+,Odd2")
+        and places == [["3", "3"], ["3", "4"], ["3", "5"]],
+        f"by keys the text is {text_shown(page)!r}, and Tab goes to {places}",
+    )
     page.strike("Enter", 13, "\r")
     settle(page)
-    count.hold(text_shown(page) == PARITY.replace("Even,1,1,+,Odd\n", "") and page.ask("document.activeElement.id") == "d-add",
-               f"Enter on × leaves {text_shown(page)!r}, and the focus at {page.ask('document.activeElement.id')}")
+    count.hold(
+        text_shown(page) == PARITY.replace("Even,1,1,+,Odd\n", "") and page.ask("document.activeElement.id") == "d-add",
+        f"Enter on × leaves {text_shown(page)!r}, and the focus at {page.ask('document.activeElement.id')}",
+    )
 
 
 def check_opened(page, program, count):
@@ -421,16 +562,37 @@ def check_opened(page, program, count):
     page.call("DOM.setFileInputFiles", nodeId=node, files=[os.path.join(TOP, "examples", "swap.jff")])
     settle(page, 500)
     text = text_of("examples", "swap.jff")
-    finals = [name for name, body in re.findall(r'<state id="\d+" name="([^"]*)">(.*?)</state>', text, flags=re.S) if "<final/>" in body]
+    finals = [
+        name
+        for name, body in re.findall(r'<state id="\d+" name="([^"]*)">(.*?)</state>', text, flags=re.S)
+        if "<final/>" in body
+    ]
     accept, table, given = page.ask("[bench.state.accept, bench.current.machine.table, bench.current.machine.given]")
-    count.hold(accept == finals and finals and program.answer(["standard"], given) == (0, table), f"of JFLAP {accept} accept, and final are {finals}")
-    for kind, name in (("turingmachine.io", "download.yaml"), ("morphett", "comments.txt"), ("bbchallenge", "line-04.txt"), ("jflap", "same-names-8.jff")):
+    count.hold(
+        accept == finals and finals and program.answer(["standard"], given) == (0, table),
+        f"of JFLAP {accept} accept, and final are {finals}",
+    )
+    for kind, name in (
+        ("turingmachine.io", "download.yaml"),
+        ("morphett", "comments.txt"),
+        ("bbchallenge", "line-04.txt"),
+        ("jflap", "same-names-8.jff"),
+    ):
         page.call("DOM.setFileInputFiles", nodeId=node, files=[os.path.join(TOP, "tests", "machines", kind, name)])
         settle(page, 500)
         table, given = page.ask("[bench.current.machine.table, bench.current.machine.given]")
-        ran = subprocess.run([os.path.join(TOP, "tools", "import"), os.path.join(TOP, "tests", "machines", kind, name)], stdout=subprocess.PIPE, text=True)
-        count.hold(given == ran.stdout and program.answer(["standard"], given) == (0, table), f"{name} is opened as {given!r}, and tools/import prints {ran.stdout!r}")
-    page.call("DOM.setFileInputFiles", nodeId=node, files=[os.path.join(TOP, "tests", "machines", "jflap", "two-tapes.jff")])
+        ran = subprocess.run(
+            [os.path.join(TOP, "tools", "import"), os.path.join(TOP, "tests", "machines", kind, name)],
+            stdout=subprocess.PIPE,
+            text=True,
+        )
+        count.hold(
+            given == ran.stdout and program.answer(["standard"], given) == (0, table),
+            f"{name} is opened as {given!r}, and tools/import prints {ran.stdout!r}",
+        )
+    page.call(
+        "DOM.setFileInputFiles", nodeId=node, files=[os.path.join(TOP, "tests", "machines", "jflap", "two-tapes.jff")]
+    )
     settle(page, 500)
     said, now = page.ask("[document.getElementById('toast').textContent, bench.current.machine.given]")
     count.hold("the machine has 2 tapes" in said and now == given, f"a machine of two tapes: {said!r}")

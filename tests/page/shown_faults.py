@@ -52,10 +52,19 @@ AT_TIMES = """(it => {
 })(document.getElementById('tooold'))"""
 TOO_OLD = "const Old = Blob; Blob = function (parts, how) { return new Old(['self.WebAssembly = undefined;\\n', ...parts], how); };"
 # By which words a call of a run is known, where its word is 101 and a state's name is Adding.
-CALLS = {"check": "^check[^]*Adding", "machine": "^machine =101 ", "run": "^run =101 auto", "bennett": "^bennett[^]*Adding",
-         "compile": "^compile =101 ", "session": "^session =101 "}
-ENDS = {"trap": "This answer was cut off: RuntimeError: unreachable", "memory": "There was no memory for this answer",
-        "worker": "This answer was cut off: "}
+CALLS = {
+    "check": "^check[^]*Adding",
+    "machine": "^machine =101 ",
+    "run": "^run =101 auto",
+    "bennett": "^bennett[^]*Adding",
+    "compile": "^compile =101 ",
+    "session": "^session =101 ",
+}
+ENDS = {
+    "trap": "This answer was cut off: RuntimeError: unreachable",
+    "memory": "There was no memory for this answer",
+    "worker": "This answer was cut off: ",
+}
 
 
 def broken(page, *rules):
@@ -70,9 +79,17 @@ def goes_on(page, program, name, count):
     set_value(page, "word", "11")
     settle(page, 500)
     steps = program.text(["machine", "=11", "100"], INCREMENT).split()[1]
-    comes(page, f"document.getElementById('outcome').textContent.startsWith('{steps} steps → ') && !document.body.classList.contains('stale')")
-    outcome, stale = page.ask("[document.getElementById('outcome').textContent, document.body.classList.contains('stale')]")
-    count.hold(outcome.startswith(f"{steps} steps → ") and not stale, f"behind {name} the page says {outcome!r}, and it takes {steps} steps")
+    comes(
+        page,
+        f"document.getElementById('outcome').textContent.startsWith('{steps} steps → ') && !document.body.classList.contains('stale')",
+    )
+    outcome, stale = page.ask(
+        "[document.getElementById('outcome').textContent, document.body.classList.contains('stale')]"
+    )
+    count.hold(
+        outcome.startswith(f"{steps} steps → ") and not stale,
+        f"behind {name} the page says {outcome!r}, and it takes {steps} steps",
+    )
 
 
 def comes_to(page, expression, words):
@@ -93,7 +110,10 @@ def check_cut(page, program, count):
             settle(page, 700)
             said = comes_to(page, "document.getElementById('verdict').textContent", words)
             buttons = page.ask("[...document.querySelectorAll('#verdict button')].map(it => it.textContent)")
-            count.hold(said.startswith(words) and "Try it again" in buttons, f"where {call} is cut off ({kind}) the page says {said[:120]!r}, {buttons}")
+            count.hold(
+                said.startswith(words) and "Try it again" in buttons,
+                f"where {call} is cut off ({kind}) the page says {said[:120]!r}, {buttons}",
+            )
             goes_on(page, program, f"{kind} in {call}", count)
             count.hold(not page.faults(), f"{kind} in {call}: {page.faults()}")
             page.call("Page.removeScriptToEvaluateOnNewDocument", identifier=script)
@@ -101,7 +121,9 @@ def check_cut(page, program, count):
 
 def check_cut_elsewhere(page, program, count):
     """The same where a step is fetched, in the workshop and in an exercise."""
-    script = broken(page, ("^session[^]*step 16384\n", "memory"), ("^realise", "trap"), ("^machine =111 100\\|", "memory"))
+    script = broken(
+        page, ("^session[^]*step 16384\n", "memory"), ("^realise", "trap"), ("^machine =111 100\\|", "memory")
+    )
     page.visit(f"file://{PAGE}#m=least")
     page.ask("bench.goTo(20000); 0")
     said = comes_to(page, "document.getElementById('busy').textContent", "There was no memory")
@@ -110,14 +132,18 @@ def check_cut_elsewhere(page, program, count):
     settle(page, 300)
     at = page.ask("bench.current.run.placeAt(100) && bench.placeName(bench.current.run.placeAt(100).place)")
     table, words = page.ask("[bench.current.run.table, bench.current.run.words]")
-    count.hold(program.text(["view", *words, "100"], table).startswith(f"element at {at} "), f"behind it step 100 shows {at}")
+    count.hold(
+        program.text(["view", *words, "100"], table).startswith(f"element at {at} "), f"behind it step 100 shows {at}"
+    )
     page.ask("bench.openWorkshop('mirror'); 0")
     settle(page, 700)
     set_value(page, "m-text", "1,1,2,2\n2,2,1,1\n")
     settle(page, 500)
     said = comes_to(page, "document.getElementById('m-fault').textContent", "This answer was cut off")
     count.hold(said.startswith("This answer was cut off"), f"where the workshop is cut off it says {said!r}")
-    page.ask("document.getElementById('workshop').close(); bench.beginTask(6); document.getElementById('taskcheck').click(); 0")
+    page.ask(
+        "document.getElementById('workshop').close(); bench.beginTask(6); document.getElementById('taskcheck').click(); 0"
+    )
     said = comes_to(page, "document.getElementById('tasksaid').textContent", "Not judged")
     count.hold(said.startswith("Not judged. There was no memory"), f"an exercise that can't be judged says {said!r}")
     page.ask("document.getElementById('taskend').click(); 0")
@@ -157,16 +183,23 @@ def check_stopped(page, program, count, browser=""):
 def check_old(page, count):
     """A word where the browser is too old: where the script can't run, and where it has no WebAssembly."""
     with tempfile.NamedTemporaryFile("w", suffix=".html", encoding="utf-8", delete=False) as file:
-        file.write(text_of("page", "hithwelor.html").replace('"use strict";\n', '"use strict";\nconst new syntax;\n', 1))
+        file.write(
+            text_of("page", "hithwelor.html").replace('"use strict";\n', '"use strict";\nconst new syntax;\n', 1)
+        )
     page.call("Page.navigate", url=f"file://{file.name}")
     comes(page, "document.readyState === 'complete' && document.getElementById('tooold') !== null")
     early, seen, words = page.ask(AT_TIMES)
-    count.hold((early, seen) == ("hidden", "visible") and "2023" in words, f"where the script doesn't run, {words!r} is {early} and then {seen}")
+    count.hold(
+        (early, seen) == ("hidden", "visible") and "2023" in words,
+        f"where the script doesn't run, {words!r} is {early} and then {seen}",
+    )
     os.remove(file.name)
     script = page.call("Page.addScriptToEvaluateOnNewDocument", source=TOO_OLD)["identifier"]
     page.call("Page.navigate", url=f"file://{PAGE}#m=least")
     comes(page, "document.getElementById('verdict')?.textContent.startsWith(\"This browser can't run it\")")
-    said, gone = page.ask("[document.getElementById('verdict').textContent, document.getElementById('tooold') === null]")
+    said, gone = page.ask(
+        "[document.getElementById('verdict').textContent, document.getElementById('tooold') === null]"
+    )
     count.hold(said.startswith("This browser can't run it") and gone, f"without WebAssembly the page says {said!r}")
     page.call("Page.removeScriptToEvaluateOnNewDocument", identifier=script)
 

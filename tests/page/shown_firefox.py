@@ -13,9 +13,19 @@ from shown_places import FIXED, look_at
 
 from firefox import Firefox, firefox_at_hand
 
-MACHINES_TRIED = ["Add one", "Turn each letter", "The least machine", "names of a book", "running on", "stuck", "its window ends it"]
-FAULTS = ("(window.seenFaults = [], addEventListener('error', it => seenFaults.push(String(it.message))), "
-          "addEventListener('unhandledrejection', it => seenFaults.push(String(it.reason))), 0)")
+MACHINES_TRIED = [
+    "Add one",
+    "Turn each letter",
+    "The least machine",
+    "names of a book",
+    "running on",
+    "stuck",
+    "its window ends it",
+]
+FAULTS = (
+    "(window.seenFaults = [], addEventListener('error', it => seenFaults.push(String(it.message))), "
+    "addEventListener('unhandledrejection', it => seenFaults.push(String(it.reason))), 0)"
+)
 
 
 class ShownFirefox(Firefox):
@@ -26,7 +36,9 @@ class ShownFirefox(Firefox):
         self.go(address)
         self.ask(FAULTS)
         if not comes(self, RUNS):
-            raise OSError(f"{address[:80]}: no run is shown; the page says {self.ask('document.body.innerText')[:200]!r}")
+            raise OSError(
+                f"{address[:80]}: no run is shown; the page says {self.ask('document.body.innerText')[:200]!r}"
+            )
 
     def faults(self):
         return self.ask("window.seenFaults ?? []")
@@ -38,8 +50,13 @@ def check_new(page, count):
     for name, it in machines().items():
         for notation in ("latex", "lines"):
             page.visit(f"file://{PAGE}#m=least")
-            page.ask(f"(it => {{ it.value = {json.dumps(it['texts'][notation])}; it.dispatchEvent(new Event('input')); }})(document.getElementById('table')), 0")
-            count.hold(comes(page, f"{said}.startsWith('Read as ')"), f"Firefox: {name}, {notation}: it says {page.ask(said)[:90]!r}")
+            page.ask(
+                f"(it => {{ it.value = {json.dumps(it['texts'][notation])}; it.dispatchEvent(new Event('input')); }})(document.getElementById('table')), 0"
+            )
+            count.hold(
+                comes(page, f"{said}.startsWith('Read as ')"),
+                f"Firefox: {name}, {notation}: it says {page.ask(said)[:90]!r}",
+            )
     for step, picture in PICTURES.items():
         page.visit(f"file://{PAGE}#m=increment&w=1011&learn={step}")
         count.hold(comes(page, SEEN % picture), f"Firefox: the lesson's {step} isn't seen")
@@ -59,8 +76,10 @@ def check_firefox(program, answers, draw, places, pictures, count):
             if name in MACHINES_TRIED:
                 look_at(page, program, f"Firefox, {name}", fragment, places, draw, count)
         page.visit(f"file://{PAGE}#m=increment")
-        e = page.wait("(async () => { const {goTo, state, step} = bench; state.layer = 'quadruple'; goTo(0); "
-                      "for (let k = 0; k < 5; k++) await step(1); for (let k = 0; k < 5; k++) await step(-1); return state.e; })()")
+        e = page.wait(
+            "(async () => { const {goTo, state, step} = bench; state.layer = 'quadruple'; goTo(0); "
+            "for (let k = 0; k < 5; k++) await step(1); for (let k = 0; k < 5; k++) await step(-1); return state.e; })()"
+        )
         count.hold(e == 0, f"Firefox: five quadruples there and back lead to step {e}")
         check_stopped(page, program, count, "Firefox, ")
         check_new(page, count)
@@ -69,8 +88,13 @@ def check_firefox(program, answers, draw, places, pictures, count):
             page.visit(f"file://{PAGE}#m=increment&e=700000")
             comes(page, f"({LAID}).many === 0", LAID_PATIENCE)
             given, inner = page.ask(LAID), page.ask("innerWidth")
-            count.hold(given["count"] > 15 and not given["many"] and given["wide"] <= inner,
-                       f"Firefox, {inner} wide: {given['wide']} wide, of {given['count']} texts {json.dumps(given['over'])} lie over one another")
+            count.hold(
+                given["count"] > 15 and not given["many"] and given["wide"] <= inner,
+                f"Firefox, {inner} wide: {given['wide']} wide, of {given['count']} texts {json.dumps(given['over'])} lie over one another",
+            )
             if pictures:
                 page.screenshot(os.path.join(pictures, f"firefox-{width}.png"))
-        print(f"Firefox {page.version()}: {len(MACHINES_TRIED) * places} places of {len(MACHINES_TRIED)} machines, in {time.monotonic() - began:.0f} s", flush=True)
+        print(
+            f"Firefox {page.version()}: {len(MACHINES_TRIED) * places} places of {len(MACHINES_TRIED)} machines, in {time.monotonic() - began:.0f} s",
+            flush=True,
+        )

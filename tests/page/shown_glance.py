@@ -82,8 +82,12 @@ def check_sizes(page, count):
             page.visit(f"file://{PAGE}{fragment}")
             settle(page, 200)
             given = page.ask(SIZES)
-            count.hold(len(given) <= MOST_SIZES, f"{fragment}, {width} wide: {len(given)} sizes of type, {json.dumps(given)}")
-            count.hold(not page.ask(PRIMARY), f"{fragment}, {width} wide: more than one primary button in {page.ask(PRIMARY)}")
+            count.hold(
+                len(given) <= MOST_SIZES, f"{fragment}, {width} wide: {len(given)} sizes of type, {json.dumps(given)}"
+            )
+            count.hold(
+                not page.ask(PRIMARY), f"{fragment}, {width} wide: more than one primary button in {page.ask(PRIMARY)}"
+            )
     signal, fault = page.ask(HUES)
     count.hold(signal != fault, "signal and error have one colour")
 
@@ -107,21 +111,41 @@ def check_lens(page, count):
     press(page, "#bank .element.now")
     comes(page, f"{LENS}.includes('It comes next at')")
     said = page.ask(LENS)
-    count.hold(f"Element {int(number):,}" in said and "The signal is about to come in." in said and "Its bar" in said and "row " in said,
-               f"the lens says of an element {said[:200]!r}")
+    count.hold(
+        f"Element {int(number):,}" in said
+        and "The signal is about to come in." in said
+        and "Its bar" in said
+        and "row " in said,
+        f"the lens says of an element {said[:200]!r}",
+    )
     box = page.ask("document.getElementById('lens').getBoundingClientRect().toJSON()")
-    count.hold(box["left"] >= 0 and box["top"] >= 0 and box["right"] <= 1280 and box["bottom"] <= 800, f"the lens stands at {box}")
+    count.hold(
+        box["left"] >= 0 and box["top"] >= 0 and box["right"] <= 1280 and box["bottom"] <= 800,
+        f"the lens stands at {box}",
+    )
     count.hold(page.ask("bench.state.breaks.length") == 0, "a click on an element sets a breakpoint")
     before = page.ask("bench.state.e")
     page.ask("document.getElementById('lensnext').click(); 0")
     comes(page, f"bench.state.e > {before}")
-    count.hold(page.ask("bench.state.e") > before and page.ask(f"bench.current.run.placeAt(bench.state.e) ? bench.current.run.placeAt(bench.state.e).place >> 2 : {number}") == int(number),
-               "the lens doesn't lead to the next time")
+    count.hold(
+        page.ask("bench.state.e") > before
+        and page.ask(
+            f"bench.current.run.placeAt(bench.state.e) ? bench.current.run.placeAt(bench.state.e).place >> 2 : {number}"
+        )
+        == int(number),
+        "the lens doesn't lead to the next time",
+    )
     press(page, "#diagram [data-state=Add]")
     said = page.ask(LENS)
-    count.hold("State Add" in said and "write 0, go left" in said and "3 times" in said, f"the lens says of a state {said[:200]!r}")
+    count.hold(
+        "State Add" in said and "write 0, go left" in said and "3 times" in said,
+        f"the lens says of a state {said[:200]!r}",
+    )
     page.ask("document.getElementById('lensstop').click(); 0")
-    count.hold(page.ask("bench.state.breaks.map(it => it.state)") == ["Add"] and not page.ask(LENS), "Stop here doesn't stop there")
+    count.hold(
+        page.ask("bench.state.breaks.map(it => it.state)") == ["Add"] and not page.ask(LENS),
+        "Stop here doesn't stop there",
+    )
     press(page, "#diagram [data-state=Go]")
     page.strike("Escape", 27)
     count.hold(not page.ask(LENS), "Escape leaves the lens open")
@@ -131,7 +155,8 @@ def check_marked(page, count):
     """In a control of 174 columns the marked one is in sight at every step that has one."""
     size(page, 1280, 800)
     page.visit(f"file://{PAGE}#m=increment")
-    given = page.wait("""(async () => {
+    given = page.wait(
+        """(async () => {
       const {goTo, state, render, current} = bench, {run} = current, missing = [];
       const inSight = () => %s;
       for (const e of [0, 5000, 9000, 40000, 300000, 700000, 1200000, 2000000]) {
@@ -145,11 +170,16 @@ def check_marked(page, count):
       await run.ready(700000);
       render(false);
       return [run.banks[0].columns, missing];
-    })()""" % MARKED)
+    })()"""
+        % MARKED
+    )
     count.hold(given[0] == 174 and not given[1], f"of {given[0]} columns the marked one is out of sight at {given[1]}")
     names = page.ask("[...document.querySelectorAll('#bank text title')].map(it => it.textContent)")
-    count.hold(any(it.startswith("port ") and ("written" in it or "answers" in it) for it in names) and any(it.startswith("state ") for it in names),
-               f"names aren't told in words: {names[:4]}")
+    count.hold(
+        any(it.startswith("port ") and ("written" in it or "answers" in it) for it in names)
+        and any(it.startswith("state ") for it in names),
+        f"names aren't told in words: {names[:4]}",
+    )
 
 
 def check_diagram(page, count):
@@ -163,20 +193,29 @@ def check_diagram(page, count):
             comes(page, f"{seen}[0] >= 149")
             high, low, floor = page.ask(seen)
             count.hold(high >= 149, f"{width} wide, {number} states: the diagram is {high:.0f} high")
-            count.hold(width < 1100 or low <= floor, f"{width} wide, {number} states: the diagram ends at {low:.0f}, its panel at {floor:.0f}")
+            count.hold(
+                width < 1100 or low <= floor,
+                f"{width} wide, {number} states: the diagram ends at {low:.0f}, its panel at {floor:.0f}",
+            )
 
 
 def check_large(page, count):
     """The diagram in large: letters of 14 pixels, no label over another one, over a state or over an edge, and the present state lit."""
     for width, height in ((1680, 1050), (1280, 800), (1024, 768)):
         size(page, width, height)
-        for name, fragment in (("four increments", link(t=four(None), w="11")), ("Add one", "#m=increment"), ("Palindrome?", "#m=palindrome&w=ab")):
+        for name, fragment in (
+            ("four increments", link(t=four(None), w="11")),
+            ("Add one", "#m=increment"),
+            ("Palindrome?", "#m=palindrome&w=ab"),
+        ):
             page.visit(f"file://{PAGE}{fragment}")
             page.ask("document.getElementById('larger').click(); 0")
             settle(page)
             given = page.ask(LARGE)
-            count.hold(given["labels"] > 4 and given["least"] >= 14 and given["now"] == 1 and not given["over"],
-                       f"in large, {name}, {width} wide: {json.dumps(given)}")
+            count.hold(
+                given["labels"] > 4 and given["least"] >= 14 and given["now"] == 1 and not given["over"],
+                f"in large, {name}, {width} wide: {json.dumps(given)}",
+            )
 
 
 def check_reached(page, count):
@@ -188,7 +227,10 @@ def check_reached(page, count):
     page.strike("Tab", 9)
     first = page.ask("document.activeElement.id")
     page.strike("Enter", 13, "\r")
-    count.hold(first == "skip" and page.ask("document.activeElement.id") == "play", f"the Tab key comes first to {first}, and from there to {page.ask('document.activeElement.id')}")
+    count.hold(
+        first == "skip" and page.ask("document.activeElement.id") == "play",
+        f"the Tab key comes first to {first}, and from there to {page.ask('document.activeElement.id')}",
+    )
     size(page, 1920, 1080)
     page.visit(f"file://{PAGE}#m=increment&e=700000")
     for panel in ("tapes", "circuit", "machine"):
@@ -198,22 +240,34 @@ def check_reached(page, count):
         page.ask(f"document.querySelector('[data-panel={panel}]').click(); 0")
         settle(page, 250)
         comes(page, f"document.getElementById('{panel}').getBoundingClientRect().width > 1880")
-        box, zoom, others = page.ask(f"""(it => [it.getBoundingClientRect().toJSON(), Number(getComputedStyle(it).zoom),
-          [...document.querySelectorAll('main>.panel')].filter(one => one !== it && one.checkVisibility()).length])(document.getElementById('{panel}'))""")
-        count.hold(box["width"] > 1880 and box["height"] > 700 and zoom == 1.6 and others == 0 and plain >= 14,
-                   f"lecture, {panel}: {box['width']:.0f} by {box['height']:.0f}, {zoom} times, {others} others")
+        box, zoom, others = page.ask(
+            f"""(it => [it.getBoundingClientRect().toJSON(), Number(getComputedStyle(it).zoom),
+          [...document.querySelectorAll('main>.panel')].filter(one => one !== it && one.checkVisibility()).length])(document.getElementById('{panel}'))"""
+        )
+        count.hold(
+            box["width"] > 1880 and box["height"] > 700 and zoom == 1.6 and others == 0 and plain >= 14,
+            f"lecture, {panel}: {box['width']:.0f} by {box['height']:.0f}, {zoom} times, {others} others",
+        )
     page.ask("document.getElementById('lecture').click(); 0")
-    count.hold(page.ask("[...document.querySelectorAll('main>.panel')].every(it => it.checkVisibility())"), "lecture mode doesn't end")
+    count.hold(
+        page.ask("[...document.querySelectorAll('main>.panel')].every(it => it.checkVisibility())"),
+        "lecture mode doesn't end",
+    )
     for width, height in ((640, 400), (960, 540)):
         size(page, width, height)
         page.visit(f"file://{PAGE}#m=increment&e=700000")
         ends = "[document.querySelectorAll('#three .tape')[2].getBoundingClientRect().bottom, document.getElementById('time').getBoundingClientRect().top]"
         comes(page, f"(([low, top]) => low <= top + 1)({ends})")
         low, top = page.ask(ends)
-        count.hold(low <= top + 1, f"{width} by {height}: the tapes end at {low:.0f}, and the time line begins at {top:.0f}")
+        count.hold(
+            low <= top + 1, f"{width} by {height}: the tapes end at {low:.0f}, and the time line begins at {top:.0f}"
+        )
     size(page, 1280, 800)
     page.visit(f"file://{PAGE}#x=1")
-    letters = comes(page, "['n', 'e', 's', 'w'].every(it => [...document.querySelectorAll('#e-picture text')].some(one => one.textContent === it))")
+    letters = comes(
+        page,
+        "['n', 'e', 's', 'w'].every(it => [...document.querySelectorAll('#e-picture text')].some(one => one.textContent === it))",
+    )
     count.hold(letters, "exercise 1's picture lacks the letters of the sides")
     page.visit(f"file://{PAGE}#x=15")
     ends = "[document.getElementById('map').getBoundingClientRect().bottom, document.getElementById('sheet').getBoundingClientRect().top]"

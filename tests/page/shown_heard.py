@@ -10,26 +10,76 @@ from workbench_text import read_tape
 WORDS = {"_": "blank"}
 # What each panel has to have: a role and how its name begins.
 PANELS = {
-    "Machine": [("heading", "Machine"), ("combobox", "Examples"), ("textbox", "The table: a rule a line"), ("textbox", "Word"),
-                ("button", "take the last change of the machine back"), ("button", "what the program said of the machine"),
-                ("button", "the machine, in words"), ("button", "Answers"), ("group", "The machine by itself"),
-                ("img", "work tape from cell"), ("img", "the state diagram: "), ("button", "the diagram, larger")],
-    "Bennett's reversible machine": [("heading", "Bennett's reversible machine"), ("list", "Stages"), ("img", "work tape from cell"),
-                                     ("img", "history tape from cell"), ("img", "output tape from cell"), ("tab", "Moves of the circuit"),
-                                     ("tab", "Bennett's table"), ("tabpanel", "Moves of the circuit"),
-                                     ("button", "what the program said of the tapes"), ("button", "the tapes, in words")],
-    "Circuit": [("heading", "Circuit"), ("button", "what the program said of the circuit"), ("button", "the circuit, in words"),
-                ("img", "the modules of the circuit: the signal "), ("group", "The module's elements"), ("img", "the bank of "), ("button", "larger"),
-                ("button", "smaller"), ("button", "fit, and follow the signal")],
-    "Time line": [("slider", "Time"), ("button", "to the start"), ("button", "step back"), ("button", "play backward"), ("button", "play"),
-                  ("button", "step on"), ("button", "to the end"), ("group", "What a step is"), ("slider", "speed"),
-                  ("button", "stop at a state, a cell or an element"), ("button", "what the program said of the time line"),
-                  ("button", "the time line, in words")],
+    "Machine": [
+        ("heading", "Machine"),
+        ("combobox", "Examples"),
+        ("textbox", "The table: a rule a line"),
+        ("textbox", "Word"),
+        ("button", "take the last change of the machine back"),
+        ("button", "what the program said of the machine"),
+        ("button", "the machine, in words"),
+        ("button", "Answers"),
+        ("group", "The machine by itself"),
+        ("img", "work tape from cell"),
+        ("img", "the state diagram: "),
+        ("button", "the diagram, larger"),
+    ],
+    "Bennett's reversible machine": [
+        ("heading", "Bennett's reversible machine"),
+        ("list", "Stages"),
+        ("img", "work tape from cell"),
+        ("img", "history tape from cell"),
+        ("img", "output tape from cell"),
+        ("tab", "Moves of the circuit"),
+        ("tab", "Bennett's table"),
+        ("tabpanel", "Moves of the circuit"),
+        ("button", "what the program said of the tapes"),
+        ("button", "the tapes, in words"),
+    ],
+    "Circuit": [
+        ("heading", "Circuit"),
+        ("button", "what the program said of the circuit"),
+        ("button", "the circuit, in words"),
+        ("img", "the modules of the circuit: the signal "),
+        ("group", "The module's elements"),
+        ("img", "the bank of "),
+        ("button", "larger"),
+        ("button", "smaller"),
+        ("button", "fit, and follow the signal"),
+    ],
+    "Time line": [
+        ("slider", "Time"),
+        ("button", "to the start"),
+        ("button", "step back"),
+        ("button", "play backward"),
+        ("button", "play"),
+        ("button", "step on"),
+        ("button", "to the end"),
+        ("group", "What a step is"),
+        ("slider", "speed"),
+        ("button", "stop at a state, a cell or an element"),
+        ("button", "what the program said of the time line"),
+        ("button", "the time line, in words"),
+    ],
 }
-IN_DIAGRAM = [("dialog", "State diagram"), ("button", "state S"), ("button", "state Halt, where it halts"), ("combobox", "state of the rule in line 1"), ("textbox", "read of the rule in line 1"),
-              ("combobox", "move of the rule in line 1"), ("button", "take the rule in line 1 away"), ("combobox", "State"), ("button", "Take back")]
-IN_ANSWERS = [("dialog", "What the machine answers"), ("combobox", "what Halt says"), ("textbox", "Words to try"), ("button", "Try them"),
-              ("group", "what the words are answered with")]
+IN_DIAGRAM = [
+    ("dialog", "State diagram"),
+    ("button", "state S"),
+    ("button", "state Halt, where it halts"),
+    ("combobox", "state of the rule in line 1"),
+    ("textbox", "read of the rule in line 1"),
+    ("combobox", "move of the rule in line 1"),
+    ("button", "take the rule in line 1 away"),
+    ("combobox", "State"),
+    ("button", "Take back"),
+]
+IN_ANSWERS = [
+    ("dialog", "What the machine answers"),
+    ("combobox", "what Halt says"),
+    ("textbox", "Words to try"),
+    ("button", "Try them"),
+    ("group", "what the words are answered with"),
+]
 
 
 class Heard:
@@ -54,11 +104,20 @@ class Heard:
         return found
 
     def part(self, name, roles=("region", "contentinfo")):
-        return next((it for it in self.nodes if not it.get("ignored") and it["role"]["value"] in roles and self.name(it) == name), None)
+        return next(
+            (
+                it
+                for it in self.nodes
+                if not it.get("ignored") and it["role"]["value"] in roles and self.name(it) == name
+            ),
+            None,
+        )
 
     def lacking(self, nodes, wanted):
         there = [(it["role"]["value"].replace("image", "img"), self.name(it)) for it in nodes]
-        return [it for it in wanted if not any(role.lower() == it[0] and name.startswith(it[1]) for role, name in there)]
+        return [
+            it for it in wanted if not any(role.lower() == it[0] and name.startswith(it[1]) for role, name in there)
+        ]
 
     @staticmethod
     def value(it, name):
@@ -67,8 +126,10 @@ class Heard:
 
 def live_regions(page):
     """What is told by itself: the place, and what stands there."""
-    return page.ask("""Object.fromEntries([...document.querySelectorAll('[role=status],[aria-live],output')].filter(it => it.id)
-      .map(it => [it.id, it.textContent.replace(/\\s+/g, " ").trim()]))""")
+    return page.ask(
+        """Object.fromEntries([...document.querySelectorAll('[role=status],[aria-live],output')].filter(it => it.id)
+      .map(it => [it.id, it.textContent.replace(/\\s+/g, " ").trim()]))"""
+    )
 
 
 def spoken(program, table, words, e):
@@ -77,7 +138,9 @@ def spoken(program, table, words, e):
     lines = [f"{view[6].split()[1]}, row step ", f" element step {e:,}."]
     for number, line in enumerate(view[3:6], 1):
         tape = read_tape(line, number, "view")
-        lines.append(f"{['work', 'history', 'output'][number - 1]}: {' '.join(WORDS.get(it, it) for it in tape.symbols)}, head at {tape.head}")
+        lines.append(
+            f"{['work', 'history', 'output'][number - 1]}: {' '.join(WORDS.get(it, it) for it in tape.symbols)}, head at {tape.head}"
+        )
     return lines
 
 
@@ -93,20 +156,35 @@ def check_panels(page, count):
         count.hold(panel and not lacking, f"the panel {name} isn't heard with {lacking}")
     table = next(it for it in heard.nodes if heard.name(it).startswith("The table: "))
     verdict = page.ask("document.getElementById('verdict').textContent").strip()
-    count.hold(table.get("description", {}).get("value", "").strip().startswith(verdict[:40]),
-               f"the table is described by {table.get('description')}, and not by {verdict!r}")
+    count.hold(
+        table.get("description", {}).get("value", "").strip().startswith(verdict[:40]),
+        f"the table is described by {table.get('description')}, and not by {verdict!r}",
+    )
     slider = next(it for it in heard.nodes if it["role"]["value"] == "slider" and heard.name(it) == "Time")
     told = page.ask("document.getElementById('film').getAttribute('aria-valuetext')")
-    q, count_q, stage = page.ask("(run => [run.momentIndex(bench.state.e), run.moments.length - 1, run.moments[run.momentIndex(bench.state.e)].stage])(bench.current.run)")
-    count.hold(told.startswith(f"{stage}, row step {q} of {count_q}") and slider["value"]["value"] == 900000,
-               f"the time line is heard as {told!r}, at {slider['value']}")
-    speed = page.ask("[document.getElementById('speed').getAttribute('aria-valuetext'), document.getElementById('speedtext').textContent]")
+    q, count_q, stage = page.ask(
+        "(run => [run.momentIndex(bench.state.e), run.moments.length - 1, run.moments[run.momentIndex(bench.state.e)].stage])(bench.current.run)"
+    )
+    count.hold(
+        told.startswith(f"{stage}, row step {q} of {count_q}") and slider["value"]["value"] == 900000,
+        f"the time line is heard as {told!r}, at {slider['value']}",
+    )
+    speed = page.ask(
+        "[document.getElementById('speed').getAttribute('aria-valuetext'), document.getElementById('speedtext').textContent]"
+    )
     count.hold(speed[0] == speed[1] and speed[0], f"the speed is heard as {speed[0]!r}, and shown as {speed[1]!r}")
-    pressed = [heard.name(it) for it in heard.nodes if it["role"]["value"] in ("button", "toggleButton") and heard.value(it, "pressed") == "true"]
+    pressed = [
+        heard.name(it)
+        for it in heard.nodes
+        if it["role"]["value"] in ("button", "toggleButton") and heard.value(it, "pressed") == "true"
+    ]
     count.hold(len(pressed) == 1 and pressed[0].startswith("Row step"), f"pressed are {pressed}")
     current = page.ask("[...document.querySelectorAll('#stages [aria-current=step]')].map(it => it.dataset.stage)")
     count.hold(current == [stage], f"the current stage is heard as {current}, and not {stage}")
-    for act, wanted in (("document.getElementById('larger').click()", IN_DIAGRAM), ("document.getElementById('verdicts').click()", IN_ANSWERS)):
+    for act, wanted in (
+        ("document.getElementById('larger').click()", IN_DIAGRAM),
+        ("document.getElementById('verdicts').click()", IN_ANSWERS),
+    ):
         page.ask(f"{act}; 0")
         settle(page)
         heard = Heard(page)
@@ -121,7 +199,9 @@ def check_told(page, program, count):
     page.visit(f"file://{PAGE}#m=increment&e=900000")
     settle(page)
     table, words = page.ask("[bench.current.run.table, bench.current.run.words]")
-    polite = page.ask("[...document.querySelectorAll('#live,#verdict,#outcome,#busy')].map(it => [it.id, it.getAttribute('aria-live') ?? it.getAttribute('role') ?? it.tagName.toLowerCase()].join(' ')).sort().join(', ')")
+    polite = page.ask(
+        "[...document.querySelectorAll('#live,#verdict,#outcome,#busy')].map(it => [it.id, it.getAttribute('aria-live') ?? it.getAttribute('role') ?? it.tagName.toLowerCase()].join(' ')).sort().join(', ')"
+    )
     count.hold(polite == "busy status, live polite, outcome output, verdict status", f"told by itself are {polite}")
     for key, number in (("ArrowRight", 39), ("ArrowRight", 39), ("ArrowLeft", 37), ("End", 35), ("Home", 36)):
         page.ask("document.activeElement.blur(); 0")
@@ -129,14 +209,22 @@ def check_told(page, program, count):
         page.strike(key, number)
         comes(page, f"bench.state.e !== {before}")
         e = page.ask("bench.state.e")
-        right, told = spoken(program, table, words, e), "document.getElementById('live').textContent.replace(/\\s+/g, ' ')"
-        count.hold(e != before and comes(page, f"{json.dumps(right)}.every(it => {told}.includes(it))"),
-                   f"from {before} to step {e} {right} isn't told: {page.ask(told)[:300]!r}")
+        right, told = (
+            spoken(program, table, words, e),
+            "document.getElementById('live').textContent.replace(/\\s+/g, ' ')",
+        )
+        count.hold(
+            e != before and comes(page, f"{json.dumps(right)}.every(it => {told}.includes(it))"),
+            f"from {before} to step {e} {right} isn't told: {page.ask(told)[:300]!r}",
+        )
     set_value(page, "word", "111")
     settle(page, 400)
     steps = program.text(["machine", "=111", "100"], table).split()
     told = live_regions(page)["outcome"]
-    count.hold(told.startswith(f"{steps[1]} steps → {steps[3][1:] if len(steps) > 3 else steps[2][1:]}"), f"the outcome is told as {told!r}")
+    count.hold(
+        told.startswith(f"{steps[1]} steps → {steps[3][1:] if len(steps) > 3 else steps[2][1:]}"),
+        f"the outcome is told as {told!r}",
+    )
     set_value(page, "table", table.replace("Go,1,1,+,Go", "Go,1,1,R,Go"))
     settle(page, 400)
     told = live_regions(page)["verdict"]

@@ -24,9 +24,13 @@ def check_reload(page, count):
     count.hold(reload(page), "after a reload no run is shown")
     settle(page, 300)
     after = page.ask("[document.getElementById('table').value, document.getElementById('word').value, bench.state.e]")
-    count.hold(before == after and before[2] > 0, f"a reload makes of {json.dumps(before)[:120]} {json.dumps(after)[:120]}")
+    count.hold(
+        before == after and before[2] > 0, f"a reload makes of {json.dumps(before)[:120]} {json.dumps(after)[:120]}"
+    )
     page.visit(f"file://{PAGE}#m=complement")
-    count.hold(comes(page, f"location.hash.includes('m=complement') && {IN_ADDRESS}"), "the address doesn't hold an example")
+    count.hold(
+        comes(page, f"location.hash.includes('m=complement') && {IN_ADDRESS}"), "the address doesn't hold an example"
+    )
     count.hold(reload(page), "after a reload of an example no run is shown")
     kept = page.ask("document.getElementById('examples').value")
     count.hold(kept == "complement", f"a reload of an example makes it {kept!r}")
@@ -39,11 +43,17 @@ def check_back(page, count):
     set_value(page, "word", "11")
     count.hold(comes(page, "location.hash.includes('w=11')"), "the address doesn't hold the word")
     page.ask("location.hash = 'x=7'; 0")
-    count.hold(comes(page, "document.querySelector('#sheet h2')?.textContent.startsWith('Exercise 7') ?? false"), "#x=7 opens no exercise")
+    count.hold(
+        comes(page, "document.querySelector('#sheet h2')?.textContent.startsWith('Exercise 7') ?? false"),
+        "#x=7 opens no exercise",
+    )
     page.ask("history.back(); 0")
     closed = "document.querySelector('dialog[open]') === null && document.getElementById('sheet').hidden"
     count.hold(comes(page, closed), "Back leaves the exercise, or a dialog, open")
-    count.hold(comes(page, f"{RUNS} && document.getElementById('word').value === '11'"), "Back doesn't lead to the machine that was there")
+    count.hold(
+        comes(page, f"{RUNS} && document.getElementById('word').value === '11'"),
+        "Back doesn't lead to the machine that was there",
+    )
 
 
 def check_sought(page, count):
@@ -53,9 +63,14 @@ def check_sought(page, count):
     page.visit(f"file://{PAGE}#m=palindrome")
     set_value(page, "word", LONG_WORD)
     pale = "['sought', 'stale'].some(it => document.body.classList.contains(it))"
-    count.hold(comes(page, f"bench.state.isMaking && {pale}"), "the old run stands beside the new word as if it were its")
+    count.hold(
+        comes(page, f"bench.state.isMaking && {pale}"), "the old run stands beside the new word as if it were its"
+    )
     page.ask("document.getElementById('stop').click(); 0")
-    count.hold(comes(page, "!document.getElementById('busy').textContent.includes('…')") and page.ask(pale), "behind Stop the old run stands as if it were the word's")
+    count.hold(
+        comes(page, "!document.getElementById('busy').textContent.includes('…')") and page.ask(pale),
+        "behind Stop the old run stands as if it were the word's",
+    )
     page.call("Page.removeScriptToEvaluateOnNewDocument", identifier=script)
 
 
@@ -66,8 +81,13 @@ def check_end(page, count):
     set_value(page, "word", LONG_WORD)
     count.hold(comes(page, f"{RUNS} && bench.current.run.word === '{LONG_WORD}'"), "the long word has no run")
     page.ask("document.getElementById('last').click(); 0")
-    told = page.ask("[bench.current.run.isKnown(bench.state.e), document.querySelector('#layers [data-layer=machine] span').textContent]")
-    count.hold(told[0] or told[1].startswith("… of "), f"at the end, which isn't known, the machine's step is told as {told[1]!r}")
+    told = page.ask(
+        "[bench.current.run.isKnown(bench.state.e), document.querySelector('#layers [data-layer=machine] span').textContent]"
+    )
+    count.hold(
+        told[0] or told[1].startswith("… of "),
+        f"at the end, which isn't known, the machine's step is told as {told[1]!r}",
+    )
     page.ask("document.getElementById('stop').click(); 0")
     settle(page, 300)
     known = page.ask("bench.current.run.isKnown(bench.state.e)")
@@ -77,8 +97,11 @@ def check_end(page, count):
 
 def paste_long(page, text):
     """A paste as a person makes it, by its event: what is shorter the browser puts in by itself."""
-    page.ask("""(text => { const it = new DataTransfer(); it.setData('text/plain', text);
-      document.getElementById('table').dispatchEvent(new ClipboardEvent('paste', {clipboardData: it, bubbles: true, cancelable: true})); })(%s)""" % text)
+    page.ask(
+        """(text => { const it = new DataTransfer(); it.setData('text/plain', text);
+      document.getElementById('table').dispatchEvent(new ClipboardEvent('paste', {clipboardData: it, bubbles: true, cancelable: true})); })(%s)"""
+        % text
+    )
 
 
 def check_too_long(page, count):
@@ -87,23 +110,38 @@ def check_too_long(page, count):
 
     def measure():
         page.visit(f"file://{PAGE}#m=least")
-        page.ask("""window.longest = 0; new PerformanceObserver(list => {
+        page.ask(
+            """window.longest = 0; new PerformanceObserver(list => {
           for (const it of list.getEntries()) window.longest = Math.max(window.longest, it.duration);
-        }).observe({type: "longtask"}); window.million = "state,1,0,+,other\\n".repeat(55556); 0""")
+        }).observe({type: "longtask"}); window.million = "state,1,0,+,other\\n".repeat(55556); 0"""
+        )
         paste_long(page, "million")
         comes(page, f"{said}.includes('too long to edit here')")
         settle(page, 300)
         return page.ask("longest"), ""
+
     holds_time(page, count, "a million characters, the longest task", TASK, measure)
-    told, lines, shown, is_closed = page.ask(f"[{said}, document.getElementById('lines').children.length, {box}.value.length, {box}.readOnly]")
-    count.hold("too long to edit here" in told and lines == 0 and shown < 10000 and is_closed,
-               f"of a million characters the page says {told[:120]!r}, with {lines} numbers of lines and {shown} characters")
+    told, lines, shown, is_closed = page.ask(
+        f"[{said}, document.getElementById('lines').children.length, {box}.value.length, {box}.readOnly]"
+    )
+    count.hold(
+        "too long to edit here" in told and lines == 0 and shown < 10000 and is_closed,
+        f"of a million characters the page says {told[:120]!r}, with {lines} numbers of lines and {shown} characters",
+    )
     paste_long(page, json.dumps(INCREMENT))
     set_value(page, "word", "11")
-    count.hold(comes(page, f"{RUNS} && document.getElementById('outcome').textContent.includes('→')"), "behind it no run is shown")
-    page.ask("document.getElementById('undo').click(); document.getElementById('undo').click(); document.getElementById('undo').click(); 0")
+    count.hold(
+        comes(page, f"{RUNS} && document.getElementById('outcome').textContent.includes('→')"),
+        "behind it no run is shown",
+    )
+    page.ask(
+        "document.getElementById('undo').click(); document.getElementById('undo').click(); document.getElementById('undo').click(); 0"
+    )
     settle(page, 400)
-    count.hold(page.ask(f"[{box}.readOnly, {box}.value]") == [False, "S,_,_,+,T\nT,_,_,0,F\n"], f"taken back, the editor has {page.ask(box + '.value')[:60]!r}")
+    count.hold(
+        page.ask(f"[{box}.readOnly, {box}.value]") == [False, "S,_,_,+,T\nT,_,_,0,F\n"],
+        f"taken back, the editor has {page.ask(box + '.value')[:60]!r}",
+    )
     paste_long(page, "million")
     settle(page, 400)
     page.ask("[...document.querySelectorAll('#verdict button')].find(it => it.textContent === 'Clear').click(); 0")

@@ -11,25 +11,69 @@ from shown_places import link
 SIZES = [(1280, 800), (1024, 768), (768, 1024), (390, 844)]
 # What is seen when: an address, and what is done there.
 SCENES_LAID = [
-    ("the start", "#m=increment", ""), ("computing", "#m=increment&e=700000", ""),
+    ("the start", "#m=increment", ""),
+    ("computing", "#m=increment&e=700000", ""),
     ("retracing", "#m=increment&e=1700000", "document.getElementById('tab-table').click()"),
     ("its end", "#m=palindrome&w=abba&e=99999999", ""),
-    ("a cell", "#m=increment&e=900000", "document.querySelector('#three [data-cell]').dispatchEvent(new MouseEvent('click', {bubbles: true}))"),
-    ("a fault", "#m=increment", "const it = document.getElementById('table'); it.value = 'S,_,_,+,A\\nA,1,x y,?,q_0\\n'; "
-                                "it.dispatchEvent(new Event('input'))"),
-    ("in standard form", "#m=complement&ac=[\"Halt\"]", ""), ("thirty states", link(t=many_states(30), w="01"), ""),
-    ("a diagram", "#m=increment", "document.getElementById('larger').click(); "
-                                  "document.querySelector('#d-picture [data-state=Go]').dispatchEvent(new KeyboardEvent('keydown', {key: 'Enter', bubbles: true}))"),
-    ("a diagram of thirty states", link(t=many_states(30), w="01"),
-     "document.getElementById('larger').click(); document.getElementById('d-state').value = 'State5'; "
-     "document.getElementById('d-state').dispatchEvent(new Event('change'))"),
-    ("answers", "#m=increment&ac=[\"Halt\"]&ws=[\"1\",\"10\",\"\",\"2\"]", "document.getElementById('verdicts').click(); document.getElementById('v-try').click()"),
-    ("breakpoints", "#m=increment&e=700000", "bench.state.breaks.push({kind: 'state', state: 'Add'}, {kind: 'cell', tape: 1, cell: 2}); bench.render(false); "
-                                             "document.getElementById('addstop').click(); document.getElementById('addstate').click()"),
-    ("an exercise", "#x=7", ""), ("an exercise beside the machine", "#x=6", "document.getElementById('taskcheck').click()"),
+    (
+        "a cell",
+        "#m=increment&e=900000",
+        "document.querySelector('#three [data-cell]').dispatchEvent(new MouseEvent('click', {bubbles: true}))",
+    ),
+    (
+        "a fault",
+        "#m=increment",
+        "const it = document.getElementById('table'); it.value = 'S,_,_,+,A\\nA,1,x y,?,q_0\\n'; "
+        "it.dispatchEvent(new Event('input'))",
+    ),
+    ("in standard form", '#m=complement&ac=["Halt"]', ""),
+    ("thirty states", link(t=many_states(30), w="01"), ""),
+    (
+        "a diagram",
+        "#m=increment",
+        "document.getElementById('larger').click(); "
+        "document.querySelector('#d-picture [data-state=Go]').dispatchEvent(new KeyboardEvent('keydown', {key: 'Enter', bubbles: true}))",
+    ),
+    (
+        "a diagram of thirty states",
+        link(t=many_states(30), w="01"),
+        "document.getElementById('larger').click(); document.getElementById('d-state').value = 'State5'; "
+        "document.getElementById('d-state').dispatchEvent(new Event('change'))",
+    ),
+    (
+        "answers",
+        '#m=increment&ac=["Halt"]&ws=["1","10","","2"]',
+        "document.getElementById('verdicts').click(); document.getElementById('v-try').click()",
+    ),
+    (
+        "breakpoints",
+        "#m=increment&e=700000",
+        "bench.state.breaks.push({kind: 'state', state: 'Add'}, {kind: 'cell', tape: 1, cell: 2}); bench.render(false); "
+        "document.getElementById('addstop').click(); document.getElementById('addstate').click()",
+    ),
+    ("an exercise", "#x=7", ""),
+    ("an exercise beside the machine", "#x=6", "document.getElementById('taskcheck').click()"),
 ]
 # What has to be in sight without scrolling, where the page is wide; and at least to be reached by scrolling down elsewhere.
-NEEDED = ["table", "word", "outcome", "verdict", "rule", "three", "map", "bank", "film", "play", "forth", "back", "layers", "help", "openworkshop", "tasks", "share"]
+NEEDED = [
+    "table",
+    "word",
+    "outcome",
+    "verdict",
+    "rule",
+    "three",
+    "map",
+    "bank",
+    "film",
+    "play",
+    "forth",
+    "back",
+    "layers",
+    "help",
+    "openworkshop",
+    "tasks",
+    "share",
+]
 # For how many seconds what is laid out may come to rest: where a text lies over another then, it stays so.
 LAID_PATIENCE = 20
 LAID = """(() => {
@@ -101,7 +145,10 @@ def check_layout(page, pictures, count):
                     page.screenshot(os.path.join(pictures, f"{width}-{shade}-{name.replace(' ', '-')}.png"))
             soon(lambda: not page.ask(LAID)["many"], LAID_PATIENCE)
             given, where = page.ask(LAID), f"{name}, {width} wide"
-            count.hold(given["count"] > 15 and not given["many"], f"{where}: of {given['count']} texts {given['many']} lie over others: {'; '.join(given['over'])}")
+            count.hold(
+                given["count"] > 15 and not given["many"],
+                f"{where}: of {given['count']} texts {given['many']} lie over others: {'; '.join(given['over'])}",
+            )
             count.hold(given["wide"] <= width, f"{where}: the page is {given['wide']} wide")
             cut = page.ask(CUT)
             count.hold(not cut, f"{where}: cut off are {cut}")

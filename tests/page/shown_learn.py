@@ -11,10 +11,26 @@ from shown_places import link
 
 STEPS = ["machine", "past", "history", "stages", "row", "column", "element", "out"]
 # What is seen at a step's level.
-PICTURES = {"machine": ".l-tape svg", "past": ".l-tape svg", "history": ".l-tapes .tape:nth-child(2) svg", "stages": ".l-stages .now",
-            "row": ".l-moves .now", "column": ".l-bank .element.now", "element": ".rotary .bar", "out": ".l-tape svg"}
-TRIED = {"machine": ["learnplay"], "past": ["learntake"], "history": ["learnplay", "learntake"], "stages": [], "row": ["learnforth"],
-         "column": ["learnplay", "learntake"], "element": ["learnforth", "learnback"], "out": []}
+PICTURES = {
+    "machine": ".l-tape svg",
+    "past": ".l-tape svg",
+    "history": ".l-tapes .tape:nth-child(2) svg",
+    "stages": ".l-stages .now",
+    "row": ".l-moves .now",
+    "column": ".l-bank .element.now",
+    "element": ".rotary .bar",
+    "out": ".l-tape svg",
+}
+TRIED = {
+    "machine": ["learnplay"],
+    "past": ["learntake"],
+    "history": ["learnplay", "learntake"],
+    "stages": [],
+    "row": ["learnforth"],
+    "column": ["learnplay", "learntake"],
+    "element": ["learnforth", "learnback"],
+    "out": [],
+}
 WIDTHS = [(1920, 1080), (1280, 800), (1024, 768), (768, 1024), (390, 844), (640, 400)]
 # What is wanted on an idle machine, in milliseconds: the longest task while it plays, and the first picture. And how many pieces the
 # picture of a bank has at most, which every frame of its play makes anew.
@@ -81,21 +97,42 @@ def check_walk(page, name, machine, count):
     count.hold(open_step(page, "machine", machine), f"{name}: the first picture isn't seen")
     for step in STEPS:
         where = f"{name}, {step}"
-        count.hold(comes(page, SEEN % PICTURES[step]), f"{where}: its picture isn't seen: {page.ask('document.getElementById(`learnpicture`).innerText')[:90]!r}")
+        count.hold(
+            comes(page, SEEN % PICTURES[step]),
+            f"{where}: its picture isn't seen: {page.ask('document.getElementById(`learnpicture`).innerText')[:90]!r}",
+        )
         count.hold(page.ask("bench.state.lesson") == step, f"{where}: the step is {page.ask('bench.state.lesson')}")
         if step in ("machine", "past", "history"):
-            rules = page.ask("[[...document.querySelectorAll('.l-rules li b')].map(it => Number(it.textContent)), bench.current.run.rules.length]")
-            count.hold(rules[0] == list(range(1, rules[1] + 1)), f"{where}: of {rules[1]} rules the numbers {rules[0]} stand there")
+            rules = page.ask(
+                "[[...document.querySelectorAll('.l-rules li b')].map(it => Number(it.textContent)), bench.current.run.rules.length]"
+            )
+            count.hold(
+                rules[0] == list(range(1, rules[1] + 1)),
+                f"{where}: of {rules[1]} rules the numbers {rules[0]} stand there",
+            )
         if step in ("row", "column"):
             names = page.ask("[...document.querySelectorAll('.l-names dt')].map(it => it.textContent)")
-            count.hold({"row": {"module", "control", "port", "row"}, "column": {"bank", "column", "port"}}[step] <= set(names), f"{where}: told are {names}")
+            count.hold(
+                {"row": {"module", "control", "port", "row"}, "column": {"bank", "column", "port"}}[step] <= set(names),
+                f"{where}: told are {names}",
+            )
         if step == "column":
-            count.hold(not page.ask(UNTOLD) and not page.ask(CUT), f"{where}: {page.ask(UNTOLD)} aren't told in words, {page.ask(CUT)} are cut")
+            count.hold(
+                not page.ask(UNTOLD) and not page.ask(CUT),
+                f"{where}: {page.ask(UNTOLD)} aren't told in words, {page.ask(CUT)} are cut",
+            )
         if step == "element":
-            turns = "(it => it.cells[0].textContent !== it.cells[3].textContent)(document.querySelector('.l-cases tr.now'))"
+            turns = (
+                "(it => it.cells[0].textContent !== it.cells[3].textContent)(document.querySelector('.l-cases tr.now'))"
+            )
             count.hold(comes(page, turns), f"{where}: it begins where the signal goes straight on")
-            wide, words = page.ask("[document.querySelector('.rotary .box').getBoundingClientRect().width, document.querySelector('.l-cases p').textContent]")
-            count.hold(wide >= 150 and "the only one of eight that ends so" in words, f"{where}: the element is {wide:.0f} wide, and it says {words!r}")
+            wide, words = page.ask(
+                "[document.querySelector('.rotary .box').getBoundingClientRect().width, document.querySelector('.l-cases p').textContent]"
+            )
+            count.hold(
+                wide >= 150 and "the only one of eight that ends so" in words,
+                f"{where}: the element is {wide:.0f} wide, and it says {words!r}",
+            )
         settle(page)
         count.hold("✓" not in page.ask(SAID) or not TRIED[step], f"{where}: it is ticked off before anything was tried")
         for act in TRIED[step]:
@@ -104,10 +141,17 @@ def check_walk(page, name, machine, count):
                 click(page, act)
                 told = comes(page, "document.querySelectorAll('.l-pasts figure').length > 0")
                 pasts = page.ask("document.querySelectorAll('.l-pasts figure').length")
-                count.hold(told and (pasts >= 2 or "one rule alone" in page.ask("document.querySelector('.l-pasts').innerText")), f"{where}: {pasts} pasts are drawn")
+                count.hold(
+                    told
+                    and (pasts >= 2 or "one rule alone" in page.ask("document.querySelector('.l-pasts').innerText")),
+                    f"{where}: {pasts} pasts are drawn",
+                )
                 count.hold(page.ask("bench.state.playing") == 0, f"{where}: the machine alone is taken back")
                 words, after = page.ask("[document.querySelector('.l-pasts').innerText, bench.state.e]")
-                count.hold(after == before or "so here is the nearest step" in words, f"{where}: from {before} it goes to {after}, and says {words[:90]!r}")
+                count.hold(
+                    after == before or "so here is the nearest step" in words,
+                    f"{where}: from {before} it goes to {after}, and says {words[:90]!r}",
+                )
             elif act in ("learnplay", "learntake"):
                 count.hold(play_a_while(page, act, before), f"{where}: {act} moves nothing")
             else:
@@ -117,7 +161,10 @@ def check_walk(page, name, machine, count):
         if step == "stages":
             page.ask("bench.goTo(bench.current.run.end); 0")
             settle(page, 300)
-            count.hold("✓" in page.ask(SAID) or not page.ask("bench.current.found.own.outcome === 'halted'"), f"{where}: its end isn't ticked off")
+            count.hold(
+                "✓" in page.ask(SAID) or not page.ask("bench.current.found.own.outcome === 'halted'"),
+                f"{where}: its end isn't ticked off",
+            )
         elif TRIED[step]:
             count.hold(comes(page, f"{SAID}.includes('✓')"), f"{where}: what was tried isn't ticked off")
         e, kept = page.ask("bench.state.e"), page.ask("document.getElementById('learntrail').innerText")
@@ -134,9 +181,11 @@ def check_walk(page, name, machine, count):
 
 def check_played(page, name, machine, count):
     """While it plays, the page never stands still for long; and what each frame of a bank makes anew is little."""
+
     def measure():
         open_step(page, "machine", machine)
         return page.wait(PLAYED % STEPS)
+
     holds_time(page, count, f"Learn, {name}: the longest task while it plays", TASK, measure)
     open_step(page, "column", machine)
     pieces = page.ask("document.querySelectorAll('.l-bank svg *').length")
@@ -148,12 +197,24 @@ def check_trail(page, name, count):
     page.ask("bench.goTo(bench.current.run.starts[5]); 0")
     settle(page, 200)
     e = page.ask("bench.state.e")
-    for level, picture in (("element", PICTURES["element"]), ("column", PICTURES["column"]), ("row", PICTURES["row"]), ("history", PICTURES["history"]), ("machine", PICTURES["machine"])):
+    for level, picture in (
+        ("element", PICTURES["element"]),
+        ("column", PICTURES["column"]),
+        ("row", PICTURES["row"]),
+        ("history", PICTURES["history"]),
+        ("machine", PICTURES["machine"]),
+    ):
         page.ask(f"document.querySelector('#learntrail [data-level={level}]').click(); 0")
-        count.hold(comes(page, SEEN % picture) and page.ask("bench.state.e") == e, f"{name}: the trail's {level} shows step {page.ask('bench.state.e')}, and not {e}")
+        count.hold(
+            comes(page, SEEN % picture) and page.ask("bench.state.e") == e,
+            f"{name}: the trail's {level} shows step {page.ask('bench.state.e')}, and not {e}",
+        )
     count.hold("✓" in page.ask(SAID), f"{name}: that the trail was walked isn't ticked off")
     click(page, "learnnext")
-    count.hold(page.ask("bench.state.lesson") is None and page.ask("document.getElementById('tapes').checkVisibility()"), f"{name}: behind the last step isn't the workbench")
+    count.hold(
+        page.ask("bench.state.lesson") is None and page.ask("document.getElementById('tapes').checkVisibility()"),
+        f"{name}: behind the last step isn't the workbench",
+    )
     settle(page, 200)
     count.hold(page.ask("document.querySelectorAll('#three svg').length") == 3, f"{name}: the workbench shows no tapes")
 
@@ -163,24 +224,38 @@ def check_ways(page, count):
     page.visit(f"file://{PAGE}#m=least")
     page.ask("localStorage.clear(); 0")
     page.visit(f"file://{PAGE}")
-    count.hold(page.ask("bench.state.lesson") == "machine" and page.ask("document.getElementById('hint') === null"), f"at a first visit the lesson is {page.ask('bench.state.lesson')}")
+    count.hold(
+        page.ask("bench.state.lesson") == "machine" and page.ask("document.getElementById('hint') === null"),
+        f"at a first visit the lesson is {page.ask('bench.state.lesson')}",
+    )
     click(page, "learnnext")
     settle(page, 700)
     page.visit(f"file://{PAGE}")
     count.hold(page.ask("bench.state.lesson") is None, "at a second visit it isn't the workbench")
     page.visit(f"file://{PAGE}#learn")
-    count.hold(page.ask("bench.state.lesson") == "past", f"the lesson is gone on with at {page.ask('bench.state.lesson')}, where it was left at the second step")
+    count.hold(
+        page.ask("bench.state.lesson") == "past",
+        f"the lesson is gone on with at {page.ask('bench.state.lesson')}, where it was left at the second step",
+    )
     page.visit(f"file://{PAGE}#m=complement&w=01&learn=history")
-    count.hold(comes(page, "location.hash.includes('learn=history') && location.hash.includes('w=01')"), f"the address is {page.ask('location.hash')[:80]}")
+    count.hold(
+        comes(page, "location.hash.includes('learn=history') && location.hash.includes('w=01')"),
+        f"the address is {page.ask('location.hash')[:80]}",
+    )
     asked = page.ask("location.hash")
     page.visit(f"file://{PAGE}{asked}")
-    count.hold(page.ask("[bench.state.lesson, bench.state.word]") == ["history", "01"], "the address doesn't keep the lesson")
+    count.hold(
+        page.ask("[bench.state.lesson, bench.state.word]") == ["history", "01"], "the address doesn't keep the lesson"
+    )
     page.visit(f"file://{PAGE}#m=increment&w=11")
     settle(page, 700)
     click(page, "openlearn")
     count.hold(comes(page, "bench.state.lesson !== null"), "Learn isn't opened by its button")
     page.ask("history.back(); 0")
-    count.hold(comes(page, "bench.state.lesson === null && document.getElementById('learn').hidden"), "Back leaves the lesson open")
+    count.hold(
+        comes(page, "bench.state.lesson === null && document.getElementById('learn').hidden"),
+        "Back leaves the lesson open",
+    )
 
 
 def check_address(page, count):
@@ -190,10 +265,16 @@ def check_address(page, count):
         before = page.ask("bench.state.e")
         click(page, "learnforth")
         comes(page, f"bench.state.e !== {before}")
-        count.hold(0 < page.ask("bench.state.e") - before <= most, f"of the address of {step} a step leads from {before} to {page.ask('bench.state.e')}")
+        count.hold(
+            0 < page.ask("bench.state.e") - before <= most,
+            f"of the address of {step} a step leads from {before} to {page.ask('bench.state.e')}",
+        )
     end = page.ask("bench.current.run.end")
     page.visit(f"file://{PAGE}#m=increment&learn=row&e={end}")
-    count.hold(comes(page, "document.querySelector('#learnpicture [data-go]') !== null"), "at the end of the run nothing leads into a rule")
+    count.hold(
+        comes(page, "document.querySelector('#learnpicture [data-go]') !== null"),
+        "at the end of the run nothing leads into a rule",
+    )
     page.ask("document.querySelector('#learnpicture [data-go]').click(); 0")
     count.hold(comes(page, SEEN % PICTURES["row"]), "from the end of the run no row is come to")
 
@@ -235,9 +316,14 @@ def check_laid(page, pictures, count):
                     page.screenshot(os.path.join(pictures, f"learn-{width}-{shade}-{step}.png"))
             soon(lambda: not page.ask(LAID)["many"], LAID_PATIENCE)
             given = page.ask(LAID)
-            count.hold(seen and given["count"] > 8 and not given["many"], f"{where}: of {given['count']} texts {given['many']} lie over others: {'; '.join(given['over'])}")
+            count.hold(
+                seen and given["count"] > 8 and not given["many"],
+                f"{where}: of {given['count']} texts {given['many']} lie over others: {'; '.join(given['over'])}",
+            )
             count.hold(given["wide"] <= width, f"{where}: the page is {given['wide']} wide")
-            low = page.ask("['learnplay', 'learnpicture', ...(innerWidth > 760 ? ['learnnext'] : [])].map(id => document.getElementById(id).getBoundingClientRect()).some(it => it.top > innerHeight - 20 || it.height < 20)")
+            low = page.ask(
+                "['learnplay', 'learnpicture', ...(innerWidth > 760 ? ['learnnext'] : [])].map(id => document.getElementById(id).getBoundingClientRect()).some(it => it.top > innerHeight - 20 || it.height < 20)"
+            )
             count.hold(not low, f"{where}: the picture or Play is out of sight")
             marked = {"element": ".l-cases tr.now", "row": ".l-moves .now", "column": ".l-bank .element.now"}.get(step)
             if marked and height > 600:
@@ -251,6 +337,7 @@ def check_first(page, count):
         page.visit(f"file://{PAGE}#m=increment&learn=machine")
         comes(page, "performance.getEntriesByName('shown').length > 0")
         return page.ask("performance.getEntriesByName('shown')[0].startTime"), ""
+
     holds_time(page, count, "Learn: the first picture", FIRST, measure)
 
 
@@ -258,8 +345,11 @@ def check_learn(page, pictures, count):
     page.call("Emulation.setDeviceMetricsOverride", width=1280, height=800, deviceScaleFactor=1, mobile=False)
     page.visit(f"file://{PAGE}#m=least")
     check_first(page, count)
-    walked = {"Add one": "#m=increment&w=1011", "a pasted adder": link(t=machines()["adder"]["texts"]["latex"], w="1011"),
-              "a machine that is stuck": link(t="S,_,_,+,A\nA,1,1,+,A\nA,0,0,-,B\nB,1,0,-,B\nA,_,_,0,F\n", w="1101")}
+    walked = {
+        "Add one": "#m=increment&w=1011",
+        "a pasted adder": link(t=machines()["adder"]["texts"]["latex"], w="1011"),
+        "a machine that is stuck": link(t="S,_,_,+,A\nA,1,1,+,A\nA,0,0,-,B\nB,1,0,-,B\nA,_,_,0,F\n", w="1101"),
+    }
     for name, machine in walked.items():
         check_walk(page, name, machine, count)
         check_played(page, name, machine, count)

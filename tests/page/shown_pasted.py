@@ -21,8 +21,12 @@ EMPTY = "(it => { it.focus(); it.select(); })(document.getElementById('%s'))"
 
 def machines():
     """The fixture's machines, by node."""
-    ran = subprocess.run(["node", "--input-type=module", "-e", LISTED % json.dumps("file://" + FIXTURE)], stdout=subprocess.PIPE,
-                         check=True, text=True)
+    ran = subprocess.run(
+        ["node", "--input-type=module", "-e", LISTED % json.dumps("file://" + FIXTURE)],
+        stdout=subprocess.PIPE,
+        check=True,
+        text=True,
+    )
     return json.loads(ran.stdout)
 
 
@@ -35,7 +39,9 @@ def paste(page, name, text):
 
 
 def click(page, name):
-    box = page.ask(f"(box => [box.left + box.width / 2, box.top + box.height / 2])(document.getElementById('{name}').getBoundingClientRect())")
+    box = page.ask(
+        f"(box => [box.left + box.width / 2, box.top + box.height / 2])(document.getElementById('{name}').getBoundingClientRect())"
+    )
     for kind in ("mousePressed", "mouseReleased"):
         page.call("Input.dispatchMouseEvent", type=kind, x=box[0], y=box[1], button="left", clickCount=1)
 
@@ -47,21 +53,30 @@ def check_played(page, program, name, notation, text, words, count):
     paste(page, "table", text)
     settle(page, 350)
     said = page.ask(VERDICT)
-    count.hold(said.startswith("Read as ") and "undo" in said and not page.ask("document.querySelector('#verdict .fault') !== null"),
-               f"{name}, {notation}: pasted, it says {said[:160]!r}")
+    count.hold(
+        said.startswith("Read as ")
+        and "undo" in said
+        and not page.ask("document.querySelector('#verdict .fault') !== null"),
+        f"{name}, {notation}: pasted, it says {said[:160]!r}",
+    )
     if word:
         paste(page, "word", word)
         settle(page, 400)
     before = page.ask(TAPES)
     click(page, "play")
-    count.hold(comes(page, f"{TAPES} !== {json.dumps(before)}"), f"{name}, {notation}: after three actions no tape moves; {page.ask(OUTCOME)!r}")
+    count.hold(
+        comes(page, f"{TAPES} !== {json.dumps(before)}"),
+        f"{name}, {notation}: after three actions no tape moves; {page.ask(OUTCOME)!r}",
+    )
     page.ask("bench.pause(); 0")
     table = page.ask("bench.current.machine.table")
     status, answer = program.answer(["machine", "=" + word, "2000"], table)
     output = answer.partition("output =")[2].strip()
     wanted = f"→ {output or 'no letter'}" if status == 0 else "stuck in"
-    count.hold(wanted in page.ask(OUTCOME) and (words[word] is None) == (status == 10),
-               f"{name}, {notation}: on {word!r} the page says {page.ask(OUTCOME)!r}, the program {answer[:60]!r}")
+    count.hold(
+        wanted in page.ask(OUTCOME) and (words[word] is None) == (status == 10),
+        f"{name}, {notation}: on {word!r} the page says {page.ask(OUTCOME)!r}, the program {answer[:60]!r}",
+    )
 
 
 def check_undone(page, text, count):
@@ -73,8 +88,14 @@ def check_undone(page, text, count):
     page.ask("[...document.querySelectorAll('#verdict button')].find(it => it.textContent === 'undo').click(); 0")
     settle(page, 350)
     said = page.ask(VERDICT)
-    count.hold(text_shown(page) == text and turned != text and "Read it so" in said, f"undone, the editor has {text_shown(page)[:60]!r}, and it says {said[:80]!r}")
-    comes(page, "new URLSearchParams(location.hash.slice(1)).get('t') === bench.state.text && location.hash.includes('u=1')")
+    count.hold(
+        text_shown(page) == text and turned != text and "Read it so" in said,
+        f"undone, the editor has {text_shown(page)[:60]!r}, and it says {said[:80]!r}",
+    )
+    comes(
+        page,
+        "new URLSearchParams(location.hash.slice(1)).get('t') === bench.state.text && location.hash.includes('u=1')",
+    )
     reload(page, "typeof bench === 'object' && document.querySelector('#verdict .fault') !== null")
     count.hold(text_shown(page) == text, f"behind a reload the editor has {text_shown(page)[:60]!r}")
     page.ask("document.getElementById('undo').disabled || document.getElementById('undo').click(); 0")
@@ -93,7 +114,10 @@ def check_proposed(page, listed, count):
         count.hold(page.ask(OUTCOME).startswith(answer), f"on {word} it says {page.ask(OUTCOME)!r}")
     page.visit(f"file://{PAGE}#m=sum")
     settle(page, 350)
-    count.hold(page.ask(OUTCOME).endswith("→ 1111") and page.ask(VERDICT).startswith("Read as "), f"the example says {page.ask(VERDICT)[:90]!r}, {page.ask(OUTCOME)!r}")
+    count.hold(
+        page.ask(OUTCOME).endswith("→ 1111") and page.ask(VERDICT).startswith("Read as "),
+        f"the example says {page.ask(VERDICT)[:90]!r}, {page.ask(OUTCOME)!r}",
+    )
 
 
 def check_typed(page, listed, count):
@@ -103,14 +127,19 @@ def check_typed(page, listed, count):
     for letter in "q0 1 1 R q0":
         page.call("Input.insertText", text=letter)
     settle(page, 450)
-    count.hold(text_shown(page) == "q0 1 1 R q0" and "Turn it so" in page.ask(VERDICT), f"typed, the editor has {text_shown(page)!r}, and it says {page.ask(VERDICT)[:90]!r}")
+    count.hold(
+        text_shown(page) == "q0 1 1 R q0" and "Turn it so" in page.ask(VERDICT),
+        f"typed, the editor has {text_shown(page)!r}, and it says {page.ask(VERDICT)[:90]!r}",
+    )
     set_value(page, "table", "S,_,_,+,Go")
     paste(page, "table", "nothing that is a machine")
     settle(page, 350)
     count.hold(page.ask("document.querySelector('#verdict .fault') !== null"), "what is no machine isn't refused")
     paste(page, "table", listed["adder"]["texts"]["yaml"].replace("start state: q_0", "start state: q_9"))
     settle(page, 350)
-    count.hold("q_9" in page.ask(VERDICT), f"a fault of another program's machine is told as {page.ask(VERDICT)[:90]!r}")
+    count.hold(
+        "q_9" in page.ask(VERDICT), f"a fault of another program's machine is told as {page.ask(VERDICT)[:90]!r}"
+    )
 
 
 def check_pasted(page, program, count):

@@ -47,13 +47,27 @@ DOCUMENT = r"""\documentclass{article}
 """
 # What is opened, and the parts that are to be saved there, each with a selector of the words that are drawn in it.
 SCENES = [
-    ("the workbench", "#m=increment&e=700000", "", {
-        "all": "#three text.symbol", "tapes": "#three text.symbol", "hill": "#stagenames span",
-        "diagram": "#diagram text", "map": "#map text.symbol", "bank": "#bank>.pic text"}),
+    (
+        "the workbench",
+        "#m=increment&e=700000",
+        "",
+        {
+            "all": "#three text.symbol",
+            "tapes": "#three text.symbol",
+            "hill": "#stagenames span",
+            "diagram": "#diagram text",
+            "map": "#map text.symbol",
+            "bank": "#bank>.pic text",
+        },
+    ),
     ("Learn, an element", "#m=increment&learn=element", "", {"lesson": "#learnpicture svg text"}),
     ("Learn, the tapes", "#m=increment&learn=history", "", {"lesson": "#learnpicture svg text"}),
-    ("the workshop", "#m=least", "document.getElementById('openworkshop').click()",
-     {"elements": "#page-elements svg text"}),
+    (
+        "the workshop",
+        "#m=least",
+        "document.getElementById('openworkshop').click()",
+        {"elements": "#page-elements svg text"},
+    ),
 ]
 PARTS_OF_SVG = {"svg", "title", "defs", "clipPath", "rect", "path", "text", "g"}
 ENDINGS = {"svg": "svg", "pdf": "pdf", "tikz": "tex"}
@@ -69,8 +83,9 @@ def saved(page, part, kind, is_grey=False, family="sans"):
 
 def ran_in(folder, *words):
     """A tool's status and what it says."""
-    ran = subprocess.run(words, cwd=folder, stdout=subprocess.PIPE, stderr=subprocess.STDOUT, text=True,
-                         errors="replace")
+    ran = subprocess.run(
+        words, cwd=folder, stdout=subprocess.PIPE, stderr=subprocess.STDOUT, text=True, errors="replace"
+    )
     return ran.returncode, ran.stdout
 
 
@@ -97,8 +112,14 @@ def hold_pdf(data, words, is_grey, where, folder, count):
     right = all(data[place:].startswith(f"{number} 0 obj\n".encode()) for number, place in enumerate(places, 1))
     begin = int(re.search(rb"startxref\n(\d+)\n%%EOF\n$", data)[1])
     length, rest = int(re.search(rb"/Length (\d+) >>\nstream\n", data)[1]), data.partition(b"stream\n")[2]
-    count.hold(data.startswith(b"%PDF-1.4\n") and len(places) > 5 and right and data[begin:].startswith(b"xref\n")
-               and rest[length:].startswith(b"\nendstream"), f"{where}: its PDF has its objects elsewhere than it says")
+    count.hold(
+        data.startswith(b"%PDF-1.4\n")
+        and len(places) > 5
+        and right
+        and data[begin:].startswith(b"xref\n")
+        and rest[length:].startswith(b"\nendstream"),
+        f"{where}: its PDF has its objects elsewhere than it says",
+    )
     colours = re.findall(rb"([\d.]+) ([\d.]+) ([\d.]+) (?:rg|RG)", rest[:length])
     all_grey = all(red == green == blue for red, green, blue in colours)
     count.hold(colours and all_grey == is_grey, f"{where}: its PDF has the colours {colours[:4]}")
@@ -107,8 +128,9 @@ def hold_pdf(data, words, is_grey, where, folder, count):
     if shutil.which("pdftotext"):
         status, text = ran_in(folder, "pdftotext", "-layout", "picture.pdf", "-")
         lacking = [it for it in words if re.fullmatch(r"\w+( \w+)*", it, flags=re.A) and it not in text]
-        count.hold(status == 0 and "Error" not in text and not lacking,
-                   f"{where}: pdftotext doesn't read {lacking[:5]}")
+        count.hold(
+            status == 0 and "Error" not in text and not lacking, f"{where}: pdftotext doesn't read {lacking[:5]}"
+        )
     if shutil.which("qpdf"):
         status, text = ran_in(folder, "qpdf", "--check", "picture.pdf")
         count.hold(status == 0, f"{where}: {text[-300:]}")
@@ -118,8 +140,10 @@ def hold_tikz(data, is_grey, where, folder, count):
     text = data.decode("ascii")
     colours = re.findall(r"\{HTML\}\{(\w{6})\}", text)
     scopes = [text.count(f"\\{it}{{scope}}") for it in ("begin", "end")]
-    count.hold(colours and greys(colours) == is_grey and scopes[0] == scopes[1],
-               f"{where}: its TikZ has the colours {colours[:6]}, and scopes {scopes}")
+    count.hold(
+        colours and greys(colours) == is_grey and scopes[0] == scopes[1],
+        f"{where}: its TikZ has the colours {colours[:6]}, and scopes {scopes}",
+    )
     if not shutil.which("pdflatex"):
         return
     with open(os.path.join(folder, "picture.tex"), "w", encoding="ascii") as file:
@@ -141,8 +165,9 @@ def check_part(page, part, words, family, where, folder, count):
 
 
 def check_scene(page, where, parts, folder, count):
-    words = {part: [it for it in page.ask(WORDS % json.dumps(selector)) if it.strip()]
-             for part, selector in parts.items()}
+    words = {
+        part: [it for it in page.ask(WORDS % json.dumps(selector)) if it.strip()] for part, selector in parts.items()
+    }
     # The bank is cut off where its panel ends, so that not all its names are in the picture.
     words["bank"] = []
     is_workshop = page.ask("document.querySelector('#workshop[open]') !== null")

@@ -14,7 +14,13 @@ from workbench_text import read_tape
 
 SEED, PLACES = 46, 500
 # What is drawn: how many machines of each kind, and how large their runs may be, so that many can be looked at.
-WANTED = {"in standard form": 4, "from the first letter": 4, "with a window to the left": 2, "stuck": 2, "running on": 2}
+WANTED = {
+    "in standard form": 4,
+    "from the first letter": 4,
+    "with a window to the left": 2,
+    "stuck": 2,
+    "running on": 2,
+}
 MOST_DRAWN, MOST_ELEMENTS, MOST_STEPS, FEWEST_STEPS, MOST_OWN = 3000, 36000, 4000000, 4, 60
 INCREMENT = "S,_,_,+,Go\nGo,0,0,+,Go\nGo,1,1,+,Go\nGo,_,_,-,Add\nAdd,1,0,-,Add\nAdd,0,1,-,Home\nAdd,_,1,-,Home\nHome,0,0,-,Home\nHome,1,1,-,Home\nHome,_,_,0,Halt\n"
 SUM = "q_0,1,1,+,q_0\nq_0,0,1,+,q_1\nq_1,1,1,+,q_1\nq_1,_,_,-,q_2\nq_2,1,_,-,q_3\n"
@@ -44,10 +50,14 @@ def link(**parts):
 
 # The machines that are always looked at: what they are, and their links.
 FIXED = [
-    ("Add one", link(m="increment")), ("Turn each letter", link(m="complement", w="0110")),
-    ("Palindrome?", link(m="palindrome", w="ab")), ("The least machine", link(m="least")),
-    ("Add one, faulty", link(m="faulty", w="101")), ("names of a book", link(t=SUM, n=SUM_NAMES, s="1", w="1011")),
-    ("running on", RUNS_ON), ("stuck", link(t=INCREMENT.replace("Go,1,1,+,Go\n", ""), w="101")),
+    ("Add one", link(m="increment")),
+    ("Turn each letter", link(m="complement", w="0110")),
+    ("Palindrome?", link(m="palindrome", w="ab")),
+    ("The least machine", link(m="least")),
+    ("Add one, faulty", link(m="faulty", w="101")),
+    ("names of a book", link(t=SUM, n=SUM_NAMES, s="1", w="1011")),
+    ("running on", RUNS_ON),
+    ("stuck", link(t=INCREMENT.replace("Go,1,1,+,Go\n", ""), w="101")),
     ("its window ends it", link(t=INCREMENT, w="1011", win="0 5 6 5")),
     ("its window ends it on the left", link(t=INCREMENT, w="11", win="0 3 9 4")),
 ]
@@ -57,13 +67,16 @@ LARGE_PLACES = 6
 
 # ---- drawing
 
+
 def drawn_table(draw, is_standard):
     """A table of a few states and two letters; whether it is a machine, the program says."""
-    names = ["P", "Q", "R", "U"][:draw.randint(2, 4)]
+    names = ["P", "Q", "R", "U"][: draw.randint(2, 4)]
     cases = [(name, letter) for name in names for letter in "_01"]
     draw.shuffle(cases)
-    last, *cases = [it for it in cases if it[1] == "_" or not is_standard] + [it for it in cases if it[1] != "_" and is_standard]
-    cases = cases[:len(cases) - draw.randint(0, 2)]
+    last, *cases = [it for it in cases if it[1] == "_" or not is_standard] + [
+        it for it in cases if it[1] != "_" and is_standard
+    ]
+    cases = cases[: len(cases) - draw.randint(0, 2)]
     rows = [f"{name},{read},{draw.choice('_01')},{draw.choice('++-0')},{draw.choice(names)}" for name, read in cases]
     rows.sort(key=lambda row: row[0] != names[0])
     end = f"{last[0]},_,_,0,H" if is_standard else f"{last[0]},{last[1]},{draw.choice('_01')},{draw.choice('+-0')},H"
@@ -112,6 +125,7 @@ def drawn_machines(program, draw):
 
 # ---- looking
 
+
 class Remembered:
     """The program, which isn't asked twice for what it has just answered."""
 
@@ -144,8 +158,11 @@ def faults_seen(page, program, table, words, compiled, e):
         faults.append(f"the heads are drawn at {seen['heads']}, and not at {heads}")
     module = re.fullmatch(r"module (control|tape (\d) cell (-?\d+)) (line .*|inside)", view[1])
     if module:
-        name = "Control" if module[1] == "control" else \
-            f"{['Work', 'History', 'Output'][int(module[2]) - 1]} tape, cell {module[3].replace('-', '−')}"
+        name = (
+            "Control"
+            if module[1] == "control"
+            else f"{['Work', 'History', 'Output'][int(module[2]) - 1]} tape, cell {module[3].replace('-', '−')}"
+        )
         if not re.match(re.escape(name) + r"(?!\d)", seen["where"]):
             faults.append(f"the module {seen['where']!r}, and not {name!r}")
         if ("about to come in" in seen["what"]) != (module[4] != "inside"):
@@ -165,10 +182,13 @@ def look_at(page, program, name, fragment, places, draw, count):
     page.visit(f"file://{PAGE}{fragment}")
     page.ask("document.getElementById('tab-table').click(); 0")
     table, words, end, elements, exit_ = page.ask(
-        "(run => [run.table, run.words, run.end, run.circuit.count, run.outcome.exit])(bench.current.run)")
+        "(run => [run.table, run.words, run.end, run.circuit.count, run.outcome.exit])(bench.current.run)"
+    )
     compiled = program.text(["compile", *words], table)
     for e in sorted(draw.randrange(end + 1) for _ in range(places)):
-        faults = faults_at(page, program, table, words, compiled, e, PLACED) + faults_seen(page, program, table, words, compiled, e)
+        faults = faults_at(page, program, table, words, compiled, e, PLACED) + faults_seen(
+            page, program, table, words, compiled, e
+        )
         count.hold(not faults, f"{name}, {fragment[:60]}, step {e} of {end}: the page shows {'; '.join(faults)}")
     count.hold(not page.faults(), f"{name}: {page.faults()}")
     return elements, exit_
@@ -179,7 +199,9 @@ def check_places(page, program, draw, places, count):
     began, machines = time.monotonic(), FIXED + drawn_machines(program, draw)
     kinds = [name for name, _ in machines]
     for kind, number in WANTED.items():
-        count.hold(kinds.count(f"{kind}, drawn") == number, f"only {kinds.count(f'{kind}, drawn')} machines {kind} were drawn")
+        count.hold(
+            kinds.count(f"{kind}, drawn") == number, f"only {kinds.count(f'{kind}, drawn')} machines {kind} were drawn"
+        )
     share = -(-max(1, places - LARGE_PLACES) // len(machines))
     for name, fragment in machines:
         _, ended = look_at(page, program, name, fragment, share, draw, count)
@@ -187,4 +209,7 @@ def check_places(page, program, draw, places, count):
             count.hold(str(ended).startswith("window "), f"{name}: it ends by {ended}")
     elements, _ = look_at(page, program, *LARGE, min(places, LARGE_PLACES), draw, count)
     count.hold(290000 < elements < 330000, f"{LARGE[0]}: it has {elements}")
-    print(f"{share * len(machines) + LARGE_PLACES} places of {len(machines) + 1} machines, drawn, in {time.monotonic() - began:.0f} s", flush=True)
+    print(
+        f"{share * len(machines) + LARGE_PLACES} places of {len(machines) + 1} machines, drawn, in {time.monotonic() - began:.0f} s",
+        flush=True,
+    )

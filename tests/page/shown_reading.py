@@ -33,14 +33,18 @@ def check_hints(page, _, count):
     for name in ("hintnext", "hintnext", "hintnext", "hintend"):
         page.ask(f"document.getElementById('{name}')?.click(); 0")
         seen.append(hint(page))
-    count.hold(seen == ["Hint 1 of 4", "Hint 2 of 4", "Hint 3 of 4", "Hint 4 of 4", ""], f"at a first visit the hints are {seen}")
+    count.hold(
+        seen == ["Hint 1 of 4", "Hint 2 of 4", "Hint 3 of 4", "Hint 4 of 4", ""],
+        f"at a first visit the hints are {seen}",
+    )
     page.visit(f"file://{PAGE}#m=complement")
     count.hold(hint(page) == "", f"at the second visit there is {hint(page)!r}")
     page.ask("localStorage.clear(); 0")
     script = page.call("Page.addScriptToEvaluateOnNewDocument", source=REFUSING)["identifier"]
     page.visit(f"file://{PAGE}#m=least")
-    count.hold(hint(page) == "" and not page.faults(),
-               f"where nothing is kept there is {hint(page)!r}, and {page.faults()}")
+    count.hold(
+        hint(page) == "" and not page.faults(), f"where nothing is kept there is {hint(page)!r}, and {page.faults()}"
+    )
     page.call("Page.removeScriptToEvaluateOnNewDocument", identifier=script)
 
 
@@ -56,13 +60,17 @@ def check_words(page, program, count):
         tapes = []
         for number, line in enumerate(view[3:6], 1):
             tape = read_tape(line, number, "view")
-            tapes.append(f"from cell {tape.first} on: {' '.join(SPELLED.get(it, it) for it in tape.symbols)}; the "
-                         f"head is at cell {tape.head}.")
+            tapes.append(
+                f"from cell {tape.first} on: {' '.join(SPELLED.get(it, it) for it in tape.symbols)}; the "
+                f"head is at cell {tape.head}."
+            )
         told = {
-            "machine": [f"halts after {own[1]} steps"], "tapes": [f"Stage: {view[6].split()[1]}.",
-                                                                  f"from state {view[2].split()[1]}.", *tapes],
-            "circuit": [f"{int(ran.split()[1]):,} elements",
-                        f"at element {int(re.match('element at ([0-9]+)', view[0])[1]):,}."],
+            "machine": [f"halts after {own[1]} steps"],
+            "tapes": [f"Stage: {view[6].split()[1]}.", f"from state {view[2].split()[1]}.", *tapes],
+            "circuit": [
+                f"{int(ran.split()[1]):,} elements",
+                f"at element {int(re.match('element at ([0-9]+)', view[0])[1]):,}.",
+            ],
             "time": [f"{re.search('quadruple steps ([0-9]+)', ran)[1]} row steps", f"element step {e:,}."],
         }
         for panel, lines in told.items():
@@ -82,8 +90,9 @@ def check_still(page, program, count):
     still = re.findall(r'font-family="monospace"[^>]*>([^<]*)<', text_of("page", "src", "still.svg"))
     tapes = program.text(["view", *STILL], text_of("examples", "increment.csv")).splitlines()[3:6]
     right = [it for number, line in enumerate(tapes, 1) for it in read_tape(line, number, "view").symbols]
-    count.hold(still == [it.replace("_", "·") for it in right],
-               f"the still shows {still}, and the program says {right}")
+    count.hold(
+        still == [it.replace("_", "·") for it in right], f"the still shows {still}, and the program says {right}"
+    )
     page.call("Emulation.setScriptExecutionDisabled", value=True)
     page.call("Emulation.setDeviceMetricsOverride", width=390, height=844, deviceScaleFactor=1, mobile=False)
     for it in ("about:blank", f"file://{PAGE}"):
@@ -91,11 +100,15 @@ def check_still(page, program, count):
     until = time.monotonic() + PATIENCE
     while page.ask(STANDS) < 2 and time.monotonic() < until:
         time.sleep(0.1)
-    text, main, wide = page.ask("[document.body.innerText, document.querySelector('main').offsetParent,"
-                                " document.documentElement.scrollWidth]")
+    text, main, wide = page.ask(
+        "[document.body.innerText, document.querySelector('main').offsetParent,"
+        " document.documentElement.scrollWidth]"
+    )
     pictures = page.ask(STANDS)
-    count.hold("needs JavaScript" in text and pictures == 2 and main is None and wide <= 390,
-               f"without scripts: {pictures} pictures, {wide} wide, {text[:200]!r}")
+    count.hold(
+        "needs JavaScript" in text and pictures == 2 and main is None and wide <= 390,
+        f"without scripts: {pictures} pictures, {wide} wide, {text[:200]!r}",
+    )
     page.call("Emulation.setScriptExecutionDisabled", value=False)
     page.call("Emulation.setDeviceMetricsOverride", width=1680, height=1050, deviceScaleFactor=1, mobile=False)
 
@@ -109,16 +122,24 @@ def check_paper(page, _, count):
     data = base64.b64decode(page.call("Page.printToPDF", preferCSSPageSize=True, printBackground=True)["data"])
     sheets = len(re.findall(rb"/Type\s*/Page[^s]", data))
     page.call("Emulation.setEmulatedMedia", media="print", features=dark)
-    shown = page.ask("""(() => {
+    shown = page.ask(
+        """(() => {
       const isSeen = it => it.checkVisibility() && it.getBoundingClientRect().height > 0;
       return {pressed: [...document.querySelectorAll("button,select,input[type=range]")].filter(isSeen).map(it => it.id),
               panels: [...document.querySelectorAll("main>.panel,#time")].filter(isSeen).length,
               ground: getComputedStyle(document.body).backgroundColor, ink: getComputedStyle(document.body).color};
-    })()""")
+    })()"""
+    )
     page.call("Emulation.setEmulatedMedia", media="", features=[])
     page.call("Emulation.setDeviceMetricsOverride", width=1680, height=1050, deviceScaleFactor=1, mobile=False)
-    count.hold(sheets == 1 and shown["panels"] == 4 and set(shown["pressed"]) <= {"size", "tab-moves", "tab-table"}
-               and shown["ground"] == "rgb(255, 255, 255)" and shown["ink"] == "rgb(28, 35, 45)", f"on paper: {sheets} pages, {shown}")
+    count.hold(
+        sheets == 1
+        and shown["panels"] == 4
+        and set(shown["pressed"]) <= {"size", "tab-moves", "tab-table"}
+        and shown["ground"] == "rgb(255, 255, 255)"
+        and shown["ink"] == "rgb(28, 35, 45)",
+        f"on paper: {sheets} pages, {shown}",
+    )
 
 
 def check_reading(page, program, count):

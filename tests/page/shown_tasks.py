@@ -105,8 +105,11 @@ def table_answers(program):
     erasing = "E,/,1,/,0,_,0,F\nE,/,2,/,0,_,0,F"
     yield 5, filled(rows=erasing), filled(rows=erasing[:-1] + "G")
     book = program.text(["standard"], text_of("examples", "sum.csv"))
-    right = filled(rules=program.text(["check"], book).split()[-1], output="",
-                   steps=after(program, ["machine", "=11011", "100"], book, 1))
+    right = filled(
+        rules=program.text(["check"], book).split()[-1],
+        output="",
+        steps=after(program, ["machine", "=11011", "100"], book, 1),
+    )
     yield 13, right, changed(right, steps="7")
     right = filled(step="10", rule="9", row="Home,1,1,-,Home")
     yield 15, right, changed(right, step="9", rule="6", row="Add,0,1,-,Home")
@@ -118,7 +121,9 @@ def run_answers(program):
     elements = [int(program.text(["run", "=", "0", "2", cells, "1"], least).split()[1]) for cells in ("2", "3")]
     whole = program.text(["run", "=111", "1", "4", "10", "5"], increment).split()[1]
     halted = after(program, ["machine", "=111", "100"], increment, 1)
-    walks = ["".join(f"W{k},_,_,{'+' if k < steps else '0'},W{k + 1}\n" for k in range(1, steps + 1)) for steps in (2, 3, 4)]
+    walks = [
+        "".join(f"W{k},_,_,{'+' if k < steps else '0'},W{k + 1}\n" for k in range(1, steps + 1)) for steps in (2, 3, 4)
+    ]
     counts = {re.search(r"quadruple steps (\d+)", program.text(["run", "=", "auto"], table))[1] for table in walks}
     right = filled(steps=halted, i="2", letters="0", can="yes" if "15" in counts else "no")
     yield 6, right, changed(right, i="1", letters="1")
@@ -149,11 +154,19 @@ def check_links(page, count):
         lacking = [it for it in numbers.split(", ") if f"page/hithwelor.html#x={it})" not in cell]
         count.hold(not lacking, f"docs/EXERCISES.md, a class: no link to {lacking}")
     count.hold(len(rows) == 7, f"docs/EXERCISES.md: a class of {len(rows)} rows")
-    links = {it for name in ("EXERCISES", "TUTORIAL", "GALLERY") for it in
-             re.findall(r"page/hithwelor\.html(#[^)`\s]+)\)", text_of("docs", f"{name}.md"))}
+    links = {
+        it
+        for name in ("EXERCISES", "TUTORIAL", "GALLERY")
+        for it in re.findall(r"page/hithwelor\.html(#[^)`\s]+)\)", text_of("docs", f"{name}.md"))
+    }
     for link in sorted(links):
-        page.visit(f"file://{PAGE}{link}", *(["Boolean(document.querySelector('#sheet h2')?.textContent)"] if link.startswith("#x=") else []))
-        head, e, wanted = page.ask("[document.querySelector('#sheet h2')?.textContent ?? '', bench.state.e, new URLSearchParams(location.hash.slice(1)).get('e') ?? '0']")
+        page.visit(
+            f"file://{PAGE}{link}",
+            *(["Boolean(document.querySelector('#sheet h2')?.textContent)"] if link.startswith("#x=") else []),
+        )
+        head, e, wanted = page.ask(
+            "[document.querySelector('#sheet h2')?.textContent ?? '', bench.state.e, new URLSearchParams(location.hash.slice(1)).get('e') ?? '0']"
+        )
         is_there = head.startswith(f"Exercise {link[3:]} ") if link.startswith("#x=") else str(e) == wanted
         count.hold(is_there and not page.faults(), f"the link {link} leads to {head!r}, step {e}, {page.faults()}")
 
@@ -163,18 +176,23 @@ def check_tasks(page, program, count):
     heads = re.findall(r"^## (\d+) (.*?)(?: \(section \d+\))?$", text_of("docs", "EXERCISES.md"), flags=re.M)
     page.ask("document.getElementById('tasks').click(); 0")
     listed = page.ask("[...document.querySelectorAll('.tasks li b')].map(it => it.textContent)")
-    count.hold(listed == [title for _, title in heads],
-               f"the page lists the exercises {listed}, and docs/EXERCISES.md {heads}")
+    count.hold(
+        listed == [title for _, title in heads], f"the page lists the exercises {listed}, and docs/EXERCISES.md {heads}"
+    )
     page.ask("document.getElementById('dialog').close(); 0")
     for number, right, wrong in answers(program):
         given = page.wait(FILL % (number, json.dumps(right)))
         title = dict(heads)[str(number)]
-        count.hold(given["kind"] == "right" and given["seen"] and given["head"] == f"Exercise {number} · {title}",
-                   f"exercise {number}: {json.dumps(right)[:90]} is said to be {given}")
+        count.hold(
+            given["kind"] == "right" and given["seen"] and given["head"] == f"Exercise {number} · {title}",
+            f"exercise {number}: {json.dumps(right)[:90]} is said to be {given}",
+        )
         if wrong is not None:
             given = page.wait(FILL % (number, json.dumps(wrong)))
-            count.hold(given["kind"] == "fault" and given["words"],
-                       f"exercise {number}: the wrong {json.dumps(wrong)[:90]} is said to be {given}")
+            count.hold(
+                given["kind"] == "fault" and given["words"],
+                f"exercise {number}: the wrong {json.dumps(wrong)[:90]} is said to be {given}",
+            )
     count.hold(not page.faults(), f"the exercises: {page.faults()}")
     check_links(page, count)
     for number in (1, 6, 14):

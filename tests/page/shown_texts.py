@@ -27,5 +27,7 @@ def check_texts(page, program, count):
             for it in given:
                 right = program.text(it["words"].split(" "), it["input"])
                 front = it["seen"].split("\n… ")[0]
-                count.hold(it["text"] == right and it["head"] == it["words"] and right.startswith(front) and front,
-                           f"{fragment}, {panel}: {it['words'][:60]} is said to answer {it['text'][:80]!r}, and not {right[:80]!r}")
+                count.hold(
+                    it["text"] == right and it["head"] == it["words"] and right.startswith(front) and front,
+                    f"{fragment}, {panel}: {it['words'][:60]} is said to answer {it['text'][:80]!r}, and not {right[:80]!r}",
+                )

@@ -70,8 +70,17 @@ def four(program):
     """The table of four increments, 301,770 elements."""
     rows = ["S,_,_,+,R1"]
     for i in range(1, 5):
-        rows += [f"R{i},0,0,+,R{i}", f"R{i},1,1,+,R{i}", f"R{i},_,_,-,P{i}", f"P{i},1,0,-,P{i}", f"P{i},0,1,-,L{i}", f"P{i},_,1,-,L{i}",
-                 f"L{i},0,0,-,L{i}", f"L{i},1,1,-,L{i}", f"L{i},_,_,+,R{i + 1}" if i < 4 else "L4,_,_,0,F"]
+        rows += [
+            f"R{i},0,0,+,R{i}",
+            f"R{i},1,1,+,R{i}",
+            f"R{i},_,_,-,P{i}",
+            f"P{i},1,0,-,P{i}",
+            f"P{i},0,1,-,L{i}",
+            f"P{i},_,1,-,L{i}",
+            f"L{i},0,0,-,L{i}",
+            f"L{i},1,1,-,L{i}",
+            f"L{i},_,_,+,R{i + 1}" if i < 4 else "L4,_,_,0,F",
+        ]
     return "".join(row + "\n" for row in rows)
 
 
@@ -92,10 +101,15 @@ def check_times(page, program, factor, is_long, count):
             time.sleep(1)
         there, back = page.ask("window.played")
         for way, it in (("on", there), ("back", back)):
-            print(f"increment, {layer}, played {way}: {it['seconds']:.1f} s, {it['seen']} frames of {it['median']:.0f} ms in the middle, {it['frame']:.0f} ms "
-                  f"at most, {it['over']} above 100 ms; between two {it['gap']:.0f} ms at most, the longest wait {it['waited']:.0f} ms")
+            print(
+                f"increment, {layer}, played {way}: {it['seconds']:.1f} s, {it['seen']} frames of {it['median']:.0f} ms in the middle, {it['frame']:.0f} ms "
+                f"at most, {it['over']} above 100 ms; between two {it['gap']:.0f} ms at most, the longest wait {it['waited']:.0f} ms"
+            )
             count.hold(max(it["frame"], it["waited"]) <= factor * STEP, f"increment, {layer}, played {way}: {it}")
-        count.hold(there["e"] == page.ask("bench.current.run.end") and back["e"] == 0, f"increment, {layer}: it is played to {there['e']} and {back['e']}")
+        count.hold(
+            there["e"] == page.ask("bench.current.run.end") and back["e"] == 0,
+            f"increment, {layer}: it is played to {there['e']} and {back['e']}",
+        )
     report_steps(page, "increment", factor, count)
 
     page.visit(f"file://{PAGE}#t={quote(four(program))}&w=1011")
@@ -108,19 +122,27 @@ def check_times(page, program, factor, is_long, count):
     for letters in [LETTERS, 5000] if is_long else []:
         began = time.monotonic()
         page.visit(f"file://{PAGE}#t={quote(WALK)}&w={'1' * letters}")
-        print(f"{letters} ones: first picture {page.ask(SHOWN_AT):,.0f} ms, {page.ask('bench.current.run.outcome.elements'):,} elements")
+        print(
+            f"{letters} ones: first picture {page.ask(SHOWN_AT):,.0f} ms, {page.ask('bench.current.run.outcome.elements'):,} elements"
+        )
         if letters == LETTERS:
             while not page.ask("bench.current.run.isWhole"):
                 time.sleep(1)
-            print(f"{letters} ones: all {page.ask('bench.current.run.count'):,} moments, {page.ask('bench.current.run.end'):,} element steps, "
-                  f"are known after {time.monotonic() - began:,.0f} s")
+            print(
+                f"{letters} ones: all {page.ask('bench.current.run.count'):,} moments, {page.ask('bench.current.run.end'):,} element steps, "
+                f"are known after {time.monotonic() - began:,.0f} s"
+            )
         else:
             time.sleep(60)
-            print(f"{letters} ones: {page.ask('bench.current.run.count'):,} moments are known after {time.monotonic() - began:,.0f} s")
+            print(
+                f"{letters} ones: {page.ask('bench.current.run.count'):,} moments are known after {time.monotonic() - began:,.0f} s"
+            )
 
 
 def report_steps(page, name, factor, count):
     for layer, it in page.wait(STEPPED).items():
-        print(f"{name}, {layer}: a step takes {it['median']:.0f} ms in the middle of {it['many']}, at most {it['most']:.0f} ms")
+        print(
+            f"{name}, {layer}: a step takes {it['median']:.0f} ms in the middle of {it['many']}, at most {it['most']:.0f} ms"
+        )
         if factor:
             count.hold(it["most"] <= factor * STEP, f"{name}, {layer}: a step takes {it['most']:.0f} ms")

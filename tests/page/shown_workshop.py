@@ -54,9 +54,11 @@ def check_elements(page, program, count):
         fill(page, "elements", e_text=given)
         for k in range(steps + 1):
             right = program.text(["step", str(k)], given)
-            count.hold(page.ask("bench.pageOf('elements').stepper().text") == right
-                       and drawn(page, "e-picture") == bars(right),
-                       f"elements, {name}, step {k}: the bars {drawn(page, 'e-picture')} aren't the program's")
+            count.hold(
+                page.ask("bench.pageOf('elements').stepper().text") == right
+                and drawn(page, "e-picture") == bars(right),
+                f"elements, {name}, step {k}: the bars {drawn(page, 'e-picture')} aren't the program's",
+            )
             if k < steps:
                 press(page, "e-forth")
 
@@ -74,10 +76,14 @@ def check_mirror(page, program, count):
             press(page, "m-mforth")
             right, back = program.text(["step", str(k)], mirror), program.text(["back", str(k)], here)
             seen = drawn(page, "m-mirror")
-            count.hold(seen == bars(right) == bars(back) and drawn(page, "m-circuit") == bars(here),
-                       f"mirror of {name}, step {k}: the bars {seen}, and not {bars(right)}")
-            count.hold("bars stand as the circuit's stood" in said(page, "m-said"),
-                       f"mirror of {name}, step {k}: {said(page, 'm-said')}")
+            count.hold(
+                seen == bars(right) == bars(back) and drawn(page, "m-circuit") == bars(here),
+                f"mirror of {name}, step {k}: the bars {seen}, and not {bars(right)}",
+            )
+            count.hold(
+                "bars stand as the circuit's stood" in said(page, "m-said"),
+                f"mirror of {name}, step {k}: {said(page, 'm-said')}",
+            )
         count.hold("All is undone" in said(page, "m-said"), f"mirror of {name}: {said(page, 'm-said')}")
 
 
@@ -90,8 +96,9 @@ def check_farm(page, program, count):
         front = "".join(f"{sign} {board} 1\n" for sign, board in events[:k])
         right = program.text(["farm"], "".join(f"{it}%\n" for it in boards) + front).split("%\n")
         shown = [drawn(page, "f-room0"), drawn(page, "f-room1")]
-        count.hold(shown == [bars(it) for it in right[:2]],
-                   f"two boards, event {k}: the bars {shown} aren't the program's")
+        count.hold(
+            shown == [bars(it) for it in right[:2]], f"two boards, event {k}: the bars {shown} aren't the program's"
+        )
         if k < len(events):
             press(page, "f-forth")
     undoing = page.ask("[...document.querySelectorAll('#f-undoing code')].map(it => it.textContent)")
@@ -99,45 +106,70 @@ def check_farm(page, program, count):
     count.hold(undoing == whole.split("%\n")[-1].splitlines(), f"two boards: the undoing schedule is {undoing}")
     press(page, "f-undo")
     press(page, "f-line", len(undoing))
-    count.hold("byte for byte" in said(page, "f-said")
-               and [drawn(page, "f-room0"), drawn(page, "f-room1")] == [bars(it) for it in boards],
-               f"two boards, undone: {said(page, 'f-said')}")
+    count.hold(
+        "byte for byte" in said(page, "f-said")
+        and [drawn(page, "f-room0"), drawn(page, "f-room1")] == [bars(it) for it in boards],
+        f"two boards, undone: {said(page, 'f-said')}",
+    )
     fill(page, "farm", f_schedule="+ 3 1\n")
     count.hold("no such board" in said(page, "f-fault"), f"a schedule of a third board: {said(page, 'f-fault')!r}")
 
 
 def check_erase(page, program, count):
     """Nothing left but the output; and a second machine that takes nothing back."""
-    for name, word in (("not-twice.txt", "1101"), ("not-twice.txt", ""), ("least-twice.txt", ""),
-                       ("not-increment.txt", "101")):
+    for name, word in (
+        ("not-twice.txt", "1101"),
+        ("not-twice.txt", ""),
+        ("least-twice.txt", ""),
+        ("not-increment.txt", "101"),
+    ):
         first, second = text_of("examples", name).split("%\n")
         fill(page, "erase", x_first=first, x_second=second, x_word=word)
         right = program.text(["erase", "=" + word, "1000000"], text_of("examples", name)).split()
         rows = page.ask("[...document.querySelectorAll('#x-table code')].map(it => it.textContent + '\\n').join('')")
-        count.hold(rows == program.text(["erase"], text_of("examples", name)),
-                   f"erase, {name}: the quadruples aren't the program's")
-        cells = page.ask("[...document.querySelectorAll('#x-ends tbody tr:last-child td')].map(it => "
-                         "it.textContent.replace('blank', ''))")
+        count.hold(
+            rows == program.text(["erase"], text_of("examples", name)),
+            f"erase, {name}: the quadruples aren't the program's",
+        )
+        cells = page.ask(
+            "[...document.querySelectorAll('#x-ends tbody tr:last-child td')].map(it => "
+            "it.textContent.replace('blank', ''))"
+        )
         if right[0] == "halted":
-            told = [right[2].partition("=")[2] if len(right) > 2 else "", right[-1].partition("=")[2],
-                    f"{int(right[1]):,} row steps"]
+            told = [
+                right[2].partition("=")[2] if len(right) > 2 else "",
+                right[-1].partition("=")[2],
+                f"{int(right[1]):,} row steps",
+            ]
             count.hold(cells == told, f"erase, {name}, {word!r}: {cells}, and not {told}")
         else:
-            count.hold(cells[2].startswith("stuck in " + right[1]),
-                       f"erase, {name}, {word!r}: {cells}, and not {right}")
+            count.hold(
+                cells[2].startswith("stuck in " + right[1]), f"erase, {name}, {word!r}: {cells}, and not {right}"
+            )
 
 
 def check_plan(page, program, count):
-    for given in (text_of("examples", "two-elements.txt"), text_of("examples", "two-columns.txt"),
-                  text_of("examples", "eight-rows.txt")):
+    for given in (
+        text_of("examples", "two-elements.txt"),
+        text_of("examples", "two-columns.txt"),
+        text_of("examples", "eight-rows.txt"),
+    ):
         fill(page, "plan", l_text=given)
         right = program.text(["plan"], given).splitlines()
-        wires = [f"wire {a} {b} track {track}" for a, b, track in
-                 (it.split() for it in page.ask("[...document.querySelectorAll('#l-picture [data-wire]')].map(it => "
-                                                "it.dataset.wire)"))]
+        wires = [
+            f"wire {a} {b} track {track}"
+            for a, b, track in (
+                it.split()
+                for it in page.ask(
+                    "[...document.querySelectorAll('#l-picture [data-wire]')].map(it => " "it.dataset.wire)"
+                )
+            )
+        ]
         count.hold(wires == right[4:] and wires, f"the floor plan draws {wires[:3]}, and the program says {right[4:7]}")
-        count.hold(said(page, "l-said").startswith(f"{right[1].split()[1]} wires on {right[2].split()[1]} tracks"),
-                   f"the floor plan says {said(page, 'l-said')}")
+        count.hold(
+            said(page, "l-said").startswith(f"{right[1].split()[1]} wires on {right[2].split()[1]} tracks"),
+            f"the floor plan says {said(page, 'l-said')}",
+        )
 
 
 def check_workshop(page, program, count):

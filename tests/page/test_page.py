@@ -62,14 +62,29 @@ from shown_texts import check_texts
 from shown_workshop import check_workshop
 from sources import changed
 
-ANSWERS = [(["check"], "increment.csv"), (["check"], "faulty.csv"), (["machine", "=1011", "20"], "increment.csv"),
-           (["standard"], "complement.csv"), (["bennett"], "increment.csv"), (["reversible"], "reversible.csv"),
-           (["realise", "1", "1"], "two-moves.csv"), (["compile", "=", "0", "2", "2", "1"], "least.csv"),
-           (["run", "=1011", "auto"], "increment.csv"), (["run", "=1011", "0", "3", "11", "5"], "increment.csv"),
-           (["run", "=1", "0", "3", "3", "3"], "stuck.csv"), (["view", "=", "0", "2", "2", "1", "6540"], "least.csv"),
-           (["session", "=", "0", "2", "2", "1"], "least-session.txt"), (["plan"], "two-elements.txt"), (["migrate"], "two-columns.txt"),
-           (["generate", "1"], None), (["erase", "=101", "200"], "not-twice.txt"), (["step", "1"], "across.txt"),
-           (["back", "1"], "undo.txt"), (["nonsense"], None), ([], None)]
+ANSWERS = [
+    (["check"], "increment.csv"),
+    (["check"], "faulty.csv"),
+    (["machine", "=1011", "20"], "increment.csv"),
+    (["standard"], "complement.csv"),
+    (["bennett"], "increment.csv"),
+    (["reversible"], "reversible.csv"),
+    (["realise", "1", "1"], "two-moves.csv"),
+    (["compile", "=", "0", "2", "2", "1"], "least.csv"),
+    (["run", "=1011", "auto"], "increment.csv"),
+    (["run", "=1011", "0", "3", "11", "5"], "increment.csv"),
+    (["run", "=1", "0", "3", "3", "3"], "stuck.csv"),
+    (["view", "=", "0", "2", "2", "1", "6540"], "least.csv"),
+    (["session", "=", "0", "2", "2", "1"], "least-session.txt"),
+    (["plan"], "two-elements.txt"),
+    (["migrate"], "two-columns.txt"),
+    (["generate", "1"], None),
+    (["erase", "=101", "200"], "not-twice.txt"),
+    (["step", "1"], "across.txt"),
+    (["back", "1"], "undo.txt"),
+    (["nonsense"], None),
+    ([], None),
+]
 # How many places of each machine are looked at in Firefox.
 FIREFOX_PLACES = 10
 # What a script of the page might try, so as to reach the server.
@@ -92,6 +107,7 @@ TRIES = """(async () => {
 
 # ---- without a browser
 
+
 def test_page_and_command_are_built_of_the_sources_that_stand():
     assert not changed(), "embed/build makes page and command anew, and then the list page/sources.sha256"
 
@@ -108,15 +124,24 @@ def test_the_policy_of_the_page_names_its_one_script_and_the_page_nothing_outsid
 def test_each_file_of_the_page_has_one_row_in_its_readme():
     named = re.findall(r"^\| `([^`]+)` \|", text_of("page", "README.md"), flags=re.M)
     top = os.path.join(TOP, "page", "src")
-    files = sorted(os.path.relpath(os.path.join(folder, name), top) for folder, _, names in os.walk(top) for name in names)
+    files = sorted(
+        os.path.relpath(os.path.join(folder, name), top) for folder, _, names in os.walk(top) for name in names
+    )
     assert sorted(named) == files
 
 
 def test_the_page_says_what_the_page_of_help_tells_of_it():
     """Apart from numbers and what is left out."""
     section = text_of("docs", "HELP.md").partition("## In the page\n")[2]
-    sources = "".join(text_of(path) for path in sorted(glob.glob(os.path.join(TOP, "page", "src", "**", "*.*"), recursive=True)))
-    told = [it for line in section.splitlines() if line.startswith("**") for it in re.findall(r"`([^`]+)`", line.partition(".** ")[0])]
+    sources = "".join(
+        text_of(path) for path in sorted(glob.glob(os.path.join(TOP, "page", "src", "**", "*.*"), recursive=True))
+    )
+    told = [
+        it
+        for line in section.splitlines()
+        if line.startswith("**")
+        for it in re.findall(r"`([^`]+)`", line.partition(".** ")[0])
+    ]
     assert len(told) > 8
     assert not [it for it in told if not all(part in sources for part in re.split(r"\d+|\.\.", it) if len(part) > 4)]
 
@@ -134,7 +159,9 @@ def hooked():
 
 
 def test_the_page_that_is_looked_at_is_the_shipped_one_with_a_hook(hooked):
-    scripts = [re.findall(r"<script>(.*?)</script>", it, flags=re.S)[0] for it in (text_of("page", "hithwelor.html"), hooked)]
+    scripts = [
+        re.findall(r"<script>(.*?)</script>", it, flags=re.S)[0] for it in (text_of("page", "hithwelor.html"), hooked)
+    ]
     begin, end = scripts[0].rpartition("})();\n")[:2]
     hook = scripts[1].removeprefix(begin)
     assert end and hook != scripts[1], "embed/build --pages makes page/hithwelor.html anew"
@@ -143,24 +170,32 @@ def test_the_page_that_is_looked_at_is_the_shipped_one_with_a_hook(hooked):
 
 def test_the_modules_of_the_page_by_node(any_node):
     tests = sorted(glob.glob(os.path.join(TOP, "page", "test", "*.test.js")))
-    ran = subprocess.run([any_node, "--test", *tests], cwd=TOP, stdout=subprocess.PIPE, stderr=subprocess.STDOUT, text=True)
+    ran = subprocess.run(
+        [any_node, "--test", *tests], cwd=TOP, stdout=subprocess.PIPE, stderr=subprocess.STDOUT, text=True
+    )
     assert tests and ran.returncode == 0, ran.stdout[-2000:]
 
 
 def test_the_types_of_the_page(needs):
     needs("tsc")
-    ran = subprocess.run(["tsc", "-p", "page/tsconfig.json"], cwd=TOP, stdout=subprocess.PIPE, stderr=subprocess.STDOUT, text=True)
+    ran = subprocess.run(
+        ["tsc", "-p", "page/tsconfig.json"], cwd=TOP, stdout=subprocess.PIPE, stderr=subprocess.STDOUT, text=True
+    )
     assert ran.returncode == 0, ran.stdout[-2000:]
 
 
 # ---- in a browser
+
 
 def check_answers(page, program, count):
     for words, name in ANSWERS:
         data = text_of("examples", name) if name else ""
         given = page.wait(f"bench.answer({json.dumps(words)}, {json.dumps(data)}).then(it => [it.status, it.text])")
         right = list(program.answer(words, data))
-        count.hold(given == right, f"the page answers {' '.join(words)} by {given[0]} {given[1][:80]!r}, and not by {right[0]} {right[1][:80]!r}")
+        count.hold(
+            given == right,
+            f"the page answers {' '.join(words)} by {given[0]} {given[1][:80]!r}, and not by {right[0]} {right[1][:80]!r}",
+        )
 
 
 def check_stop(page, program, count):
@@ -171,7 +206,9 @@ def check_stop(page, program, count):
     page.ask("document.getElementById('stop').click(); 0")
     count.hold(page.wait("endless.then(it => it.status)") == -1, "an endless run isn't stopped")
     given = page.wait("bench.answer(['check'], bench.current.run.table).then(it => it.text)")
-    count.hold(given == program.text(["check"], page.ask("bench.current.run.table")), "after a stop nothing is answered")
+    count.hold(
+        given == program.text(["check"], page.ask("bench.current.run.table")), "after a stop nothing is answered"
+    )
 
 
 def check_server(page, program, count):
@@ -198,7 +235,10 @@ def check_server(page, program, count):
     page.call("Network.emulateNetworkConditions", offline=False, latency=0, downloadThroughput=-1, uploadThroughput=-1)
     page.visit(f"{address}/hithwelor.html#m=least")
     given = page.wait("bench.answer(['run', '=', 'auto'], bench.current.run.table).then(it => it.text)")
-    count.hold(given == program.text(["run", "=", "auto"], page.ask("bench.current.run.table")), "from a server the page answers otherwise")
+    count.hold(
+        given == program.text(["run", "=", "auto"], page.ask("bench.current.run.table")),
+        "from a server the page answers otherwise",
+    )
     said = page.wait(TRIES % address)
     count.hold(set(said.values()) == {"refused"}, f"the page's policy lets out {said}")
     count.hold(seen == ["/hithwelor.html"], f"the page asks a server for {seen}")
@@ -224,7 +264,10 @@ def check_shipped(page, program, count):
     comes(page, f"{at}.startsWith('compute, row step 1 of ')")
     said = page.ask(at)
     count.hold(said == "compute, row step 1 of 65", f"a step of the shipped page comes to {said!r}")
-    count.hold(page.ask("typeof bench") == "undefined" and not page.faults(), f"the shipped page has a hook, or faults: {page.faults()}")
+    count.hold(
+        page.ask("typeof bench") == "undefined" and not page.faults(),
+        f"the shipped page has a hook, or faults: {page.faults()}",
+    )
 
 
 def check_runs(page, program, draw, count):
@@ -253,10 +296,14 @@ def parts_of(program, asked, count):
         "glance": lambda page: check_glance(page, program, count),
         "learn": lambda page: check_learn(page, asked.pictures, count),
         "pasted": lambda page: check_pasted(page, program, count),
-        "reading": lambda page: check_reading(page, program, count), "access": lambda page: check_access(page, program, count),
-        "layout": lambda page: check_layout(page, asked.pictures, count), "heard": lambda page: check_heard_all(page, program, count),
-        "faults": lambda page: check_faults(page, program, count), "kept": lambda page: check_kept(page, count),
-        "early": lambda page: check_early(page, program, count), "pictures": lambda page: check_pictures(page, count),
+        "reading": lambda page: check_reading(page, program, count),
+        "access": lambda page: check_access(page, program, count),
+        "layout": lambda page: check_layout(page, asked.pictures, count),
+        "heard": lambda page: check_heard_all(page, program, count),
+        "faults": lambda page: check_faults(page, program, count),
+        "kept": lambda page: check_kept(page, count),
+        "early": lambda page: check_early(page, program, count),
+        "pictures": lambda page: check_pictures(page, count),
         "rest": lambda page: check_rest(page, program, count),
     }
 

@@ -43,7 +43,7 @@ class Columns(unittest.TestCase):
             for output in kept:
                 cut = words[:]
                 cut[3 + output] = "-"
-                text = "\n".join([*lines[:row], " ".join(cut), *lines[row + 1:]]) + "\n"
+                text = "\n".join([*lines[:row], " ".join(cut), *lines[row + 1 :]]) + "\n"
                 columns = columns_of(read_configuration(text))
                 self.assertEqual([column.bottom for column in columns], [5], f"{row} {output}")
 
@@ -51,7 +51,9 @@ class Columns(unittest.TestCase):
         configuration = read_configuration(samples.BANK)
         places = ["0.w", "1.n", "2.n", "0.n", "4.e", "3.s", "5.e", "4.s"]
         turns = [[], [(0, "H")], [], [(2, "V")], [(0, "V")], [(4, "H")], [], [(5, "H")], [(4, "V")]]
-        frames = [Frame(number, False, Line(int(place[0]), place[2]), turns[number]) for number, place in enumerate(places)]
+        frames = [
+            Frame(number, False, Line(int(place[0]), place[2]), turns[number]) for number, place in enumerate(places)
+        ]
         frames.append(Frame(8, True, Line(4, "e"), turns[8]))
         moves = MovesByBank(configuration, frames, banks_of(configuration, columns_of(configuration))).moves()
         self.assertEqual(len(moves), 1)
@@ -107,9 +109,13 @@ class Wires(unittest.TestCase):
 class Texts(unittest.TestCase):
     def test_faults_name_their_line(self):
         lines = samples.BANK.splitlines()
-        for number, wrong, wanted in ((1, "rotary 3", "line 1 isn't"), (3, "start 0", "line 3: '0' is no line"),
-                                      (9, "e 2 X - - - -", "line 9 isn't that of element 2"), (2, "elements 7", "line 2 says 7")):
-            text = "\n".join([*lines[:number - 1], wrong, *lines[number:]]) + "\n"
+        for number, wrong, wanted in (
+            (1, "rotary 3", "line 1 isn't"),
+            (3, "start 0", "line 3: '0' is no line"),
+            (9, "e 2 X - - - -", "line 9 isn't that of element 2"),
+            (2, "elements 7", "line 2 says 7"),
+        ):
+            text = "\n".join([*lines[: number - 1], wrong, *lines[number:]]) + "\n"
             with self.assertRaisesRegex(Fault, wanted):
                 read_configuration(text, "it")
 
@@ -119,8 +125,11 @@ class Texts(unittest.TestCase):
 
     def test_faults_of_columns_name_their_line(self):
         lines = samples.BANK_OF_COLUMNS.splitlines()
-        for number, wrong, wanted in ((7, "c 1 2 H", "line 7 isn't that of a column from element 0 on"),
-                                      (9, "r 4.w", "line 9 isn't that of a row"), (10, "e 3 V - - -", "line 10 isn't")):
-            text = "\n".join([*lines[:number - 1], wrong, *lines[number:]]) + "\n"
+        for number, wrong, wanted in (
+            (7, "c 1 2 H", "line 7 isn't that of a column from element 0 on"),
+            (9, "r 4.w", "line 9 isn't that of a row"),
+            (10, "e 3 V - - -", "line 10 isn't"),
+        ):
+            text = "\n".join([*lines[: number - 1], wrong, *lines[number:]]) + "\n"
             with self.assertRaisesRegex(Fault, wanted):
                 read_configuration(text, "it")

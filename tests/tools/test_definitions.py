@@ -93,13 +93,17 @@ class Reading(unittest.TestCase):
 
     def test_the_comment_above_an_item_is_its_sentence_and_that_of_those_that_follow(self):
         items, _ = sample()
-        self.assertEqual([items[name].sentence for name in ("Pair", "twice", "once")],
-                         ["a pair of numbers", "twice a number, and once", "twice a number, and once"])
+        self.assertEqual(
+            [items[name].sentence for name in ("Pair", "twice", "once")],
+            ["a pair of numbers", "twice a number, and once", "twice a number, and once"],
+        )
         self.assertEqual([items[name].sentence_of for name in ("Pair", "twice", "once")], ["Pair", "twice", "twice"])
 
     def test_imports_are_told_with_their_other_names(self):
         _, (names, _) = sample()
-        self.assertEqual((names["Far"], names["close"]), (("Rattle.other.specs.Far", "Far"), ("Rattle.other.specs.Far", "near")))
+        self.assertEqual(
+            (names["Far"], names["close"]), (("Rattle.other.specs.Far", "Far"), ("Rattle.other.specs.Far", "near"))
+        )
 
 
 class Printing(unittest.TestCase):

@@ -52,10 +52,14 @@ class Frames(unittest.TestCase):
     def test_each_text_line_has_a_frame(self):
         frames, is_all = frames_by_lines(Farm(Program(RECORDED), FARM.encode()), 10)
         self.assertTrue(is_all)
-        self.assertEqual([(it.number, str(it.event), it.made, it.undoing) for it in frames], [
-            (1, "+ 1 5", 5, "- 1 5"), (2, "+ 2 3", 3, "- 2 3"), (3, "+ 1 10", 3, "- 1 3"), (4, "- 2 1", 1, "+ 2 1")])
-        self.assertEqual([(it.frame.steps, it.frame.place_text) for it in frames], [
-            (5, "at 3.s"), (3, "at 0.n"), (8, "left 4.e"), (2, "at 0.n")])
+        self.assertEqual(
+            [(it.number, str(it.event), it.made, it.undoing) for it in frames],
+            [(1, "+ 1 5", 5, "- 1 5"), (2, "+ 2 3", 3, "- 2 3"), (3, "+ 1 10", 3, "- 1 3"), (4, "- 2 1", 1, "+ 2 1")],
+        )
+        self.assertEqual(
+            [(it.frame.steps, it.frame.place_text) for it in frames],
+            [(5, "at 3.s"), (3, "at 0.n"), (8, "left 4.e"), (2, "at 0.n")],
+        )
 
     def test_each_step_has_a_frame(self):
         frames, is_all = frames_by_events(Farm(Program(RECORDED), FARM.encode()), 20)
@@ -72,12 +76,13 @@ class Frames(unittest.TestCase):
     def test_answers_of_another_form_are_faults(self):
         one, two = ELEMENT.format(0), ELEMENT.format(1)
         for schedule, texts, wanted in (
-                ("", ["x"], "0 boards, and 1 were read"),
-                ("", ["x\n%\n"], "board 1: line 1 isn't that of a configuration text"),
-                ("+ 1 1\n", [one, two + "- 1 1\n- 1 1\n"], "isn't the one before with one text line more"),
-                ("+ 1 1\n", [one, two + "+ 1 1\n"], "\\+ 1 1 doesn't undo \\+ 1 1"),
-                ("+ 2 1\n", [one, two + "- 2 1\n"], "another board than that of \\+ 2 1 has changed"),
-                ("+ 1 x\n", [one, one], "schedule line 1: '\\+ 1 x' is no event")):
+            ("", ["x"], "0 boards, and 1 were read"),
+            ("", ["x\n%\n"], "board 1: line 1 isn't that of a configuration text"),
+            ("+ 1 1\n", [one, two + "- 1 1\n- 1 1\n"], "isn't the one before with one text line more"),
+            ("+ 1 1\n", [one, two + "+ 1 1\n"], "\\+ 1 1 doesn't undo \\+ 1 1"),
+            ("+ 2 1\n", [one, two + "- 2 1\n"], "another board than that of \\+ 2 1 has changed"),
+            ("+ 1 x\n", [one, one], "schedule line 1: '\\+ 1 x' is no event"),
+        ):
             with self.assertRaisesRegex(Fault, wanted):
                 frames_by_lines(Farm(Said(*texts), (one + schedule).encode()), 10)
 
@@ -86,14 +91,18 @@ class Ways(unittest.TestCase):
     def test_the_way_grows_and_shrinks_with_single_steps(self):
         farm = looped(1, "+ 1 2\n- 1 3\n+ 1 1\n")
         board = Board(1, farm.first[0])
-        self.assertEqual([board.advance(it, True) for it in frames_by_events(farm, 10)[0]], [
-            (0, ["wire-0s"]), (1, ["wire-0s"]), (1, []), (0, []), (0, []), (0, ["wire-0s"])])
+        self.assertEqual(
+            [board.advance(it, True) for it in frames_by_events(farm, 10)[0]],
+            [(0, ["wire-0s"]), (1, ["wire-0s"]), (1, []), (0, []), (0, []), (0, ["wire-0s"])],
+        )
 
     def test_of_text_lines_the_last_wire_alone_is_known(self):
         farm = looped(1, "+ 1 2\n- 1 1\n- 1 1\n")
         board = Board(1, farm.first[0])
-        self.assertEqual([board.advance(it, False) for it in frames_by_lines(farm, 10)[0]], [
-            (0, ["wire-0s"]), (0, ["wire-0s"]), (0, [])])
+        self.assertEqual(
+            [board.advance(it, False) for it in frames_by_lines(farm, 10)[0]],
+            [(0, ["wire-0s"]), (0, ["wire-0s"]), (0, [])],
+        )
 
     def test_a_text_line_without_a_step_leaves_the_way(self):
         board = Board(1, looped(1, "").first[0])
@@ -116,9 +125,16 @@ class Pages(Tools):
         text = self.call("farm", [], FARM)
         self.assert_alone(text)
         frames = frames_of(text)
-        self.assertEqual([frame["place"] for frame in frames], [
-            "before the schedule", "+ 1 5: board 1: steps 5 at 3.s", "+ 2 3: board 2: steps 3 at 0.n",
-            "+ 1 10: board 1: steps 8 left 4.e", "- 2 1: board 2: steps 2 at 0.n"])
+        self.assertEqual(
+            [frame["place"] for frame in frames],
+            [
+                "before the schedule",
+                "+ 1 5: board 1: steps 5 at 3.s",
+                "+ 2 3: board 2: steps 3 at 0.n",
+                "+ 1 10: board 1: steps 8 left 4.e",
+                "- 2 1: board 2: steps 2 at 0.n",
+            ],
+        )
         self.assertEqual(frames[1]["changed"], [[2, "V"], [4, "H"]])
         self.assertEqual([frame["undoing"] for frame in frames[1:]], ["- 1 5", "- 2 3", "- 1 3", "+ 2 1"])
         self.assertIn("<code>./workbench farm</code> on the boards", text)
@@ -133,7 +149,7 @@ class Pages(Tools):
         text = self.call("farm", ["--frames", "0"], FARM)
         self.assertEqual(frames_of(text), [{"place": "before the schedule", "line": 0, "board": 0}])
         self.assertIn("with an empty schedule. The page ends after at most 0 frames", text)
-        boards = FARM[:FARM.rindex("%") + 2]
+        boards = FARM[: FARM.rindex("%") + 2]
         picture = ElementTree.fromstring(self.call("farm", ["--svg"], boards))
         words = [it.text for it in picture.iter(f"{SVG}text")]
         self.assertIn("board 2: steps 0 at 0.n", words)
@@ -169,8 +185,10 @@ class Pages(Tools):
 
 class Faults(Tools):
     def test_bad_input_is_told_in_one_line(self):
-        for text, wanted in ((samples.BANK, "text: no schedule (status 3)"),
-                             (example("refused/no-board.txt"), "text: schedule line 2 board (status 3)")):
+        for text, wanted in (
+            (samples.BANK, "text: no schedule (status 3)"),
+            (example("refused/no-board.txt"), "text: schedule line 2 board (status 3)"),
+        ):
             self.assertEqual(called("farm", [], text), (2, "", f"farm: ./workbench farm says: {wanted}\n"))
 
     def test_too_many_elements_are_told(self):

@@ -87,24 +87,35 @@ class Yaml(unittest.TestCase):
     def test_faults_name_their_line(self):
         whole = "blank: ' '\nstart state: A\ntable:\n  A:\n"
         for text, wanted in (
-                ("a: [1\n", "line 1: no '\\]' or comma"), ("a: b c: d\n", "line 1: words behind the value"),
-                ("a:\n\tb: 1\n", "line 2: a tab"), ("a:\n  - b\n", "line 2: '-' begins nothing"),
-                ("a: 1\n  b: 2\n", "line 2: deeper"), ("a:\n   b: 2\n  c: 3\n", "line 3: as deep as no line"),
-                ("  a: 1\nb: 2\n", "line 2: less deep"), ("a: 'x\n", "line 1: a quote that isn't closed"), ("a: &x 1\n", "line 1: '&' begins nothing"),
-                ("just words\n", "line 1: no colon"), ("blank: ' '\n", "no line has the key 'start state'"),
-                ("table: x\nblank: ' '\nblank: ' '\n", "line 3: 'blank' stands twice"),
-                (whole + "    1: {R: B}\n", "line 5: no state of the table is called 'B'"),
-                (whole + "    1: {R: A, L: A}\n", "line 5: an instruction has one of R and L"),
-                (whole + "    1: {write: 2}\n", "line 5: an instruction has one of R and L"),
-                (whole + "    1: {go: 2, R: A}\n", "line 5: an instruction has no 'go'"),
-                (whole + "    12: R\n", "line 5: '12' is no single symbol"), (whole + "    1: X\n", "line 5: 'X' is no instruction"),
-                (whole + "    1: R\n  A:\n", "line 6: state 'A' stands twice"),
-                (whole + "    1: R\n", "^it: no state halts"),
-                (whole + "    1: {L: B}\n    [2, 1]: R\n  B:\n", "line 6: an earlier rule is for state 'A' and '1' too \\(S1\\)"),
-                (whole + "    /: {L: B}\n  B:\n", "line 5: '/' is no letter"),
-                (whole + "    _: {L: B}\n  B:\n", "line 5: the letter '_' is the blank"),
-                (whole + "    1: R\n  B:\n", "no rule leads to 'B'"),
-                ("blank: ' '\nstart state: B\ntable:\n  A:\n    1: {R: B}\n  B:\n", "no rule leaves the start state 'B'")):
+            ("a: [1\n", "line 1: no '\\]' or comma"),
+            ("a: b c: d\n", "line 1: words behind the value"),
+            ("a:\n\tb: 1\n", "line 2: a tab"),
+            ("a:\n  - b\n", "line 2: '-' begins nothing"),
+            ("a: 1\n  b: 2\n", "line 2: deeper"),
+            ("a:\n   b: 2\n  c: 3\n", "line 3: as deep as no line"),
+            ("  a: 1\nb: 2\n", "line 2: less deep"),
+            ("a: 'x\n", "line 1: a quote that isn't closed"),
+            ("a: &x 1\n", "line 1: '&' begins nothing"),
+            ("just words\n", "line 1: no colon"),
+            ("blank: ' '\n", "no line has the key 'start state'"),
+            ("table: x\nblank: ' '\nblank: ' '\n", "line 3: 'blank' stands twice"),
+            (whole + "    1: {R: B}\n", "line 5: no state of the table is called 'B'"),
+            (whole + "    1: {R: A, L: A}\n", "line 5: an instruction has one of R and L"),
+            (whole + "    1: {write: 2}\n", "line 5: an instruction has one of R and L"),
+            (whole + "    1: {go: 2, R: A}\n", "line 5: an instruction has no 'go'"),
+            (whole + "    12: R\n", "line 5: '12' is no single symbol"),
+            (whole + "    1: X\n", "line 5: 'X' is no instruction"),
+            (whole + "    1: R\n  A:\n", "line 6: state 'A' stands twice"),
+            (whole + "    1: R\n", "^it: no state halts"),
+            (
+                whole + "    1: {L: B}\n    [2, 1]: R\n  B:\n",
+                "line 6: an earlier rule is for state 'A' and '1' too \\(S1\\)",
+            ),
+            (whole + "    /: {L: B}\n  B:\n", "line 5: '/' is no letter"),
+            (whole + "    _: {L: B}\n  B:\n", "line 5: the letter '_' is the blank"),
+            (whole + "    1: R\n  B:\n", "no rule leads to 'B'"),
+            ("blank: ' '\nstart state: B\ntable:\n  A:\n    1: {R: B}\n  B:\n", "no rule leaves the start state 'B'"),
+        ):
             with self.subTest(text), self.assertRaisesRegex(Fault, wanted):
                 from_yaml(text)
 
@@ -118,8 +129,10 @@ class Jflap(unittest.TestCase):
         self.assertEqual(from_jflap(JFLAP)[0], JFLAP_TABLE)
 
     def test_the_example_is_read(self):
-        self.assertEqual(from_jflap(example("swap.jff"))[0],
-                         "over-the-word,a,b,+,over-the-word\nover-the-word,b,a,+,over-the-word\nover-the-word,_,_,-,done\n")
+        self.assertEqual(
+            from_jflap(example("swap.jff"))[0],
+            "over-the-word,a,b,+,over-the-word\nover-the-word,b,a,+,over-the-word\nover-the-word,_,_,-,done\n",
+        )
 
     def test_states_of_the_older_form_are_read(self):
         older = JFLAP.replace("<block", "<state").replace("</block", "</state")
@@ -127,13 +140,17 @@ class Jflap(unittest.TestCase):
 
     def test_faults_name_their_place(self):
         for old, new, wanted in (
-                ("</structure>", "", "no XML"), (">turing<", ">fa<", "its type is 'fa'"),
-                ("<automaton>", "<tapes>2</tapes><automaton>", "the machine has 2 tapes"), ("<initial/>", "", "no state is the initial one"),
-                ("<to>1</to>", "<to>9</to>", "transition 3: no state has the id '9'"),
-                ("<read>a</read>", "<read>!a</read>", "transition 1: reads '!a'"), ("<move>S</move>", "<move>X</move>", "transition 2: moves 'X'"),
-                ("<read/>", "<read>a</read>", "transition 2: an earlier rule is for state 'q0' and 'a' too \\(S1\\)"),
-                ("<from>1</from>", "<from>2</from>", "transition 4: leaves 'q2'"),
-                ("<Machine1/>", "<Machine1><transition/></Machine1>", "block 'q1' is a machine of its own")):
+            ("</structure>", "", "no XML"),
+            (">turing<", ">fa<", "its type is 'fa'"),
+            ("<automaton>", "<tapes>2</tapes><automaton>", "the machine has 2 tapes"),
+            ("<initial/>", "", "no state is the initial one"),
+            ("<to>1</to>", "<to>9</to>", "transition 3: no state has the id '9'"),
+            ("<read>a</read>", "<read>!a</read>", "transition 1: reads '!a'"),
+            ("<move>S</move>", "<move>X</move>", "transition 2: moves 'X'"),
+            ("<read/>", "<read>a</read>", "transition 2: an earlier rule is for state 'q0' and 'a' too \\(S1\\)"),
+            ("<from>1</from>", "<from>2</from>", "transition 4: leaves 'q2'"),
+            ("<Machine1/>", "<Machine1><transition/></Machine1>", "block 'q1' is a machine of its own"),
+        ):
             with self.subTest(wanted), self.assertRaisesRegex(Fault, wanted):
                 from_jflap(JFLAP.replace(old, new))
 

@@ -65,9 +65,20 @@ class Draw(Tools):
     def test_a_page_has_a_frame_for_each_step(self):
         text = self.call("draw", [], samples.BANK)
         frames = frames_of(text)
-        self.assertEqual([frame["place"] for frame in frames], [
-            "steps 0 at 0.w", "steps 1 at 1.n", "steps 2 at 2.n", "steps 3 at 0.n", "steps 4 at 4.e", "steps 5 at 3.s",
-            "steps 6 at 5.e", "steps 7 at 4.s", "steps 8 left 4.e"])
+        self.assertEqual(
+            [frame["place"] for frame in frames],
+            [
+                "steps 0 at 0.w",
+                "steps 1 at 1.n",
+                "steps 2 at 2.n",
+                "steps 3 at 0.n",
+                "steps 4 at 4.e",
+                "steps 5 at 3.s",
+                "steps 6 at 5.e",
+                "steps 7 at 4.s",
+                "steps 8 left 4.e",
+            ],
+        )
         self.assertEqual([frame["changed"] for frame in frames[:4]], [[], [[0, "H"]], [], [[2, "V"]]])
         self.assertEqual([frame["wire"] for frame in frames[:4]], ["", "wire-0s", "wire-1s", "wire-2w"])
         self.assertEqual(frames[8]["wire"], "wire-4e")
@@ -86,7 +97,9 @@ class Draw(Tools):
         root = ElementTree.fromstring(text)
         bars = [it for it in root.iter(f"{SVG}line") if it.get("class") == "bar"]
         self.assertEqual(["H" if it.get("transform") == it.get("data-lying") else "V" for it in bars], list("VVVVVV"))
-        kinds = {it.get("id"): it.get("class") for it in root.iter(f"{SVG}g") if (it.get("id") or "").startswith("wire")}
+        kinds = {
+            it.get("id"): it.get("class") for it in root.iter(f"{SVG}g") if (it.get("id") or "").startswith("wire")
+        }
         self.assertEqual({name for name, kind in kinds.items() if kind == "past"}, {"wire-0s", "wire-1s", "wire-2w"})
         self.assertEqual({name for name, kind in kinds.items() if kind == "now"}, {"wire-0w"})
         spans = [it.get("class") for it in root.iter(f"{SVG}rect") if (it.get("class") or "").startswith("span")]
@@ -114,8 +127,12 @@ class Answers:
     moments = [0, 6540, 11356, 16734, 20468, 27696, 30316, 37840, 40248, 47722, 51412, 56742, 61294, 67300]
 
     def __init__(self):
-        self.views = [subprocess.run([RECORDED, "view", *LEAST_RUN, str(steps)], input=LEAST.encode(), capture_output=True,
-                                     check=True).stdout.decode() for steps in self.moments]
+        self.views = [
+            subprocess.run(
+                [RECORDED, "view", *LEAST_RUN, str(steps)], input=LEAST.encode(), capture_output=True, check=True
+            ).stdout.decode()
+            for steps in self.moments
+        ]
 
     def run(self, words, data):
         if words[0] == "bennett":
@@ -181,8 +198,10 @@ class Tapes(Tools):
         self.assert_alone(text)
         frames = frames_of(text)
         self.assertEqual([frame["stage"] for frame in frames], ["compute"] * 5 + ["copy"] * 4 + ["retrace"] * 5)
-        self.assertEqual([frame["state"] for frame in frames], [
-            "A1", "A1'", "A2", "A2'", "A3", "B1'", "B1", "B2'", "B2", "C3", "C2'", "C2", "C1'", "C1"])
+        self.assertEqual(
+            [frame["state"] for frame in frames],
+            ["A1", "A1'", "A2", "A2'", "A3", "B1'", "B1", "B2'", "B2", "C3", "C2'", "C2", "C1'", "C1"],
+        )
         self.assertEqual(frames[1]["place"], "at 930.w steps 6540")
         self.assertEqual(frames[-1]["place"], "left 848.e steps 67300")
 
@@ -194,8 +213,12 @@ class Tapes(Tools):
         self.assertEqual(len(heads), 14 * 3)
 
     def test_answers_of_another_form_are_faults(self):
-        for text, wanted in (("at 0.w\n", "line 1: 'at 0.w' is no place line"), ("at 0.w steps 1\nx\n", "line 2: 1 lines"),
-                             ("", "no moment"), ("at 0.w steps 1\n" + self.program.views[0].replace("tape 2", "tape 9"), "tape 2")):
+        for text, wanted in (
+            ("at 0.w\n", "line 1: 'at 0.w' is no place line"),
+            ("at 0.w steps 1\nx\n", "line 2: 1 lines"),
+            ("", "no moment"),
+            ("at 0.w steps 1\n" + self.program.views[0].replace("tape 2", "tape 9"), "tape 2"),
+        ):
             with self.assertRaisesRegex(Fault, wanted):
                 self.tapes.moments_of(text, 0)
 
@@ -205,10 +228,13 @@ class Layers(Tools):
         text = self.call("layers", [*LEAST_RUN, "1564"], LEAST)
         self.assert_alone(text)
         words = [it.text for it in ElementTree.fromstring(text).iter(f"{SVG}text")]
-        for line in ("element at 864.w steps 1564", "module tape 1 cell 0 line Rd", "quadruple A1",
-                     "machine compute state S step 0"):
+        for line in (
+            "element at 864.w steps 1564",
+            "module tape 1 cell 0 line Rd",
+            "quadruple A1",
+            "machine compute state S step 0",
+        ):
             self.assertIn(line, words)
-
 
     def test_long_tapes_are_shown_around_their_heads(self):
         layers = loaded("layers")
@@ -225,8 +251,13 @@ class Import(Tools):
     def test_tables_are_printed(self):
         status, out, said = called("import", [], example("parity.yaml"))
         self.assertEqual((status, out), (0, PARITY_TABLE))
-        self.assertEqual(said.splitlines(), ["import: state 'even_so_far' is called even-so-far in the table",
-                                             "import: state 'odd_so_far' is called odd-so-far in the table"])
+        self.assertEqual(
+            said.splitlines(),
+            [
+                "import: state 'even_so_far' is called even-so-far in the table",
+                "import: state 'odd_so_far' is called odd-so-far in the table",
+            ],
+        )
         status, out, said = called("import", ["--from", "jflap"], JFLAP)
         self.assertEqual((status, out), (0, JFLAP_TABLE))
         self.assertEqual(said, "import: state 'q3' is called q2 in the table\n")
@@ -239,7 +270,9 @@ class Import(Tools):
 
     def test_faults_are_told_in_one_line(self):
         status, out, said = called("import", [], "table:\n\tb: 1\n")
-        self.assertEqual((status, out, said), (2, "", "import: standard input: line 2: a tab stands before the first word\n"))
+        self.assertEqual(
+            (status, out, said), (2, "", "import: standard input: line 2: a tab stands before the first word\n")
+        )
 
 
 class Plot(Tools):
@@ -252,8 +285,13 @@ class Plot(Tools):
         self.assertEqual(self.call("plot", [], "k,N,steps,seconds\n" + lines.replace(" ", ",")), picture)
 
     def test_faults_name_their_line(self):
-        for text, wanted in (("1 10 5\n", "line 1: 3 fields"), ("1 10 5 x\n", "line 1: '1 10 5 x' has a field"),
-                             ("# none\n", "no measurements"), ("1 10 5 0\n", "line 1: k, steps and seconds"), ("1 10 5 nan\n", "line 1: k, ")):
+        for text, wanted in (
+            ("1 10 5\n", "line 1: 3 fields"),
+            ("1 10 5 x\n", "line 1: '1 10 5 x' has a field"),
+            ("# none\n", "no measurements"),
+            ("1 10 5 0\n", "line 1: k, steps and seconds"),
+            ("1 10 5 nan\n", "line 1: k, "),
+        ):
             status, _, said = called("plot", [], text)
             self.assertEqual(status, 2)
             self.assertIn(f"plot: standard input: {wanted}", said)
@@ -265,10 +303,19 @@ class Words(Tools):
             self.assertTrue(self.call(tool, ["--help"]).startswith("usage: "))
 
     def test_faults_of_the_words_are_told_in_one_line(self):
-        for tool, words in (("draw", ["--frames", "5001"]), ("draw", ["--svg", "--dot"]), ("tapes", ["="]),
-                            ("tapes", ["1011", "0", "5", "11", "5"]), ("tapes", ["=", "auto", "5"]),
-                            ("layers", ["=", "0", "2", "02", "1", "5"]), ("layers", ["=", "auto"]), ("farm", ["--frames", "x"]),
-                            ("import", ["--from", "xml"]), ("plot", ["--x"]), ("build/gallery", ["x"])):
+        for tool, words in (
+            ("draw", ["--frames", "5001"]),
+            ("draw", ["--svg", "--dot"]),
+            ("tapes", ["="]),
+            ("tapes", ["1011", "0", "5", "11", "5"]),
+            ("tapes", ["=", "auto", "5"]),
+            ("layers", ["=", "0", "2", "02", "1", "5"]),
+            ("layers", ["=", "auto"]),
+            ("farm", ["--frames", "x"]),
+            ("import", ["--from", "xml"]),
+            ("plot", ["--x"]),
+            ("build/gallery", ["x"]),
+        ):
             status, out, said = called(tool, words)
             self.assertEqual((status, out, said.count("\n")), (2, "", 1), f"{tool} {words}: {said}")
             self.assertTrue(said.startswith(f"{os.path.basename(tool)}: "))
@@ -285,39 +332,71 @@ class WithProgram(Tools):
             with self.subTest(" ".join(entry["words"])):
                 if not has_command(program_at_hand(), entry["words"], entry["input"].encode()):
                     self.skipTest(f"this program has no command {entry['words'][0]}")
-                ran = subprocess.run([program_at_hand(), *entry["words"]], input=entry["input"].encode(), capture_output=True)
+                ran = subprocess.run(
+                    [program_at_hand(), *entry["words"]], input=entry["input"].encode(), capture_output=True
+                )
                 self.assertEqual((ran.stdout.decode(), ran.returncode), (entry["output"], entry["status"]))
 
     def test_the_moves_of_a_large_circuit_have_their_costs(self):
         program = program_at_hand()
         board = subprocess.run([program, "compile", *LEAST_RUN], input=LEAST.encode(), capture_output=True).stdout
-        ran = subprocess.run([os.path.join(TOOLS, "draw"), "--program", program, "--frames", "2204"], input=board,
-                             capture_output=True, check=True)
-        cells = [re.findall(r"<td>(.*?)</td>", row) for row in ran.stdout.decode().splitlines() if row.startswith("<tr data-")]
-        self.assertEqual([(row[4], row[5], row[6]) for row in cells], [
-            ("1 to 3", "1564", "1564"), ("2 to 2", "46", "1610"), ("3 to 4", "594", "2204")])
+        ran = subprocess.run(
+            [os.path.join(TOOLS, "draw"), "--program", program, "--frames", "2204"],
+            input=board,
+            capture_output=True,
+            check=True,
+        )
+        cells = [
+            re.findall(r"<td>(.*?)</td>", row)
+            for row in ran.stdout.decode().splitlines()
+            if row.startswith("<tr data-")
+        ]
+        self.assertEqual(
+            [(row[4], row[5], row[6]) for row in cells],
+            [("1 to 3", "1564", "1564"), ("2 to 2", "46", "1610"), ("3 to 4", "594", "2204")],
+        )
 
     def test_tapes_are_drawn(self):
-        ran = subprocess.run([os.path.join(TOOLS, "tapes"), "--program", program_at_hand(), "--text", "--moments", "3", *LEAST_RUN],
-                             input=LEAST.encode(), capture_output=True, check=True)
-        self.assertEqual([line.split()[:3] for line in ran.stdout.decode().splitlines()[:3]], [
-            ["0", "compute", "A1"], ["1", "compute", "A1'"], ["2", "compute", "A2"]])
+        ran = subprocess.run(
+            [os.path.join(TOOLS, "tapes"), "--program", program_at_hand(), "--text", "--moments", "3", *LEAST_RUN],
+            input=LEAST.encode(),
+            capture_output=True,
+            check=True,
+        )
+        self.assertEqual(
+            [line.split()[:3] for line in ran.stdout.decode().splitlines()[:3]],
+            [["0", "compute", "A1"], ["1", "compute", "A1'"], ["2", "compute", "A2"]],
+        )
 
     def test_the_window_may_be_found_by_the_program(self):
         program = program_at_hand()
         ran = subprocess.run([program, "run", "=", "auto"], input=LEAST.encode(), capture_output=True, check=True)
         found = ran.stdout.decode().splitlines()[0].split()[1:]
         for tool, more in (("tapes", []), ("layers", ["1564"])):
-            pictures = [subprocess.run([os.path.join(TOOLS, tool), "--program", program, "=", *window, *more],
-                                       input=LEAST.encode(), capture_output=True, check=True).stdout
-                        for window in (["auto"], found)]
+            pictures = [
+                subprocess.run(
+                    [os.path.join(TOOLS, tool), "--program", program, "=", *window, *more],
+                    input=LEAST.encode(),
+                    capture_output=True,
+                    check=True,
+                ).stdout
+                for window in (["auto"], found)
+            ]
             self.assertEqual(*pictures)
 
     def test_an_imported_machine_runs(self):
         program = program_at_hand()
-        for name, word, output in (("parity.yaml", "1011", "10111"), ("parity.yaml", "", "0"), ("swap.jff", "abb", "baa")):
-            table = subprocess.run([os.path.join(TOOLS, "import"), "--program", program, "--standard"],
-                                   input=example(name).encode(), capture_output=True, check=True).stdout
+        for name, word, output in (
+            ("parity.yaml", "1011", "10111"),
+            ("parity.yaml", "", "0"),
+            ("swap.jff", "abb", "baa"),
+        ):
+            table = subprocess.run(
+                [os.path.join(TOOLS, "import"), "--program", program, "--standard"],
+                input=example(name).encode(),
+                capture_output=True,
+                check=True,
+            ).stdout
             ran = subprocess.run([program, "machine", f"={word}", "100"], input=table, capture_output=True)
             self.assertEqual(ran.returncode, 0)
             self.assertEqual(ran.stdout.decode().splitlines()[1], f"output ={output}", f"{name} {word}")

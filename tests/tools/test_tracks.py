@@ -29,8 +29,10 @@ class Tracks(unittest.TestCase):
         self.assertEqual([it.get("class") for it in root.iter(f"{SVG}path")], [])
 
     def test_another_text_is_refused_with_its_line(self):
-        for text, said in [("usage\n", "the plan's line 1 isn't `elements` and a number"),
-                           (PLAN + "wire 0.x 1.n track 1\n", "the plan's line 7 is no wire with its track")]:
+        for text, said in [
+            ("usage\n", "the plan's line 1 isn't `elements` and a number"),
+            (PLAN + "wire 0.x 1.n track 1\n", "the plan's line 7 is no wire with its track"),
+        ]:
             with self.assertRaises(Fault) as refused:
                 read_plan(text)
             self.assertEqual(str(refused.exception), said)
@@ -40,7 +42,11 @@ class Tracks(unittest.TestCase):
         program = program_at_hand()
         if not has_command(program, ["plan"]):
             self.skipTest("this program has no command plan")
-        ran = subprocess.run([os.path.join(TOOLS, "draw"), "--tracks", "--program", program], input=samples.BANK.encode(),
-                             capture_output=True, check=True)
+        ran = subprocess.run(
+            [os.path.join(TOOLS, "draw"), "--tracks", "--program", program],
+            input=samples.BANK.encode(),
+            capture_output=True,
+            check=True,
+        )
         root = ElementTree.fromstring(ran.stdout.decode())
         self.assertEqual([it.get("class") for it in root.iter(f"{SVG}path")].count("wire"), 18)

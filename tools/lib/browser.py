@@ -38,12 +38,29 @@ class Browser:
         def place_pipes():
             os.dup2(high[0], 3)
             os.dup2(high[1], 4)
-        words = [path, "--headless", "--disable-gpu", "--hide-scrollbars", "--no-first-run", "--no-default-browser-check",
-                 "--disable-extensions", f"--user-data-dir={self.folder}", "--remote-debugging-pipe", "about:blank"]
+
+        words = [
+            path,
+            "--headless",
+            "--disable-gpu",
+            "--hide-scrollbars",
+            "--no-first-run",
+            "--no-default-browser-check",
+            "--disable-extensions",
+            f"--user-data-dir={self.folder}",
+            "--remote-debugging-pipe",
+            "about:blank",
+        ]
         if os.geteuid() == 0:
             words.insert(1, "--no-sandbox")
-        self.child = subprocess.Popen(words, close_fds=False, preexec_fn=place_pipes, stdin=subprocess.DEVNULL,
-                                      stdout=subprocess.DEVNULL, stderr=subprocess.DEVNULL)
+        self.child = subprocess.Popen(
+            words,
+            close_fds=False,
+            preexec_fn=place_pipes,
+            stdin=subprocess.DEVNULL,
+            stdout=subprocess.DEVNULL,
+            stderr=subprocess.DEVNULL,
+        )
         for number in (to_browser, from_browser, *high):
             os.close(number)
         self.rest, self.number, self.session = b"", 0, None
@@ -92,7 +109,7 @@ class Browser:
             call["sessionId"] = self.session
         data = json.dumps(call).encode() + b"\0"
         while data:
-            data = data[os.write(self.writing, data):]
+            data = data[os.write(self.writing, data) :]
         while True:
             answer = self.message()
             if answer.get("id") == self.number:
@@ -112,8 +129,11 @@ class Browser:
 
     def faults(self):
         """The faults of the page's script since it was opened."""
-        return [event["params"]["exceptionDetails"].get("exception", {}).get("description", "a fault of the script")
-                for event in self.events if event.get("method") == "Runtime.exceptionThrown"]
+        return [
+            event["params"]["exceptionDetails"].get("exception", {}).get("description", "a fault of the script")
+            for event in self.events
+            if event.get("method") == "Runtime.exceptionThrown"
+        ]
 
     def ask(self, expression):
         """The value of an expression in the page."""
@@ -125,9 +145,11 @@ class Browser:
     def click(self, selector):
         """A click with the mouse in the middle of an element."""
         quoted = json.dumps(selector)
-        x, y = self.ask(f"(() => {{ const it = document.querySelector({quoted}); it.scrollIntoView({{block: 'center'}});"
-                        " const box = it.getBoundingClientRect();"
-                        " return [box.x + box.width / 2, box.y + box.height / 2]; })()")
+        x, y = self.ask(
+            f"(() => {{ const it = document.querySelector({quoted}); it.scrollIntoView({{block: 'center'}});"
+            " const box = it.getBoundingClientRect();"
+            " return [box.x + box.width / 2, box.y + box.height / 2]; })()"
+        )
         for kind in ("mousePressed", "mouseReleased"):
             self.call("Input.dispatchMouseEvent", type=kind, x=x, y=y, button="left", clickCount=1)
 

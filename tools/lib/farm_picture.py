@@ -84,10 +84,12 @@ class Board:
         width, height = self.size()
         kind = " moved" if is_moved else ""
         drawn = picture.circuit_group(self.configuration, self.plan, self.banks, self.moment(is_moved), self.ids)
-        return (f'<g id="board-{self.number}" transform="translate({x} {y})"><rect id="{self.ids}ground" '
-                f'class="ground{kind}" x="2" y="2" width="{width - 4}" height="{height - 4}" rx="8"/>\n'
-                f'<g transform="translate(46 34)">\n{drawn}</g>\n'
-                f'<text id="{self.ids}words" class="bold" x="14" y="{height - 14}">{escaped(self.words)}</text></g>\n')
+        return (
+            f'<g id="board-{self.number}" transform="translate({x} {y})"><rect id="{self.ids}ground" '
+            f'class="ground{kind}" x="2" y="2" width="{width - 4}" height="{height - 4}" rx="8"/>\n'
+            f'<g transform="translate(46 34)">\n{drawn}</g>\n'
+            f'<text id="{self.ids}words" class="bold" x="14" y="{height - 14}">{escaped(self.words)}</text></g>\n'
+        )
 
 
 def boards_group(boards, moved):
@@ -122,20 +124,24 @@ def column(played, x, width, lanes):
     middle = x + width / 2
     y = HEAD + LANE * (played.event.board - 1)
     foot = HEAD + LANE * lanes + 20
-    return (f'<g data-line="{played.number}"><title>text line {played.number} of the schedule</title>'
-            f'<text x="{middle:g}" y="16" text-anchor="middle">{played.number}</text>'
-            f'<text class="bold mono" x="{middle:g}" y="34" text-anchor="middle">{played.event}</text>'
-            f'{arrow(middle, y + 14, played)}'
-            f'<text x="{middle:g}" y="{y + 35}" text-anchor="middle">{made_text(played)}</text>'
-            f'<text id="undoing-{played.number}" class="mono" x="{middle:g}" y="{foot}" text-anchor="middle">'
-            f'{played.undoing or "-"}</text></g>\n')
+    return (
+        f'<g data-line="{played.number}"><title>text line {played.number} of the schedule</title>'
+        f'<text x="{middle:g}" y="16" text-anchor="middle">{played.number}</text>'
+        f'<text class="bold mono" x="{middle:g}" y="34" text-anchor="middle">{played.event}</text>'
+        f"{arrow(middle, y + 14, played)}"
+        f'<text x="{middle:g}" y="{y + 35}" text-anchor="middle">{made_text(played)}</text>'
+        f'<text id="undoing-{played.number}" class="mono" x="{middle:g}" y="{foot}" text-anchor="middle">'
+        f'{played.undoing or "-"}</text></g>\n'
+    )
 
 
 def cursor(place, width, height):
     """The ground of the text line at this place, or a hidden one."""
     hidden, x = ' visibility="hidden"' if place is None else "", LEFT + width * (place or 0)
-    return (f'<rect id="cursor" class="cursor" data-left="{LEFT}" data-step="{width}" x="{x}" y="2" width="{width}" '
-            f'height="{height - 6}" rx="5"{hidden}/>\n')
+    return (
+        f'<rect id="cursor" class="cursor" data-left="{LEFT}" data-step="{width}" x="{x}" y="2" width="{width}" '
+        f'height="{height - 6}" rx="5"{hidden}/>\n'
+    )
 
 
 def timeline_group(boards, lines, chosen, most=MOST_LINES):
@@ -147,21 +153,27 @@ def timeline_group(boards, lines, chosen, most=MOST_LINES):
     body = cursor(next((place for place, it in enumerate(shown) if it.number == chosen), None), width, height)
     for number in range(lanes):
         y = HEAD + LANE * number
-        body += (f'<path class="lane" d="M{LEFT},{y + 14} H{right - 10}"/>'
-                 f'<text x="8" y="{y + 18}">board {number + 1}</text>\n')
+        body += (
+            f'<path class="lane" d="M{LEFT},{y + 14} H{right - 10}"/>'
+            f'<text x="8" y="{y + 18}">board {number + 1}</text>\n'
+        )
     foot = HEAD + LANE * lanes + 20
     body += f'<text x="8" y="34">schedule</text><text x="8" y="{foot}">undone by</text>\n'
     body += f'<text x="{LEFT - 8}" y="34" text-anchor="end">…</text>\n' if len(shown) < len(lines) else ""
     body += "".join(column(it, LEFT + width * place, width, lanes) for place, it in enumerate(shown))
     if shown:
-        body += (f'<path class="lane" d="M{right - 10},{foot + 10} H{LEFT + 8}"/>'
-                 f'<path d="M{LEFT},{foot + 10} l9,-4 v8 z" fill="#777"/>\n')
+        body += (
+            f'<path class="lane" d="M{right - 10},{foot + 10} H{LEFT + 8}"/>'
+            f'<path d="M{LEFT},{foot + 10} l9,-4 v8 z" fill="#777"/>\n'
+        )
     return body, max(right, 200), height
 
 
 def svg(kind, body, width, height, made):
     """A whole picture, with how it was made as its description."""
-    return (f'<svg class="{kind}" xmlns="http://www.w3.org/2000/svg" width="{width}" height="{height}" '
-            f'viewBox="0 0 {width} {height}" role="img">\n<desc>{escaped(made)}</desc>\n'
-            f'<style>{picture.STYLE}{STYLE}</style>\n'
-            f'<rect width="{width}" height="{height}" fill="#fff"/>\n{body}</svg>\n')
+    return (
+        f'<svg class="{kind}" xmlns="http://www.w3.org/2000/svg" width="{width}" height="{height}" '
+        f'viewBox="0 0 {width} {height}" role="img">\n<desc>{escaped(made)}</desc>\n'
+        f"<style>{picture.STYLE}{STYLE}</style>\n"
+        f'<rect width="{width}" height="{height}" fill="#fff"/>\n{body}</svg>\n'
+    )

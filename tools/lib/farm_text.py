@@ -47,7 +47,7 @@ def cut(data):
     ends = [found.end() for found in re.finditer(rb"^%\n", data, flags=re.M)]
     if not ends:
         return data, 0, []
-    return data[:ends[-1]], len(ends), re.findall(rb"[^\n]*\n|[^\n]+", data[ends[-1]:])
+    return data[: ends[-1]], len(ends), re.findall(rb"[^\n]*\n|[^\n]+", data[ends[-1] :])
 
 
 class Farm:
@@ -83,7 +83,7 @@ class Farm:
         if number != self.number:
             self.number, self.before = number, self.undoing
         last = f"{replace(event, steps=steps)}\n".encode()
-        texts, self.undoing = self.answer(b"".join(self.lines[:number - 1]) + last)
+        texts, self.undoing = self.answer(b"".join(self.lines[: number - 1]) + last)
         made, undoing = self.undone(event)
         changed = {place for place, (old, new) in enumerate(zip(self.texts, texts), 1) if old != new}
         if event.board > self.count or changed - {event.board}:

@@ -13,10 +13,20 @@ from browser import first_at_hand
 NAMES = ["firefox-esr", "firefox"]
 # No first pages, no updates, no reports: what a profile asks for before it is used.
 PREFERENCES = {
-    "marionette.port": 0, "app.update.enabled": False, "browser.shell.checkDefaultBrowser": False, "datareporting.policy.dataSubmissionEnabled": False,
-    "toolkit.telemetry.enabled": False, "browser.startup.page": 0, "browser.aboutwelcome.enabled": False, "network.captive-portal-service.enabled": False,
-    "network.connectivity-service.enabled": False, "extensions.systemAddon.update.enabled": False, "app.normandy.enabled": False,
-    "services.settings.server": "", "browser.safebrowsing.malware.enabled": False, "browser.safebrowsing.phishing.enabled": False,
+    "marionette.port": 0,
+    "app.update.enabled": False,
+    "browser.shell.checkDefaultBrowser": False,
+    "datareporting.policy.dataSubmissionEnabled": False,
+    "toolkit.telemetry.enabled": False,
+    "browser.startup.page": 0,
+    "browser.aboutwelcome.enabled": False,
+    "network.captive-portal-service.enabled": False,
+    "network.connectivity-service.enabled": False,
+    "extensions.systemAddon.update.enabled": False,
+    "app.normandy.enabled": False,
+    "services.settings.server": "",
+    "browser.safebrowsing.malware.enabled": False,
+    "browser.safebrowsing.phishing.enabled": False,
 }
 MILLISECONDS = 120000
 
@@ -34,10 +44,17 @@ class Firefox:
     def __init__(self, path):
         self.folder = tempfile.mkdtemp(prefix="workbench-firefox-")
         with open(os.path.join(self.folder, "user.js"), "w", encoding="utf-8") as file:
-            file.writelines(f"user_pref({json.dumps(name)}, {json.dumps(value)});\n" for name, value in PREFERENCES.items())
+            file.writelines(
+                f"user_pref({json.dumps(name)}, {json.dumps(value)});\n" for name, value in PREFERENCES.items()
+            )
         words = [path, "--headless", "--marionette", "--no-remote", "--profile", self.folder]
-        self.child = subprocess.Popen(words, env={**os.environ, "HOME": self.folder, "MOZ_CRASHREPORTER_DISABLE": "1"}, stdin=subprocess.DEVNULL,
-                                      stdout=subprocess.DEVNULL, stderr=subprocess.DEVNULL)
+        self.child = subprocess.Popen(
+            words,
+            env={**os.environ, "HOME": self.folder, "MOZ_CRASHREPORTER_DISABLE": "1"},
+            stdin=subprocess.DEVNULL,
+            stdout=subprocess.DEVNULL,
+            stderr=subprocess.DEVNULL,
+        )
         self.number, self.rest, self.socket = 0, b"", None
 
     def __enter__(self):
@@ -82,8 +99,8 @@ class Firefox:
         while True:
             head, colon, body = self.rest.partition(b":")
             if colon and len(body) >= int(head):
-                self.rest = body[int(head):]
-                return json.loads(body[:int(head)])
+                self.rest = body[int(head) :]
+                return json.loads(body[: int(head)])
             piece = self.socket.recv(1 << 20)
             if not piece:
                 raise OSError("Firefox doesn't answer")

@@ -12,8 +12,20 @@ from workbench_text import Fault
 # How the blank is written, besides by nothing.
 BLANKS = ["", "\u25a1"]
 # The kinds of what a file of version 8 may have.
-MACHINES = ["turing", "tm", "multitape_tm", "block_tm", "fsa", "fa", "pda", "mealy", "moore", "grammar", "regex",
-            "lsystem"]
+MACHINES = [
+    "turing",
+    "tm",
+    "multitape_tm",
+    "block_tm",
+    "fsa",
+    "fa",
+    "pda",
+    "mealy",
+    "moore",
+    "grammar",
+    "regex",
+    "lsystem",
+]
 PART = re.compile(r"(read|write|move)(\d*)")
 
 
@@ -114,8 +126,10 @@ class JflapSeven(Jflap):
                 halting.append(self.names[number])
         if start is None:
             raise Fault(f"{self.where}: no state is the initial one")
-        rules = [self.rule(item, number, [word_of(item, "from"), word_of(item, "to")])
-                 for number, item in enumerate(automaton.findall("transition"), 1)]
+        rules = [
+            self.rule(item, number, [word_of(item, "from"), word_of(item, "to")])
+            for number, item in enumerate(automaton.findall("transition"), 1)
+        ]
         return Machine(rules, start, halting, True, "JFLAP")
 
 
@@ -144,10 +158,16 @@ class JflapEight(Jflap):
         starts, halting = self.ids("start_state"), self.ids("final_states")
         if not starts:
             raise Fault(f"{self.where}: no state is the initial one")
-        items = [it for one in self.structures("transition_set") for it in one
-                 if it.find("from") is not None and it.find("to") is not None]
-        rules = [self.rule(it, number, [self.end(it.find(end)) for end in ("from", "to")])
-                 for number, it in enumerate(items, 1)]
+        items = [
+            it
+            for one in self.structures("transition_set")
+            for it in one
+            if it.find("from") is not None and it.find("to") is not None
+        ]
+        rules = [
+            self.rule(it, number, [self.end(it.find(end)) for end in ("from", "to")])
+            for number, it in enumerate(items, 1)
+        ]
         start, *ends = [self.state(it, self.where) for it in [starts[0], *halting]]
         return Machine(rules, start, ends, True, "JFLAP")
 

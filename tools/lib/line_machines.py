@@ -38,7 +38,7 @@ def read_line(text, where):
     halting = sorted(follow - set(names)) or ["Z"]
     for state, group in zip(names, groups):
         for symbol in range(symbols):
-            it = group[3 * symbol:3 * symbol + 3]
+            it = group[3 * symbol : 3 * symbol + 3]
             place = f"{where}: state {state} symbol {symbol}"
             it = it if it != "---" else f"1R{halting[0]}"
             if int(it[0]) >= symbols and symbols > 1:
@@ -102,8 +102,9 @@ def read_morphett(text, where):
                     if (state, symbol) in earlier:
                         continue
                     if (state, symbol) in rules:
-                        raise Fault(f"{where}: line {number}: an earlier rule is for state '{state}' and '{symbol}' "
-                                    "too (S1)")
+                        raise Fault(
+                            f"{where}: line {number}: an earlier rule is for state '{state}' and '{symbol}' " "too (S1)"
+                        )
                     rules[state, symbol] = rule_of(state, symbol, fields, f"{where}: line {number}")
     start = "0" if "0" in left or not given else given[0][1][0]
     if start == ANY or halts(start):
@@ -115,8 +116,10 @@ def read_morphett(text, where):
 
 def check_fields(fields, place):
     if len(fields) != 5:
-        raise Fault(f"{place}: five fields are wanted, state, symbol, new symbol, direction and new state; "
-                    f"here are {len(fields)}")
+        raise Fault(
+            f"{place}: five fields are wanted, state, symbol, new symbol, direction and new state; "
+            f"here are {len(fields)}"
+        )
     for symbol in fields[1:3]:
         if len(symbol) != 1:
             raise Fault(f"{place}: '{symbol}' is no single symbol")

@@ -123,7 +123,9 @@ class TuringYaml:
                 halting.append(entry.key)
                 continue
             if not isinstance(entry.value, list):
-                raise Fault(f"{self.where}: line {entry.line}: state {shown(entry.key)} has no rules but {shown(entry.value)}")
+                raise Fault(
+                    f"{self.where}: line {entry.line}: state {shown(entry.key)} has no rules but {shown(entry.value)}"
+                )
             rules += self.rules_of(entry)
         for rule in rules:
             if rule.following not in states:
@@ -172,11 +174,15 @@ def halting_state(machine, wanted, where):
         raise Fault(f"{where}: no state halts, so no last rule can be there; --halt names a state")
     for rule in machine.rules:
         if rule.state in halting:
-            raise Fault(f"{rule.place}: leaves {shown(rule.state)}, in which the machine halts; "
-                        "standard form has no such rule (S5)")
+            raise Fault(
+                f"{rule.place}: leaves {shown(rule.state)}, in which the machine halts; "
+                "standard form has no such rule (S5)"
+            )
     if len(halting) > 1 and not machine.halts_alike:
-        raise Fault(f"{where}: {len(halting)} states halt, {', '.join(halting)}, and a table has one; --halt names it, "
-                    "and in the others the machine is stuck")
+        raise Fault(
+            f"{where}: {len(halting)} states halt, {', '.join(halting)}, and a table has one; --halt names it, "
+            "and in the others the machine is stuck"
+        )
     return halting
 
 
@@ -199,8 +205,10 @@ def check_letters(rules):
             if symbol == "_":
                 raise Fault(f"{rule.place}: the letter '_' is the blank of a table")
             if not 33 <= ord(symbol) <= 126 or symbol in '/,"':
-                raise Fault(f"{rule.place}: {shown(symbol)} is no letter of a table: "
-                            "one byte from 33 to 126 other than / , and \"")
+                raise Fault(
+                    f"{rule.place}: {shown(symbol)} is no letter of a table: "
+                    'one byte from 33 to 126 other than / , and "'
+                )
 
 
 def ordered(rules, start, halting, where):
@@ -214,8 +222,10 @@ def ordered(rules, start, halting, where):
         raise Fault(f"{where}: no rule leads to {shown(halting[0])}, in which the machine halts")
     last = ending[-1]
     if len(rules) > 1 and len(first) == 1 and last is first[0]:
-        raise Fault(f"{last.place}: it is the only rule of the start state and the only one that halts; "
-                    "take out the others, which are never used")
+        raise Fault(
+            f"{last.place}: it is the only rule of the start state and the only one that halts; "
+            "take out the others, which are never used"
+        )
     return [rule for rule in first + others if rule is not last] + [last]
 
 
@@ -228,7 +238,7 @@ def new_names(states):
         while name in taken:
             number += 1
             mark = f".{number}"
-            name = base[:LONGEST_NAME - len(mark)] + mark
+            name = base[: LONGEST_NAME - len(mark)] + mark
         names[state] = name
         taken.add(name)
     return names

@@ -106,7 +106,9 @@ def page(title, body, style="", script=None, frames=None):
     if script is not None:
         data = json.dumps(frames, separators=(",", ":")).replace("</", "<\\/")
         code = f"<script>\nconst frames = {data};\n{script}{SCRIPT}</script>\n"
-    return (f'<!DOCTYPE html>\n<html lang="en">\n<head>\n<meta charset="utf-8">\n'
-            f'<meta name="viewport" content="width=device-width, initial-scale=1">\n'
-            f"<title>{escaped(title)}</title>\n<style>{STYLE}{style}</style>\n</head>\n<body>\n"
-            f"<h1>{escaped(title)}</h1>\n{body}{code}</body>\n</html>\n")
+    return (
+        f'<!DOCTYPE html>\n<html lang="en">\n<head>\n<meta charset="utf-8">\n'
+        f'<meta name="viewport" content="width=device-width, initial-scale=1">\n'
+        f"<title>{escaped(title)}</title>\n<style>{STYLE}{style}</style>\n</head>\n<body>\n"
+        f"<h1>{escaped(title)}</h1>\n{body}{code}</body>\n</html>\n"
+    )

@@ -85,8 +85,8 @@ def tip(point, side, size=5):
     x, y = point
     dx, dy = STEP[side]
     base = (x + dx * 1.6 * size, y + dy * 1.6 * size)
-    left = (base[0] - dy * size * .7, base[1] + dx * size * .7)
-    right = (base[0] + dy * size * .7, base[1] - dx * size * .7)
+    left = (base[0] - dy * size * 0.7, base[1] + dx * size * 0.7)
+    right = (base[0] + dy * size * 0.7, base[1] - dx * size * 0.7)
     return f"M{x},{y} L{left[0]:g},{left[1]:g} L{right[0]:g},{right[1]:g} z"
 
 
@@ -127,10 +127,12 @@ def stub(plan, line, way, name):
     head = tip((x, y), line.side) if way == IN else tip(far, {"n": "s", "s": "n", "e": "w", "w": "e"}[line.side])
     beside = "end" if plan.offsets[(line, way)] < 0 else "start"
     anchor = {"w": "end", "e": "start"}.get(line.side, beside)
-    return (f'<path class="halo" d="M{ends[0][0]},{ends[0][1]} L{ends[1][0]},{ends[1][1]}"/>'
-            f'<path class="wire" d="M{ends[0][0]},{ends[0][1]} L{ends[1][0]},{ends[1][1]}"/><path class="tip" d="{head}"/>'
-            f'<text class="name" x="{far[0] + dx * 4}" y="{far[1] + (4 if dx else dy * 4 + (0 if dy < 0 else 10))}" '
-            f'text-anchor="{anchor}">{name}</text>')
+    return (
+        f'<path class="halo" d="M{ends[0][0]},{ends[0][1]} L{ends[1][0]},{ends[1][1]}"/>'
+        f'<path class="wire" d="M{ends[0][0]},{ends[0][1]} L{ends[1][0]},{ends[1][1]}"/><path class="tip" d="{head}"/>'
+        f'<text class="name" x="{far[0] + dx * 4}" y="{far[1] + (4 if dx else dy * 4 + (0 if dy < 0 else 10))}" '
+        f'text-anchor="{anchor}">{name}</text>'
+    )
 
 
 def element_group(number, middle, bar, is_turned, is_bottom, ids=""):
@@ -140,13 +142,15 @@ def element_group(number, middle, bar, is_turned, is_bottom, ids=""):
     turned = " turned" if is_turned else ""
     small = ' style="font-size:10px"' if number > 99 else ""
     upright, lying = f"translate({x} {y}) rotate(90)", f"translate({x} {y})"
-    return (f'<g><title>element {number}</title><rect id="{ids}box-{number}" class="box{turned}" '
-            f'x="{x - half}" y="{y - half}" width="{BOX}" height="{BOX}" rx="{12 if is_bottom else 5}"/>'
-            f'<line id="{ids}bar-{number}" class="bar" x1="{-reach}" y1="0" x2="{reach}" y2="0" '
-            f'data-upright="{upright}" data-lying="{lying}" transform="{lying if bar == "H" else upright}"/>'
-            f'<text x="{x - half + 3}" y="{y - half + 12}"{small}>{number}</text>'
-            f'<text id="{ids}turn-{number}" class="turn{turned}" x="{x + half - 15}" y="{y + half - 4}">'
-            f'&#8635;</text></g>\n')
+    return (
+        f'<g><title>element {number}</title><rect id="{ids}box-{number}" class="box{turned}" '
+        f'x="{x - half}" y="{y - half}" width="{BOX}" height="{BOX}" rx="{12 if is_bottom else 5}"/>'
+        f'<line id="{ids}bar-{number}" class="bar" x1="{-reach}" y1="0" x2="{reach}" y2="0" '
+        f'data-upright="{upright}" data-lying="{lying}" transform="{lying if bar == "H" else upright}"/>'
+        f'<text x="{x - half + 3}" y="{y - half + 12}"{small}>{number}</text>'
+        f'<text id="{ids}turn-{number}" class="turn{turned}" x="{x + half - 15}" y="{y + half - 4}">'
+        f"&#8635;</text></g>\n"
+    )
 
 
 def spans_group(plan, banks, bars):
@@ -155,23 +159,29 @@ def spans_group(plan, banks, bars):
     for bank, spans in zip(banks, plan.spans):
         for column, (left, top, right, bottom) in zip(bank.columns, spans):
             kind = " marked" if bars[column.bottom] == "H" else ""
-            body += (f'<rect class="span{kind}" data-bottom="{column.bottom}" x="{left}" y="{top}" '
-                     f'width="{right - left}" height="{bottom - top}" rx="6"/>'
-                     f'<text class="mark{kind}" data-bottom="{column.bottom}" x="{right - 12}" y="{bottom + 13}">M</text>\n')
+            body += (
+                f'<rect class="span{kind}" data-bottom="{column.bottom}" x="{left}" y="{top}" '
+                f'width="{right - left}" height="{bottom - top}" rx="6"/>'
+                f'<text class="mark{kind}" data-bottom="{column.bottom}" x="{right - 12}" y="{bottom + 13}">M</text>\n'
+            )
     return body
 
 
 def wires_group(configuration, plan, kinds, ids=""):
     """All wires with a start and an end; those of the path come last, so that they lie above."""
+
     def rank(route):
         return ["", "past", "now"].index(kinds.get(route.out, ""))
+
     body = ""
     for route in sorted(plan.routes, key=rank):
         path = rounded(route.points)
-        body += (f'<g id="{ids}{wire_id(route.out)}" class="{kinds.get(route.out, "")}">'
-                 f'<title>{route.out} leads to {route.into}</title>'
-                 f'<path class="halo" d="{path}"/><path class="wire" d="{path}"/>'
-                 f'<path class="tip" d="{tip(route.points[-1], route.into.side)}"/></g>\n')
+        body += (
+            f'<g id="{ids}{wire_id(route.out)}" class="{kinds.get(route.out, "")}">'
+            f"<title>{route.out} leads to {route.into}</title>"
+            f'<path class="halo" d="{path}"/><path class="wire" d="{path}"/>'
+            f'<path class="tip" d="{tip(route.points[-1], route.into.side)}"/></g>\n'
+        )
     body += f"<g>{stub(plan, configuration.start, IN, 'start')}</g>\n"
     end = configuration.end
     return body + f'<g id="{ids}{wire_id(end)}" class="{kinds.get(end, "")}">{stub(plan, end, OUT, "end")}</g>\n'
@@ -180,7 +190,7 @@ def wires_group(configuration, plan, kinds, ids=""):
 def path_kinds(configuration, frames, number):
     """For each output line on the signal's path up to a frame: past, or now for the last one."""
     kinds = {}
-    for place, frame in enumerate(frames[:number + 1]):
+    for place, frame in enumerate(frames[: number + 1]):
         out = wire_of(configuration, frame) if place else None
         if out is not None:
             kinds[out] = "now" if place == number else "past"
@@ -190,7 +200,7 @@ def path_kinds(configuration, frames, number):
 def bars_at(configuration, frames, number):
     """The bars at a frame."""
     bars = list(configuration.bars)
-    for frame in frames[:number + 1]:
+    for frame in frames[: number + 1]:
         for element, bar in frame.changed:
             bars[element] = bar
     return bars
@@ -223,8 +233,10 @@ def circuit_group(configuration, plan, banks, moment, ids=""):
     body = spans_group(plan, banks, moment.bars) + f"<g>\n{wires_group(configuration, plan, moment.kinds, ids)}</g>\n"
     for element, middle in enumerate(plan.middles):
         body += element_group(element, middle, moment.bars[element], element in moment.turned, element in bottoms, ids)
-    return body + (f'<g id="{ids}signal" transform="translate({x} {y})"><circle class="ring" r="9"/>'
-                   f'<circle class="signal" r="5.5"/></g>\n')
+    return body + (
+        f'<g id="{ids}signal" transform="translate({x} {y})"><circle class="ring" r="9"/>'
+        f'<circle class="signal" r="5.5"/></g>\n'
+    )
 
 
 def circuit_svg(configuration, plan, banks, frames, number, made, caption="", zoom=1):
@@ -234,9 +246,11 @@ def circuit_svg(configuration, plan, banks, frames, number, made, caption="", zo
     if caption:
         body += f'<text x="{-left + 8}" y="{plan.height + bottom - 8}">{caption}</text>\n'
     width, height = max(plan.width + 2 * left, 8 * len(caption)), plan.height + top + bottom
-    return (f'<svg class="circuit" xmlns="http://www.w3.org/2000/svg" width="{width * zoom:g}" height="{height * zoom:g}" '
-            f'viewBox="{-left} {-top} {width} {height}" role="img">\n<desc>{escaped(made)}</desc>\n<style>{STYLE}</style>\n'
-            f'<rect x="{-left}" y="{-top}" width="{width}" height="{height}" fill="#fff"/>\n{body}</svg>\n')
+    return (
+        f'<svg class="circuit" xmlns="http://www.w3.org/2000/svg" width="{width * zoom:g}" height="{height * zoom:g}" '
+        f'viewBox="{-left} {-top} {width} {height}" role="img">\n<desc>{escaped(made)}</desc>\n<style>{STYLE}</style>\n'
+        f'<rect x="{-left}" y="{-top}" width="{width}" height="{height}" fill="#fff"/>\n{body}</svg>\n'
+    )
 
 
 def frame_data(configuration, plan, frames):
@@ -245,6 +259,12 @@ def frame_data(configuration, plan, frames):
     for number, frame in enumerate(frames):
         out = drawn_wire(configuration, frame) if number else None
         x, y = signal_at(plan, frame)
-        data.append({"place": f"steps {frame.steps} {frame.place_text}", "changed": frame.changed if number else [],
-                     "wire": wire_id(out) if out else "", "at": f"{x} {y}"})
+        data.append(
+            {
+                "place": f"steps {frame.steps} {frame.place_text}",
+                "changed": frame.changed if number else [],
+                "wire": wire_id(out) if out else "",
+                "at": f"{x} {y}",
+            }
+        )
     return data

@@ -23,8 +23,13 @@ def cells(tape, x, y, width, height):
         kinds = "cell" + ("" if symbol == "_" else " full") + (" head" if is_head else "")
         text = "symbol" + (" blank" if symbol == "_" else "")
         left, baseline = x + number * width, y + height / 2 + (1 if symbol == "_" else 4)
-        parts.append((is_head, f'<rect class="{kinds}" x="{left}" y="{y}" width="{width}" height="{height}"/>'
-                               f'<text class="{text}" x="{left + width / 2:g}" y="{baseline:g}">{escaped(symbol)}</text>'))
+        parts.append(
+            (
+                is_head,
+                f'<rect class="{kinds}" x="{left}" y="{y}" width="{width}" height="{height}"/>'
+                f'<text class="{text}" x="{left + width / 2:g}" y="{baseline:g}">{escaped(symbol)}</text>',
+            )
+        )
     return "".join(part for _, part in sorted(parts, key=lambda it: it[0])) + "\n"
 
 
@@ -41,6 +46,8 @@ def history_length(view):
 
 def svg(width, height, body, made, extra=""):
     """The whole picture, with how it was made as its description."""
-    return (f'<svg class="tapes" xmlns="http://www.w3.org/2000/svg" width="{width}" height="{height}" '
-            f'viewBox="0 0 {width} {height}" role="img">\n<desc>{escaped(made)}</desc>\n<style>{STYLE}{extra}</style>\n'
-            f'<rect width="{width}" height="{height}" fill="#fff"/>\n{body}</svg>\n')
+    return (
+        f'<svg class="tapes" xmlns="http://www.w3.org/2000/svg" width="{width}" height="{height}" '
+        f'viewBox="0 0 {width} {height}" role="img">\n<desc>{escaped(made)}</desc>\n<style>{STYLE}{extra}</style>\n'
+        f'<rect width="{width}" height="{height}" fill="#fff"/>\n{body}</svg>\n'
+    )

@@ -35,7 +35,8 @@ def read_plan(text):
     """The number of elements and of tracks, the densest position, and the wires: two positions and a track each."""
     lines = text.splitlines()
     elements, _, tracks, densest = (
-        number_behind(lines, place, word) for place, word in enumerate(["elements", "wires", "tracks", "densest"]))
+        number_behind(lines, place, word) for place, word in enumerate(["elements", "wires", "tracks", "densest"])
+    )
     wires = []
     for number, line in enumerate(lines[4:], 5):
         found = WIRE.fullmatch(line)
@@ -67,8 +68,10 @@ def wire_svg(wire, top):
     source, target, track, line = wire
     height = top - TRACK * track
     path = f"M{across(source):g} {top} V{height} H{across(target):g} V{top}"
-    return (f'<g><title>{escaped(line)}</title><path class="wire" d="{path}"/>'
-            f'<circle class="end" cx="{across(target):g}" cy="{top - 2}" r="2.6"/></g>')
+    return (
+        f'<g><title>{escaped(line)}</title><path class="wire" d="{path}"/>'
+        f'<circle class="end" cx="{across(target):g}" cy="{top - 2}" r="2.6"/></g>'
+    )
 
 
 def tracks_svg(text, made):
@@ -76,8 +79,12 @@ def tracks_svg(text, made):
     elements, tracks, densest, wires = read_plan(text)
     top = MARGIN + TRACK * (tracks + 1)
     width, height = 2 * MARGIN + UNIT * POSITIONS * elements, top + BOX + 2 * MARGIN
-    parts = [f'<svg class="plan" xmlns="http://www.w3.org/2000/svg" width="{width}" height="{height}" '
-             f'viewBox="0 0 {width} {height}" role="img">', f"<desc>{escaped(made)}</desc>", f"<style>{STYLE}</style>"]
+    parts = [
+        f'<svg class="plan" xmlns="http://www.w3.org/2000/svg" width="{width}" height="{height}" '
+        f'viewBox="0 0 {width} {height}" role="img">',
+        f"<desc>{escaped(made)}</desc>",
+        f"<style>{STYLE}</style>",
+    ]
     parts += [wire_svg(wire, top) for wire in wires]
     parts += [element_svg(element, top) for element in range(elements)]
     if wires:

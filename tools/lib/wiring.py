@@ -16,8 +16,16 @@ MARGIN = 15
 IN, OUT = "in", "out"
 # How far from the middle of a side a line stands: opposite sides of a channel have four different places. Where two
 # neighbours are joined straight, both stand at the same place, that of the output.
-OFFSETS = {("e", OUT): -13, ("w", IN): -6, ("w", OUT): 13, ("e", IN): 6,
-           ("s", OUT): -13, ("n", IN): -6, ("n", OUT): 13, ("s", IN): 6}
+OFFSETS = {
+    ("e", OUT): -13,
+    ("w", IN): -6,
+    ("w", OUT): 13,
+    ("e", IN): 6,
+    ("s", OUT): -13,
+    ("n", IN): -6,
+    ("n", OUT): 13,
+    ("s", IN): 6,
+}
 OPPOSITE = {"n": "s", "s": "n", "e": "w", "w": "e"}
 STEP = {"n": (0, -1), "e": (1, 0), "s": (0, 1), "w": (-1, 0)}
 
@@ -144,6 +152,7 @@ class Router:
             at = 2 * channel
             detour = max(0, least - at) + max(0, at - greatest)
             return detour + self.load.get((is_upright, channel), 0) / 3, channel
+
         return min(choices, key=cost)
 
     def piece(self, is_upright, channel, first, second):
@@ -160,16 +169,20 @@ class Router:
         if first == last:
             return [self.piece(first_up, first, here, there)]
         across = self.nearest(not first_up, here, there)
-        return [self.piece(first_up, first, here, 2 * across),
-                self.piece(not first_up, across, 2 * first, 2 * last),
-                self.piece(last_up, last, 2 * across, there)]
+        return [
+            self.piece(first_up, first, here, 2 * across),
+            self.piece(not first_up, across, 2 * first, 2 * last),
+            self.piece(last_up, last, 2 * across, there),
+        ]
 
     def route(self):
         """Gives every wire that isn't straight its pieces, short ones first, and every piece a track."""
+
         def length(wire):
             out, into = wire
             (a, b), (c, d) = self.places[out.element], self.places[into.element]
             return abs(a - c) + abs(b - d)
+
         wires = [(out, into) for out, into in self.configuration.wires() if out not in self.straight]
         for out, into in sorted(wires, key=length):
             self.pieces[out] = self.way(out, into)
@@ -259,6 +272,12 @@ def span_of(bank, middles):
     for column in bank.columns:
         points = [middles[element] for element in column.elements]
         reach = BOX // 2 + 5
-        spans.append((min(x for x, _ in points) - reach, min(y for _, y in points) - reach,
-                      max(x for x, _ in points) + reach, max(y for _, y in points) + reach))
+        spans.append(
+            (
+                min(x for x, _ in points) - reach,
+                min(y for _, y in points) - reach,
+                max(x for x, _ in points) + reach,
+                max(y for _, y in points) + reach,
+            )
+        )
     return spans

@@ -19,7 +19,7 @@ from hithwelor.texts import Tape, View
 WORKBENCH = os.path.join(TOP, "workbench")
 BUILT = os.path.join(TOP, "crates", "bn_main", "out", "bn_main")
 SIDES = "nesw"
-GREATEST_STEPS = 2 ** 62
+GREATEST_STEPS = 2**62
 GREATEST_WINDOW = 1048576
 # The word in place of a window's numbers, and the statuses of a run in the window that is found: halted, and stuck.
 AUTO = "auto"
@@ -57,17 +57,23 @@ def plain_parser_of(description, **more):
 def parser_of(description, **more):
     """An argument parser with the option of every tool that runs the program."""
     parser = plain_parser_of(description, **more)
-    parser.add_argument("--program", metavar="PATH", default=WORKBENCH,
-                        help="the program to run; without it, the proved one, which ./workbench builds where it must")
+    parser.add_argument(
+        "--program",
+        metavar="PATH",
+        default=WORKBENCH,
+        help="the program to run; without it, the proved one, which ./workbench builds where it must",
+    )
     return parser
 
 
 def number_up_to(greatest, least=0):
     """A reader of an option's number, for argparse."""
+
     def read(word):
         if not re.fullmatch(r"0|[1-9][0-9]*", word) or not least <= int(word) <= greatest:
             raise argparse.ArgumentTypeError(f"{word!r} is no number from {least} to {greatest}")
         return int(word)
+
     return read
 
 
@@ -197,7 +203,14 @@ def line_of(word, place):
 
 def head_of(lines, where):
     """The first six text lines of a configuration text, without its element lines."""
-    patterns = [r"rotary ([12])", r"elements ([1-9][0-9]*)", r"start (\S+)", r"end (\S+)", r"steps (\d+)", r"(at|left) (\S+)"]
+    patterns = [
+        r"rotary ([12])",
+        r"elements ([1-9][0-9]*)",
+        r"start (\S+)",
+        r"end (\S+)",
+        r"steps (\d+)",
+        r"(at|left) (\S+)",
+    ]
     found = []
     for number, pattern in enumerate(patterns, 1):
         match = re.fullmatch(pattern, lines[number - 1]) if number <= len(lines) else None
@@ -224,7 +237,12 @@ def column_of(lines, number, top, where):
     """The bars and the targets of a column whose entry begins behind so many text lines, its top row this element."""
     at = f"{where}: line {number + 1}"
     words = lines[number].split(" ")
-    if len(words) != 4 or words[1] != str(top) or not re.fullmatch(r"[1-9][0-9]*", words[2]) or words[3] not in ("H", "V"):
+    if (
+        len(words) != 4
+        or words[1] != str(top)
+        or not re.fullmatch(r"[1-9][0-9]*", words[2])
+        or words[3] not in ("H", "V")
+    ):
         raise Fault(f"{at} isn't that of a column from element {top} on")
     rows = int(words[2])
     targets = inner_targets(top, rows)
@@ -264,8 +282,15 @@ def read_configuration(text, where="standard input"):
     if len(lines) != 6 + int(count[1]):
         raise Fault(f"{where}: {len(lines) - 6} text lines of elements, and line 2 says {count[1]}")
     bars, targets = entries_of(lines, version[1], where)
-    return Configuration(line_of(start[1], f"{where}: line 3"), line_of(end[1], f"{where}: line 4"), int(steps[1]),
-                         place[1] == "left", line_of(place[2], f"{where}: line 6"), bars, targets)
+    return Configuration(
+        line_of(start[1], f"{where}: line 3"),
+        line_of(end[1], f"{where}: line 4"),
+        int(steps[1]),
+        place[1] == "left",
+        line_of(place[2], f"{where}: line 6"),
+        bars,
+        targets,
+    )
 
 
 @dataclass
@@ -324,9 +349,14 @@ def read_view(lines, where):
 def add_window(parser):
     """The positional words of a run: =W l1 r1 n r3, or =W auto."""
     parser.add_argument("word", metavar="=W", help="the word behind a =, as for run; = alone is the empty word")
-    parser.add_argument("window", metavar="N", nargs="+", type=number_or_auto,
-                        help="the window l1 r1 n r3: tape 1 from -l1 to r1, history 0 to n, output 0 to r3; or auto: the "
-                             "one that `run =W auto` finds")
+    parser.add_argument(
+        "window",
+        metavar="N",
+        nargs="+",
+        type=number_or_auto,
+        help="the window l1 r1 n r3: tape 1 from -l1 to r1, history 0 to n, output 0 to r3; or auto: the "
+        "one that `run =W auto` finds",
+    )
 
 
 def number_or_auto(word):

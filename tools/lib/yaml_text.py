@@ -11,8 +11,18 @@ from dataclasses import dataclass
 from workbench_text import Fault
 
 # What stands behind a backslash in a word in double quotes.
-ESCAPES = {"0": "\0", "t": "\t", "n": "\n", "r": "\r", "e": "\x1b", "_": "\xa0", " ": " ", '"': '"', "\\": "\\",
-           "/": "/"}
+ESCAPES = {
+    "0": "\0",
+    "t": "\t",
+    "n": "\n",
+    "r": "\r",
+    "e": "\x1b",
+    "_": "\xa0",
+    " ": " ",
+    '"': '"',
+    "\\": "\\",
+    "/": "/",
+}
 CODES = {"x": 2, "u": 4, "U": 8}
 # How deep lists and mappings may stand within each other.
 DEEPEST = 50
@@ -64,7 +74,7 @@ class YamlLine:
 
     def is_mark(self, mark):
         """Whether this mark stands here as a word of its own."""
-        return self.is_at(mark) and self.text[self.at + 1:self.at + 2] in ("", " ")
+        return self.is_at(mark) and self.text[self.at + 1 : self.at + 2] in ("", " ")
 
     def is_colon(self):
         """Whether a colon that ends a key stands here."""
@@ -86,7 +96,7 @@ class YamlLine:
             if self.is_at("#") and self.text[self.at - 1] == " ":
                 break
             self.at += 1
-        word = self.text[begin:self.at].rstrip(" ")
+        word = self.text[begin : self.at].rstrip(" ")
         return None if word in ("", "~", "null") else word
 
     def quoted(self):
@@ -94,7 +104,7 @@ class YamlLine:
         quote, word = self.text[self.at], ""
         self.at += 1
         while self.at < len(self.text):
-            here, after = self.text[self.at], self.text[self.at + 1:self.at + 2]
+            here, after = self.text[self.at], self.text[self.at + 1 : self.at + 2]
             if here == quote == "'" and after == "'":
                 word += after
                 self.at += 2
@@ -110,7 +120,7 @@ class YamlLine:
     def escaped(self, mark):
         """What a backslash and the character behind it mean."""
         if mark in CODES:
-            code = self.text[self.at + 2:self.at + 2 + CODES[mark]]
+            code = self.text[self.at + 2 : self.at + 2 + CODES[mark]]
             if len(code) == CODES[mark] and re.fullmatch(r"[0-9A-Fa-f]+", code) and int(code, 16) < 0x110000:
                 self.at += 2 + len(code)
                 return chr(int(code, 16))
@@ -250,7 +260,7 @@ class YamlText:
         while self.at < len(self.lines) and self.lines[self.at].lstrip(" ")[:1] in ("", "#"):
             self.at += 1
         line = self.lines[self.at] if self.at < len(self.lines) else ""
-        if line[:it.depth].strip(" ") or not re.match(r":( |$)", line[it.depth:]):
+        if line[: it.depth].strip(" ") or not re.match(r":( |$)", line[it.depth :]):
             return
         reader = YamlLine(self.whole_at(), self.place(self.at))
         reader.at = it.depth + 1
@@ -271,7 +281,7 @@ class YamlText:
         """The value behind a colon, which may be a text that stands deeper."""
         reader.skip()
         if reader.is_at("|>"):
-            head = re.match(r"([|>])([1-9]?[-+]?|[-+][1-9])(?: +#.*| *)$", reader.text[reader.at:])
+            head = re.match(r"([|>])([1-9]?[-+]?|[-+][1-9])(?: +#.*| *)$", reader.text[reader.at :])
             if not head:
                 raise reader.fault(f"'{reader.text[reader.at]}' begins nothing that is read here")
             it.value, it.has_value = self.scalar(head[1], head[2], it.depth), True

@@ -105,8 +105,11 @@ def drawn(letters: str, least: int, most: int, count: int, seed: int) -> Listed:
 
     def below(number: int) -> int:
         return int(draw.random() * number)
+
     lengths: Sequence[int] = range(least, most + 1) if letters else [0]
-    return Listed(["".join(letters[below(len(letters))] for _ in range(lengths[below(len(lengths))])) for _ in range(count)])
+    return Listed(
+        ["".join(letters[below(len(letters))] for _ in range(lengths[below(len(lengths))])) for _ in range(count)]
+    )
 
 
 def words_of_file(path: str) -> Listed:
@@ -138,8 +141,17 @@ def increments(count: int) -> bytes:
     lines = ["S,_,_,+,R1"]
     for i in range(1, count + 1):
         last = f"L{i},_,_,0,F" if i == count else f"L{i},_,_,+,R{i + 1}"
-        lines += [f"R{i},0,0,+,R{i}", f"R{i},1,1,+,R{i}", f"R{i},_,_,-,P{i}", f"P{i},1,0,-,P{i}", f"P{i},0,1,-,L{i}",
-                  f"P{i},_,1,-,L{i}", f"L{i},0,0,-,L{i}", f"L{i},1,1,-,L{i}", last]
+        lines += [
+            f"R{i},0,0,+,R{i}",
+            f"R{i},1,1,+,R{i}",
+            f"R{i},_,_,-,P{i}",
+            f"P{i},1,0,-,P{i}",
+            f"P{i},0,1,-,L{i}",
+            f"P{i},_,1,-,L{i}",
+            f"L{i},0,0,-,L{i}",
+            f"L{i},1,1,-,L{i}",
+            last,
+        ]
     return "".join(f"{line}\n" for line in lines).encode()
 
 

@@ -27,10 +27,12 @@ from .workers import Cluster, Local, Pool, answers_in_order
 
 DIFFER = 1
 # What to do about a refusal, by its first word.
-HINTS = {"text": "that file isn't a table of quintuples, one `state,read,write,shift,next` a line",
-         "machine": "that machine isn't in standard form, and --standard brings most into it",
-         "word": "that word has a letter that the machine hasn't; words are written without = before them",
-         "size": "that word doesn't fit its window, or the circuit would be too large; docs/FORMATS.md has the limits"}
+HINTS = {
+    "text": "that file isn't a table of quintuples, one `state,read,write,shift,next` a line",
+    "machine": "that machine isn't in standard form, and --standard brings most into it",
+    "word": "that word has a letter that the machine hasn't; words are written without = before them",
+    "size": "that word doesn't fit its window, or the circuit would be too large; docs/FORMATS.md has the limits",
+}
 
 
 class Parser(argparse.ArgumentParser):
@@ -40,12 +42,16 @@ class Parser(argparse.ArgumentParser):
         raise Fault(f"{message}; --help tells the words")
 
 
-def number(least: int, most: int = 2 ** 62) -> Callable[[str], int]:
+def number(least: int, most: int = 2**62) -> Callable[[str], int]:
     """A reader of an option's number, for argparse."""
+
     def read(word: str) -> int:
         if not (word.isascii() and word.isdigit()) or not least <= int(word) <= most:
-            raise argparse.ArgumentTypeError(f"{word!r} is no number from {least}" + (f" to {most}" if most < 2 ** 62 else " on"))
+            raise argparse.ArgumentTypeError(
+                f"{word!r} is no number from {least}" + (f" to {most}" if most < 2**62 else " on")
+            )
         return int(word)
+
     return read
 
 
@@ -63,20 +69,43 @@ def part(word: str) -> tuple[int, int]:
 
 
 def parser() -> Parser:
-    it = Parser(prog="hithwelor sweep", description=__doc__, formatter_class=argparse.RawDescriptionHelpFormatter, allow_abbrev=False)
+    it = Parser(
+        prog="hithwelor sweep",
+        description=__doc__,
+        formatter_class=argparse.RawDescriptionHelpFormatter,
+        allow_abbrev=False,
+    )
     it.add_argument("machines", metavar="MACHINE", nargs="+", help="a table's file, a folder of *.csv, or generate:K")
     words = it.add_argument_group("the words").add_mutually_exclusive_group(required=True)
     words.add_argument("--words", metavar="FILE", help="the words of a file, one a line")
-    words.add_argument("--up-to", metavar="N", type=number(0), help="all words of up to N letters, the shorter ones first")
+    words.add_argument(
+        "--up-to", metavar="N", type=number(0), help="all words of up to N letters, the shorter ones first"
+    )
     words.add_argument("--length", metavar="N", type=number(0), help="all words of N letters")
     it.add_argument("--letters", metavar="LETTERS", help="the letters of the words; without it, each machine's own")
-    it.add_argument("--draw", metavar="K", type=number(1, 10 ** 7), help="K words drawn among them, in place of all")
+    it.add_argument("--draw", metavar="K", type=number(1, 10**7), help="K words drawn among them, in place of all")
     it.add_argument("--seed", metavar="S", type=number(0), default=1, help="what they are drawn by (1)")
-    it.add_argument("--form", nargs="+", choices=cases.FORMS, metavar="FORM",
-                    help="what is asked: machine, run, compile, erase (machine; with --check machine and run)")
-    it.add_argument("--window", nargs="+", default=[cases.AUTO], metavar="W", help="windows of run and compile: auto, or l1,r1,n,r3 (auto)")
-    it.add_argument("--steps", metavar="N", type=number(0, cases.MOST_STEPS), default=cases.MOST_STEPS,
-                    help="the greatest number of steps of machine and erase (1048576)")
+    it.add_argument(
+        "--form",
+        nargs="+",
+        choices=cases.FORMS,
+        metavar="FORM",
+        help="what is asked: machine, run, compile, erase (machine; with --check machine and run)",
+    )
+    it.add_argument(
+        "--window",
+        nargs="+",
+        default=[cases.AUTO],
+        metavar="W",
+        help="windows of run and compile: auto, or l1,r1,n,r3 (auto)",
+    )
+    it.add_argument(
+        "--steps",
+        metavar="N",
+        type=number(0, cases.MOST_STEPS),
+        default=cases.MOST_STEPS,
+        help="the greatest number of steps of machine and erase (1048576)",
+    )
     it.add_argument("--standard", action="store_true", help="bring each machine into standard form first")
     it.add_argument("--second", metavar="FILE", help="the machine back, for erase; without it, each machine is its own")
     it.add_argument("--check", action="store_true", help="compare what is proved: machine beside run")
@@ -85,7 +114,9 @@ def parser() -> Parser:
     it.add_argument("--seconds", metavar="S", type=seconds, help="how long a case may take")
     it.add_argument("--jobs", metavar="N", type=number(1, 1024), help="so many processes (as many as there are cores)")
     it.add_argument("--scheduler", metavar="ADDRESS", help="in place of them, the workers of this Dask scheduler")
-    it.add_argument("--part", metavar="K/N", type=part, help="only the K-th of N parts, into TABLE with .K-of-N before its end")
+    it.add_argument(
+        "--part", metavar="K/N", type=part, help="only the K-th of N parts, into TABLE with .K-of-N before its end"
+    )
     return it
 
 
@@ -133,8 +164,15 @@ def plan_of(options: argparse.Namespace) -> cases.Plan:
     listed = cases.words_of_file(options.words) if options.words else None
     words = [listed or words_for(options, it.letters) for it in sources]
     kinds = cases.kinds_of(options.form, list(dict.fromkeys(map(cases.window_of, options.window))), options.steps)
-    return cases.Plan(tuple(tables), tuple(words), kinds, "standard " if options.standard else "", options.seconds,
-                      sources, back if "erase" in options.form else None)
+    return cases.Plan(
+        tuple(tables),
+        tuple(words),
+        kinds,
+        "standard " if options.standard else "",
+        options.seconds,
+        sources,
+        back if "erase" in options.form else None,
+    )
 
 
 def place_of(options: argparse.Namespace) -> tuple[str | None, str | None]:
@@ -147,8 +185,9 @@ def place_of(options: argparse.Namespace) -> tuple[str | None, str | None]:
     return whole + table.UNFINISHED, whole
 
 
-def old_of(options: argparse.Namespace, path: str | None, whole: str | None, plan: cases.Plan,
-           bounds: tuple[int, int]) -> table.Old:
+def old_of(
+    options: argparse.Namespace, path: str | None, whole: str | None, plan: cases.Plan, bounds: tuple[int, int]
+) -> table.Old:
     """What stands in the table already; nothing, where there is none or it has no row."""
     old = table.Old()
     there = next((it for it in (whole, path) if it and os.path.isfile(it)), None)
@@ -191,7 +230,9 @@ def close(tally: Tally, is_checked: bool, stream: TextIO) -> int:
         tell(line)
     if tally.refused:
         kind = tally.first_outcome.partition(":")[0]
-        tell(f"rows that tell a refusal: {tally.refused}, the first {tally.first}: {HINTS.get(kind, 'docs/HELP.md says what is meant')}")
+        tell(
+            f"rows that tell a refusal: {tally.refused}, the first {tally.first}: {HINTS.get(kind, 'docs/HELP.md says what is meant')}"
+        )
     if tally.late:
         tell(f"rows of cases that took too long: {tally.late}; a greater --seconds gives them more time")
     if is_checked:

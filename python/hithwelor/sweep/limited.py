@@ -59,8 +59,14 @@ class Limited:
         """A new case begins; where there is no process yet, it is started before its time counts."""
         if self.child is None or self.child.poll() is not None:
             path = os.pathsep.join([PACKAGES, *filter(None, [os.environ.get("PYTHONPATH")])])
-            self.child = subprocess.Popen([sys.executable, "-m", __name__, str(os.getpid())], bufsize=0, start_new_session=True,
-                                          stdin=subprocess.PIPE, stdout=subprocess.PIPE, env={**os.environ, "PYTHONPATH": path})
+            self.child = subprocess.Popen(
+                [sys.executable, "-m", __name__, str(os.getpid())],
+                bufsize=0,
+                start_new_session=True,
+                stdin=subprocess.PIPE,
+                stdout=subprocess.PIPE,
+                env={**os.environ, "PYTHONPATH": path},
+            )
             self.until = time.monotonic() + 60
             self.read(1)
         self.until = time.monotonic() + self.seconds
@@ -84,7 +90,7 @@ class Limited:
         _, pipe, _ = self.pipes()
         sent = memoryview(data)
         while sent:
-            sent = sent[pipe.write(sent):]
+            sent = sent[pipe.write(sent) :]
 
     def read(self, count: int) -> bytes:
         """So many bytes from the process, or TimeUp, where it is killed."""
@@ -128,6 +134,7 @@ def end_with(parent: int) -> None:
         while os.getppid() == parent:
             time.sleep(LOOK)
         kill_group(os.getpid())
+
     threading.Thread(target=watch, daemon=True).start()
 
 

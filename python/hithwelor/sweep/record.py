@@ -56,15 +56,21 @@ def hold(path: str, files: Mapping[str, str]) -> None:
     record, name_of_record = read(path), shlex.quote(path + ENDING)
     told = record or {}
     if files and record is None:
-        raise Fault(f"{path}{ENDING} isn't there, which tells what the rows were made of: where no machine has changed "
-                    f"since, `sha256sum {shlex.join(files)} > {name_of_record}` makes it; else name another table by --out")
+        raise Fault(
+            f"{path}{ENDING} isn't there, which tells what the rows were made of: where no machine has changed "
+            f"since, `sha256sum {shlex.join(files)} > {name_of_record}` makes it; else name another table by --out"
+        )
     for name, digest in files.items():
         if name not in told:
-            raise Fault(f"{path}{ENDING} has no line of {name}: where that hasn't changed since its rows were made, "
-                        f"`sha256sum {shlex.quote(name)} >> {name_of_record}` adds it; else name another table by --out")
+            raise Fault(
+                f"{path}{ENDING} has no line of {name}: where that hasn't changed since its rows were made, "
+                f"`sha256sum {shlex.quote(name)} >> {name_of_record}` adds it; else name another table by --out"
+            )
         if told[name] != digest:
-            raise Fault(f"{name} has changed since the rows of {path} were made, which stays as it is: "
-                        "bring the old one back, or name another table by --out")
+            raise Fault(
+                f"{name} has changed since the rows of {path} were made, which stays as it is: "
+                "bring the old one back, or name another table by --out"
+            )
 
 
 def together(paths: Sequence[str], tell: Tell) -> dict[str, str] | None:
@@ -79,6 +85,8 @@ def together(paths: Sequence[str], tell: Tell) -> dict[str, str] | None:
                 raise Fault(f"{path} was made of another {name} than {first[name]}: make one of the two again")
             first.setdefault(name, path)
     if bare:
-        tell(f"parts without a record, as {bare[0]}{ENDING}: {len(bare)} of {len(paths)}; "
-             "whether all are of the same machines wasn't compared")
+        tell(
+            f"parts without a record, as {bare[0]}{ENDING}: {len(bare)} of {len(paths)}; "
+            "whether all are of the same machines wasn't compared"
+        )
     return None if bare else found

@@ -12,7 +12,19 @@ from .. import answers
 from .cases import AUTO, WINDOWED, Batch, Kind, Table
 from .limited import Direct, Ended, Limited, TimeUp
 
-COLUMNS = ("machine", "form", "word", "window", "status", "outcome", "steps", "quadruple steps", "elements", "output", "seconds")
+COLUMNS = (
+    "machine",
+    "form",
+    "word",
+    "window",
+    "status",
+    "outcome",
+    "steps",
+    "quadruple steps",
+    "elements",
+    "output",
+    "seconds",
+)
 MACHINE, FORM, WORD, WINDOW, STATUS, OUTCOME, STEPS, QUADRUPLE, ELEMENTS, OUTPUT, SECONDS = range(len(COLUMNS))
 ANSWERED = ("0", "10", "11", "12")
 TIME, NO_MEMORY, ENDED = "time", "no memory", "ended"
@@ -111,6 +123,7 @@ def row_of(asker: Union[Direct, Limited], table: Table, kind: Kind, word: str, f
 
 # ---- the machine beside its circuit
 
+
 def agrees(machine: Row, run: Row) -> bool | None:
     """Whether the row of `run` is what the machine's row says it must be; None where the two can't be compared, since one of
     them was refused or not ended, or the window was too small."""
@@ -145,7 +158,10 @@ class Tally:
             elif row[STATUS] not in ANSWERED:
                 self.refused += 1
                 if not self.first:
-                    self.first, self.first_outcome = f"{row[MACHINE]} {row[FORM]} ={row[WORD]}: {row[OUTCOME]}", row[OUTCOME]
+                    self.first, self.first_outcome = (
+                        f"{row[MACHINE]} {row[FORM]} ={row[WORD]}: {row[OUTCOME]}",
+                        row[OUTCOME],
+                    )
         machine = next((row for row in group if row[FORM].endswith("machine")), None)
         for row in group:
             if machine and row[FORM].endswith("run"):
@@ -159,9 +175,11 @@ class Tally:
             self.agree += 1
         else:
             self.differ += 1
-            self.lines.append(f"{run[MACHINE]}: ={run[WORD]} in the window {run[WINDOW]} differs: the machine says "
-                              f"{' '.join(machine[OUTCOME:QUADRUPLE])} {machine[OUTPUT]!r}, the circuit "
-                              f"{run[OUTCOME]} {run[QUADRUPLE]} {run[OUTPUT]!r}")
+            self.lines.append(
+                f"{run[MACHINE]}: ={run[WORD]} in the window {run[WINDOW]} differs: the machine says "
+                f"{' '.join(machine[OUTCOME:QUADRUPLE])} {machine[OUTPUT]!r}, the circuit "
+                f"{run[OUTCOME]} {run[QUADRUPLE]} {run[OUTPUT]!r}"
+            )
 
     def add(self, other: Tally) -> None:
         """Takes in what another has."""
@@ -172,6 +190,7 @@ class Tally:
 
 
 # ---- batches
+
 
 @dataclass(frozen=True)
 class Answer:

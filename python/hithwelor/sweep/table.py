@@ -70,7 +70,7 @@ class Old:
 
 def wanted_rows(plan: Plan, at: int) -> list[Row]:
     """The first four fields that the rows of a group have; a window may be `auto`."""
-    (table, words), = plan.batch(at, at + 1).parts
+    ((table, words),) = plan.batch(at, at + 1).parts
     return [[table.name, plan.front + kind.form, words[0], kind.window] for kind in plan.kinds]
 
 
@@ -88,8 +88,9 @@ class Written:
     def open(self, length: int) -> None:
         """Opens it behind so many bytes, and writes the head where there are none."""
         try:
-            self.file: IO[bytes] = (open(self.path, "r+b" if length else "wb", buffering=0) if self.path
-                                    else sys.stdout.buffer)
+            self.file: IO[bytes] = (
+                open(self.path, "r+b" if length else "wb", buffering=0) if self.path else sys.stdout.buffer
+            )
             self.is_kept = bool(self.path) and stat.S_ISREG(os.fstat(self.file.fileno()).st_mode)
             if self.is_kept:
                 self.lock()
@@ -105,7 +106,9 @@ class Written:
         try:
             fcntl.flock(self.file, fcntl.LOCK_EX | fcntl.LOCK_NB)
         except BlockingIOError:
-            raise Fault(f"{self.name}: another sweep is writing it; wait for it, or name another one by --out") from None
+            raise Fault(
+                f"{self.name}: another sweep is writing it; wait for it, or name another one by --out"
+            ) from None
         except OSError:
             pass
 
@@ -113,7 +116,7 @@ class Written:
         try:
             rest = memoryview(data)
             while rest:
-                rest = rest[self.file.write(rest):]
+                rest = rest[self.file.write(rest) :]
             self.file.flush()
         except OSError as error:
             raise Fault(f"{self.name}: {cause(error)}{self.hint}", FULL) from None
@@ -128,6 +131,7 @@ class Written:
 
 # ---- parts
 
+
 def part_name(path: str, number: int | str, count: int | str) -> str:
     """The name of a part of a table: of table.csv it is table.2-of-4.csv."""
     front, end = os.path.splitext(path)
@@ -137,13 +141,23 @@ def part_name(path: str, number: int | str, count: int | str) -> str:
 def parts_of(path: str) -> list[str]:
     """The names of the parts of a table, in order; they are found beside its name."""
     front, end = os.path.splitext(path)
-    folder, pattern = os.path.dirname(front) or ".", re.compile(re.escape(os.path.basename(front)) + r"\.\d+-of-(\d+)" + re.escape(end))
+    folder, pattern = os.path.dirname(front) or ".", re.compile(
+        re.escape(os.path.basename(front)) + r"\.\d+-of-(\d+)" + re.escape(end)
+    )
     try:
-        counts = {int(it[1]) for it in map(pattern.fullmatch, (it.removesuffix(UNFINISHED) for it in os.listdir(folder))) if it}
+        counts = {
+            int(it[1])
+            for it in map(pattern.fullmatch, (it.removesuffix(UNFINISHED) for it in os.listdir(folder)))
+            if it
+        }
     except OSError as error:
         raise Fault(f"{folder}: {cause(error)}") from None
     if len(counts) != 1:
-        told = f"parts of {' and of '.join(map(str, sorted(counts)))} stand there" if counts else "no part of it stands there"
+        told = (
+            f"parts of {' and of '.join(map(str, sorted(counts)))} stand there"
+            if counts
+            else "no part of it stands there"
+        )
         raise Fault(f"{path}: {told}; `sweep .. --part K/N --out {path}` makes {part_name(path, 'K', 'N')}")
     count = counts.pop()
     return [part_name(path, number, count) for number in range(1, count + 1)]

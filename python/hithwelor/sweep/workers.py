@@ -49,8 +49,7 @@ class Local:
 
     def start(self) -> None:
         context = multiprocessing.get_context("spawn")
-        self.pool = ProcessPoolExecutor(self.jobs, mp_context=context, initializer=end_with,
-                                        initargs=(os.getpid(),))
+        self.pool = ProcessPoolExecutor(self.jobs, mp_context=context, initializer=end_with, initargs=(os.getpid(),))
 
     def room(self) -> int:
         return self.jobs * AHEAD
@@ -91,7 +90,8 @@ class Local:
 
     def kill(self) -> None:
         """Kills the pool's processes, and closes the pipes by which its own threads may still be reading from them or
-        writing to them: they would wait for ever, and Python's end for them. From 3.11.5 on Python sees to the writing."""
+        writing to them: they would wait for ever, and Python's end for them. From 3.11.5 on Python sees to the writing.
+        """
         for process in multiprocessing.active_children():
             if process.pid is not None:
                 kill_group(process.pid)
@@ -135,7 +135,9 @@ class Cluster:
         try:
             import distributed
         except ImportError:
-            raise Fault("--scheduler needs Dask's package distributed: install it by pip, or as python3-distributed") from None
+            raise Fault(
+                "--scheduler needs Dask's package distributed: install it by pip, or as python3-distributed"
+            ) from None
         logging.disable(logging.CRITICAL)
         self.threads, self.asked = 1, -math.inf
         self.address, self.lost = address, (distributed.client.CancelledError, OSError)
@@ -143,7 +145,9 @@ class Cluster:
             self.client = distributed.Client(address, timeout=PATIENCE / 4)
         except (OSError, ValueError) as error:
             why = str(error).split("\n", 1)[0] or type(error).__name__
-            raise Fault(f"no scheduler answers at {address} ({why}): start one by `dask scheduler`, or leave --scheduler out") from None
+            raise Fault(
+                f"no scheduler answers at {address} ({why}): start one by `dask scheduler`, or leave --scheduler out"
+            ) from None
         try:
             self.client.wait_for_workers(1, timeout=PATIENCE)
         except (distributed.TimeoutError, TimeoutError):
@@ -181,7 +185,9 @@ class Cluster:
 
     def mended(self, error: Exception) -> bool:
         if isinstance(error, ModuleNotFoundError):
-            raise Fault(f"a worker of {self.address} hasn't the package hithwelor: put its folder on PYTHONPATH there") from None
+            raise Fault(
+                f"a worker of {self.address} hasn't the package hithwelor: put its folder on PYTHONPATH there"
+            ) from None
         if isinstance(error, self.lost):
             raise self.gone() from None
         return False
@@ -215,7 +221,9 @@ def result_of(pool: Pool, waiting: Waiting) -> Answer:
             again = [(batch, pool.submit(batch)) for batch, _ in waiting]
             waiting.clear()
             waiting.extend(again)
-    raise Fault("a worker's process died three times, perhaps for want of memory: take fewer --jobs, or --seconds, which tells the case")
+    raise Fault(
+        "a worker's process died three times, perhaps for want of memory: take fewer --jobs, or --seconds, which tells the case"
+    )
 
 
 def answers_in_order(pool: Pool, plan: Plan, first: int, last: int) -> Iterator[Answer]:
