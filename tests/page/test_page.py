@@ -176,11 +176,12 @@ def test_the_modules_of_the_page_by_node(any_node):
     assert tests and ran.returncode == 0, ran.stdout[-2000:]
 
 
-def test_the_types_of_the_page(needs):
+@pytest.mark.parametrize(
+    "settings", sorted(glob.glob(os.path.join(TOP, "page", "tsconfig*.json"))), ids=os.path.basename
+)
+def test_the_types_of_the_page(settings, needs):
     needs("tsc")
-    ran = subprocess.run(
-        ["tsc", "-p", "page/tsconfig.json"], cwd=TOP, stdout=subprocess.PIPE, stderr=subprocess.STDOUT, text=True
-    )
+    ran = subprocess.run(["tsc", "-p", settings], cwd=TOP, stdout=subprocess.PIPE, stderr=subprocess.STDOUT, text=True)
     assert ran.returncode == 0, ran.stdout[-2000:]
 
 
