@@ -24,12 +24,18 @@ def programs_of(folder):
                     yield os.path.relpath(path, TOP)
 
 
-def checked(top, *words):
+@pytest.fixture(scope="module")
+def cache(tmp_path_factory):
+    """What mypy keeps from one call to the next."""
+    return str(tmp_path_factory.mktemp("mypy"))
+
+
+def checked(top, cache, *words):
     """What mypy says in a folder."""
     if not shutil.which("mypy"):
         pytest.skip("mypy isn't installed: tools/setup")
     return subprocess.run(
-        ["mypy", "--cache-dir", os.devnull, *words],
+        ["mypy", "--cache-dir", cache, *words],
         cwd=top,
         stdout=subprocess.PIPE,
         stderr=subprocess.STDOUT,
@@ -38,21 +44,22 @@ def checked(top, *words):
     )
 
 
-def test_the_package_has_types():
-    ran = checked(TOP)
+def test_the_package_has_types(cache):
+    ran = checked(TOP, cache)
     assert ran.returncode == 0, ran.stdout
 
 
 @pytest.mark.parametrize(
     "folders", [["tools", "tools/build", "tools/lib", "embed", "check"], ["bench"], ["docs/pictures"]], ids=" ".join
 )
-def test_tools_and_measures_agree_with_their_types(folders):
+def test_tools_and_measures_agree_with_their_types(cache, folders):
     programs = [path for folder in folders for path in programs_of(folder)]
     assert programs
-    ran = checked(TOP, *PLAIN, *programs)
+    ran = checked(TOP, cache, *PLAIN, *programs)
     assert ran.returncode == 0, ran.stdout
 
 
+@pytest.mark.slow
 @pytest.mark.parametrize(
     "path, right, wrong, told",
     [
@@ -67,7 +74,7 @@ def test_a_planted_fault_is_seen(tmp_path, path, right, wrong, told):
     text = module.read_text(encoding="utf-8")
     assert text.count(right) == 1
     module.write_text(text.replace(right, wrong), encoding="utf-8")
-    ran = checked(tmp_path)
+    ran = checked(tmp_path, os.devnull)
     assert ran.returncode == 1 and path in ran.stdout and told in ran.stdout, ran.stdout
 
 
