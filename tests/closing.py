@@ -11,21 +11,30 @@ def pytest_addoption(parser):
 
 @pytest.fixture
 def comparisons(record_property):
-    """`comparisons(N)` tells how many things a test compared that holds many; the last lines have their sum."""
-    return lambda number: record_property("comparisons", number)
+    """`comparisons(N)` tells how many things a test compared that holds many; the last lines have their sum. Behind the number
+    stands what of the test wasn't tried, since something isn't here; the last lines name it."""
+
+    def tell(number, lacking=()):
+        record_property("comparisons", number)
+        for it in lacking:
+            record_property("lacking", it)
+
+    return tell
+
+
+def told(reporter, name):
+    """What passed tests told under a name."""
+    passed = [it for it in reporter.stats.get("passed", []) if it.when == "call"]
+    return [value for report in passed for key, value in report.user_properties if key == name]
 
 
 def pytest_terminal_summary(terminalreporter):
-    """How much was compared in tests that hold many things."""
-    told = [
-        number
-        for report in terminalreporter.stats.get("passed", [])
-        if report.when == "call"
-        for name, number in report.user_properties
-        if name == "comparisons"
-    ]
-    if told:
-        terminalreporter.write_line(f"{sum(told):,} comparisons in {len(told)} tests that hold many")
+    """How much was compared in tests that hold many things, and what of them wasn't tried."""
+    numbers = told(terminalreporter, "comparisons")
+    if numbers:
+        terminalreporter.write_line(f"{sum(numbers):,} comparisons in {len(numbers)} tests that hold many")
+    for line in sorted(set(told(terminalreporter, "lacking"))):
+        terminalreporter.write_line(f"not tried: {line}")
 
 
 def pytest_unconfigure(config):

@@ -340,7 +340,7 @@ def test_the_page_in_chromium(part, compared, hooked, pytestconfig, comparisons)
         page.call("Network.emulateNetworkConditions", offline=True, latency=0, downloadThroughput=0, uploadThroughput=0)
         page.call("Emulation.setDeviceMetricsOverride", width=1680, height=1050, deviceScaleFactor=1, mobile=False)
         parts_of(compared, Asked(pytestconfig), count)[part](page)
-    comparisons(count.close())
+    comparisons(count.close(), count.lacking)
 
 
 @pytest.mark.slow
@@ -351,4 +351,4 @@ def test_the_page_in_firefox(compared, hooked, pytestconfig, comparisons):
     if not firefox_at_hand():
         pytest.skip("firefox-esr isn't installed: tools/setup")
     check_firefox(compared, check_answers, random.Random(asked.seed), FIREFOX_PLACES, asked.pictures, count)
-    comparisons(count.close())
+    comparisons(count.close(), count.lacking)
