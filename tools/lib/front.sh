@@ -20,6 +20,7 @@ forms=(
     "inverse|the machine of quadruples that takes the steps of this one back"
     "realise Q I|the circuit of a table of moves, in state Q, the signal at line I"
     "compile =W l1 r1 n r3|the circuit of a machine and a word in a window"
+    "build =W l1 r1 r2 r3|the circuit of a reversible machine of quadruples and a word"
     "run =W l1 r1 n r3 [E]|its run, to its exit or of at most E element steps"
     "run =W auto|its run in a window that the program finds"
     "view =W l1 r1 n r3 E|every layer of it after at most E element steps"
@@ -39,7 +40,7 @@ inputless=" generate "
 # The least and the greatest number in place of each letter of the forms; without a least one it is 0.
 declare -A least=([Q]=1 [I]=1 [k]=1)
 declare -A greatest=(
-    [E]=4611686018427387904 [n]=1048576 [l1]=1048576 [r1]=1048576 [r3]=1048576 [Q]=1048576 [I]=1048576 [k]=4
+    [E]=4611686018427387904 [n]=1048576 [l1]=1048576 [r1]=1048576 [r2]=1048576 [r3]=1048576 [Q]=1048576 [I]=1048576 [k]=4
 )
 
 # Whether there is a command of this name.

@@ -1,6 +1,6 @@
 -- A board that was made from a machine, a word and limits: it may be compiled, and its configuration has a text.
-use Rattle.std.specs.Prelude.{◌≡◌, ◌↔◌, ℕ, List, [], length, replicate, Option, Some, None, refl}
-use Rattle.std.proofs.Common.{arith, sym, subst, ◌∙◌}
+use Rattle.std.specs.Prelude.{◌≡◌, ℕ, List, [], length, replicate, Option, Some, None, refl}
+use Rattle.std.proofs.Common.{arith, sym, ap, subst, ◌∙◌}
 use Rattle.bn_circuits.specs.Circuits.{Circuit, IsCircuit, IsConfig, IsInputOf, IsOutputOf, target, source}
 use Rattle.bn_circuits.specs.declared.line.Line.{Line}
 use Rattle.bn_circuits.specs.declared.line.Wire.{Wire}
@@ -15,14 +15,22 @@ use Rattle.bn_netlist_laws.specs.declared.version.Version.TheVariants.{Two}
 use Rattle.bn_netlist.specs.PackedText.{spelling_of_packed}
 use Rattle.bn_netlist.specs.declared.packed_config.PackedConfig.{PackedConfig}
 use Rattle.bn_element.specs.Rotary.{rotary}
-use Rattle.bn_board_spec.specs.Boards.{IsBoard, IsBoardWire}
-use Rattle.bn_board_spec.specs.Flats.{Flat, IsAccepted}
+use Rattle.bn_circuits.specs.declared.config.Config.{Config}
+use Rattle.bn_circuits.specs.declared.place.Place.{Place}
+use Rattle.bn_circuits.specs.declared.place.Place.TheVariants.{Enter, Left}
+use Rattle.bn_quad.specs.Quadruples.{Quadruples}
+use Rattle.bn_network.specs.Controls.{ControlState}
+use Rattle.bn_network.specs.Networks.{network_start}
+use Rattle.bn_board_spec.specs.Boards.{IsBoard, board_start}
+use Rattle.bn_board_spec.specs.Flats.{Flat, flat_start}
+use Rattle.bn_board_spec.specs.Layouts.{Layout}
 use Rattle.bn_board.specs.Flattened.{Flattened, IsBoardKept}
+use Rattle.bn_reply.specs.declared.status.Status.{Status}
 use Rattle.bn_reply.specs.declared.status.Status.TheVariants as statuses
 use Rattle.bn_reply_boards_laws.specs.Laws.{BoardsAreSpelled}
-use Rattle.bn_reply_boards_laws.specs.CompileReply.{CompileReplies, IsFlatSpelling, TellsStart}
-use Rattle.bn_reply_boards_laws.proofs.SpelledLemmas.{target_of, entered_once, left_once}
-use Rattle.bn_reply_boards.specs.Opened.{IsBoardAsked, IsMade, spelling_of_board}
+use Rattle.bn_reply_boards_laws.specs.CompileReply.{CompileReplies, IsBoardSpelling, IsFlatSpelling, TellsBoard, TellsStart}
+use Rattle.bn_reply_boards_laws.proofs.SpelledLemmas.{board_targets, entered_once, left_once}
+use Rattle.bn_reply_boards.specs.Opened.{IsBoardAsked, IsBoardFor, IsMade, spelling_of_board}
 use Rattle.bn_reply_circuits.specs.Unwritten.{WillReply}
 use Rattle.bn_reply_circuits.specs.declared.unwritten.Unwritten.TheVariants.{Packed}
 use Rattle.bn_reply_boards.proofs.AskedLemmas.{board_accepted, board_replies}
@@ -34,34 +42,22 @@ no_source : (xs ys : List Wire) (to : Line) (o : Option Line) → ((from to : Li
 no_source xs ys to None back forth same is none = refl
 no_source xs ys to (Some from) back forth same is none = absurd (let there = forth from to (sym (same from) ∙ back from to is) in cc)
 
-module _ (p : Program) (l : Limits) (symbols : List ℕ) (f : Flat) (t : Translation) (b : Flattened) (made : IsMade p l symbols f t b) (kept : IsBoardKept b)
-    (accepts : IsAccepted p symbols l f) where
-  spelling : Spelling
-  spelling = spelling_of_board b
+-- ---- the board of a network
 
-  pub made-IsFlatSpelling : IsFlatSpelling f (spelling_of_board b)
-  made-IsFlatSpelling = record {
-    elements = elements_are f.network b.net (subst (λ k. IsBoard f.network k) made.circuit made.comes.flat.is_board);
-    wires = λ from to. subst (λ (k : Circuit). (target k.wires from ≡ Some to) ↔ IsBoardWire f.network from to) made.circuit (made.comes.flat.is_board.wires from to);
-    config = made.config;
-    start = made.start;
-    end = made.end;
-  }
-
+module _ (net : Circuit) (layout : Layout) (at_start : Config) (b : Flattened) (board : IsBoard net (rotary_circuit b.net)) (kept : IsBoardKept b)
+    (a : IsBoardSpelling net layout at_start (spelling_of_board b)) (u : Spelling) (other : IsBoardSpelling net layout at_start u) (admitted : Admits Two u) where
   same_circuit : circuit_of (spelling_of_board b) ≡ rotary_circuit b.net
   same_circuit = λ i. record { tables = sym (rotary-tables b.net.elements) i; wires = b.net.wires }
 
-  pub made-Admits : BoardsAreSpelled → Admits Two (spelling_of_board b)
-  made-Admits spelled =
-      let other = spelled p symbols l f made.comes.flat accepts in
+  pub made-Admits : Admits Two (spelling_of_board b)
+  made-Admits =
       let s = spelling_of_board b in
-      let u : Spelling = other.0 in
-      let a = made-IsFlatSpelling in
-      let admitted : Admits Two u = other.2.1.admitted in
-      let elements : u.elements ≡ s.elements = other.1.elements ∙ sym a.elements in
-      let start : u.start ≡ s.start = entered_once u.start s.start (other.1.start ∙ sym a.start) in
-      let end : u.end ≡ s.end = left_once u.end s.end (other.1.end ∙ sym a.end) in
-      let targets : (from : Line) → target s.wires from ≡ target u.wires from = (λ from. target_of f p symbols l made.comes.flat s a from ∙ sym (target_of f p symbols l made.comes.flat u other.1 from)) in
+      let elements : u.elements ≡ s.elements = other.elements ∙ sym a.elements in
+      let start : u.start ≡ s.start = entered_once u.start s.start (other.start ∙ sym a.start) in
+      let end : u.end ≡ s.end = left_once u.end s.end (other.end ∙ sym a.end) in
+      let targets : (from : Line) → target s.wires from ≡ target u.wires from =
+      (λ from. board_targets net (rotary_circuit b.net) board layout at_start s a from
+      ∙ sym (board_targets net (rotary_circuit b.net) board layout at_start u other from)) in
       let circuit : IsCircuit (circuit_of s) = subst IsCircuit (sym same_circuit) kept.circuit in
       record {
         some = let some = admitted.some in omega arith;
@@ -74,14 +70,48 @@ module _ (p : Program) (l : Limits) (symbols : List ℕ) (f : Flat) (t : Transla
         unwired = targets s.end ∙ subst (λ x. target u.wires x ≡ None) end admitted.unwired;
       }
 
-  -- its text is what `compile` tells
-  pub made-told : BoardsAreSpelled → (text : List ℕ) → IsTextOf Two (spelling_of_board b) text → TellsStart f statuses.Done text []
-  made-told spelled text is = record {
-    spelling = spelling_of_board b;
-    board = made-IsFlatSpelling;
-    spelled = record { admitted = made-Admits spelled; is_text = is };
-    done = refl;
-    silent = refl;
+  -- as a configuration of a packed circuit it is written so, and that is what is answered
+  pub will_tell : (answers : Status → List ℕ → List Place → Type 0) (c : PackedConfig) → c.version ≡ Two → spelling_of_packed c ≡ spelling_of_board b
+      → ((text : List ℕ) → TellsBoard net layout at_start statuses.Done text [] → answers statuses.Done text []) → WillReply answers (Packed c)
+  will_tell answers c two is answer = record {
+    writable = subst (λ v. Admits v (spelling_of_packed c)) (sym two) (subst (Admits Two) (sym is) made-Admits);
+    right = λ s text written.
+        let told : IsTextOf Two (spelling_of_packed c) text = subst (λ v. IsTextOf v (spelling_of_packed c) text) two written.1 in
+        let start : TellsBoard net layout at_start statuses.Done text [] = record {
+          spelling = spelling_of_board b;
+          board = a;
+          spelled = record { admitted = made-Admits; is_text = subst (λ z. IsTextOf Two z text) is told };
+          done = refl;
+          silent = refl;
+        } in
+        subst (λ st. answers st text []) (sym written.0) (answer text start);
+  }
+
+-- the board of a machine at its start is spelled so
+pub board-spells : (m : Quadruples) (l : Limits) (symbols : List ℕ) (names : List ControlState) (network : Circuit) (b : Flattened) →
+    IsBoardFor m l symbols names network b →
+    IsBoardSpelling network b.layout (board_start network.tables (network_start m l symbols)) (spelling_of_board b)
+board-spells m l symbols names network b h = record {
+  elements = elements_are network b.net h.is_board;
+  wires = h.is_board.wires;
+  config = h.config;
+  start = ap (λ (x : Line). Enter x.element x.line) h.start;
+  end = ap (λ (x : Line). Left x.element x.line) h.end;
+}
+
+-- ---- the board of a machine's translation
+
+module _ (p : Program) (l : Limits) (symbols : List ℕ) (f : Flat) (t : Translation) (b : Flattened) (made : IsMade p l symbols f t b) where
+  made-IsBoard : IsBoard f.network (rotary_circuit b.net)
+  made-IsBoard = subst (λ k. IsBoard f.network k) made.circuit made.comes.flat.is_board
+
+  pub made-IsFlatSpelling : IsFlatSpelling f (spelling_of_board b)
+  made-IsFlatSpelling = record {
+    elements = elements_are f.network b.net made-IsBoard;
+    wires = made-IsBoard.wires;
+    config = made.config;
+    start = made.start;
+    end = made.end;
   }
 
 -- a board's packed net spells the board
@@ -95,14 +125,9 @@ packed_spelling b c net config start end =
 pub will_compile : BoardsAreSpelled → (bytes word : List ℕ) (l : Limits) (t : Named) (m : Translation) (b : Flattened) → IsBoardAsked bytes word l t m b → (c : PackedConfig)
     → c.version ≡ Two → spelling_of_packed c ≡ spelling_of_board b → WillReply (CompileReplies word l bytes) (Packed c)
 will_compile boards bytes word l t m b asked c two is =
+    let f = asked.flat in
     let made = asked.made in
-    let may = board_accepted bytes word l t m b asked in
-    let here = subst (Admits Two) (sym is) (made-Admits t.machine l asked.symbols asked.flat m b made made.kept may boards) in
-    record {
-      writable = subst (λ v. Admits v (spelling_of_packed c)) (sym two) here;
-      right = λ s text written.
-          let told : IsTextOf Two (spelling_of_packed c) text = subst (λ v. IsTextOf v (spelling_of_packed c) text) two written.1 in
-          let start = made-told t.machine l asked.symbols asked.flat m b made made.kept may boards text (subst (λ z. IsTextOf Two z text) is told) in
-          let answer = board_replies (λ t. TellsStart) bytes word l t m b asked statuses.Done text [] start in
-          subst (λ st. CompileReplies word l bytes st text []) (sym written.0) answer;
-    }
+    let spelled = boards t.machine asked.symbols l f made.comes.flat (board_accepted bytes word l t m b asked) in
+    will_tell f.network f.layout (flat_start f) b (made-IsBoard t.machine l asked.symbols f m b made) made.kept
+    (made-IsFlatSpelling t.machine l asked.symbols f m b made) spelled.0 spelled.1 spelled.2.1.admitted (CompileReplies word l bytes) c two is
+    (λ text start. board_replies (λ t. TellsStart) bytes word l t m b asked statuses.Done text [] start)

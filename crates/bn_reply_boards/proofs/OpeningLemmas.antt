@@ -1,7 +1,8 @@
 -- A translation meets what is asked of a machine that is assembled, and what is assembled and flattened is the board.
-use Rattle.std.specs.Prelude.{◌≡◌, ◌≢◌, ℕ, ◌+◌, ◌*◌, ◌<◌, ◌≤◌, List, [], ◌∷◌, All, length, refl}
+use Rattle.std.specs.Prelude.{◌≡◌, ◌≢◌, ℕ, ◌+◌, ◌*◌, ◌<◌, ◌≤◌, List, [], ◌∷◌, All, length, Result, Ok, Err, IfOk, refl}
 use Rattle.std.proofs.Common.{zero, suc, arith, sym, ap, subst, ◌∙◌}
 use Rattle.std.proofs.lemmas.List.{length-map, length-replicate}
+use Rattle.bn_lists.specs.declared.memory.NoMemory.{NoMemory as WantOfMemory}
 use Rattle.bn_circuits.specs.Circuits.{Circuit}
 use Rattle.bn_circuits.specs.declared.line.Line.{Line}
 use Rattle.bn_circuits.specs.declared.place.Place.TheVariants.{Enter, Left}
@@ -14,6 +15,7 @@ use Rattle.bn_machine.specs.Outcome.{Limits}
 use Rattle.bn_bennett.specs.Translation.{Translation, IsTranslation}
 use Rattle.bn_table.specs.Rows.{FitsTable, Named}
 use Rattle.bn_net.specs.declared.net.TheConstants.{MOST_ELEMENTS}
+use Rattle.bn_quad.specs.Quadruples.{Quadruples}
 use Rattle.bn_network.specs.Controls.{ControlState, symbol_count}
 use Rattle.bn_network.specs.Networks.{network_start}
 use Rattle.bn_control.specs.Controlled.{IsWithinLimits}
@@ -26,7 +28,9 @@ use Rattle.bn_assembly.specs.Assembled.{Assembled, IsAssembled, IsWordOf, networ
 use Rattle.bn_board.specs.Flattened.{Flattened, IsFlattened, IsBoardKept}
 use Rattle.bn_reply.specs.Words.{IsLetterSymbol}
 use Rattle.bn_reply_boards_laws.specs.Windows.{CountsElements}
-use Rattle.bn_reply_boards.specs.Opened.{IsMade}
+use Rattle.bn_reply_boards.specs.Opened.{IsBoardFor, IsMade, IsOpenedBoard, IsOpenedWindow}
+use Rattle.bn_reply_boards.specs.declared.opening.OpenedWindow.{OpenedWindow}
+use Rattle.bn_reply_boards.specs.declared.opening.OpenedWindow.TheVariants as windows
 
 -- three numbers with a property have it all
 all_three : (P : ℕ → Type 0) (x y z : ℕ) → P x → P y → P z → All P (x ∷ y ∷ z ∷ [])
@@ -73,28 +77,11 @@ pub elements_are : (n : Circuit) (net : Parts Rotary) → IsBoard n (rotary_circ
 elements_are n net board =
     sym (length-map net.elements (λ _. rotary)) ∙ ap (λ ts. length ts) board.tables ∙ length-replicate (size n.tables) rotary
 
-module _ (p : Program) (l : Limits) (symbols : List ℕ) (t : Translation) (is : IsTranslation p t) (fits : length symbols ≤ l.right) (a : Assembled) (b : Flattened)
-    (names : List ControlState) (is_assembled : IsAssembled t.machine l symbols names a) (flat : IsFlattened a b) (kept : IsBoardKept b) where
-  -- the board as it is defined
-  abbrev pub as_flat : Flat
-  as_flat = record { translation = t; limits = l; word = symbols; names = names; network = network_of a; circuit = rotary_circuit b.net; layout = b.layout }
-
-  in_limits : IsAssembled t.machine a.limits symbols names a
-  in_limits = subst (λ w. IsAssembled t.machine w symbols names a) (sym is_assembled.limits) is_assembled
-
-  layout_is : IsLayout t.machine l names b.layout
-  layout_is = subst (λ w. IsLayout t.machine w names b.layout) is_assembled.limits (flat.layout t.machine symbols names in_limits)
-
-  is_flat : IsFlatOf p symbols l as_flat
-  is_flat = record {
-    translation = is;
-    word_is = refl;
-    limits_are = refl;
-    numbering = is_assembled.is_control.numbering;
-    is_network = is_assembled.network;
-    is_board = flat.board;
-    is_layout = layout_is;
-  }
+-- what is assembled and flattened is the machine's board
+module _ (m : Quadruples) (l : Limits) (symbols : List ℕ) (a : Assembled) (b : Flattened) (names : List ControlState)
+    (is_assembled : IsAssembled m l symbols names a) (flat : IsFlattened a b) (kept : IsBoardKept b) where
+  in_limits : IsAssembled m a.limits symbols names a
+  in_limits = subst (λ w. IsAssembled m w symbols names a) (sym is_assembled.limits) is_assembled
 
   few_elements : size (network_of a).tables ≤ MOST_ELEMENTS
   few_elements =
@@ -103,14 +90,60 @@ module _ (p : Program) (l : Limits) (symbols : List ℕ) (t : Translation) (is :
       let same = kept.elements in
       omega arith
 
-  pub is_made : IsMade p l symbols as_flat t b
-  is_made = record {
-    comes = record { fits = fits; flat = is_flat; few = few_elements };
-    translation = refl;
-    circuit = refl;
-    layout = refl;
-    config = subst (λ w. b.config ≡ board_start (network_of a).tables (network_start t.machine w symbols)) is_assembled.limits (flat.config t.machine symbols names in_limits);
-    start = ap (λ (x : Line). Enter x.element x.line) flat.start;
-    end = ap (λ (x : Line). Left x.element x.line) flat.end;
+  pub board_for : IsBoardFor m l symbols names (network_of a) b
+  board_for = record {
+    numbering = is_assembled.is_control.numbering;
+    is_network = is_assembled.network;
+    is_board = flat.board;
+    is_layout = subst (λ w. IsLayout m w names b.layout) is_assembled.limits (flat.layout m symbols names in_limits);
+    few = few_elements;
+    config = subst (λ w. b.config ≡ board_start (network_of a).tables (network_start m w symbols)) is_assembled.limits
+        (flat.config m symbols names in_limits);
+    start = flat.start;
+    end = flat.end;
     kept = kept;
   }
+
+-- so is that of a translation
+module _ (p : Program) (l : Limits) (symbols : List ℕ) (t : Translation) (is : IsTranslation p t) (fits : length symbols ≤ l.right) where
+  module _ (b : Flattened) (names : List ControlState) (network : Circuit) (h : IsBoardFor t.machine l symbols names network b) where
+    abbrev as_flat : Flat
+    as_flat = record { translation = t; limits = l; word = symbols; names = names; network = network; circuit = rotary_circuit b.net; layout = b.layout }
+
+    is_flat : IsFlatOf p symbols l as_flat
+    is_flat = record {
+      translation = is;
+      word_is = refl;
+      limits_are = refl;
+      numbering = h.numbering;
+      is_network = h.is_network;
+      is_board = h.is_board;
+      is_layout = h.is_layout;
+    }
+
+    is_made : IsMade p l symbols as_flat t b
+    is_made = record {
+      comes = record { fits = fits; flat = is_flat; few = h.few };
+      translation = refl;
+      circuit = refl;
+      layout = refl;
+      config = h.config;
+      start = ap (λ (x : Line). Enter x.element x.line) h.start;
+      end = ap (λ (x : Line). Left x.element x.line) h.end;
+      kept = h.kept;
+    }
+
+  window_is : (opened : OpenedWindow) → IsOpenedBoard t.machine l symbols opened → IsOpenedWindow p l symbols t opened
+  window_is (windows.Made b) h = (as_flat b h.0 h.1 h.2, is_made b h.0 h.1 h.2)
+  window_is (windows.Refused reply) h = record {
+    count = h.count;
+    counts = counted p t l h.count is h.counts;
+    great = h.great;
+    text = h.text;
+    status = h.status;
+  }
+
+pub window_opened : (l : Limits) (symbols : List ℕ) (t : Translation) → length symbols ≤ l.right → (r : Result OpenedWindow WantOfMemory) →
+    IfOk r (IsOpenedBoard t.machine l symbols) → IfOk r (λ opened. (p : Program) → IsTranslation p t → IsOpenedWindow p l symbols t opened)
+window_opened l symbols t fits (Ok opened) h = λ p is. window_is p l symbols t is fits opened h
+window_opened l symbols t fits (Err e) h = tt

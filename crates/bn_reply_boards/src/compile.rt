@@ -57,8 +57,8 @@ fn start_of(
     }
 }
 
-// A board as a configuration whose text is of version 2.
-fn board_config(board: Board) -> PackedConfig
+/// A board as a configuration whose text is of version 2.
+pub fn board_config(board: Board) -> PackedConfig
     ensures version { result.version ≡ Version.Two }
     ensures spelling { spelling_of_packed result ≡ spelling_of_board board }
 {

@@ -10,13 +10,13 @@ mod run;
 mod run_text;
 mod tape_text;
 
-pub use compile::answer_compile;
+pub use compile::{answer_compile, board_config};
 pub use generate::reply_generate;
 pub use generate_laws::{
     generate_has_one_reply, generated_runs_tell_outcomes, generated_tables_are_given,
 };
 pub use opening::{
-    OpenedInput, OpenedMachine, OpenedWindow, open_input, open_machine, open_window,
+    OpenedInput, OpenedMachine, OpenedWindow, open_board, open_input, open_machine, open_window,
 };
 pub use run::{Ran, reply_run, run_to_exit, status_of};
 pub use run_text::{push_exit, text_of_run};

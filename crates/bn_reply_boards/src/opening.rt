@@ -6,12 +6,13 @@ ghost use Rattle.bn_bennett.specs.Translation.{IsTranslation};
 ghost use Rattle.bn_control.specs.Controlled.{IsWithinLimits};
 ghost use Rattle.bn_network.specs.Limits.{AreSmall};
 ghost use Rattle.bn_assembly.specs.Assembled.{IsWordOf, limits_of};
-ghost use Rattle.bn_reply_boards.specs.Opened.{IsOpenedInput, IsOpenedMachine, IsOpenedWindow};
+ghost use Rattle.bn_reply_boards.specs.Opened.{IsOpenedBoard, IsOpenedInput, IsOpenedMachine, IsOpenedWindow};
 ghost use Rattle.bn_reply_boards_laws.specs.Windows.{large_line};
 
 use bn_assembly::{AssembleRefusal, Windows, assemble};
 use bn_bennett::{Translated, translate};
 use bn_board::{Board, flatten};
+use bn_quad::Uniform;
 use bn_reply::{
     Judged, NoMemory, OpenedTable, OpenedWord, Reply, Status, judge_table, open_table, open_word,
     too_long,
@@ -105,7 +106,24 @@ pub fn open_window(
     ensures { IfOk result (λ opened. (p : Program) → IsTranslation p translated.now
         → IsOpenedWindow p (limits_of windows.now) symbols.now translated.now opened) }
 {
-    match assemble(alloc, translated.machine(), windows, symbols) {
+    open_board(alloc, translated.machine(), symbols, windows)
+}
+
+/// The board of any uniform machine of quadruples for a word of these symbols on tape 1, which fits, and a window, at its
+/// start; or what is answered where the board would have too many elements.
+pub fn open_board(
+    alloc: Global,
+    machine: &Uniform,
+    symbols: &[u32],
+    windows: &Windows,
+) -> Result<OpenedWindow, NoMemory>
+    requires within { IsWithinLimits machine.now }
+    requires word { IsWordOf machine.now symbols.now }
+    requires windows { AreSmall (limits_of windows.now) }
+    requires fits { length symbols.now ≤ (limits_of windows.now).right }
+    ensures { IfOk result (IsOpenedBoard machine.now (limits_of windows.now) symbols.now) }
+{
+    match assemble(alloc, machine, windows, symbols) {
         Ok(assembly) => {
             let board = flatten(alloc, &assembly)?;
             Ok(OpenedWindow::Made(board))

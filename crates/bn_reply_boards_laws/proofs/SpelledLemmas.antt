@@ -1,20 +1,18 @@
 -- A board at its start may be spelled: no wire leads into its start, and none leads from its end.
 use Rattle.std.specs.Prelude.{◌≡◌, ◌≢◌, ℕ, ◌+◌, ◌-◌, ◌<◌, ◌≤◌, List, [], ◌∷◌, ◌++◌, length, replicate, Option, Some, None, slice_get, slice_set, refl}
-use Rattle.std.specs.Prelude.{Bool}
-use Rattle.std.specs.Option.{option_map_or}
 use Rattle.std.proofs.Common.{zero, suc, arith, sym, ap, subst, ◌∙◌, inl, inr}
 use Rattle.std.proofs.lemmas.Bool.Decides.{eqb_tells}
 use Rattle.std.proofs.lemmas.List.{length-replicate, length-set}
 use Rattle.std.proofs.lemmas.Option.{slice_get_within}
 use Rattle.bn_element.specs.Tables.{Table}
-use Rattle.bn_circuits.specs.Circuits.{target, source, IsCircuit, IsConfig}
+use Rattle.bn_circuits.specs.Circuits.{Circuit, target, source, IsCircuit, IsConfig, IsPlace}
 use Rattle.bn_circuits.proofs.AlikeLemmas.{options_one}
 use Rattle.bn_circuits.proofs.StepLemmas.{same_lines, slice_get-set_same, slice_get-set_other}
 use Rattle.bn_circuits.specs.Situations.{Situation}
 use Rattle.bn_circuits.specs.declared.line.Line.{Line}
 use Rattle.bn_circuits.specs.declared.place.Place.TheVariants.{Enter, Left}
 use Rattle.bn_circuits.specs.declared.config.Config.{Config}
-use Rattle.bn_element.specs.Rotary.{rotary, horizontal, vertical}
+use Rattle.bn_element.specs.Rotary.{rotary, horizontal, vertical, east, west}
 use Rattle.bn_circuits.specs.Circuits.{line_at}
 use Rattle.bn_machine.specs.Machine.{Program}
 use Rattle.bn_machine.specs.Outcome.{Limits}
@@ -26,18 +24,17 @@ use Rattle.bn_netlist_laws.proofs.WireLemmas.{rotary_inputs, rotary_outputs, rot
 use Rattle.bn_quad.specs.Quadruples.{Quadruples}
 use Rattle.bn_realise.specs.Banks.{IsBankWire, column_at, bottom_at, bank_input_line, bank_output_line}
 use Rattle.bn_realise.proofs.BankWiresLemmas.{bank_wire-IsWithinLines, bank_wire-no_input, output-no_wire}
-use Rattle.bn_network.specs.Controls.{Tape as to_tape, in_number, out_number}
-use Rattle.bn_network.specs.Networks.{IsNetWire, commands, replies, rightward, leftward}
+use Rattle.bn_network.specs.Controls.{ControlState, Tape as to_tape, in_number, out_number, lines_before}
+use Rattle.bn_network.specs.Networks.{IsNetwork, IsNetWire, commands, replies, rightward, leftward}
 use Rattle.bn_network.proofs.LineLemmas.{lines_some}
 use Rattle.bn_network_laws.proofs.CellRowLemmas.{cells_later}
-use Rattle.bn_board_spec.specs.Boards.{AreModules, IsBoardWire, own, between, StandsFor, bars_of, base, board_start, output_at, size, size_of}
+use Rattle.bn_board_spec.specs.Boards.{AreModules, IsBoard, IsBoardWire, own, between, StandsFor, bars_of, base, board_start, on_board, size, size_of}
 use Rattle.bn_board_spec.proofs.ModuleLemmas.{bank_within, banks_apart, input_once, one_table, output_once, wired_input, wired_output}
 use Rattle.bn_board_spec.proofs.MovedLemmas.{in_bank}
-use Rattle.bn_board_spec.specs.Layouts.{end_place}
+use Rattle.bn_board_spec.specs.Layouts.{Layout, IsLayout, end_place, lines_at}
 use Rattle.bn_board_spec.specs.Flats.{AreSameFlats, Flat, IsFlatOf, flat_start, situation_at_start}
 use Rattle.bn_board_spec.specs.LayoutLaws.{BoardsRead}
-use Rattle.bn_board_spec.specs.Readings.{BoardReads}
-use Rattle.bn_reply_boards_laws.specs.CompileReply.{IsFlatSpelling}
+use Rattle.bn_reply_boards_laws.specs.CompileReply.{IsBoardSpelling, IsFlatSpelling}
 use Rattle.bn_reply_boards_laws.specs.Laws.{BoardsAreSpelled}
 use Rattle.bn_net.specs.declared.net.TheConstants.{MOST_ELEMENTS}
 
@@ -114,12 +111,13 @@ none_into m l from to (leftward t p c tape low kind line f g) is =
 
 -- ---- the board's start and end
 
-module _ (p : Program) (symbols : List ℕ) (l : Limits) (f : Flat) (flat : IsFlatOf p symbols l f) (modules : AreModules f.network) where
+module _ (machine : Quadruples) (l : Limits) (names : List ControlState) (net : Circuit)
+    (is_network : IsNetwork machine l names net) (modules : AreModules net) (circuit : Circuit) (is_board : IsBoard net circuit) where
   abbrev control : Table
-  control = flat.is_network.control
+  control = is_network.control
 
-  has_control : slice_get f.network.tables 0 ≡ Some control
-  has_control = ap (λ ts. slice_get ts 0) flat.is_network.tables
+  has_control : slice_get net.tables 0 ≡ Some control
+  has_control = ap (λ ts. slice_get ts 0) is_network.tables
 
   some_state : 0 < control.states
   some_state = modules.some_states 0 control has_control
@@ -137,152 +135,166 @@ module _ (p : Program) (symbols : List ℕ) (l : Limits) (f : Flat) (flat : IsFl
   last_column : (x : ℕ) → x ≤ control.inputs → column_at 0 control.inputs (control.states - 1) + x < size_of control
   last_column x low = let some = some_state in let h = in_bank 0 control (control.states - 1) x (omega arith) low in omega arith
 
-  within_board : (x : ℕ) → x < size_of control → x < size f.network.tables
-  within_board x low = let h = bank_within f.network.tables 0 control has_control in omega arith
+  within_board : (x : ℕ) → x < size_of control → x < size net.tables
+  within_board x low = let h = bank_within net.tables 0 control has_control in omega arith
 
   -- another bank holds none of its elements
-  other_bank : (m : ℕ) (t : Table) (x : ℕ) → slice_get f.network.tables m ≡ Some t → m ≢ 0 → base f.network.tables m ≤ x →
-      x < base f.network.tables m + size_of t →
+  other_bank : (m : ℕ) (t : Table) (x : ℕ) → slice_get net.tables m ≡ Some t → m ≢ 0 → base net.tables m ≤ x →
+      x < base net.tables m + size_of t →
       x < size_of control → ⊥
-  other_bank m t x has apart low high first = banks_apart f.network.tables m 0 t control x has has_control apart low high (omega arith) (omega arith)
+  other_bank m t x has apart low high first = banks_apart net.tables m 0 t control x has has_control apart low high (omega arith) (omega arith)
 
   -- no wire of the board leads into its start
-  unfed_wire : (from to : Line) → IsBoardWire f.network from to → to ≡ bank_input_line 0 0 → ⊥
+  unfed_wire : (from to : Line) → IsBoardWire net from to → to ≡ bank_input_line 0 0 → ⊥
   unfed_wire from to (own m t has bank) is =
       let reversible = modules.circuit.reversible m t has in
       let lines = modules.square m t has in
       elim (eqb_tells m 0) [
         | inl first ↦
-            (let tables : t ≡ control = one_table f.network.tables m 0 t control first.1 has has_control in
+            (let tables : t ≡ control = one_table net.tables m 0 t control first.1 has has_control in
             let row : 0 < t.inputs = modules.some_lines m t has in
-            let wire : IsBankWire 0 t from to = subst (λ e. IsBankWire (base f.network.tables e) t from to) first.1 bank in
+            let wire : IsBankWire 0 t from to = subst (λ e. IsBankWire (base net.tables e) t from to) first.1 bank in
             bank_wire-no_input 0 t reversible lines from to wire 0 row is)
         | inr apart ↦
-            (let within = bank_wire-IsWithinLines (base f.network.tables m) t reversible lines from to bank in
+            (let within = bank_wire-IsWithinLines (base net.tables m) t reversible lines from to bank in
             let place : to.element ≡ 0 + 0 = ap (λ (x : Line). x.element) is in
             other_bank m t to.element has apart.1 within.to_low (omega (arith, within.to_high)) (let some = first_bank 0 (omega arith) in omega arith))
       ]
   unfed_wire from to (between out into t wire has leaves ends) is =
-      let there = wired_input f.network modules out into wire in
-      let one : line_at 0 0 ≡ into = input_once f.network modules (line_at 0 0) into control there.0 has_control there.1 some_line there.2 (sym is ∙ ends) in
-      none_into f.translation.machine l out into ((flat.is_network.wires out into).0 wire) (sym one)
+      let there = wired_input net modules out into wire in
+      let one : line_at 0 0 ≡ into = input_once net modules (line_at 0 0) into control there.0 has_control there.1 some_line there.2 (sym is ∙ ends) in
+      none_into machine l out into ((is_network.wires out into).0 wire) (sym one)
 
   -- and none leads from its end
-  unwired_wire : (from to : Line) → IsBoardWire f.network from to → from ≡ bank_output_line 0 control 0 → ⊥
+  unwired_wire : (from to : Line) → IsBoardWire net from to → from ≡ bank_output_line 0 control 0 → ⊥
   unwired_wire from to (own m t has bank) is =
       let reversible = modules.circuit.reversible m t has in
       let lines = modules.square m t has in
       elim (eqb_tells m 0) [
         | inl first ↦
-            (let tables : t ≡ control = one_table f.network.tables m 0 t control first.1 has has_control in
+            (let tables : t ≡ control = one_table net.tables m 0 t control first.1 has has_control in
             let row : 0 < t.inputs = modules.some_lines m t has in
-            let wire : IsBankWire 0 t from to = subst (λ e. IsBankWire (base f.network.tables e) t from to) first.1 bank in
+            let wire : IsBankWire 0 t from to = subst (λ e. IsBankWire (base net.tables e) t from to) first.1 bank in
             let leaves : from ≡ bank_output_line 0 t 0 = is ∙ ap (λ (u : Table). bank_output_line 0 u 0) (sym tables) in
             output-no_wire 0 t reversible lines 0 to row (subst (λ (x : Line). IsBankWire 0 t x to) leaves wire))
         | inr apart ↦
-            (let within = bank_wire-IsWithinLines (base f.network.tables m) t reversible lines from to bank in
+            (let within = bank_wire-IsWithinLines (base net.tables m) t reversible lines from to bank in
             let place : from.element ≡ column_at 0 control.inputs (control.states - 1) + 0 = ap (λ (x : Line). x.element) is in
             other_bank m t from.element has apart.1 within.from_low (omega (arith, within.from_high)) (let low = last_column 0 (omega arith) in omega arith))
       ]
   unwired_wire from to (between out into t wire has leaves ends) is =
-      let row = wired_output f.network modules out into t wire has in
-      let one : line_at 0 0 ≡ out = output_once f.network modules (line_at 0 0) out control t has_control has some_line row (sym is ∙ leaves) in
-      none_from f.translation.machine l out into ((flat.is_network.wires out into).0 wire) (sym one)
+      let row = wired_output net modules out into t wire has in
+      let one : line_at 0 0 ≡ out = output_once net modules (line_at 0 0) out control t has_control has some_line row (sym is ∙ leaves) in
+      none_from machine l out into ((is_network.wires out into).0 wire) (sym one)
 
   -- ---- the spelling
 
-  abbrev spelling : Spelling
-  spelling = record { elements = size f.network.tables; wires = f.circuit.wires; config = flat_start f; start = bank_input_line 0 0; end = bank_output_line 0 control 0 }
+  -- the board with its control's first line entered, whatever its cells hold
+  abbrev pub spelling : Situation → Spelling
+  spelling s = record {
+    elements = size net.tables;
+    wires = circuit.wires;
+    config = board_start net.tables s;
+    start = bank_input_line 0 0;
+    end = bank_output_line 0 control 0;
+  }
 
-  same_circuit : f.circuit ≡ circuit_of spelling
-  same_circuit = λ i. record { tables = flat.is_board.tables i; wires = f.circuit.wires }
+  same_circuit : (s : Situation) → circuit ≡ circuit_of (spelling s)
+  same_circuit s = λ i. record { tables = is_board.tables i; wires = circuit.wires }
 
-  no_source : (o : Option Line) → source f.circuit.wires (bank_input_line 0 0) ≡ o → o ≡ None
+  no_source : (o : Option Line) → source circuit.wires (bank_input_line 0 0) ≡ o → o ≡ None
   no_source None is = refl
   no_source (Some from) is =
-      let leads = (flat.is_board.circuit.one_to_one from (bank_input_line 0 0)).1 is in
-      absurd (unfed_wire from (bank_input_line 0 0) ((flat.is_board.wires from (bank_input_line 0 0)).0 leads) refl)
+      let leads = (is_board.circuit.one_to_one from (bank_input_line 0 0)).1 is in
+      absurd (unfed_wire from (bank_input_line 0 0) ((is_board.wires from (bank_input_line 0 0)).0 leads) refl)
 
-  no_target : (o : Option Line) → target f.circuit.wires (bank_output_line 0 control 0) ≡ o → o ≡ None
+  no_target : (o : Option Line) → target circuit.wires (bank_output_line 0 control 0) ≡ o → o ≡ None
   no_target None is = refl
-  no_target (Some to) is = absurd (unwired_wire (bank_output_line 0 control 0) to ((flat.is_board.wires (bank_output_line 0 control 0) to).0 is) refl)
+  no_target (Some to) is = absurd (unwired_wire (bank_output_line 0 control 0) to ((is_board.wires (bank_output_line 0 control 0) to).0 is) refl)
 
   -- at its start it is a configuration of the board
-  start_config : StandsFor f.network (situation_at_start f) (flat_start f) → IsConfig (circuit_of spelling) (flat_start f)
-  start_config stands = record {
-    count = stands.bars ∙ sym (length-replicate (size f.network.tables) rotary);
+  start_place : (s : Situation) → s.place ≡ Enter 0 0 → Enter 0 west ≡ on_board net.tables s.place
+  start_place s at = ap (on_board net.tables) (sym at)
+
+  start_config : (s : Situation) → s.place ≡ Enter 0 0 → StandsFor net s (board_start net.tables s) →
+      IsConfig (circuit_of (spelling s)) (board_start net.tables s)
+  start_config s at stands = record {
+    count = stands.bars ∙ sym (length-replicate (size net.tables) rotary);
     range = λ e q h.
-        let within = slice_get_within (flat_start f).states e q h in
+        let within = slice_get_within (board_start net.tables s).states e q h in
         let count = stands.bars in
-        let states = rotary_states (size f.network.tables) e (omega arith) in
-        subst (λ n. q < n) (sym states) (bars_low f.network.tables (situation_at_start f).states e q h);
-    place = let inputs = rotary_inputs (size f.network.tables) 0 (within_board 0 (first_bank 0 (omega arith))) in subst (λ n. 3 < n) (sym inputs) (omega arith);
+        let states = rotary_states (size net.tables) e (omega arith) in
+        subst (λ n. q < n) (sym states) (bars_low net.tables s.states e q h);
+    place = subst (IsPlace (circuit_of (spelling s))) (start_place s at) (
+        let inputs = rotary_inputs (size net.tables) 0 (within_board 0 (first_bank 0 (omega arith))) in
+        subst (λ n. 3 < n) (sym inputs) (omega arith));
     in_time = omega arith;
   }
 
-  start_admitted : StandsFor f.network (situation_at_start f) (flat_start f) → size f.network.tables ≤ MOST_ELEMENTS → Admits Two spelling
-  start_admitted stands few = record {
+  pub start_admitted : (s : Situation) → s.place ≡ Enter 0 0 → StandsFor net s (board_start net.tables s) →
+      size net.tables ≤ MOST_ELEMENTS → Admits Two (spelling s)
+  start_admitted s at stands few = record {
     some = within_board 0 (first_bank 0 (omega arith));
     few = few;
-    circuit = subst IsCircuit same_circuit flat.is_board.circuit;
-    config = start_config stands;
-    start = let inputs = rotary_inputs (size f.network.tables) 0 (within_board 0 (first_bank 0 (omega arith))) in subst (λ n. 3 < n) (sym inputs) (omega arith);
+    circuit = subst IsCircuit (same_circuit s) is_board.circuit;
+    config = start_config s at stands;
+    start =
+        let inputs = rotary_inputs (size net.tables) 0 (within_board 0 (first_bank 0 (omega arith))) in
+        subst (λ n. 3 < n) (sym inputs) (omega arith);
     end =
-        let outputs = rotary_outputs (size f.network.tables) (bank_output_line 0 control 0).element (within_board _ (last_column 0 (omega arith))) in
+        let outputs = rotary_outputs (size net.tables) (bank_output_line 0 control 0).element (within_board _ (last_column 0 (omega arith))) in
         subst (λ n. 1 < n) (sym outputs) (omega arith);
-    unfed = no_source (source f.circuit.wires (bank_input_line 0 0)) refl;
-    unwired = no_target (target f.circuit.wires (bank_output_line 0 control 0)) refl;
+    unfed = no_source (source circuit.wires (bank_input_line 0 0)) refl;
+    unwired = no_target (target circuit.wires (bank_output_line 0 control 0)) refl;
   }
-
-  -- no wire of the network leads from the control's line to the outside
-  no_net_target : (o : Option Line) → target f.network.wires (line_at 0 0) ≡ o → o ≡ None
-  no_net_target None is = refl
-  no_net_target (Some to) is = absurd (none_from f.translation.machine l (line_at 0 0) to ((flat.is_network.wires (line_at 0 0) to).0 is) refl)
 
   -- the end of the board is the output line of the control's bank
-  end_is : (test : Situation → Bool) → BoardReads f test → Left (bank_output_line 0 control 0).element (bank_output_line 0 control 0).line ≡ end_place f.layout
-  end_is test reads =
-      let s : Situation = record { states = (situation_at_start f).states; place = Left 0 0 } in
-      let stands : StandsFor f.network s (board_start f.network.tables s) = record {
-        count = reads.starts.count;
-        bars = reads.starts.bars;
-        rests = reads.starts.rests;
-        admissible = (
-          subst (λ (o : Option Table). 0 < option_map_or (λ (t : Table). t.outputs) o 0) (sym has_control)
-              (let outputs = square in let some = some_line in omega arith),
-          no_net_target (target f.network.wires (line_at 0 0)) refl,
-        );
-        place = refl;
-      } in
-      ap (λ (o : Option Table). output_at f.network.tables 0 o 0) (sym has_control) ∙ reads.end s (board_start f.network.tables s) stands refl
+  end_is : (b : Layout) → IsLayout machine l names b →
+      Left (bank_output_line 0 control 0).element (bank_output_line 0 control 0).line ≡ end_place b
+  end_is b is =
+      let lines : control.inputs ≡ lines_at b = is_network.is_control.inputs ∙ ap (λ zs. lines_before zs 3) (sym is.symbols) in
+      let states : control.states ≡ b.states = is_network.is_control.states ∙ sym is.states in
+      let column : column_at 0 control.inputs (control.states - 1) ≡ column_at 0 (lines_at b) (b.states - 1) =
+      ap (λ k. column_at 0 k (control.states - 1)) lines ∙ ap (λ n. column_at 0 (lines_at b) (n - 1)) states in
+      let zero_row : column_at 0 control.inputs (control.states - 1) + 0 ≡ column_at 0 (lines_at b) (b.states - 1) = omega arith in
+      ap (λ e. Left e east) zero_row
 
-  start_spelling : (test : Situation → Bool) → BoardReads f test → IsFlatSpelling f spelling
-  start_spelling test reads = record {
+  pub start_spelling : (s : Situation) → s.place ≡ Enter 0 0 → (b : Layout) → IsLayout machine l names b →
+      IsBoardSpelling net b (board_start net.tables s) (spelling s)
+  start_spelling s at b is = record {
     elements = refl;
-    wires = flat.is_board.wires;
+    wires = is_board.wires;
     config = refl;
-    start = refl;
-    end = end_is test reads;
+    start = start_place s at;
+    end = end_is b is;
   }
+
+  -- so it has a configuration text
+  pub start-spells : (s : Situation) → s.place ≡ Enter 0 0 → StandsFor net s (board_start net.tables s) → size net.tables ≤ MOST_ELEMENTS →
+      (b : Layout) → IsLayout machine l names b →
+      (u : Spelling) × IsBoardSpelling net b (board_start net.tables s) u × ((text : List ℕ) × Spelled Two u text)
+  start-spells s at stands few b is =
+      (spelling s, start_spelling s at b is, has-text Two (spelling s) (start_admitted s at stands few))
 
 -- a board at its start has a configuration text
 pub boards-spelled : BoardsRead → BoardsAreSpelled
 boards-spelled read p symbols l f flat accepted =
     let found = read p symbols l f flat accepted in
-    let modules = found.1.modules in (
-      spelling p symbols l f flat modules,
-      start_spelling p symbols l f flat modules found.0 found.1,
-      has-text Two (spelling p symbols l f flat modules) (start_admitted p symbols l f flat modules found.1.starts accepted.few),
-    )
+    start-spells f.translation.machine l f.names f.network flat.is_network found.1.modules f.circuit flat.is_board
+    (situation_at_start f) refl found.1.starts accepted.few f.layout flat.is_layout
 
 -- ---- one text
 
 -- the wires of a board's spelling are the board's
+pub board_targets : (net circuit : Circuit) → IsBoard net circuit → (b : Layout) (at_start : Config) (s : Spelling) →
+    IsBoardSpelling net b at_start s → (from : Line) → target s.wires from ≡ target circuit.wires from
+board_targets net circuit board b at_start s a from =
+    options_one (target s.wires from) (target circuit.wires from) (λ to h. (board.wires from to).1 ((a.wires from to).0 h))
+    (λ to h. (a.wires from to).1 ((board.wires from to).0 h))
+
 pub target_of : (f : Flat) (p : Program) (symbols : List ℕ) (l : Limits) → IsFlatOf p symbols l f → (s : Spelling) → IsFlatSpelling f s → (from : Line) →
     target s.wires from ≡ target f.circuit.wires from
-target_of f p symbols l flat s a from =
-    options_one (target s.wires from) (target f.circuit.wires from) (λ to h. (flat.is_board.wires from to).1 ((a.wires from to).0 h))
-    (λ to h. (a.wires from to).1 ((flat.is_board.wires from to).0 h))
+target_of f p symbols l flat s a from = board_targets f.network f.circuit flat.is_board f.layout (flat_start f) s a from
 
 pub entered_once : (c d : Line) → Enter c.element c.line ≡ Enter d.element d.line → c ≡ d
 entered_once c d h = same_lines c d (cc) (cc)
@@ -290,13 +302,21 @@ entered_once c d h = same_lines c d (cc) (cc)
 pub left_once : (c d : Line) → Left c.element c.line ≡ Left d.element d.line → c ≡ d
 left_once c d h = same_lines c d (cc) (cc)
 
--- boards that are the same have one text
+-- boards that are the same up to the order of their wires have one text
+pub one_board_text : (net far circuit other : Circuit) → IsBoard net circuit → IsBoard far other → net.tables ≡ far.tables →
+    ((from : Line) → target circuit.wires from ≡ target other.wires from) → (b c : Layout) → b ≡ c →
+    (at_start at_other : Config) → at_start ≡ at_other → (s u : Spelling) (text second : List ℕ) →
+    IsBoardSpelling net b at_start s → IsBoardSpelling far c at_other u → Spelled Two s text → Spelled Two u second → text ≡ second
+one_board_text net far circuit other board also tables targets b c layouts at_start at_other starts s u text second x y one two =
+    let elements : s.elements ≡ u.elements = x.elements ∙ ap size tables ∙ sym y.elements in
+    let config : s.config ≡ u.config = x.config ∙ starts ∙ sym y.config in
+    let start : s.start ≡ u.start = entered_once s.start u.start (x.start ∙ ap (λ (z : Config). z.place) starts ∙ sym y.start) in
+    let end : s.end ≡ u.end = left_once s.end u.end (x.end ∙ ap end_place layouts ∙ sym y.end) in
+    same_text Two s u text second elements (λ from. board_targets net circuit board b at_start s x from ∙ targets from
+    ∙ sym (board_targets far other also c at_other u y from)) config start end one two
+
 pub spelled_alike : (f g : Flat) → AreSameFlats f g → (p : Program) (symbols : List ℕ) (l : Limits) → IsFlatOf p symbols l f → IsFlatOf p symbols l g →
     (s u : Spelling) (text second : List ℕ) → IsFlatSpelling f s → IsFlatSpelling g u → Spelled Two s text → Spelled Two u second → text ≡ second
 spelled_alike f g same p symbols l flat other s u text second a b one two =
-    let elements : s.elements ≡ u.elements = a.elements ∙ ap size same.network.tables ∙ sym b.elements in
-    let config : s.config ≡ u.config = a.config ∙ same.start ∙ sym b.config in
-    let start : s.start ≡ u.start = entered_once s.start u.start (a.start ∙ ap (λ (c : Config). c.place) same.start ∙ sym b.start) in
-    let end : s.end ≡ u.end = left_once s.end u.end (a.end ∙ ap end_place same.layout ∙ sym b.end) in
-    same_text Two s u text second elements (λ from. target_of f p symbols l flat s a from ∙ same.circuit.targets from
-    ∙ sym (target_of g p symbols l other u b from)) config start end one two
+    one_board_text f.network g.network f.circuit g.circuit flat.is_board other.is_board same.network.tables same.circuit.targets
+    f.layout g.layout same.layout (flat_start f) (flat_start g) same.start s u text second a b one two

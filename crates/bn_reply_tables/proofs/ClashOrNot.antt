@@ -14,10 +14,10 @@ use Rattle.bn_quad.specs.declared.clash.Clash.{Clash}
 
 -- ---- two quadruples
 
-same : (a b : ℕ) → (a ≡ b) ⊎ (a ≡ b → ⊥)
+pub same : (a b : ℕ) → (a ≡ b) ⊎ (a ≡ b → ⊥)
 same a b = elim (eqb_tells a b) [ inl h ↦ inl h.1 | inr h ↦ inr h.1 ]
 
-both : (P Q : Type 0) → P ⊎ (P → ⊥) → Q ⊎ (Q → ⊥) → (P × Q) ⊎ (P × Q → ⊥)
+pub both : (P Q : Type 0) → P ⊎ (P → ⊥) → Q ⊎ (Q → ⊥) → (P × Q) ⊎ (P × Q → ⊥)
 both P Q (inr never) q = inr (λ h. never h.0)
 both P Q (inl p) (inr never) = inr (λ h. never h.1)
 both P Q (inl p) (inl q) = inl (p, q)
@@ -34,7 +34,7 @@ meets_in_range (Rewrite r w) (Move s) = inl tt
 meets_in_range (Move s) (Rewrite r w) = inl tt
 meets_in_range (Move s) (Move t) = inl tt
 
-on_each_tape : (R : Deed → Deed → Type 0) → ((d e : Deed) → R d e ⊎ (R d e → ⊥)) → (r s : Rule ℕ) →
+pub on_each_tape : (R : Deed → Deed → Type 0) → ((d e : Deed) → R d e ⊎ (R d e → ⊥)) → (r s : Rule ℕ) →
     OnEachTape R (deeds_of r) (deeds_of s) ⊎ (OnEachTape R (deeds_of r) (deeds_of s) → ⊥)
 on_each_tape R test r s = both _ _ (test r.one s.one) (both _ _ (test r.two s.two) (both _ _ (test r.three s.three) (inl tt)))
 

@@ -5,7 +5,7 @@ pub mod RunLemmas
 pub mod OutputLemmas
 pub mod WholeRunLemmas
 pub mod FitLemmas
-mod ClashOrNot
+pub mod ClashOrNot
 pub mod ReversibleLemmas
 pub mod BennettLemmas
 pub mod InverseLemmas

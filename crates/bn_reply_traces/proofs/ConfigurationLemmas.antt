@@ -1,13 +1,13 @@
 -- The line of a configuration is there, and is one.
-use Rattle.std.specs.Prelude.{◌≡◌, ◌≢◌, ℕ, zero, suc, ◌+◌, ◌<◌, ◌≤◌, ◌⊎◌, ℤ, pos, List, [], ◌∷◌, ◌++◌, All, Bool, Option, Some, None}
+use Rattle.std.specs.Prelude.{◌≡◌, ◌≢◌, ℕ, zero, suc, ◌+◌, ◌⊎◌, pos, List, [], ◌∷◌, ◌++◌, All, Option, Some, None}
 use Rattle.std.specs.Prelude.{codes, decimal, refl}
-use Rattle.std.proofs.Common.{arith, inl, inr, sym, subst, ap, ◌∙◌}
+use Rattle.std.proofs.Common.{inl, inr, sym, subst, ap, ◌∙◌}
 use Rattle.std.proofs.lemmas.Bool.Decides.{eqb_tells}
 use Rattle.bn_lists.specs.Runs.{Reaches}
 use Rattle.bn_lists.proofs.RunsLemmas.{runs_end_once}
 use Rattle.bn_machine.specs.Tape.{Tape, cell, word_tape}
 use Rattle.bn_quad.specs.Overlap.{IsDeterministic}
-use Rattle.bn_quad.specs.Quadruples.{Configuration, Deed, GoesBy, HasNoRule, Quadruples, QuadruplesRunTo, after, done, everywhere}
+use Rattle.bn_quad.specs.Quadruples.{Configuration, Deed, GoesBy, HasNoRule, Quadruples, QuadruplesRunTo, done, everywhere}
 use Rattle.bn_quad.specs.Quadruples.{final_state_of}
 use Rattle.bn_quad.proofs.QuadStepLemmas.{goes_by_once, goes_function, leads_goes}
 use Rattle.bn_bennett_laws.specs.Steps.{Steps}

@@ -4,13 +4,11 @@ pub mod TextLemmas
 pub mod MomentLemmas
 pub mod TraceLemmas
 pub mod GivenLemmas
-pub mod AlphabetLemmas
 pub mod TapeStageLemmas
 pub mod QuadStageLemmas
 pub mod LinesLemmas
 pub mod ConfigurationLemmas
 pub mod MomentsLemmas
-pub mod QuadReplyLemmas
 pub mod MomentsSettled
 pub mod QuadTextLemmas
 pub mod QuadGivenLemmas

@@ -1,5 +1,5 @@
 -- The answer of `moments` is there, and is one; and what is given of it.
-use Rattle.std.specs.Prelude.{◌≡◌, ◌≢◌, ℕ, zero, suc, ◌+◌, ◌<◌, ◌≤◌, ◌⊎◌, List, [], ◌∷◌, ◌++◌, All, Option, Some, None, codes, refl}
+use Rattle.std.specs.Prelude.{◌≡◌, ◌≢◌, ℕ, zero, suc, ◌+◌, ◌<◌, ◌≤◌, List, [], ◌++◌, All, Option, refl}
 use Rattle.std.proofs.Common.{arith, inl, inr, sym, subst, ap, ◌∙◌, append_assoc, add-one}
 use Rattle.std.proofs.lemmas.Bool.{cases_lt}
 use Rattle.bn_lists.specs.Runs.{Reaches}
@@ -9,14 +9,13 @@ use Rattle.bn_io.specs.Told.{Grows, GrowsByFront}
 use Rattle.bn_io.proofs.FaultsLemmas.{Rose-late}
 use Rattle.bn_io.proofs.ToldLemmas.{Grows-joins}
 use Rattle.bn_machine.proofs.OutcomeLemmas.{run_goes_on}
-use Rattle.bn_machine.specs.Tape.{word_tape}
 use Rattle.bn_net.proofs.WalkLemmas.{hears-nothing}
 use Rattle.bn_quad.specs.Overlap.{IsDeterministic}
 use Rattle.bn_quad.specs.Quadruples.{Configuration, Quadruples, QuadruplesRunTo, everywhere, final_state_of}
 use Rattle.bn_quad.proofs.QuadStepLemmas.{goes_function}
 use Rattle.bn_bennett_laws.specs.Steps.{Steps}
 use Rattle.bn_build_laws.specs.Starts.{words_on}
-use Rattle.bn_erase_laws.proofs.DecidedLemmas.{Bounded, Next, bounded, has_none, is_final, steps_on}
+use Rattle.bn_erase_laws.proofs.DecidedLemmas.{Next, bounded, has_none, is_final, steps_on}
 use Rattle.bn_qtable.specs.Rows.{QuadTable}
 use Rattle.bn_reply.specs.Answering.{HasAnswer, IsOneAnswer, IsSettled}
 use Rattle.bn_reply.specs.Codes.{IsReplyStatus}

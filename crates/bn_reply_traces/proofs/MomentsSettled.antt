@@ -1,16 +1,13 @@
 -- `moments` has one answer to all words, numbers of steps and bytes.
-use Rattle.std.specs.Prelude.{◌≡◌, ◌≢◌, ℕ, List, [], All}
+use Rattle.std.specs.Prelude.{◌≢◌, ℕ, List, [], All}
 use Rattle.std.proofs.Common.{arith}
-use Rattle.bn_qtable.specs.Reading.{ReadsQuadruples}
-use Rattle.bn_qtable.specs.Rows.{QuadTable}
-use Rattle.bn_reply.specs.Answering.{IsSettled}
 use Rattle.bn_reply.specs.Lines.{foreign_line}
 use Rattle.bn_reply.specs.Words.{IsSpelledBy}
-use Rattle.bn_reply_traces.specs.MomentsReply.{MomentsAreSettled, MomentsReplies, TellsMoments, ThreeMomentsReplies}
-use Rattle.bn_reply_traces.specs.QuadReply.{TapeWordReplies, lettered, tape_foreign_line}
-use Rattle.bn_reply_traces.proofs.AlphabetLemmas.{read_alphabet}
+use Rattle.bn_reply_traces.specs.MomentsReply.{MomentsAreSettled, TellsMoments}
+use Rattle.bn_reply_quads.specs.QuadReply.{TapeWordReplies, lettered, tape_foreign_line}
+use Rattle.bn_reply_quads.proofs.AlphabetLemmas.{read_alphabet}
 use Rattle.bn_reply_traces.proofs.MomentsLemmas.{moments_settled}
-use Rattle.bn_reply_traces.proofs.QuadReplyLemmas.{quad_settled, tape_word_settled}
+use Rattle.bn_reply_quads.proofs.QuadReplyLemmas.{quad_settled, tape_word_settled}
 
 letters_of_word : (names : List (List ℕ)) (word symbols : List ℕ) → IsSpelledBy (lettered names) word symbols →
     All (λ s. s ≢ 0) symbols
@@ -23,7 +20,7 @@ pub moments_are_settled : MomentsAreSettled
 moments_are_settled = record {
   one_word = λ word n bytes.
       quad_settled (λ t. TapeWordReplies foreign_line (λ one. TellsMoments t n one [] []) t.names.one word) bytes
-      (λ t reads apart. tape_word_settled foreign_line (λ one. TellsMoments t n one [] []) t.names.one
+      (λ t reads apart back. tape_word_settled foreign_line (λ one. TellsMoments t n one [] []) t.names.one
       (read_alphabet bytes t 1 reads (omega arith)) word
       (λ one h. moments_settled t n one [] [] apart (letters_of_word t.names.one word one h) no_letters no_letters));
   three_words = λ first second third n bytes.
@@ -31,7 +28,7 @@ moments_are_settled = record {
       (λ one. TapeWordReplies (tape_foreign_line 2)
       (λ two. TapeWordReplies (tape_foreign_line 3)
       (λ three. TellsMoments t n one two three) t.names.three third) t.names.two second) t.names.one first) bytes
-      (λ t reads apart. tape_word_settled (tape_foreign_line 1) (λ one. TapeWordReplies (tape_foreign_line 2)
+      (λ t reads apart back. tape_word_settled (tape_foreign_line 1) (λ one. TapeWordReplies (tape_foreign_line 2)
       (λ two. TapeWordReplies (tape_foreign_line 3)
       (λ three. TellsMoments t n one two three) t.names.three third) t.names.two second) t.names.one
       (read_alphabet bytes t 1 reads (omega arith)) first

@@ -1,5 +1,5 @@
 -- The lines of a run of a machine of quadruples as they are given.
-use Rattle.std.specs.Prelude.{◌≡◌, ◌≢◌, ℕ, suc, ◌+◌, ◌<◌, ◌≤◌, List, [], ◌∷◌, ◌++◌, All, Bool, true, false, length, Option, Some, None, refl}
+use Rattle.std.specs.Prelude.{◌≡◌, ℕ, suc, ◌+◌, ◌≤◌, List, [], ◌∷◌, ◌++◌, Bool, true, false, Option, Some, None, refl}
 use Rattle.std.specs.Option.{is_some}
 use Rattle.std.proofs.Common.{arith, inl, inr, not, sym, subst, ap, ◌∙◌, append_assoc, add-one}
 use Rattle.bn_io.specs.Told.{Grows, GrowsByFront}
@@ -12,14 +12,13 @@ use Rattle.bn_quad.specs.Quadruples.{Configuration, QuadruplesRunTo, everywhere}
 use Rattle.bn_reply_traces.specs.MomentsReply.{ComesOut, Halted, Outcome, Running, Stuck}
 use Rattle.bn_reply_traces.specs.ConfigurationText.{IsConfigurationText, IsNextQuadruple}
 use Rattle.bn_reply_traces.specs.MomentText.{AreLines, rule_text}
-use Rattle.bn_reply_traces.specs.QuadStages.{AreClear, AreQuadTold, AreQuadToldInPart, IsLineIn, IsQuadEndedAt, IsQuadRun}
+use Rattle.bn_reply_traces.specs.QuadStages.{AreQuadTold, AreQuadToldInPart, IsLineIn, IsQuadEndedAt, IsQuadRun}
 use Rattle.bn_reply_traces.specs.QuadStages.{IsSomeStage, IsStageIn, IsSteppedTo, IsTapeStage, first_of, table_in}
 use Rattle.bn_reply_traces.specs.declared.extent.Extent.{Extent}
 use Rattle.bn_reply_traces.specs.declared.quad_run.QuadRun.{QuadRun}
 use Rattle.bn_reply_traces.specs.declared.quad_stage.QuadStage.{QuadStage}
 use Rattle.bn_reply.specs.Lines.{line}
 use Rattle.bn_reply_traces.proofs.ConfigurationLemmas.{AreShown, line_some}
-use Rattle.bn_reply_traces.proofs.QuadStageLemmas.{stage_clear}
 use Rattle.bn_reply_traces.proofs.TraceLemmas.{Shown}
 
 -- ---- the end

@@ -1,27 +1,27 @@
 -- A stage of a run of a machine of quadruples, and the configuration that it stands for.
-use Rattle.std.specs.Prelude.{◌≡◌, ◌≢◌, ℕ, zero, suc, ◌+◌, ◌<◌, ◌≤◌, ◌⊎◌, ℤ, pos, ◌+ℤ◌, ◌-ℤ◌, ◌≤ℤ◌, List, [], ◌∷◌, length, Option, Some, None, refl}
+use Rattle.std.specs.Prelude.{◌≡◌, ℕ, zero, suc, ◌<◌, ◌≤◌, ℤ, pos, ◌≤ℤ◌, List, [], ◌∷◌, length, Some, None, refl}
 use Rattle.std.proofs.Common.{arith, inl, inr, sym, subst, ap, ◌∙◌}
 use Rattle.std.proofs.lemmas.Int.{ints}
 use Rattle.std.proofs.lemmas.Option.{get_or_from_slice_get, slice_get_within}
 use Rattle.bn_lists.specs.Lists.{nth}
 use Rattle.bn_lists.proofs.RunsLemmas.{runs_more}
 use Rattle.bn_machine.specs.Tape.{Tape, scanned, word_tape}
-use Rattle.bn_machine.specs.Window.{IsWindowed, Windowed, with_tape}
+use Rattle.bn_machine.specs.Window.{IsWindowed, Windowed}
 use Rattle.bn_machine.specs.declared.quint.Shift.TheVariants as shifts
 use Rattle.bn_machine.specs.declared.quint.Side.{Side}
 use Rattle.bn_machine.specs.declared.quint.Side.TheVariants as sides
 use Rattle.bn_quad.specs.Calls.{AreSameWindows, DeedLeaves, IsLeaving, IsQuadTurn, LeavesAt, configuration, rooms_of}
 use Rattle.bn_quad.specs.Calls.{windows_of}
-use Rattle.bn_quad.specs.Quadruples.{AppliesTo, AreDeedsInRange, Configuration, Deed, DeedApplies, GoesBy, HasNoRule, IsFirstRule, IsQuadMachine}
+use Rattle.bn_quad.specs.Quadruples.{AppliesTo, AreDeedsInRange, Configuration, Deed, DeedApplies, GoesBy, IsFirstRule, IsQuadMachine}
 use Rattle.bn_quad.specs.Quadruples.{IsQuadrupleStuck, IsRuleInRange, Move, Quadruples, QuadruplesRunTo, Rewrite, Rule, deeds_of}
-use Rattle.bn_quad.specs.Quadruples.{done, everywhere, after, initial_of}
+use Rattle.bn_quad.specs.Quadruples.{everywhere, after, initial_of}
 use Rattle.bn_quad.specs.declared.tapes.QuadTurn.{QuadTurn}
 use Rattle.bn_quad.specs.declared.tapes.QuadTurn.TheVariants as turns
 use Rattle.bn_quad.specs.declared.tapes.Tapes.{Tapes}
 use Rattle.bn_qtable.specs.Rows.{QuadTable, counts_of}
 use Rattle.bn_reply_traces.specs.ConfigurationText.{IsNextQuadruple}
 use Rattle.bn_reply_traces.specs.Extents.{IsFirst, IsLast}
-use Rattle.bn_reply_traces.specs.QuadStages.{AreClear, AreWordsOn, IsClear, IsQuadStage, IsStepped, IsSteppedTo, IsTapeStage, IsWide, first_of}
+use Rattle.bn_reply_traces.specs.QuadStages.{AreClear, AreWordsOn, IsClear, IsQuadStage, IsStepped, IsSteppedTo, IsWide, first_of}
 use Rattle.bn_reply_traces.specs.Stages.{StandsFor}
 use Rattle.bn_reply_traces.specs.declared.extent.Extent.{Extent}
 use Rattle.bn_reply_traces.specs.declared.quad_stage.Extents.{Extents}

@@ -1,14 +1,10 @@
 -- What is said of a moment of a run of a machine of quadruples, piece by piece; and the last line.
-use Rattle.std.specs.Prelude.{◌≡◌, ℕ, ◌+◌, ◌<◌, ◌≤◌, ◌⊎◌, List, [], ◌∷◌, ◌++◌, length, Option, Some, None, codes, decimal, refl}
-use Rattle.std.specs.Option.{is_some}
-use Rattle.std.proofs.Common.{arith, true, false, inl, inr, sym, subst, ap, ◌∙◌, append_assoc}
+use Rattle.std.specs.Prelude.{◌≡◌, ℕ, ◌+◌, ◌<◌, List, ◌++◌, length, Some, None, codes, decimal, refl}
+use Rattle.std.proofs.Common.{inl, inr, sym, subst, ap, ◌∙◌, append_assoc}
 use Rattle.bn_machine.specs.Tape.{Tape, scanned}
 use Rattle.bn_machine.specs.Window.{Windowed}
 use Rattle.bn_quad.specs.Quadruples.{Configuration, Quadruples, final_state_of}
 use Rattle.bn_qtable.specs.Rows.{QuadTable}
-use Rattle.bn_reply.specs.Lines.{running_line}
-use Rattle.bn_reply.specs.declared.status.Status.{Status}
-use Rattle.bn_reply.specs.declared.status.Status.TheVariants as statuses
 use Rattle.bn_reply_traces.specs.ConfigurationText.{IsConfigurationText, IsNextQuadruple, name_in}
 use Rattle.bn_reply_traces.specs.MomentText.{IsTapeText}
 use Rattle.bn_reply_traces.specs.MomentsReply.{ComesOut, Halted, Outcome, Running, Stuck, moments_outcome_line, outcome_status}

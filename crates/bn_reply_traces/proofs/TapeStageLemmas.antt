@@ -1,19 +1,20 @@
 -- A tape of a stage, and the tape without ends that it stands for.
-use Rattle.std.specs.Prelude.{◌≡◌, ◌≢◌, ◌↔◌, ℕ, ◌+◌, ◌-◌, ◌<◌, ◌≤◌, ◌^◌, ◌⊎◌, ℤ, pos, ◌+ℤ◌, ◌-ℤ◌, ◌≤ℤ◌, List, length, take, min, max}
+use Rattle.std.specs.Prelude.{◌≡◌, ◌≢◌, ◌↔◌, ℕ, ◌+◌, ◌-◌, ◌<◌, ◌≤◌, ◌⊎◌, ℤ, pos, ◌+ℤ◌, ◌-ℤ◌, ◌≤ℤ◌, List, length, take, min, max}
 use Rattle.std.specs.Prelude.{All, Bool, true, zero, suc, negsuc, refl}
 use Rattle.std.proofs.Common.{arith, get_or, inl, inr, sym, subst, ap, ◌∙◌}
 use Rattle.std.proofs.lemmas.Int.{ints}
 use Rattle.std.proofs.lemmas.Bool.{cases_lt}
 use Rattle.std.proofs.lemmas.List.{get_or-take, get_or_past, length-take}
 use Rattle.bn_machine.specs.Tape.{Tape, cell, letter_at, moved, scanned, word_tape, write}
-use Rattle.bn_machine.specs.Window.{IsInside, IsWindowed, Windowed, new_window, with_tape}
+use Rattle.bn_machine.specs.Window.{IsWindowed, Windowed, new_window, with_tape}
 use Rattle.bn_machine.specs.declared.quint.Shift.TheVariants as shifts
 use Rattle.bn_machine.specs.declared.tape.TheConstants.Tape.{GREATEST_SIDE}
 use Rattle.bn_machine.proofs.TapeLemmas.{at_set_cell, cell-word, cell-write_beside}
 use Rattle.bn_base.specs.declared.limits.TheConstants.{MOST_COUNT}
-use Rattle.bn_quad.specs.Quadruples.{Deed, DeedApplies, IsDeedInRange, Move, Rewrite, done}
+use Rattle.bn_quad.specs.Quadruples.{Deed, IsDeedInRange, Move, Rewrite, done}
 use Rattle.bn_reply_traces.specs.Extents.{IsFirst, IsLast}
-use Rattle.bn_reply_traces.specs.QuadStages.{IsClear, IsStepped, IsTapeStage, IsWide, IsWordOn}
+use Rattle.bn_reply_quads.specs.Opened.{IsWordOn}
+use Rattle.bn_reply_traces.specs.QuadStages.{IsClear, IsStepped, IsTapeStage, IsWide}
 use Rattle.bn_reply_traces.specs.Stages.{AreBelow, IsMoved, IsWithin, StandsFor}
 use Rattle.bn_reply_traces.specs.declared.extent.Extent.{Extent}
 use Rattle.bn_reply_traces.proofs.ExtentLemmas.{first_of_word, marked_within, same_or_not}

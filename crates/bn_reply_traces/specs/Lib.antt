@@ -3,6 +3,5 @@ pub mod MomentText
 pub mod TraceReply
 pub mod Stages
 pub mod ConfigurationText
-pub mod QuadReply
 pub mod MomentsReply
 pub mod QuadStages

@@ -1,57 +1,28 @@
 -- A stage of a run of a machine of quadruples as the program keeps it: three tapes in windows, behind whose right ends
 -- the letters of long words go on, and the configuration on tapes without ends that it stands for.
-use Rattle.std.specs.Prelude.{◌≡◌, ◌≢◌, ℕ, ◌+◌, ◌<◌, ◌≤◌, ℤ, pos, ◌+ℤ◌, ◌-ℤ◌, ◌≤ℤ◌, List, [], ◌∷◌, ◌++◌, ◌^◌, length}
-use Rattle.std.specs.Prelude.{Option, Some, None, All, slice_get, true}
-use Rattle.std.specs.List.{list_all}
-use Rattle.bn_circuits.specs.declared.place.Place.{Place}
+use Rattle.std.specs.Prelude.{◌≡◌, ◌≢◌, ℕ, ◌+◌, ◌<◌, ◌≤◌, ℤ, pos, ◌+ℤ◌, ◌-ℤ◌, ◌≤ℤ◌, List, ◌++◌, ◌^◌, length}
+use Rattle.std.specs.Prelude.{Option, Some, None, All}
 use Rattle.bn_base.specs.declared.limits.TheConstants.{MOST_COUNT}
-use Rattle.bn_csv.specs.Forms.{is_symbol}
 use Rattle.bn_io.specs.Told.{Grows, GrowsByFront}
 use Rattle.bn_lists.specs.Runs.{Reaches}
 use Rattle.bn_machine.specs.Tape.{Tape, cell, word_tape}
 use Rattle.bn_machine.specs.Window.{IsWindowed, Windowed}
-use Rattle.bn_quad.specs.Names.{AreApart, Naming}
-use Rattle.bn_quad.specs.Overlap.{IsDeterministic, IsReversible}
+use Rattle.bn_quad.specs.Names.{Naming}
+use Rattle.bn_quad.specs.Overlap.{IsDeterministic}
 use Rattle.bn_quad.specs.Quadruples.{Configuration, GoesBy, IsQuadMachine, Quadruples, QuadruplesRunTo, everywhere}
 use Rattle.bn_qtable.specs.Reading.{ReadsQuadruples}
-use Rattle.bn_qtable.specs.Rows.{QuadTable, blank_name, table_of}
+use Rattle.bn_qtable.specs.Rows.{QuadTable, table_of}
 use Rattle.bn_build_laws.specs.Starts.{words_on}
-use Rattle.bn_reply.specs.Words.{IsFirstForeign, IsSpelledBy}
-use Rattle.bn_reply.specs.declared.status.Status.{Status}
+use Rattle.bn_reply_quads.specs.Opened.{IsWordOn}
 use Rattle.bn_reply_traces.specs.ConfigurationText.{IsConfigurationLineAfter, IsNextQuadruple}
 use Rattle.bn_reply_traces.specs.Extents.{IsFirst, IsLast}
 use Rattle.bn_reply_traces.specs.MomentText.{AreLines}
-use Rattle.bn_reply_traces.specs.QuadReply.{QuadReplies, lettered, nothing}
 use Rattle.bn_reply_traces.specs.Stages.{StandsFor}
 use Rattle.bn_reply_traces.specs.declared.extent.Extent.{Extent}
 use Rattle.bn_reply_traces.specs.declared.moments.Asked.{Asked}
-use Rattle.bn_reply_traces.specs.declared.quad_opening.OpenedQuads.{OpenedQuads}
-use Rattle.bn_reply_traces.specs.declared.moments.Asked.{Asked}
-use Rattle.bn_reply_traces.specs.declared.quad_opening.OpenedQuads.TheVariants as opened
 use Rattle.bn_reply_traces.specs.declared.quad_stage.QuadStage.{QuadStage}
 use Rattle.bn_reply_traces.specs.declared.quad_stage.StartWords.{StartWords}
 use Rattle.bn_reply_traces.specs.declared.quad_run.QuadRun.{QuadRun}
-use Rattle.bn_reply_traces.specs.declared.tape_names.Spelling.{Spelling}
-use Rattle.bn_reply_traces.specs.declared.tape_names.Spelling.TheVariants as spelling
-
--- ---- what is opened
-
--- the bytes' table, whose machine passes both tests, or what is answered where there is none
-abbrev pub AreOpenedQuads : List ℕ → OpenedQuads → Type 0
-AreOpenedQuads bytes (opened.Read m names) = ReadsQuadruples bytes (table_of m names)
-    × IsDeterministic m.rules × IsReversible m.rules
-AreOpenedQuads bytes (opened.Refused reply) = QuadReplies nothing bytes reply.status reply.text.items []
-
--- the symbols that spell a word on a tape with these names, or its first place that is foreign
-abbrev pub IsSpelling : List (List ℕ) → List ℕ → Spelling → Type 0
-IsSpelling names word (spelling.Symbols symbols) = IsSpelledBy (lettered names) word symbols.items
-IsSpelling names word (spelling.Foreign place) = IsFirstForeign (lettered names) word place
-
--- the names of a tape's symbols, the blank's first, all different, and each in its form
-pub record IsAlphabet (names : List (List ℕ)) : Type 0 where
-  pub begins : slice_get names 0 ≡ Some blank_name
-  pub apart : AreApart names
-  pub form : list_all is_symbol names ≡ true
 
 -- ---- a tape
 
@@ -95,13 +66,7 @@ pub record AreClear (s : QuadStage) : Type 0 where
 
 -- ---- a stage
 
--- the words are of the symbols of their tapes, of which there is one at least, and no letter is the blank
-pub record IsWordOn (names : List (List ℕ)) (word : List ℕ) : Type 0 where
-  pub some : 0 < length names
-  pub few : length word < 2 ^ 62
-  pub letters : All (λ s. s ≢ 0) word
-  pub known : All (λ s. s < length names) word
-
+-- so are three of a machine's tapes
 pub record AreWordsOn (names : Naming) (words : StartWords) : Type 0 where
   pub one : IsWordOn names.one words.one.now
   pub two : IsWordOn names.two words.two.now

@@ -5,12 +5,10 @@ mod extent;
 mod laws;
 mod moments;
 mod outcome;
-mod quad_opening;
 mod quad_run;
 mod quad_stage;
 mod quad_text;
 mod stage;
-mod tape_names;
 mod tape_text;
 mod trace;
 

@@ -15,11 +15,11 @@ ghost use Rattle.bn_reply_traces.specs.Stages.{OutcomeEnds};
 
 use crate::quad_stage::{QuadStage, StartWords};
 use crate::quad_text::{push_configuration, push_line_end, push_moments_outcome};
-use crate::tape_names::TapeNames;
 use crate::trace::{Ended, Unfinished};
 use bn_io::{Sink, WriteFault, give_pieces};
 use bn_quad::{IndexedMachine, QuadMachine, QuadNames};
 use bn_reply::{NoMemory, Status, finish};
+use bn_reply_quads::TapeNames;
 use std::alloc::Global;
 
 /// A machine with its index and its names, the symbols of the words on its tapes, and the greatest number of steps.

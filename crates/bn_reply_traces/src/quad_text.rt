@@ -13,12 +13,12 @@ ghost use Rattle.bn_reply_traces.specs.QuadStages.{table_in};
 use crate::extent::Extent;
 use crate::quad_run::QuadRun;
 use crate::quad_stage::QuadStage;
-use crate::tape_names::TapeNames;
 use crate::tape_text::{Spells, push_tape};
 use crate::trace::push_rule;
 use bn_base::push_u64;
 use bn_machine::Tape;
 use bn_reply::{NoMemory, Status, push, push_counted};
+use bn_reply_quads::TapeNames;
 
 // Appends how many steps have led to a stage, its state, and what its tapes show.
 pub(crate) fn push_configuration(

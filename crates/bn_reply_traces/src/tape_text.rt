@@ -11,6 +11,7 @@ use crate::extent::Extent;
 use bn_base::push_u64;
 use bn_machine::Tape;
 use bn_reply::{NoMemory, push, push_position};
+use bn_reply_quads::TapeNames;
 use bn_table::Table;
 
 /// What spells the symbols of a tape. Clauses see the name of each symbol, and how many symbols there are.
@@ -35,6 +36,19 @@ impl Spells for Table {
     fn push_symbol(&self, text: &mut Vec<u8>, symbol: u32) -> Result<(), NoMemory> {
         text.push(self.letter(symbol))?;
         Ok(())
+    }
+}
+
+impl<'a> Spells for TapeNames<'a> {
+    ghost use Rattle.std.specs.Prelude.{length};
+    ghost use Rattle.bn_reply_traces.specs.ConfigurationText.{name_in};
+
+    ghost name = { name_in };
+
+    ghost symbols = { λ names. length names };
+
+    fn push_symbol(&self, text: &mut Vec<u8>, symbol: u32) -> Result<(), NoMemory> {
+        push(text, self.name(symbol))
     }
 }
 

@@ -14,6 +14,7 @@ use bn_io::{Input, ReadRefusal, Sink, read_whole};
 use bn_net::Watch;
 use bn_reply::{MOST_INPUT_BYTES, Status, finish, give_reply, tell_long_input, tell_read_fault};
 use bn_reply_boards::{answer_compile, reply_generate, reply_run};
+use bn_reply_builds::answer_build;
 use bn_reply_circuits::{
     answer_back, answer_migrate, answer_mirror, answer_plan, answer_realise, answer_step,
     reply_farm,
@@ -176,6 +177,7 @@ fn answer_bytes<K: Sink, W: Watch>(
         WholeRequest::Realise { state, line } => answer_realise(alloc, state, line, bytes, sink),
         WholeRequest::Standard => give_reply(sink, reply_standard(alloc, bytes)),
         WholeRequest::Compile { word, window } => answer_compile(alloc, word, &window, bytes, sink),
+        WholeRequest::Build { word, window } => answer_build(alloc, word, &window, bytes, sink),
         WholeRequest::Run {
             word,
             window,

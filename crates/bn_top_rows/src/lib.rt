@@ -7,6 +7,8 @@ mod banks;
 #[cfg(test)]
 mod boards;
 #[cfg(test)]
+mod builds;
+#[cfg(test)]
 mod calls;
 #[cfg(test)]
 mod circuits;

@@ -8,7 +8,7 @@ use Rattle.bn_machine.specs.Outcome.{Limits}
 use Rattle.bn_network.specs.Limits.{AreSmall}
 use Rattle.bn_words.specs.Requests.{HasForm, IsAllowed, Request, words_of}
 use Rattle.bn_words.specs.Requests.{Step, Back, Check, Machine, Trace, Moments, ThreeMoments, Reversible, Inverse, Bennett, Realise, Standard}
-use Rattle.bn_words.specs.Requests.{Compile, Run, RunAuto}
+use Rattle.bn_words.specs.Requests.{Build, Compile, Run, RunAuto}
 use Rattle.bn_words.specs.Requests.{View, Session, Plan, Migrate, Mirror, Farm, Generate, Erase, EraseRun}
 use Rattle.bn_words.proofs.Numbers.{read-whole}
 
@@ -73,6 +73,7 @@ with_pair name a b =
 abbrev with_window : List ℕ → List ℕ → Limits → Option Request
 with_window name a l =
     if bytes_eq name (codes "compile") then Some (Compile (letters a) l)
+    else if bytes_eq name (codes "build") then Some (Build (letters a) l)
     else if bytes_eq name (codes "run") then Some (Run (letters a) l None)
     else Some (Session (letters a) l)
 
@@ -103,6 +104,7 @@ again (Realise q i) h =
     let line = value_again i (omega (arith, h.1.1)) in
     λ t. Some (Realise (state t) (line t))
 again (Compile w l) h = ap (λ m. Some (Compile w m)) (limits_again l h)
+again (Build w l) h = ap (λ m. Some (Build w m)) (limits_again l h)
 again (Run w l None) h = ap (λ m. Some (Run w m None)) (limits_again l h.0)
 again (Run w l (Some e)) h =
     let window = limits_again l h.0 in

@@ -7,7 +7,7 @@ use Rattle.bn_base.specs.declared.limits.TheConstants.{MOST_COUNT}
 use Rattle.bn_base.proofs.NumberLemmas.{decimal-once}
 use Rattle.bn_gen.specs.declared.machine.TheConstants.{MOST_INCREMENTS}
 use Rattle.bn_words.specs.Requests.{HasForm, HasNoForm}
-use Rattle.bn_words.specs.Requests.{Step, Back, Machine, Trace, Moments, ThreeMoments, Realise, Compile, Run, RunAuto, View, Session}
+use Rattle.bn_words.specs.Requests.{Step, Back, Machine, Trace, Moments, ThreeMoments, Realise, Build, Compile, Run, RunAuto, View, Session}
 use Rattle.bn_words.specs.Requests.{Generate, EraseRun}
 use Rattle.bn_words.specs.Words.{IsCount, IsNoCount, IsNumber}
 use Rattle.bn_words.proofs.FormLemmas.{only_form, value}
@@ -75,6 +75,7 @@ no_length words a b c k d e (Moments w n) h = c (ap length h.words_are)
 no_length words a b c k d e (ThreeMoments x y z n) h = k (ap length h.words_are)
 no_length words a b c k d e (Realise q i) h = c (ap length h.words_are)
 no_length words a b c k d e (Compile w l) h = d (ap length h.words_are)
+no_length words a b c k d e (Build w l) h = d (ap length h.words_are)
 no_length words a b c k d e (Run w l None) h = d (ap length h.words_are)
 no_length words a b c k d e (Run w l (Some n)) h = e (ap length h.words_are)
 no_length words a b c k d e (RunAuto w) h = c (ap length h.words_are)

@@ -29,6 +29,7 @@ pub data Request : Type 0 where
   Realise : ℕ → ℕ → Request
   Standard : Request
   Compile : List ℕ → Limits → Request
+  Build : List ℕ → Limits → Request
   Run : List ℕ → Limits → Option ℕ → Request
   RunAuto : List ℕ → Request
   View : List ℕ → Limits → ℕ → Request
@@ -70,6 +71,7 @@ words_of Bennett = codes "bennett" ∷ []
 words_of (Realise q i) = codes "realise" ∷ decimal q ∷ decimal i ∷ []
 words_of Standard = codes "standard" ∷ []
 words_of (Compile word l) = codes "compile" ∷ window_words word l []
+words_of (Build word l) = codes "build" ∷ window_words word l []
 words_of (Run word l given) = codes "run" ∷ window_words word l (steps_words given)
 words_of (RunAuto word) = codes "run" ∷ (61 ∷ word) ∷ codes "auto" ∷ []
 words_of (View word l e) = codes "view" ∷ window_words word l (decimal e ∷ [])
@@ -99,6 +101,7 @@ IsAllowed (Moments word n) = n ≤ MOST_COUNT
 IsAllowed (ThreeMoments first second third n) = n ≤ MOST_COUNT
 IsAllowed (Realise q i) = IsOrdinal q × IsOrdinal i
 IsAllowed (Compile word l) = AreSmall l
+IsAllowed (Build word l) = AreSmall l
 IsAllowed (Run word l given) = AreSmall l × IfSome given (λ e. e ≤ greatest)
 IsAllowed (View word l e) = AreSmall l × (e ≤ greatest)
 IsAllowed (Session word l) = AreSmall l
@@ -142,6 +145,7 @@ of_whole whole.Bennett = Bennett
 of_whole (whole.Realise q i) = Realise q i
 of_whole whole.Standard = Standard
 of_whole (whole.Compile word window) = Compile word.now (limits_of window)
+of_whole (whole.Build word window) = Build word.now (limits_of window)
 of_whole (whole.Run word window given) = Run word.now (limits_of window) given
 of_whole (whole.RunAuto word) = RunAuto word.now
 of_whole (whole.View word window e) = View word.now (limits_of window) e

@@ -176,6 +176,7 @@ fn read_window<'a>(
     let window = window_of(left, right, steps, output)?;
     match name {
         "compile" => Some(Request::OnWhole(WholeRequest::Compile { word, window })),
+        "build" => Some(Request::OnWhole(WholeRequest::Build { word, window })),
         "run" => Some(Request::OnWhole(WholeRequest::Run {
             word,
             window,

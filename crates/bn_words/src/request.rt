@@ -101,6 +101,13 @@ pub enum WholeRequest<'a> {
         /// The window.
         window: Windows,
     },
+    /// `build =W l1 r1 r2 r3`: the text of the board of a uniform machine of quadruples and the word W in a window.
+    Build {
+        /// The letters of the word.
+        word: &'a [u8],
+        /// The window.
+        window: Windows,
+    },
     /// `run =W l1 r1 n r3` and `run =W l1 r1 n r3 E`: the run of that board up to its exit, or of at most E steps.
     Run {
         /// The letters of the word.

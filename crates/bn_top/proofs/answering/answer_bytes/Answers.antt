@@ -74,6 +74,13 @@ returns-in-Compile-clause-ends g c =
     (g.W.Watch.told c.args.watch.now) (g.W.Watch.told c.args.watch.now)
     (c.answer_compile.ensures.ends (g.W.Watch.told c.args.watch.now))
 
+pub returns-in-Build-clause-ends : goal.returns-in-Build-clause-ends
+returns-in-Build-clause-ends g c =
+    given c.args.asked.now _ c.in-Build.is c.args.bytes.now c.answer_build.result (g.K.Sink.taken c.args.sink.now)
+    (g.K.Sink.taken c.answer_build.new.sink) (g.K.Sink.faults c.args.sink.now) (g.K.Sink.faults c.answer_build.new.sink)
+    (g.W.Watch.told c.args.watch.now) (g.W.Watch.told c.args.watch.now)
+    (c.answer_build.ensures.ends (g.W.Watch.told c.args.watch.now))
+
 pub returns-in-Run-clause-ends : goal.returns-in-Run-clause-ends
 returns-in-Run-clause-ends g c =
     aloud c.args.asked.now _ c.in-Run.is c.args.bytes.now c.give_reply-in-Run.result (g.K.Sink.taken c.args.sink.now)

@@ -1,7 +1,5 @@
-use Rattle.std.specs.Prelude.{◌≡◌, ◌↔◌, true}
 use Rattle.std.proofs.Common.{rules, sym, w64, ◌∙◌}
 use Rattle.std.proofs.lemmas.Int.{to_z-of_z}
-use Rattle.bn_machine.specs.Tape.{Tape, cell}
 use Rattle.bn_reply_traces.proofs.StageLemmas.{blank_there}
 use Rattle.bn_reply_traces.proofs.TapeStageLemmas.{steps_move}
 use Rattle.bn_reply_traces.proofs.extent.Extent.follow.Goals as goal

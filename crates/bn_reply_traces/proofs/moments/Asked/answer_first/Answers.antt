@@ -1,12 +1,12 @@
-use Rattle.std.specs.Prelude.{◌<◌, ◌^◌, ℕ, List, [], length}
-use Rattle.std.proofs.Common.{arith, rules, subst}
-use Rattle.bn_reply.specs.Lines.{foreign_line}
+use Rattle.std.specs.Prelude.{◌<◌, ◌^◌, ℕ, List, length}
+use Rattle.std.proofs.Common.{rules, subst}
 use Rattle.bn_reply.proofs.ReplyLemmas.{ends_as, silent_ends}
 use Rattle.bn_reply_traces.specs.MomentsReply.{TellsMoments}
-use Rattle.bn_reply_traces.specs.QuadReply.{TapeWordReplies, spelled, tape_foreign_line}
-use Rattle.bn_reply_traces.specs.QuadStages.{IsAlphabet, IsSpelling, asked_table}
-use Rattle.bn_reply_traces.proofs.AlphabetLemmas.{no_word, read_alphabet, some_symbol, word_on}
-use Rattle.bn_reply_traces.proofs.QuadReplyLemmas.{foreign_told, spelled_on}
+use Rattle.bn_reply_quads.specs.QuadReply.{TapeWordReplies, spelled, tape_foreign_line}
+use Rattle.bn_reply_quads.specs.Opened.{IsAlphabet, IsSpelling}
+use Rattle.bn_reply_traces.specs.QuadStages.{asked_table}
+use Rattle.bn_reply_quads.proofs.AlphabetLemmas.{word_on}
+use Rattle.bn_reply_quads.proofs.QuadReplyLemmas.{foreign_told, spelled_on}
 use Rattle.bn_reply_traces.proofs.moments.Asked.answer_first.Goals as goal
 
 pub answer_second-requires-clause-one : goal.answer_second-requires-clause-one

@@ -1,5 +1,5 @@
 use Rattle.std.specs.Prelude.{refl}
-use Rattle.std.proofs.Common.{rules, sym}
+use Rattle.std.proofs.Common.{rules}
 use Rattle.bn_reply.specs.Streams.{begun, cut, wanting}
 use Rattle.bn_reply_traces.specs.QuadStages.{table_in}
 use Rattle.bn_reply_traces.proofs.MomentsLemmas.{moments_begun, moments_end}

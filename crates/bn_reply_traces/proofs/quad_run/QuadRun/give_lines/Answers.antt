@@ -1,4 +1,4 @@
-use Rattle.std.specs.Prelude.{◌≡◌, Err, IsErrOf, true, ℕ}
+use Rattle.std.specs.Prelude.{◌≡◌, Err, IsErrOf, true}
 use Rattle.std.proofs.Common.{arith, sym, subst, ap, ◌∙◌}
 use Rattle.std.proofs.lemmas.Result.{err_from_is_err_and}
 use Rattle.bn_io.proofs.FaultsLemmas.{Rose-late}

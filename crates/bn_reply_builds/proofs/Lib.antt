@@ -1,0 +1,5 @@
+pub mod TableFacts
+pub mod CrowdedLemmas
+pub mod BuiltLemmas
+pub mod SettledLemmas
+pub mod StartLemmas

@@ -1,0 +1,65 @@
+-- What is known of the machine of a table that is read, and of a word on its tape 1.
+use Rattle.std.specs.Prelude.{◌≡◌, ◌≢◌, ℕ, zero, suc, ◌<◌, List, refl}
+use Rattle.std.proofs.Common.{arith, ap}
+use Rattle.bn_csv.specs.Entries.{entries_of}
+use Rattle.bn_quad.specs.Calls.{IsUniformMachine}
+use Rattle.bn_qtable.specs.Reading.{ReadsQuadruples}
+use Rattle.bn_qtable.specs.Rows.{QuadTable, counts_of}
+use Rattle.bn_qtable.proofs.Growing.{few-of}
+use Rattle.bn_named_laws.proofs.BackLemmas.{as_many, table_machine}
+use Rattle.bn_network.specs.Controls.{symbol_count}
+use Rattle.bn_network.specs.Networks.{IsTape}
+use Rattle.bn_assembly.specs.Assembled.{IsWordOf}
+use Rattle.bn_reply.specs.Words.{IsSpelledBy}
+use Rattle.bn_reply_quads.specs.QuadReply.{lettered}
+use Rattle.bn_reply_quads.proofs.AlphabetLemmas.{length-letters, read_alphabet, some_symbol}
+use Rattle.bn_reply_builds.specs.Buildable.{IsBuildable}
+
+positive : (n : ℕ) → n ≢ 0 → 0 < n
+positive zero h = absurd (h refl)
+positive (suc n) h = omega arith
+
+module _ (bytes : List ℕ) (t : QuadTable) (reads : ReadsQuadruples bytes t) where
+  -- as many symbols as names
+  count_on : (k : ℕ) → symbol_count t.machine k
+      ≡ symbol_count (record { rules = t.machine.rules; states = t.machine.states; symbols = counts_of t.names }) k
+  count_on k = ap (λ (zs : List ℕ).
+      symbol_count (record { rules = t.machine.rules; states = t.machine.states; symbols = zs }) k) reads.symbols
+
+  some_letters : (k : ℕ) → IsTape k → 0 < symbol_count t.machine k
+  some_letters zero tape = absurd (let low = tape.low in omega arith)
+  some_letters (suc zero) tape =
+      let count = count_on 1 in
+      let some = some_symbol t.names.one (read_alphabet bytes t 1 reads (omega arith)) in
+      omega arith
+  some_letters (suc (suc zero)) tape =
+      let count = count_on 2 in
+      let some = some_symbol t.names.two (read_alphabet bytes t 2 reads (omega arith)) in
+      omega arith
+  some_letters (suc (suc (suc zero))) tape =
+      let count = count_on 3 in
+      let some = some_symbol t.names.three (read_alphabet bytes t 3 reads (omega arith)) in
+      omega arith
+  some_letters (suc (suc (suc (suc k)))) tape = absurd (let high = tape.high in omega arith)
+
+  pub buildable : IsUniformMachine t.machine → IsBuildable t.machine
+  buildable uniform =
+      let count = as_many (entries_of bytes) t reads in
+      let few = reads.few in
+      let states = (few-of t.names t.machine.rules (entries_of bytes) reads.spelled).states in
+      let known = reads.states in
+      record {
+        valid = table_machine (entries_of bytes) t reads;
+        uniform = uniform;
+        letters = some_letters;
+        quadruples = omega arith;
+        states = omega arith;
+      }
+
+  pub word_of : (word symbols : List ℕ) → IsSpelledBy (lettered t.names.one) word symbols → IsWordOf t.machine symbols
+  word_of word symbols h k d inside =
+      let letter = h.symbols_known k d inside in
+      let known = letter.known in
+      let letters = length-letters 0 t.names.one in
+      let count = count_on 1 in
+      (positive _ letter.letter, omega arith)

@@ -1,0 +1,2 @@
+pub mod BuildReply
+pub mod Buildable

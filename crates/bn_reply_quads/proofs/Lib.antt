@@ -1,0 +1,3 @@
+pub mod AlphabetLemmas
+pub mod QuadReplyLemmas
+pub mod UniformLemmas

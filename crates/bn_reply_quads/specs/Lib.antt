@@ -1,0 +1,3 @@
+pub mod QuadReply
+pub mod UniformReply
+pub mod Opened
