@@ -24,7 +24,7 @@ KINDS = {
     "Q": "Ordinal MOST_COUNT",
     "I": "Ordinal MOST_COUNT",
     "k": "Ordinal MOST_INCREMENTS",
-    **dict.fromkeys(["l1", "r1", "n", "r3"], "Count MOST_COUNT"),
+    **dict.fromkeys(["l1", "r1", "n", "r2", "r3"], "Count MOST_COUNT"),
 }
 # Words that have no form, and what is said to them in one line.
 FAULTS = [
