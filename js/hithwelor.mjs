@@ -136,9 +136,9 @@ function* readSession(text) {
   }
 }
 
-// The class of machines whose calls this `answer` answers.
-function machineClass(answer) {
-  return class Machine {
+// The classes of machines whose calls this `answer` answers.
+function machineClasses(answer) {
+  class Table {
     constructor(table) {
       this.table = typeof table === "string" ? table : decoder.decode(table);
     }
@@ -149,7 +149,9 @@ function machineClass(answer) {
       if (!statuses.includes(status)) throw new Refused(status, text);
       return text;
     }
+  }
 
+  class Machine extends Table {
     check() {
       return this.ask(["check"]).trim();
     }
@@ -170,6 +172,10 @@ function machineClass(answer) {
 
     bennett() {
       return this.ask(["bennett"]);
+    }
+
+    reversible() {
+      return new ReversibleMachine(this.bennett());
     }
 
     byItself(word, steps = MOST_STEPS) {
@@ -199,7 +205,35 @@ function machineClass(answer) {
     compile(word, window) {
       return this.ask(["compile", `=${word}`, ...windowWords(window)]);
     }
-  };
+  }
+
+  // A machine of quadruples.
+  class ReversibleMachine extends Table {
+    verdicts() {
+      return this.ask(["reversible"]);
+    }
+
+    get isReversible() {
+      return this.verdicts() === "deterministic yes\nreversible yes\n";
+    }
+
+    inverse() {
+      return new ReversibleMachine(this.ask(["inverse"]));
+    }
+
+    // The lines of the moments of a run from a word on tape 1, or one on each of the three tapes.
+    moments(words, steps = MOST_STEPS) {
+      const list = typeof words === "string" ? [words] : [...words];
+      if (list.length !== 1 && list.length !== 3) throw new TypeError(`a run begins with one word, or three, and not ${list.length}`);
+      return linesOf(this.ask(["moments", ...list.map(word => `=${word}`), spelled(steps)], [DONE, STUCK, INSIDE]));
+    }
+
+    build(word, window) {
+      return this.ask(["build", `=${word}`, ...windowWords(window)]);
+    }
+  }
+
+  return {Machine, ReversibleMachine};
 }
 
 // The module: a compiled one, its bytes, a Response, or where it stands.
@@ -240,5 +274,5 @@ export async function load({module = new URL("hithwelor.wasm", import.meta.url)}
     return {status, text: decoder.decode(text)};
   }
 
-  return {answer, answerBytes, Machine: machineClass(answer), module: compiled, memory: () => bench.memory()};
+  return {answer, answerBytes, ...machineClasses(answer), module: compiled, memory: () => bench.memory()};
 }

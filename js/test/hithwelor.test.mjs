@@ -9,7 +9,7 @@ import {NoMemory, Refused, load} from "../hithwelor.mjs";
 
 const at = path => new URL(path, import.meta.url);
 const example = name => fs.readFileSync(at(`../../examples/${name}`), "utf8");
-const {answer, answerBytes, Machine, module} = await load();
+const {answer, answerBytes, Machine, ReversibleMachine, module} = await load();
 const increment = new Machine(example("increment.csv")), least = new Machine(example("least.csv"));
 const across = "rotary 1\nelements 1\nstart 0.n\nend 0.w\nsteps 1\nleft 0.w\ne 0 V - - - -\n";
 
@@ -111,4 +111,14 @@ test("the proved program says the same", {skip: program ? false : "HITHWELOR_PRO
     }
   }
   console.log(`# ${count} answers compared`);
+});
+
+test("a machine of quadruples is run, turned round and built", () => {
+  const counter = new ReversibleMachine(example("counter.csv"));
+  assert.equal(counter.isReversible, true);
+  assert.equal(counter.moments("110").at(-1), "halted 13");
+  assert.equal(counter.inverse().inverse().table, counter.table);
+  assert.equal(counter.moments(["110", "", ""]).length, 15);
+  assert.throws(() => counter.moments(["110", ""]), TypeError);
+  assert.equal(least.reversible().build("", [0, 2, 2, 1]), least.compile("", [0, 2, 2, 1]));
 });

@@ -1,12 +1,12 @@
 """Hithwelor, a verified workbench for reversible computing, from Python.
 
-`answer` hands words and an input to the program, and gives its status and its text. `Machine`, and what its calls give, are
+`answer` hands words and an input to the program, and gives its status and its text. `Machine`, `ReversibleMachine` and what their calls give are
 small classes over it with the texts read and a picture in notebooks. Nothing is needed besides Python 3.
 """
 from __future__ import annotations
 
 from .answers import NoMemory, Unavailable, answer, way
-from .machine import Machine
+from .machine import Machine, ReversibleMachine
 from .texts import Exit, Outcome, Refused, Run, Session, Tape, View, Window
 
 __all__ = [
@@ -15,6 +15,7 @@ __all__ = [
     "NoMemory",
     "Outcome",
     "Refused",
+    "ReversibleMachine",
     "Run",
     "Session",
     "Tape",

@@ -1,9 +1,10 @@
-"""Machines of quintuples, and what the program makes of them."""
+"""Machines of quintuples and of quadruples, and what the program makes of them."""
 from __future__ import annotations
 
 import html
 import os
 from collections.abc import Iterable
+from typing import ClassVar, TypeVar
 
 from .answers import answer
 from .texts import Outcome, Refused, Run, Session, View, Window, checked
@@ -11,17 +12,22 @@ from .texts import Outcome, Refused, Run, Session, View, Window, checked
 DONE, TEXT, MACHINE, STUCK, WINDOW, INSIDE = 0, 3, 4, 10, 11, 12
 
 
-class Machine:
-    """A machine, by its table: a quintuple a line, `state,read,write,shift,next`, as docs/FORMATS.md has it.
+Kind = TypeVar("Kind", bound="Table")
+
+
+class Table:
+    """A table that the program is asked about.
 
     Where the program refuses something, a call raises Refused with the program's own line.
     """
+
+    HEADS: ClassVar[tuple[str, ...]] = ()
 
     def __init__(self, table: str | bytes | bytearray) -> None:
         self.table: str = table if isinstance(table, str) else table.decode()
 
     @classmethod
-    def open(cls, path: str | os.PathLike[str]) -> Machine:
+    def open(cls: type[Kind], path: str | os.PathLike[str]) -> Kind:
         """The machine of a file."""
         with open(path, encoding="utf-8", newline="") as file:
             return cls(file.read())
@@ -31,6 +37,31 @@ class Machine:
         return checked(
             *answer([str(word) for word in words], self.table if data is None else data), *(statuses or (DONE,))
         )
+
+    @staticmethod
+    def window(window: Iterable[int]) -> Window:
+        numbers = tuple(window)
+        if len(numbers) != 4:
+            raise ValueError(f"a window is four numbers, l1, r1, n and r3, and not {len(numbers)}")
+        left, right, history, output = numbers
+        return left, right, history, output
+
+    def __repr__(self) -> str:
+        return f"{type(self).__name__}({self.table!r})"
+
+    def _repr_html_(self) -> str:
+        heads = "".join(f"<th>{head}</th>" for head in self.HEADS)
+        rows = "".join(
+            f"<tr>{''.join(f'<td>{html.escape(it)}</td>' for it in line.split(','))}</tr>"
+            for line in self.table.splitlines()
+        )
+        return f"<table><tr>{heads}</tr>{rows}</table>"
+
+
+class Machine(Table):
+    """A machine, by its table: a quintuple a line, `state,read,write,shift,next`, as docs/FORMATS.md has it."""
+
+    HEADS = ("state", "read", "write", "move", "next")
 
     def check(self) -> str:
         """The verdict on standard form, as the program prints it."""
@@ -54,6 +85,10 @@ class Machine:
     def bennett(self) -> str:
         """The table of Bennett's reversible machine."""
         return self.ask(["bennett"])
+
+    def reversible(self) -> ReversibleMachine:
+        """Bennett's reversible machine of this one."""
+        return ReversibleMachine(self.bennett())
 
     def by_itself(self, word: str, steps: int = 1_048_576) -> Outcome:
         """The machine's own run from a word, of at most so many steps."""
@@ -84,20 +119,33 @@ class Machine:
         """The configuration text of the machine's circuit at its start."""
         return self.ask(["compile", f"={word}", *self.window(window)])
 
-    @staticmethod
-    def window(window: Iterable[int]) -> Window:
-        numbers = tuple(window)
-        if len(numbers) != 4:
-            raise ValueError(f"a window is four numbers, l1, r1, n and r3, and not {len(numbers)}")
-        left, right, history, output = numbers
-        return left, right, history, output
 
-    def __repr__(self) -> str:
-        return f"Machine({self.table!r})"
+class ReversibleMachine(Table):
+    """A machine of quadruples, by its table: `state`, what is read on three tapes, what is done there, and `next`, as
+    docs/FORMATS.md has it."""
 
-    def _repr_html_(self) -> str:
-        rows = "".join(
-            f"<tr>{''.join(f'<td>{html.escape(it)}</td>' for it in line.split(','))}</tr>"
-            for line in self.table.splitlines()
-        )
-        return f"<table><tr><th>state</th><th>read</th><th>write</th><th>move</th><th>next</th></tr>{rows}</table>"
+    HEADS = ("state", "read 1", "read 2", "read 3", "act 1", "act 2", "act 3", "next")
+
+    def verdicts(self) -> str:
+        """Whether the machine is deterministic, and reversible, as the program prints it."""
+        return self.ask(["reversible"])
+
+    @property
+    def is_reversible(self) -> bool:
+        """Whether the machine is deterministic and reversible."""
+        return self.verdicts() == "deterministic yes\nreversible yes\n"
+
+    def inverse(self) -> ReversibleMachine:
+        """The machine that takes the steps of this one back."""
+        return ReversibleMachine(self.ask(["inverse"]))
+
+    def moments(self, *words: str, steps: int = 1_048_576) -> list[str]:
+        """The moments of its run from a word on tape 1, or one on each of the three tapes, and how it comes out: the
+        lines of `moments`."""
+        if len(words) not in (1, 3):
+            raise ValueError(f"a run begins with one word, or three, and not {len(words)}")
+        return self.ask(["moments", *(f"={word}" for word in words), steps], DONE, STUCK, INSIDE).splitlines()
+
+    def build(self, word: str, window: Iterable[int]) -> str:
+        """The configuration text of its circuit at the start, with a word on tape 1, in a window (l1, r1, r2, r3)."""
+        return self.ask(["build", f"={word}", *self.window(window)])
