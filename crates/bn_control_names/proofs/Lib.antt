@@ -1,0 +1,4 @@
+pub mod KeyLemmas
+pub mod ShownLemmas
+pub mod NamesLemmas
+mod TieLemmas

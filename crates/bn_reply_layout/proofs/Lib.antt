@@ -1,0 +1,9 @@
+pub mod SizeLemmas
+pub mod SymbolLemmas
+pub mod RowLemmas
+pub mod ModuleLemmas
+pub mod JoinedLemmas
+pub mod TextLemmas
+pub mod SettledLemmas
+pub mod PlaceLemmas
+pub mod TellingLemmas

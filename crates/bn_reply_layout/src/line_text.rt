@@ -1,0 +1,82 @@
+//! The names of lines, as `view` has them.
+
+ghost use Rattle.std.specs.Prelude.{◌≡◌, ◌<◌, ◌++◌, OnOk};
+ghost use Rattle.bn_bennett_laws.specs.List.{symbols_of};
+ghost use Rattle.bn_reply_views.specs.ViewText.{answer_line, answer_text, cell_line_text, control_line_text};
+
+use bn_base::push_u64;
+use bn_cell::CellLine;
+use bn_reply::{NoMemory, push};
+use bn_table::Table;
+
+/// Appends the name of a cell's line.
+pub(crate) fn push_cell_line(text: &mut Vec<u8>, line: CellLine) -> Result<(), NoMemory>
+    ensures { OnOk result (text.new.items ≡ text.old.items ++ cell_line_text line) }
+{
+    match line {
+        CellLine::Read => push(text, b"Rd"),
+        CellLine::Write(symbol) => {
+            push(text, b"W ")?;
+            push_u64(text, u64::from(symbol))
+        }
+        CellLine::ShiftRight => push(text, b"SR"),
+        CellLine::ShiftLeft => push(text, b"SL"),
+        CellLine::TakeRight => push(text, b"TakeR"),
+        CellLine::Answer(symbol) => {
+            push(text, b"A ")?;
+            push_u64(text, u64::from(symbol))
+        }
+        CellLine::DoneWrite => push(text, b"DoneW"),
+        CellLine::DoneRight => push(text, b"DoneR"),
+        CellLine::DoneLeft => push(text, b"DoneL"),
+        CellLine::TakeLeft => push(text, b"TakeL"),
+    }
+}
+
+/// Appends the name of an input line of the control of a table's reversible machine.
+pub(crate) fn push_control_line(
+    text: &mut Vec<u8>,
+    table: &Table,
+    line: u32,
+) -> Result<(), NoMemory>
+    ensures { OnOk result (text.new.items ≡ text.old.items ++ control_line_text (symbols_of table.now.machine) line) }
+{
+    // The table's own facts: its machine is within the limits of tables.
+    let letters = table.machine().symbols();
+    let history = table.machine().quints().len() as u32 + 1;
+    if line == 0 {
+        push(text, b"Start")
+    } else if line < letters + 4 {
+        push_answer(text, letters, line - 1, 1)
+    } else if line < letters + history + 7 {
+        push_answer(text, history, line - (letters + 4), 2)
+    } else {
+        push_answer(text, letters, line - (letters + history + 7), 3)
+    }
+}
+
+// Appends the name of the line by which a tape of so many symbols gives its answer at this place.
+fn push_answer(text: &mut Vec<u8>, symbols: u32, place: u32, tape: u32) -> Result<(), NoMemory>
+    requires { symbols < 4294967295 }
+    ensures { OnOk result (text.new.items ≡ text.old.items ++ answer_text (answer_line symbols place) tape) }
+{
+    push_cell_line(text, answer_line(symbols, place))?;
+    push(text, b" ")?;
+    push_u64(text, u64::from(tape))
+}
+
+// The answer at this place among those of a tape of so many symbols.
+fn answer_line(symbols: u32, place: u32) -> CellLine
+    requires { symbols < 4294967295 }
+    ensures { result ≡ answer_line symbols place }
+{
+    if place < symbols {
+        CellLine::Answer(place)
+    } else if place == symbols {
+        CellLine::DoneWrite
+    } else if place == symbols + 1 {
+        CellLine::DoneRight
+    } else {
+        CellLine::DoneLeft
+    }
+}
