@@ -13,7 +13,9 @@ import logging
 import math
 import multiprocessing
 import os
+import signal
 import sys
+import threading
 import time
 from collections import deque
 from collections.abc import Iterator
@@ -55,11 +57,12 @@ class Local:
         return self.jobs * AHEAD
 
     def submit(self, batch: Batch) -> Future[Answer]:
-        try:
-            return self.pool.submit(work, batch)
-        except BrokenProcessPool:
-            self.renew()
-            return self.pool.submit(work, batch)
+        with interrupts_held():
+            try:
+                return self.pool.submit(work, batch)
+            except BrokenProcessPool:
+                self.renew()
+                return self.pool.submit(work, batch)
 
     def result(self, future: Future[Answer]) -> Answer:
         """The answer of a batch. A process that dies while it hands in a large answer leaves the others, and the pool's
@@ -102,6 +105,23 @@ class Local:
             pool._result_queue._writer.close()
         if sys.version_info < (3, 11, 5):
             let_go(pool._call_queue._reader)
+
+
+@contextlib.contextmanager
+def interrupts_held() -> Iterator[None]:
+    """Lets Ctrl-C wait until the processes that are being started have been: one whose start is broken off finds nothing to
+    read from its parent, and says so in a traceback."""
+    if threading.current_thread() is not threading.main_thread():
+        yield
+        return
+    came: list[int] = []
+    before = signal.signal(signal.SIGINT, lambda number, frame: came.append(number))
+    try:
+        yield
+    finally:
+        signal.signal(signal.SIGINT, before)
+    if came:
+        raise KeyboardInterrupt
 
 
 def let_go(end: Any) -> None:
