@@ -202,7 +202,7 @@ tell_refusal() {
     4)
         where="\`machine:\` and a demand"
         what="its machine isn't in standard form; where it starts on the first letter of its word, \`standard\` helps"
-        [[ $command = standard || $command = realise || $command = moments ]] && what="its machine isn't one that $command takes"
+        [[ $command =~ ^(standard|realise|moments|build)$ ]] && what="its machine isn't one that $command takes"
         ;;
     5) what="the word has a letter that the table hasn't" where="\`word:\` and \`size:\`"
         [ "$command" = realise ] && what="the machine has no such state or line" ;;
