@@ -11,7 +11,7 @@ use Rattle.bn_inverse_laws.proofs.InverseLemmas.{inverses-end}
 use Rattle.bn_network.specs.Controls.{symbol_count}
 use Rattle.bn_network.specs.Networks.{ShowsTapes}
 use Rattle.bn_board_laws.proofs.NetworkReadLemmas.{networks-read}
-use Rattle.bn_build_laws.specs.Starts.{FitsWindow}
+use Rattle.bn_network.specs.Starts.{FitsWindow}
 use Rattle.bn_build_laws.specs.Laws.{InverseBuildsRunBack}
 use Rattle.bn_build_laws.proofs.ComingLemmas.{first_moment, strides}
 use Rattle.bn_build_laws.proofs.RunLemmas.{none_low}

@@ -22,7 +22,7 @@ use Rattle.bn_network.specs.Networks.{ShowsTape, ShowsTapes, cell_of, cells_in, 
 use Rattle.bn_network_laws.proofs.FirstLemmas.{begin_first}
 use Rattle.bn_board_spec.specs.Boards.{StandsFor, board_start}
 use Rattle.bn_board_spec.proofs.StartedLemmas.{bars-length, bars-rest}
-use Rattle.bn_build_laws.specs.Starts.{cells_by, start_from, words_on, FitsTape, FitsWindow}
+use Rattle.bn_network.specs.Starts.{cells_by, start_from, words_on, FitsTape, FitsWindow}
 use Rattle.bn_build_laws.specs.Laws.{BuildsStartAnywhere, BuildsStartWithWords, OneWordStarts, WordsFit}
 
 -- ---- lists of states

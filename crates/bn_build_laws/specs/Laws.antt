@@ -15,7 +15,7 @@ use Rattle.bn_network.specs.Networks.{network_start}
 use Rattle.bn_board_spec.specs.Boards.{board_start}
 use Rattle.bn_board_laws.specs.NetworkMoments.{machine_start}
 use Rattle.bn_build_laws.specs.Builds.{Build, IsBuild, IsStart, build_elements}
-use Rattle.bn_build_laws.specs.Starts.{AreInputs, FitsWindow, start_from, words_on}
+use Rattle.bn_network.specs.Starts.{AreInputs, FitsWindow, start_from, words_on}
 use Rattle.bn_build_laws.specs.Runs.{EndsInWindow, BuildRunsTo}
 
 -- ---- builds and their starts

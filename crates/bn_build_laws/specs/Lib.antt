@@ -1,5 +1,4 @@
 pub mod Builds
-pub mod Starts
 pub mod Exits
 pub mod Runs
 pub mod Laws

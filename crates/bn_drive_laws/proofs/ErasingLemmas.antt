@@ -28,7 +28,7 @@ use Rattle.bn_erase.proofs.ClosedLemmas.{erasings_uniform}
 use Rattle.bn_inverse_laws.proofs.InverseLemmas.{final_if}
 use Rattle.bn_named_laws.specs.Renumbering.{IsRenumbering, IsRenumbered, ReadsBack}
 use Rattle.bn_build_laws.specs.Builds.{Build, IsBuild, IsStart, build_elements}
-use Rattle.bn_build_laws.specs.Starts.{words_on}
+use Rattle.bn_network.specs.Starts.{words_on}
 use Rattle.bn_drive_laws.specs.Laws.{ErasingBoardsErase}
 use Rattle.bn_drive_laws.specs.RenumberedBuilds.{TellsRenumbered}
 use Rattle.bn_drive_laws.proofs.RenumberedLemmas.{renumbered-tell, words-renumbered}

@@ -15,7 +15,7 @@ use Rattle.bn_erase.specs.Made.{Erasure, IsErasing}
 use Rattle.bn_erase.specs.Printed.{names_of}
 use Rattle.bn_named_laws.specs.Renumbering.{Renumbering, IsRenumbering, IsRenumbered, ReadsBack}
 use Rattle.bn_build_laws.specs.Builds.{Build, IsBuild, IsStart, build_elements}
-use Rattle.bn_build_laws.specs.Starts.{words_on}
+use Rattle.bn_network.specs.Starts.{words_on}
 use Rattle.bn_drive_laws.specs.Drives.{Drives}
 use Rattle.bn_drive_laws.specs.RenumberedBuilds.{TellsRenumbered}
 use Rattle.bn_drive_laws.specs.ErasingBoards.{ErasingBoardTells}

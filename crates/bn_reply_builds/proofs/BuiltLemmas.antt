@@ -21,7 +21,7 @@ use Rattle.bn_board_laws.proofs.NetworkLemmas.{networks-there}
 use Rattle.bn_board_laws.proofs.NetworkReadLemmas.{networks-read}
 use Rattle.bn_assembly.specs.Assembled.{IsWordOf}
 use Rattle.bn_build_laws.specs.Builds.{Build, build_elements}
-use Rattle.bn_build_laws.specs.Starts.{start_from, words_on}
+use Rattle.bn_network.specs.Starts.{start_from, words_on}
 use Rattle.bn_reply.specs.declared.status.Status.{Status}
 use Rattle.bn_reply.specs.declared.status.Status.TheVariants as statuses
 use Rattle.bn_circuits.specs.declared.place.Place.{Place}

@@ -15,7 +15,7 @@ use Rattle.bn_network.specs.Networks.{elements_by}
 use Rattle.bn_network.proofs.OccurringLemmas.{order_one}
 use Rattle.bn_assembly.specs.Assembled.{CountsElements, IsWordOf}
 use Rattle.bn_build_laws.specs.Builds.{Build, build_elements}
-use Rattle.bn_build_laws.specs.Starts.{words_on}
+use Rattle.bn_network.specs.Starts.{words_on}
 use Rattle.bn_build_laws.proofs.ThereLemmas.{builds-there}
 use Rattle.bn_reply.specs.Answering.{HasAnswer, IsOneAnswer, IsSettled}
 use Rattle.bn_reply.specs.Codes.{IsReplyStatus}

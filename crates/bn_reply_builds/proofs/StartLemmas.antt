@@ -20,7 +20,7 @@ use Rattle.bn_board_laws.proofs.NetworkReadLemmas.{networks-read}
 use Rattle.bn_board.specs.Flattened.{Flattened}
 use Rattle.bn_assembly.specs.Assembled.{IsWordOf}
 use Rattle.bn_build_laws.specs.Builds.{Build, IsBuild}
-use Rattle.bn_build_laws.specs.Starts.{words_on}
+use Rattle.bn_network.specs.Starts.{words_on}
 use Rattle.bn_reply.specs.declared.reply.Reply.{Reply}
 use Rattle.bn_reply.specs.declared.status.Status.{Status}
 use Rattle.bn_reply_boards.specs.Opened.{IsBoardFor, IsTooLarge, spelling_of_board}

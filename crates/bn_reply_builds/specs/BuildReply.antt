@@ -14,7 +14,7 @@ use Rattle.bn_net.specs.declared.net.TheConstants.{MOST_ELEMENTS}
 use Rattle.bn_board_spec.specs.Boards.{board_start}
 use Rattle.bn_assembly.specs.Assembled.{CountsElements}
 use Rattle.bn_build_laws.specs.Builds.{Build, IsBuild, build_elements}
-use Rattle.bn_build_laws.specs.Starts.{start_from, words_on}
+use Rattle.bn_network.specs.Starts.{start_from, words_on}
 use Rattle.bn_reply.specs.Answering.{IsSettled}
 use Rattle.bn_reply.specs.Lines.{foreign_line, line, long_line}
 use Rattle.bn_reply.specs.declared.status.Status.{Status}

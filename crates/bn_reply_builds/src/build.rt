@@ -4,7 +4,7 @@ ghost use Rattle.std.specs.Prelude.{◌≡◌, ◌≤◌, [], List, IfOk, MatchO
 ghost use Rattle.bn_circuits.specs.declared.place.Place.{Place};
 ghost use Rattle.bn_network.specs.Limits.{AreSmall};
 ghost use Rattle.bn_assembly.specs.Assembled.{IsWordOf, limits_of};
-ghost use Rattle.bn_build_laws.specs.Starts.{words_on};
+ghost use Rattle.bn_network.specs.Starts.{words_on};
 ghost use Rattle.bn_reply.specs.Streams.{AnswerEnds};
 ghost use Rattle.bn_reply_circuits.specs.Unwritten.{WillReply};
 ghost use Rattle.bn_reply_builds.specs.BuildReply.{BuildReplies, IsCrowded, IsUncrowded, SizedReplies, TellsBuild, crowded_line};

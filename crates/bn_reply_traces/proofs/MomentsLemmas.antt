@@ -14,7 +14,7 @@ use Rattle.bn_quad.specs.Overlap.{IsDeterministic}
 use Rattle.bn_quad.specs.Quadruples.{Configuration, Quadruples, QuadruplesRunTo, everywhere, final_state_of}
 use Rattle.bn_quad.proofs.QuadStepLemmas.{goes_function}
 use Rattle.bn_bennett_laws.specs.Steps.{Steps}
-use Rattle.bn_build_laws.specs.Starts.{words_on}
+use Rattle.bn_network.specs.Starts.{words_on}
 use Rattle.bn_erase_laws.proofs.DecidedLemmas.{Next, bounded, has_none, is_final, steps_on}
 use Rattle.bn_qtable.specs.Rows.{QuadTable}
 use Rattle.bn_reply.specs.Answering.{HasAnswer, IsOneAnswer, IsSettled}

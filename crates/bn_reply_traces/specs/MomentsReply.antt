@@ -7,7 +7,7 @@ use Rattle.bn_machine.specs.Tape.{scanned}
 use Rattle.bn_quad.specs.Quadruples.{Configuration, IsQuadrupleStuck, Quadruples, QuadruplesRunTo, everywhere}
 use Rattle.bn_quad.specs.Quadruples.{final_state_of}
 use Rattle.bn_qtable.specs.Rows.{QuadTable}
-use Rattle.bn_build_laws.specs.Starts.{words_on}
+use Rattle.bn_network.specs.Starts.{words_on}
 use Rattle.bn_reply.specs.Answering.{IsSettled}
 use Rattle.bn_reply.specs.Lines.{foreign_line, line, running_line}
 use Rattle.bn_reply.specs.declared.status.Status.{Status}

@@ -12,7 +12,7 @@ use Rattle.bn_quad.specs.Overlap.{IsDeterministic}
 use Rattle.bn_quad.specs.Quadruples.{Configuration, GoesBy, IsQuadMachine, Quadruples, QuadruplesRunTo, everywhere}
 use Rattle.bn_qtable.specs.Reading.{ReadsQuadruples}
 use Rattle.bn_qtable.specs.Rows.{QuadTable, table_of}
-use Rattle.bn_build_laws.specs.Starts.{words_on}
+use Rattle.bn_network.specs.Starts.{words_on}
 use Rattle.bn_reply_quads.specs.Opened.{IsWordOn}
 use Rattle.bn_reply_traces.specs.ConfigurationText.{IsConfigurationLineAfter, IsNextQuadruple}
 use Rattle.bn_reply_traces.specs.Extents.{IsFirst, IsLast}

@@ -2,7 +2,7 @@ use Rattle.std.specs.Prelude.{◌≤◌, [], length}
 use Rattle.std.proofs.Common.{refl, rules, subst}
 use Rattle.bn_quad.specs.Quadruples.{Quadruples}
 use Rattle.bn_assembly.specs.Assembled.{limits_of}
-use Rattle.bn_build_laws.specs.Starts.{words_on}
+use Rattle.bn_network.specs.Starts.{words_on}
 use Rattle.bn_reply_boards.specs.Opened.{IsOpenedBoard}
 use Rattle.bn_reply_circuits.proofs.UnwrittenLemmas.{line_will}
 use Rattle.bn_reply_builds.specs.BuildReply.{IsCrowded, IsUncrowded, SizedReplies, TellsBuild, many}

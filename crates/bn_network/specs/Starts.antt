@@ -1,4 +1,4 @@
--- The start of a build from any configuration that stands in its window, and from three words (this project's own
+-- The start of a network from any configuration that stands in its window, and from three words (this project's own
 -- profile).
 use Rattle.std.specs.Prelude.{◌≢◌, ℕ, ◌+◌, ◌<◌, ◌≤◌, ℤ, pos, ◌-ℤ◌, List, ◌∷◌, ◌++◌, length, map, All}
 use Rattle.std.specs.List.{range_with_len}
