@@ -5,3 +5,4 @@ pub mod Rows
 pub mod Reading
 pub mod Draft
 pub mod Named
+pub mod TapeWords

@@ -7,6 +7,7 @@ mod entry;
 mod laws;
 mod lists;
 mod refusal;
+mod tape_word;
 mod text;
 
 pub use bn_csv::NoMemory;
@@ -15,4 +16,5 @@ pub use laws::{
     bytes_have_a_reading_or_a_fault, bytes_have_one_reading, tables_that_are_read_can_be_written,
 };
 pub use refusal::QuadTableRefusal;
+pub use tape_word::{TapeWord, TapeWords};
 pub use text::{read_quads, write_quads};
