@@ -1,25 +1,22 @@
 -- A build starts with each configuration that stands in its window.
-use Rattle.std.specs.Prelude.{◌≡◌, ◌≢◌, ℕ, ◌+◌, ◌*◌, ◌<◌, ◌≤◌, ℤ, pos, negsuc, ◌-ℤ◌, Bool, true, false, List, [], ◌∷◌}
+use Rattle.std.specs.Prelude.{◌≡◌, ℕ, ◌+◌, ◌*◌, ◌<◌, ◌≤◌, pos, ◌-ℤ◌, Bool, true, false, List, [], ◌∷◌}
 use Rattle.std.specs.Prelude.{◌++◌, length, All, map, replicate, Some, slice_get, if◌then◌else◌, refl}
 use Rattle.std.specs.List.{range_with_len}
 use Rattle.std.specs.Option.{option_map_or}
 use Rattle.std.specs.Ordering.{int_eq}
-use Rattle.std.proofs.Common.{zero, suc, arith, sym, ap, subst, ◌∙◌, inl, inr}
-use Rattle.std.proofs.lemmas.Bool.{cases_lt}
-use Rattle.std.proofs.lemmas.Int.{ints}
-use Rattle.std.proofs.lemmas.List.{append_assoc, append-nil, length-append, length-replicate, get_or_past}
+use Rattle.std.proofs.Common.{zero, suc, arith, sym, ap, subst, ◌∙◌}
+use Rattle.std.proofs.lemmas.List.{append_assoc, append-nil, length-append, length-replicate}
 use Rattle.std.proofs.lemmas.List.FromFn.{length-map-range_with_len}
 use Rattle.bn_element.specs.Tables.{Table}
 use Rattle.bn_circuits.specs.Circuits.{Circuit}
 use Rattle.bn_machine.specs.Outcome.{Limits}
-use Rattle.bn_machine.specs.Tape.{Tape, cell, word_tape, letter_at}
-use Rattle.bn_machine.specs.Window.{IsBetween}
-use Rattle.bn_machine.proofs.TapeLemmas.{cell-word}
+use Rattle.bn_machine.specs.Tape.{Tape, cell}
 use Rattle.bn_quad.specs.Quadruples.{Configuration, Quadruples}
 use Rattle.bn_network.specs.Cells.{Plain, Head, cell_table, state_number}
-use Rattle.bn_network.specs.Controls.{symbol_count, lines_before}
-use Rattle.bn_network.specs.Networks.{ShowsTape, ShowsTapes, cell_of, cells_in, first_cell}
+use Rattle.bn_network.specs.Controls.{ControlState, IsNumbering, symbol_count, lines_before}
+use Rattle.bn_network.specs.Networks.{IsNetwork, ShowsTape, ShowsTapes, cell_of, cells_in, first_cell}
 use Rattle.bn_network_laws.proofs.FirstLemmas.{begin_first}
+use Rattle.bn_network_laws.proofs.StartsLemmas.{inputs-fit}
 use Rattle.bn_board_spec.specs.Boards.{StandsFor, board_start}
 use Rattle.bn_board_spec.proofs.StartedLemmas.{bars-length, bars-rest}
 use Rattle.bn_network.specs.Starts.{cells_by, start_from, words_on, FitsTape, FitsWindow}
@@ -229,64 +226,40 @@ module _ (m : Quadruples) (l : Limits) (k : Circuit) (c : Configuration ℕ) (fi
       place = refl;
     }
 
--- ---- the laws
+-- ---- any network
 
 some_names : {X : Type 0} (xs : List X) (x : X) → slice_get xs 0 ≡ Some x → 0 < length xs
 some_names [] x at = absurd (cc)
 some_names (y ∷ xs) x at = omega arith
 
-pub builds-start-anywhere : BuildsStartAnywhere
-builds-start-anywhere f is c initial fits =
-    let net = is.is_network.network in
-    let named = begin_first f.machine f.names is.is_network.numbering in
-    let some = some_names f.names _ named in
-    let lines = lines_some f.machine.symbols 3 in
+-- the board at the start of a configuration stands for the network at its start
+pub start-stands : (m : Quadruples) (l : Limits) (names : List ControlState) (k : Circuit) (c : Configuration ℕ)
+    → IsNumbering m names → IsNetwork m l names k → FitsWindow m l c
+    → StandsFor k (start_from m l c) (board_start k.tables (start_from m l c))
+start-stands m l names k c numbering net fits =
+    let some = some_names names _ (begin_first m names numbering) in
+    let lines = lines_some m.symbols 3 in
     let states = net.is_control.states in
     let inputs = net.is_control.inputs in
+    stands m l k c fits net.control net.tables (omega arith) (omega arith)
+
+-- ---- the laws
+
+pub builds-start-anywhere : BuildsStartAnywhere
+builds-start-anywhere f is c initial fits =
+    let net = is.is_network in
     record {
       initial = initial;
-      waits = record { number = 0; is = refl; named = named };
+      waits = record { number = 0; is = refl; named = begin_first f.machine f.names net.numbering };
       place = refl;
       shows = shows f.machine f.limits f.network c fits;
-      stands = stands f.machine f.limits f.network c fits net.control net.tables (omega arith) (omega arith);
+      stands = start-stands f.machine f.limits f.names f.network c net.numbering net.network fits;
       fresh = refl;
     }
 
-word_fits : (z left right : ℕ) (word : List ℕ) → 0 < z → All (λ x. x < z) word → length word ≤ right
-    → FitsTape z left right (word_tape word)
-word_fits z left right word some all fits = record {
-  head = record { above = omega (arith, ints); below = omega (arith, ints) };
-  inside = λ p filled. between p (λ none. filled (cell-word word p ∙ none));
-  symbols = λ p. subst (λ v. v < z) (sym (cell-word word p)) (letters p);
-}
-  where
-    between : (p : ℤ) → letter_at word p ≢ 0 → IsBetween left right p
-    between (pos zero) filled = absurd (filled refl)
-    between (negsuc k) filled = absurd (filled refl)
-    between (pos (suc k)) filled = elim (cases_lt k (length word)) [
-      | inl low ↦ record { above = omega (arith, ints); below = omega (arith, ints) }
-      | inr high ↦ absurd (filled (get_or_past word k 0 high))
-    ]
-
-    letters : (p : ℤ) → letter_at word p < z
-    letters (pos zero) = some
-    letters (negsuc k) = some
-    letters (pos (suc k)) = elim (cases_lt k (length word)) [
-      | inl low ↦ all k 0 low
-      | inr high ↦ let none = get_or_past word k 0 high in omega arith
-    ]
-
 pub words-fit : WordsFit
 words-fit f is one two three inputs =
-    let has = is.is_network.symbols in
-    record {
-      one = word_fits (symbol_count f.machine 1) f.limits.left f.limits.right one
-          (has 1 (record { low = omega arith; high = omega arith })) inputs.one_letters inputs.one_room;
-      two = word_fits (symbol_count f.machine 2) 0 f.limits.steps two
-          (has 2 (record { low = omega arith; high = omega arith })) inputs.two_letters inputs.two_room;
-      three = word_fits (symbol_count f.machine 3) 0 f.limits.output three
-          (has 3 (record { low = omega arith; high = omega arith })) inputs.three_letters inputs.three_room;
-    }
+    inputs-fit f.machine f.limits is.is_network.symbols one two three inputs
 
 pub builds-start-words : BuildsStartWithWords
 builds-start-words f is one two three inputs =

@@ -22,3 +22,4 @@ pub mod RowLemmas
 pub mod CarriedLemmas
 pub mod TapeShownLemmas
 pub mod CommandLemmas
+pub mod StartsLemmas
