@@ -12,17 +12,18 @@ use Rattle.bn_net.specs.Parts.{Parts, circuit}
 use Rattle.bn_rsm.specs.Machines.{machine_table}
 use Rattle.bn_net.specs.Wirings.{AreWiresOf}
 use Rattle.bn_machine.specs.Outcome.{Limits}
-use Rattle.bn_quad.specs.Quadruples.{Quadruples}
+use Rattle.bn_quad.specs.Quadruples.{Configuration, Quadruples}
 use Rattle.bn_network.specs.Cells.{cell_table}
 use Rattle.bn_network.specs.Controls.{ControlState, symbol_count}
-use Rattle.bn_network.specs.Networks.{IsTape, IsNetWire, module_tables, cells_in, first_cell, network_start, elements_by}
+use Rattle.bn_network.specs.Networks.{IsTape, IsNetWire, module_tables, cells_in, first_cell, elements_by}
+use Rattle.bn_network.specs.Starts.{start_from}
 use Rattle.bn_cell.specs.declared.table.CellTable.{CellTable}
 use Rattle.bn_control.specs.Controlled.{Controlled, IsControlOf}
 use Rattle.bn_assembly.specs.WireLists.{network_wires}
 use Rattle.bn_assembly.proofs.WireLemmas.{network_wires-are}
 use Rattle.bn_assembly.specs.Modules.{module_table}
 use Rattle.bn_assembly.specs.Rows.{IsCellFor, AreModules}
-use Rattle.bn_assembly.specs.Assembled.{IsAssembled}
+use Rattle.bn_assembly.specs.Assembled.{IsAssembledFrom}
 use Rattle.bn_assembly.specs.declared.module.Module.{Module}
 use Rattle.bn_assembly.specs.declared.module.Module.TheVariants.{Control, Cell}
 use Rattle.bn_net.specs.declared.net.TheConstants.{MOST_ELEMENTS}
@@ -135,10 +136,13 @@ module _ (m : Quadruples) (l : Limits) (v : Controlled) (items : List Module) (a
 
 -- ---- all parts
 
-module _ (m : Quadruples) (l : Limits) (word : List ℕ) (names : List ControlState) (v : Controlled) (is : IsControlOf m names v) (net : Parts Module) (config : Config) (ws : List Wire)
-    (are : AreModules m l v net.elements) (wires : AreWiresOf (IsNetWire m l) ws) (targets : (from : Line) → target net.wires from ≡ target ws from) (valid : IsCircuit (circuit module_table net))
-    (few : elements_by m l (length names) ≤ MOST_ELEMENTS) (states : config.states ≡ (network_start m l word).states) (place : config.place ≡ Enter 0 0) (steps : config.steps ≡ 0) where
-  pub joined : IsAssembled m l word names (record { net = net; config = config; limits = l })
+module _ (m : Quadruples) (l : Limits) (c : Configuration ℕ) (names : List ControlState) (v : Controlled)
+    (is : IsControlOf m names v) (net : Parts Module) (config : Config) (ws : List Wire)
+    (are : AreModules m l v net.elements) (wires : AreWiresOf (IsNetWire m l) ws)
+    (targets : (from : Line) → target net.wires from ≡ target ws from) (valid : IsCircuit (circuit module_table net))
+    (few : elements_by m l (length names) ≤ MOST_ELEMENTS) (states : config.states ≡ (start_from m l c).states)
+    (place : config.place ≡ Enter 0 0) (steps : config.steps ≡ 0) where
+  pub joined : IsAssembledFrom m l c names (record { net = net; config = config; limits = l })
   joined = record {
     control = v;
     first = control_is m l v net.elements are;
@@ -157,13 +161,18 @@ module _ (m : Quadruples) (l : Limits) (word : List ℕ) (names : List ControlSt
   }
 
 -- the same with what the calls give
-pub joined_some : (m : Quadruples) (l : Limits) (word : List ℕ) (v : Controlled) → length m.symbols ≡ 3 → (control : (names : List ControlState) × IsControlOf m names v) → elements_by m l v.machine.states ≤ MOST_ELEMENTS
-    → (net : Parts Module) (config : Config) (modules : List Module) (ws : List Wire) → AreModules m l v modules → net.elements ≡ modules → ws ≡ network_wires m l
+pub joined_some : (m : Quadruples) (l : Limits) (c : Configuration ℕ) (v : Controlled) → length m.symbols ≡ 3
+    → (control : (names : List ControlState) × IsControlOf m names v)
+    → elements_by m l v.machine.states ≤ MOST_ELEMENTS
+    → (net : Parts Module) (config : Config) (modules : List Module) (ws : List Wire) → AreModules m l v modules
+    → net.elements ≡ modules → ws ≡ network_wires m l
     → ((from : Line) → target net.wires from ≡ target ws from) → IsCircuit (circuit module_table net)
-    → config.states ≡ (network_start m l word).states → config.place ≡ Enter 0 0 → config.steps ≡ 0 → (names : List ControlState) × IsAssembled m l word names (record { net = net; config = config; limits = l })
-joined_some m l word v three control few net config modules ws are same list targets valid states place steps =
+    → config.states ≡ (start_from m l c).states → config.place ≡ Enter 0 0 → config.steps ≡ 0
+    → (names : List ControlState) × IsAssembledFrom m l c names (record { net = net; config = config; limits = l })
+joined_some m l c v three control few net config modules ws are same list targets valid states place steps =
     let count : v.machine.states ≡ length control.0 = control.1.table.states in (
       control.0,
-      joined m l word control.0 v control.1 net config ws (subst (AreModules m l v) (sym same) are) (subst (AreWiresOf (IsNetWire m l)) (sym list) (network_wires-are m l three)) targets valid
+      joined m l c control.0 v control.1 net config ws (subst (AreModules m l v) (sym same) are)
+          (subst (AreWiresOf (IsNetWire m l)) (sym list) (network_wires-are m l three)) targets valid
           (subst (λ n. elements_by m l n ≤ MOST_ELEMENTS) count few) states place steps,
     )

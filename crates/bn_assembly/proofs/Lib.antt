@@ -4,3 +4,4 @@ pub mod PushLemmas
 pub mod StartLemmas
 pub mod FaultLemmas
 pub mod JoinLemmas
+pub mod WordLemmas

@@ -5,18 +5,19 @@ use Rattle.bn_lists.specs.Lists.{nth}
 use Rattle.bn_cell.specs.Sizes.{IsCellSize}
 use Rattle.bn_control.specs.Controlled.{Controlled, IsWithinLimits}
 use Rattle.std.proofs.Common.{zero, suc, arith, sym, ap, subst, ◌∙◌}
-use Rattle.bn_quad.specs.Quadruples.{Quadruples}
+use Rattle.bn_quad.specs.Quadruples.{Configuration, Quadruples}
 use Rattle.bn_network.specs.Controls.{ControlState, symbol_count}
 use Rattle.bn_network.specs.Networks.{IsTape, first_cell}
 use Rattle.bn_cell.specs.declared.table.CellTable.{CellTable}
 use Rattle.bn_network_laws.proofs.CarriedLemmas.{some_cells}
-use Rattle.bn_assembly.specs.Assembled.{Assembled, IsAssembled}
+use Rattle.bn_assembly.specs.Assembled.{Assembled, IsAssembledFrom}
 use Rattle.bn_assembly.specs.declared.module.Module.TheVariants.{Control, Cell}
 
 -- the first cell of a tape has the tape's symbols
 pub first_symbols : (a : Assembled) (t e : ℕ) (c : CellTable) → IsTape t → e ≡ first_cell a.limits t → slice_get a.net.elements e ≡ Some (Cell c)
-    → (m : Quadruples) (word : List ℕ) (names : List ControlState) → IsAssembled m a.limits word names a → c.symbols ≡ symbol_count m t
-first_symbols a t e c tape first there m word names is =
+    → (m : Quadruples) (start : Configuration ℕ) (names : List ControlState)
+    → IsAssembledFrom m a.limits start names a → c.symbols ≡ symbol_count m t
+first_symbols a t e c tape first there m start names is =
     let cell = is.cells t 0 tape (some_cells a.limits t tape) in
     let place : e ≡ first_cell a.limits t + 0 = omega arith in
     let both : Some (Cell c) ≡ Some (Cell cell.0) = sym there ∙ ap (slice_get a.net.elements) place ∙ cell.1 in
@@ -25,17 +26,18 @@ first_symbols a t e c tape first there m word names is =
 
 module _ (a : Assembled) (t e : ℕ) where
   -- the first cell's element is there
-  pub first_within : IsTape t → e ≡ first_cell a.limits t → (m : Quadruples) (word : List ℕ) (names : List ControlState) → IsAssembled m a.limits word names a
-      → e < length a.net.elements
-  first_within tape first m word names is =
+  pub first_within : IsTape t → e ≡ first_cell a.limits t → (m : Quadruples) (start : Configuration ℕ)
+      (names : List ControlState) → IsAssembledFrom m a.limits start names a → e < length a.net.elements
+  first_within tape first m start names is =
       let cell = is.cells t 0 tape (some_cells a.limits t tape) in
       let place : e ≡ first_cell a.limits t + 0 = omega arith in
       slice_get_within a.net.elements e (Cell cell.0) (ap (slice_get a.net.elements) place ∙ cell.1)
 
   -- and it is no control
   pub no_control : (v : Controlled) → IsTape t → e ≡ first_cell a.limits t → slice_get a.net.elements e ≡ Some (Control v)
-      → (m : Quadruples) (word : List ℕ) (names : List ControlState) → IsAssembled m a.limits word names a → ⊥
-  no_control v tape first there m word names is =
+      → (m : Quadruples) (start : Configuration ℕ) (names : List ControlState)
+      → IsAssembledFrom m a.limits start names a → ⊥
+  no_control v tape first there m start names is =
       let cell = is.cells t 0 tape (some_cells a.limits t tape) in
       let place : e ≡ first_cell a.limits t + 0 = omega arith in
       let both : Some (Control v) ≡ Some (Cell cell.0) = sym there ∙ ap (slice_get a.net.elements) place ∙ cell.1 in

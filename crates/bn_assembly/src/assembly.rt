@@ -29,9 +29,9 @@ impl Model for Assembly {
 
 impl Assembly {
     ghost use Rattle.std.specs.Prelude.{◌≡◌, ℕ, ◌≤◌, List};
-    ghost use Rattle.bn_quad.specs.Quadruples.{Quadruples};
+    ghost use Rattle.bn_quad.specs.Quadruples.{Configuration, Quadruples};
     ghost use Rattle.bn_network.specs.Controls.{ControlState, symbol_count};
-    ghost use Rattle.bn_assembly.specs.Assembled.{IsKept, IsAssembled, limits_of};
+    ghost use Rattle.bn_assembly.specs.Assembled.{IsKept, IsAssembledFrom, limits_of};
 
     // The network with these parts.
     pub(crate) fn of(net: Net<Module>, config: Config, windows: Windows) -> Assembly
@@ -53,8 +53,8 @@ impl Assembly {
         &self.net
     }
 
-    /// The configuration in which it was assembled: the control in its first state, the word on tape 1 from cell 1 on,
-    /// all else blank, the heads at 0, the signal at the control's line from outside, and no step made.
+    /// The configuration in which it was assembled: the control in its first state, the words on their tapes from cell
+    /// 1 on, all else blank, the heads at 0, the signal at the control's line from outside, and no step made.
     pub fn config(&self) -> &Config
         ensures config { result.now ≡ self.now.config }
         ensures kept { IsKept self.now }
@@ -74,8 +74,8 @@ impl Assembly {
     pub fn symbols(&self, tape: u32) -> u32
         requires first { 1 ≤ tape }
         requires last { tape ≤ 3 }
-        ensures { (m : Quadruples) (word : List ℕ) (names : List ControlState)
-            → IsAssembled m self.now.limits word names self.now → result ≡ symbol_count m tape }
+        ensures { (m : Quadruples) (c : Configuration ℕ) (names : List ControlState)
+            → IsAssembledFrom m self.now.limits c names self.now → result ≡ symbol_count m tape }
     {
         match self.net.element(self.windows.first_cell(tape)) {
             Module::Control(_) => 0,

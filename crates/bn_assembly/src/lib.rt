@@ -10,10 +10,12 @@ mod start;
 mod widening;
 mod windows;
 mod wires;
+mod words;
 
 pub use assembly::Assembly;
-pub use make::{assemble, element_count};
+pub use make::{assemble, assemble_words, element_count};
 pub use module::Module;
 pub use refusal::AssembleRefusal;
 pub use widening::{first_windows, widen};
 pub use windows::Windows;
+pub use words::TapeSymbols;

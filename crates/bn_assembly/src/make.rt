@@ -6,7 +6,9 @@ ghost use Rattle.bn_network.specs.Controls.{ControlState, IsNumbering};
 ghost use Rattle.bn_network.specs.Networks.{bank_size, cell_size, elements_by};
 ghost use Rattle.bn_control.specs.Controlled.{IsControlOf, IsWithinLimits};
 ghost use Rattle.bn_network.specs.Limits.{AreSmall};
-ghost use Rattle.bn_assembly.specs.Assembled.{IsAssembled, IsRefusal, IsWordOf, limits_of};
+ghost use Rattle.bn_network.specs.Starts.{AreInputs, words_on};
+ghost use Rattle.bn_assembly.specs.Assembled.{IsAssembled, IsAssembledFrom, IsRefusal, IsSizeRefusal, IsWordOf};
+ghost use Rattle.bn_assembly.specs.Assembled.{limits_of};
 
 use crate::assembly::Assembly;
 use crate::module::Module;
@@ -15,6 +17,7 @@ use crate::refusal::AssembleRefusal;
 use crate::start::start_states;
 use crate::windows::Windows;
 use crate::wires::network_wires;
+use crate::words::TapeSymbols;
 use bn_control::{Control, NoMemory, control, state_count};
 use bn_element::Element;
 use bn_net::{Config, MOST_ELEMENTS, Net, Place, States};
@@ -22,9 +25,9 @@ use bn_network::MOST_SYMBOLS;
 use bn_quad::{QuadMachine, Uniform};
 use std::alloc::Global;
 
-/// The network of a uniform machine for these windows, at the start with this word. `WordOutside` comes exactly where
-/// the word is longer than the right side of tape 1; else `Elements` comes only where the flat board would have more
-/// than `MOST_ELEMENTS` elements, and `Ok` only where it wouldn't.
+/// The network of a uniform machine for these windows, at the start with this word on tape 1. `WordOutside` comes
+/// exactly where the word is longer than the right side of tape 1; else `Elements` comes only where the flat board would
+/// have more than `MOST_ELEMENTS` elements, and `Ok` only where it wouldn't.
 pub fn assemble(
     alloc: Global,
     machine: &Uniform,
@@ -46,23 +49,31 @@ pub fn assemble(
             needs: word.len() as u32,
         });
     }
-    assemble_fitting(alloc, machine, windows, word)
+    let words = TapeSymbols {
+        one: word,
+        two: &[],
+        three: &[],
+    };
+    assemble_words(alloc, machine, windows, &words)
 }
 
-// The same for a word that fits.
-fn assemble_fitting(
+/// The network of a uniform machine for these windows, at the start with words on the three tapes, which fit.
+/// `Elements` comes only where the flat board would have more than `MOST_ELEMENTS` elements, `Ok` only where it
+/// wouldn't, and `WordOutside` never.
+pub fn assemble_words(
     alloc: Global,
     machine: &Uniform,
     windows: &Windows,
-    word: &[u32],
+    words: &TapeSymbols<'_>,
 ) -> Result<Assembly, AssembleRefusal>
     requires machine { IsWithinLimits machine.now }
     requires windows { AreSmall (limits_of windows.now) }
-    requires word { IsWordOf machine.now word.now }
-    requires fits { length word.now ≤ (limits_of windows.now).right }
+    requires words { AreInputs machine.now (limits_of windows.now)
+        words.now.one.now words.now.two.now words.now.three.now }
     ensures made { IfOk result (λ a. (names : List ControlState)
-        × IsAssembled machine.now (limits_of windows.now) word.now names a) }
-    ensures refused { IfErr result (IsRefusal machine.now (limits_of windows.now) word.now) }
+        × IsAssembledFrom machine.now (limits_of windows.now)
+        (words_on machine.now words.now.one.now words.now.two.now words.now.three.now) names a) }
+    ensures refused { IfErr result (IsSizeRefusal machine.now (limits_of windows.now)) }
 {
     let control = control(alloc, machine)?;
     let machine = machine.machine();
@@ -72,7 +83,7 @@ fn assemble_fitting(
     if count > MOST_ELEMENTS {
         return Err(AssembleRefusal::Elements { count });
     }
-    Ok(join(alloc, control, machine, windows, word)?)
+    Ok(join(alloc, control, machine, windows, words)?)
 }
 
 /// How many elements the flat board of a uniform machine's network has in these windows. It takes no memory.
@@ -109,21 +120,22 @@ fn join(
     control: Control,
     machine: &QuadMachine,
     windows: &Windows,
-    word: &[u32],
+    words: &TapeSymbols<'_>,
 ) -> Result<Assembly, NoMemory>
     requires machine { IsWithinLimits machine.now }
     requires valid { IsQuadMachine machine.now }
     requires uniform { IsUniformMachine machine.now }
     requires windows { AreSmall (limits_of windows.now) }
-    requires word { IsWordOf machine.now word.now }
-    requires fits { length word.now ≤ (limits_of windows.now).right }
+    requires words { AreInputs machine.now (limits_of windows.now)
+        words.now.one.now words.now.two.now words.now.three.now }
     requires control { (names : List ControlState) × IsControlOf machine.now names control }
     requires few { elements_by machine.now (limits_of windows.now) control.machine.states ≤ MOST_ELEMENTS }
     ensures { IfOk result (λ a. (names : List ControlState)
-        × IsAssembled machine.now (limits_of windows.now) word.now names a) }
+        × IsAssembledFrom machine.now (limits_of windows.now)
+        (words_on machine.now words.now.one.now words.now.two.now words.now.three.now) names a) }
 {
     let wires = network_wires(alloc, machine, windows)?;
-    let states = start_states(alloc, machine, windows, word)?;
+    let states = start_states(alloc, machine, windows, words)?;
     let modules = network_modules(alloc, control, machine, windows)?;
     let net = Net::new(alloc, modules, wires.as_slice())?;
     let config = Config {

@@ -2,10 +2,10 @@
 
 use bn_control::NoMemory;
 
-/// Why `assemble` refuses; tested in this order.
+/// Why `assemble` and `assemble_words` refuse; tested in this order.
 #[derive(Clone, Copy, PartialEq, Eq, Debug)]
 pub enum AssembleRefusal {
-    /// The word is longer than the right side of tape 1.
+    /// The word of `assemble` is longer than the right side of tape 1.
     WordOutside {
         /// The number of the word's letters.
         needs: u32,

@@ -1,31 +1,33 @@
 //! The states in which a network starts.
-ghost use Rattle.std.specs.Prelude.{◌≡◌, ◌+◌, ◌-◌, ◌^◌, ◌<◌, ◌≤◌, [], ◌∷◌, ◌++◌, length, IfOk, OnOk};
+ghost use Rattle.std.specs.Prelude.{◌≡◌, ◌+◌, ◌-◌, ◌^◌, ◌<◌, ◌≤◌, ◌++◌, length, IfOk, OnOk};
 ghost use Rattle.bn_control.specs.Controlled.{IsWithinLimits};
 ghost use Rattle.bn_network.specs.Controls.{symbol_count};
-ghost use Rattle.bn_network.specs.Networks.{network_start, start_cells};
+ghost use Rattle.bn_network.specs.Networks.{start_cells};
+ghost use Rattle.bn_network.specs.Starts.{start_from, words_on};
 ghost use Rattle.bn_network.specs.Limits.{AreSmall};
-ghost use Rattle.bn_assembly.specs.Assembled.{IsWordOf, limits_of};
+ghost use Rattle.bn_assembly.specs.Assembled.{limits_of};
 ghost use Rattle.bn_assembly.specs.Starting.{start_state};
 
 use crate::windows::Windows;
+use crate::words::TapeSymbols;
 use bn_base::MOST_COUNT;
 use bn_control::NoMemory;
 use bn_network::MOST_SYMBOLS;
 use bn_quad::QuadMachine;
 use std::alloc::Global;
 
-// The state of each module at the start: the control in its first state, the word on tape 1 from cell 1 on, all else
-// blank, and the heads at 0.
+// The state of each module at the start: the control in its first state, the words on their tapes from cell 1 on, all
+// else blank, and the heads at 0.
 pub(crate) fn start_states(
     alloc: Global,
     machine: &QuadMachine,
     windows: &Windows,
-    word: &[u32],
+    words: &TapeSymbols<'_>,
 ) -> Result<Vec<u32>, NoMemory>
     requires machine { IsWithinLimits machine.now }
     requires windows { AreSmall (limits_of windows.now) }
-    requires word { IsWordOf machine.now word.now }
-    ensures { IfOk result (λ v. v.items ≡ (network_start machine.now (limits_of windows.now) word.now).states) }
+    ensures { IfOk result (λ v. v.items ≡ (start_from machine.now (limits_of windows.now)
+        (words_on machine.now words.now.one.now words.now.two.now words.now.three.now)).states) }
 {
     let mut states = Vec::new(alloc);
     states.push(0)?;
@@ -34,10 +36,22 @@ pub(crate) fn start_states(
         machine.symbols(1),
         windows.left1,
         windows.right1,
-        word,
+        words.one,
     )?;
-    push_cells(&mut states, machine.symbols(2), 0, windows.right2, &[])?;
-    push_cells(&mut states, machine.symbols(3), 0, windows.right3, &[])?;
+    push_cells(
+        &mut states,
+        machine.symbols(2),
+        0,
+        windows.right2,
+        words.two,
+    )?;
+    push_cells(
+        &mut states,
+        machine.symbols(3),
+        0,
+        windows.right3,
+        words.three,
+    )?;
     Ok(states)
 }
 
