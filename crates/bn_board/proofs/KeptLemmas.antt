@@ -3,7 +3,7 @@ use Rattle.std.specs.Prelude.{◌≡◌, ℕ, ◌+◌, ◌-◌, ◌<◌, ◌≤�
 use Rattle.std.proofs.Common.{zero, suc, arith, sym, ap, subst, ◌∙◌}
 use Rattle.std.proofs.lemmas.Option.{slice_get_within, get_or_from_slice_get}
 use Rattle.bn_machine.specs.Outcome.{Limits}
-use Rattle.bn_quad.specs.Quadruples.{Quadruples, IsQuadMachine}
+use Rattle.bn_quad.specs.Quadruples.{Configuration, Quadruples, IsQuadMachine}
 use Rattle.bn_network.specs.Controls.{ControlState, Begin, Reads, Tape as to_tape, IsEntry, is_begin, symbol_count, lines_before, out_number, command_offset, control_lines, IsFirstKept, final_kept, sent_kept}
 use Rattle.bn_network.specs.declared.cell_line.CellLine.TheVariants.{Read}
 use Rattle.bn_network.specs.Networks.{elements_by}
@@ -11,7 +11,7 @@ use Rattle.bn_control.specs.Controlled.{Controlled, IsControlOf, IsAwaiting, IsT
 use Rattle.bn_board_spec.proofs.ModuleLemmas.{found}
 use Rattle.bn_board_spec.specs.Layouts.{Layout, IsLayout, elements_of}
 use Rattle.bn_board_spec.proofs.CommandLemmas.{command_number, entry-IsCommandMove}
-use Rattle.bn_assembly.specs.Assembled.{Assembled, IsAssembled, IsKept}
+use Rattle.bn_assembly.specs.Assembled.{Assembled, IsAssembledFrom, IsKept}
 use Rattle.bn_assembly.specs.declared.module.Module.{Module}
 use Rattle.bn_assembly.specs.declared.module.Module.TheVariants.{Control}
 use Rattle.bn_network.specs.declared.limits.TheConstants.{MOST_SYMBOLS}
@@ -133,9 +133,9 @@ layout-size a b kept is =
     ap elements_of is.numbers ∙ counted_by kept.machine kept.names is.control control a.limits
 
 -- it is the layout of each machine for which the network was assembled
-pub layout-of-each : (a : Assembled) (b : Layout) → IsLayoutOf a b → (m : Quadruples) (word : List ℕ) (names : List ControlState) → IsAssembled m
-    a.limits word names a → IsLayout m a.limits names b
-layout-of-each a b is m word names assembled =
+pub layout-of-each : (a : Assembled) (b : Layout) → IsLayoutOf a b → (m : Quadruples) (c : Configuration ℕ)
+    (names : List ControlState) → IsAssembledFrom m a.limits c names a → IsLayout m a.limits names b
+layout-of-each a b is m c names assembled =
     let same = control_of is.control assembled.control (sym is.first ∙ assembled.first) in
     let control : IsControlOf m names is.control = subst (λ w. IsControlOf m names w) (sym same) assembled.is_control in
     subst (IsLayout m a.limits names) (sym is.numbers) (layout-IsLayout m names is.control control a.limits)

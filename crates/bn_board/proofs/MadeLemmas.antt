@@ -46,7 +46,8 @@ module _ (a : Assembled) (kept : IsKept a) (layout : Layout) (is : IsLayoutOf a 
     made-flattened starts ends = record {
       board = board;
       layout = layout-of-each a layout is;
-      config = λ m word names assembled. at_start ∙ ap (λ (c : Config). start_by (network_of a).tables c.states) assembled.config;
+      config = λ m c names assembled. at_start
+          ∙ ap (λ (x : Config). start_by (network_of a).tables x.states) assembled.config;
       start = starts;
       end = ends;
     }

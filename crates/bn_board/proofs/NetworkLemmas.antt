@@ -1,5 +1,5 @@
 -- A board's network: where its modules lie, and that its runs may leap.
-use Rattle.std.specs.Prelude.{◌≡◌, ◌+◌, ◌<◌, All, length, replicate, Some, slice_get}
+use Rattle.std.specs.Prelude.{◌≡◌, ◌+◌, ◌<◌, [], All, length, replicate, Some, slice_get}
 use Rattle.std.proofs.Common.{arith, sym, ap, subst, ◌∙◌}
 use Rattle.std.proofs.lemmas.List.{length-replicate}
 use Rattle.bn_element.specs.Rotary.{rotary}
@@ -12,11 +12,13 @@ use Rattle.bn_net.specs.RotaryNets.{rotary_circuit}
 use Rattle.bn_net.proofs.RotaryNetLemmas.{rotary-tables}
 use Rattle.bn_network.specs.Cells.{cell_table}
 use Rattle.bn_network.specs.Controls.{symbol_count, lines_before}
-use Rattle.bn_network.specs.Networks.{cells_in, first_cell, network_start}
+use Rattle.bn_network.specs.Networks.{cells_in, first_cell}
+use Rattle.bn_network.specs.Starts.{start_from}
 use Rattle.bn_board_spec.specs.Boards.{IsBoard, StandsFor, base, board_start, size}
 use Rattle.bn_board_spec.specs.Layouts.{Layout, IsLayout, symbol_count_at}
 use Rattle.bn_board_laws.specs.NetworkMoments.{IsUniformNetwork}
 use Rattle.bn_board_laws.proofs.NetworkReadLemmas.{networks-read}
+use Rattle.bn_build_laws.proofs.StartLemmas.{start-stands}
 use Rattle.bn_assembly.specs.Assembled.{Assembled, IsKept, network_of}
 use Rattle.bn_board.specs.Flattened.{Flattened, IsBoardKept, IsOnNetwork, origin, origin_by}
 use Rattle.bn_board.specs.Starts.{IsLayoutOf, start_by}
@@ -34,7 +36,7 @@ made-network a kept b is net c board at_start =
     let m = kept.machine in
     let n = network_of a in
     let network = kept.assembled.network in
-    let layout : IsLayout m a.limits kept.names b = layout-of-each a b is m kept.word kept.names kept.assembled in
+    let layout : IsLayout m a.limits kept.names b = layout-of-each a b is m kept.start kept.names kept.assembled in
     let uniform : IsUniformNetwork m a.limits kept.names n = record {
       machine = kept.is_machine;
       uniform = kept.uniform;
@@ -42,9 +44,11 @@ made-network a kept b is net c board at_start =
       numbering = kept.assembled.is_control.numbering;
       network = network;
     } in
-    let low : All (λ s. s < symbol_count m 1) kept.word = (λ k d in_. (kept.symbols k d in_).1) in
-    let reads = (networks-read m a.limits kept.word kept.names n b uniform layout low).1 in
-    let start : c ≡ board_start n.tables (network_start m a.limits kept.word) = at_start
+    let none_low : All (λ s. s < symbol_count m 1) [] = (λ k d in_. absurd (omega arith)) in
+    let reads = (networks-read m a.limits [] kept.names n b uniform layout none_low).1 in
+    let numbering = kept.assembled.is_control.numbering in
+    let begins = start-stands m a.limits kept.names n kept.start numbering network kept.fits in
+    let start : c ≡ board_start n.tables (start_from m a.limits kept.start) = at_start
     ∙ ap (λ (x : Config). start_by n.tables x.states) kept.assembled.config in
     let none : c.steps ≡ 0 = ap (λ (x : Config). x.steps) at_start in
     let first : origin_by (rotary_circuit net) c ≡ c = ap (back (rotary_circuit net) c) none
@@ -53,8 +57,8 @@ made-network a kept b is net c board at_start =
       network = n;
       modules = reads.modules;
       board = board;
-      situation = network_start m a.limits kept.word;
-      stands = subst (StandsFor n (network_start m a.limits kept.word)) (sym (first ∙ start)) reads.starts;
+      situation = start_from m a.limits kept.start;
+      stands = subst (StandsFor n (start_from m a.limits kept.start)) (sym (first ∙ start)) begins;
       control = network.control;
       has_control = ap (λ ts. slice_get ts 0) network.tables;
       control_states = layout.states ∙ sym network.is_control.states;

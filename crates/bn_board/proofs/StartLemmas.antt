@@ -1,6 +1,6 @@
 -- What an assembled network gives its board: modules that can be banks, the number of elements, and a start in which each module is in one of its states.
-use Rattle.std.specs.Prelude.{◌≡◌, ℕ, ◌+◌, ◌-◌, ◌*◌, ◌<◌, ◌≤◌, List, [], ◌∷◌, All, length, replicate, Some, slice_get, refl}
-use Rattle.std.proofs.Common.{zero, suc, arith, sym, ap, subst, ◌∙◌, inl, inr, length-set}
+use Rattle.std.specs.Prelude.{◌≡◌, ℕ, ◌+◌, ◌-◌, ◌*◌, ◌<◌, ◌≤◌, List, [], ◌∷◌, length, replicate, Some, slice_get}
+use Rattle.std.proofs.Common.{arith, sym, ap, subst, ◌∙◌, inl, inr, length-set}
 use Rattle.bn_element.specs.Tables.{Table}
 use Rattle.bn_circuits.specs.Circuits.{Circuit}
 use Rattle.bn_machine.specs.Outcome.{Limits}
@@ -9,13 +9,15 @@ use Rattle.bn_element.specs.Rotary.{horizontal, vertical}
 use Rattle.bn_realise.specs.Banks.{bottom_at}
 use Rattle.bn_circuits.specs.declared.config.Config.{Config}
 use Rattle.std.proofs.lemmas.Option.{slice_get_within}
-use Rattle.bn_network.specs.Controls.{ControlState, Begin, is_begin, symbol_count}
-use Rattle.bn_network.specs.Networks.{IsNetwork, network_start, elements_by}
+use Rattle.bn_network.specs.Controls.{ControlState}
+use Rattle.bn_network.specs.Networks.{IsNetwork, elements_by}
+use Rattle.bn_network.specs.Starts.{start_from}
 use Rattle.bn_network.specs.Moments.{HasLetters}
 use Rattle.bn_board_spec.specs.Boards.{AreModules, StandsFor, bars_of, board_start, size, size_of}
-use Rattle.bn_board_spec.proofs.StartingLemmas.{starts}
 use Rattle.bn_board_spec.proofs.TabledLemmas.{whole}
 use Rattle.bn_board_laws.proofs.NetworkLemmas.{networks-modules}
+use Rattle.bn_build_laws.proofs.StartLemmas.{start-stands}
+use Rattle.bn_assembly.proofs.SymbolLemmas.{some_letters}
 use Rattle.std.proofs.lemmas.Bool.{cases_lt}
 use Rattle.std.proofs.lemmas.Bool.Decides.{eqb_tells}
 use Rattle.std.proofs.Math.Nat.{mul-le-mul_right}
@@ -42,75 +44,57 @@ use Rattle.bn_net.specs.declared.net.TheConstants.{MOST_ELEMENTS}
 abbrev by_parts : List (Rule ℕ) → ℕ → List ℕ → Quadruples
 by_parts rules states zs = record { rules = rules; states = states; symbols = zs }
 
--- what its network has
-record Has (m : Quadruples) (l : Limits) (names : List ControlState) (n : Circuit) (word : List ℕ) : Type 0 where
-  starts_so : StandsFor n (network_start m l word) (board_start n.tables (network_start m l word))
-  whole_is : size n.tables ≡ elements_by m l (length names)
-  some_letters : HasLetters m
-
-has_by : (rules : List (Rule ℕ)) (states : ℕ) (zs : List ℕ) (l : Limits) (names : List ControlState) (n : Circuit) (word : List ℕ) → length zs ≡ 3
-    → All (λ z. 1 ≤ z) zs → IsNetwork (by_parts rules states zs) l names n → 0 < length names
-    → All (λ s. s < symbol_count (by_parts rules states zs) 1) word → Has (by_parts rules states zs) l names n word
-has_by rules states (x ∷ y ∷ z ∷ []) l names n word three some network begin low =
-    let first : 1 ≤ x = some 0 0 (omega arith) in
-    let second : 1 ≤ y = some 1 0 (omega arith) in
-    let third : 1 ≤ z = some 2 0 (omega arith) in
-    record {
-      starts_so = starts rules states x y z l names n [] [] network word begin first second third low;
-      whole_is = whole rules states x y z l names n [] [] network;
-      some_letters = each first second third;
-    }
-  where
-    each : 1 ≤ x → 1 ≤ y → 1 ≤ z → HasLetters (by_parts rules states (x ∷ y ∷ z ∷ []))
-    each first second third zero tape = let h = tape.low in absurd (omega arith)
-    each first second third (suc zero) tape = first
-    each first second third (suc (suc zero)) tape = second
-    each first second third (suc (suc (suc zero))) tape = third
-    each first second third (suc (suc (suc (suc t)))) tape = let h = tape.high in absurd (omega arith)
-has_by rules states [] l names n word three some network begin low = absurd (omega arith)
-has_by rules states (x ∷ []) l names n word three some network begin low = absurd (omega arith)
-has_by rules states (x ∷ y ∷ []) l names n word three some network begin low = absurd (omega arith)
-has_by rules states (x ∷ y ∷ z ∷ u ∷ zs) l names n word three some network begin low = absurd (omega arith)
+-- how many elements its network's board has
+whole_by : (rules : List (Rule ℕ)) (states : ℕ) (zs : List ℕ) (l : Limits) (names : List ControlState) (n : Circuit)
+    → length zs ≡ 3 → IsNetwork (by_parts rules states zs) l names n
+    → size n.tables ≡ elements_by (by_parts rules states zs) l (length names)
+whole_by rules states (x ∷ y ∷ z ∷ []) l names n three network = whole rules states x y z l names n [] [] network
+whole_by rules states [] l names n three network = absurd (omega arith)
+whole_by rules states (x ∷ []) l names n three network = absurd (omega arith)
+whole_by rules states (x ∷ y ∷ []) l names n three network = absurd (omega arith)
+whole_by rules states (x ∷ y ∷ z ∷ u ∷ zs) l names n three network = absurd (omega arith)
 
 module _ (a : Assembled) (kept : IsKept a) where
-  has : Has kept.machine a.limits kept.names (network_of a) kept.word
-  has =
-      let m = kept.machine in
-      let numbering = kept.assembled.is_control.numbering in
-      let begin = numbering.each Begin (is_begin refl) in
-      let low : All (λ s. s < symbol_count m 1) kept.word = (λ k d in_. (kept.symbols k d in_).1) in
-      has_by m.rules m.states m.symbols a.limits kept.names (network_of a) kept.word kept.is_machine.tapes kept.within.some_symbols
-      kept.assembled.network (let h = slice_get_within kept.names begin.0 Begin begin.1 in omega arith) low
+  starts_so : StandsFor (network_of a) (start_from kept.machine a.limits kept.start)
+      (board_start (network_of a).tables (start_from kept.machine a.limits kept.start))
+  starts_so = start-stands kept.machine a.limits kept.names (network_of a) kept.start
+      kept.assembled.is_control.numbering kept.assembled.network kept.fits
 
   pub kept-letters : HasLetters kept.machine
-  kept-letters = has.some_letters
+  kept-letters = λ t tape. some_letters kept.machine kept.is_machine.tapes kept.within t tape
 
   -- its modules can be banks
   pub kept-modules : AreModules (network_of a)
-  kept-modules = networks-modules kept.machine a.limits kept.names (network_of a) has.some_letters kept.assembled.is_control.numbering kept.assembled.network
+  kept-modules = networks-modules kept.machine a.limits kept.names (network_of a) kept-letters
+      kept.assembled.is_control.numbering kept.assembled.network
 
   -- the number of elements
   pub kept-size : size (network_of a).tables ≡ elements_by kept.machine a.limits (length kept.names)
-  kept-size = has.whole_is
+  kept-size =
+      let m = kept.machine in
+      whole_by m.rules m.states m.symbols a.limits kept.names (network_of a) kept.is_machine.tapes
+      kept.assembled.network
 
   pub kept-few : size (network_of a).tables ≤ MOST_ELEMENTS
   kept-few = let e = kept-size in let few = kept.assembled.few in omega arith
 
   -- the states at the start
-  pub states-start : a.config.states ≡ (network_start kept.machine a.limits kept.word).states
+  pub states-start : a.config.states ≡ (start_from kept.machine a.limits kept.start).states
   states-start = ap (λ (c : Config). c.states) kept.assembled.config
 
   pub states-counted : length a.config.states ≡ length (network_of a).tables
-  states-counted = ap (λ qs. length qs) states-start ∙ has.starts_so.count
+  states-counted = ap (λ qs. length qs) states-start ∙ starts_so.count
 
   pub states-within : (m q : ℕ) (t : Table) → slice_get a.config.states m ≡ Some q → slice_get (network_of a).tables m ≡ Some t → q < t.states
-  states-within m q t at_q has_t = (has.starts_so.rests m t q has_t (subst (λ qs. slice_get qs m ≡ Some q) states-start at_q)).0
+  states-within m q t at_q has_t =
+      (starts_so.rests m t q has_t (subst (λ qs. slice_get qs m ≡ Some q) states-start at_q)).0
 
   pub kept-some : 0 < size (network_of a).tables
   kept-some =
       let modules = kept-modules in
-      let first : (t : Table) × (slice_get (network_of a).tables 0 ≡ Some t) = found (network_of a).tables 0 (let count = states-counted in let low =
-      has.starts_so.count in let one : 0 < length (network_start kept.machine a.limits kept.word).states = omega arith in omega arith) in
+      let low = starts_so.count in
+      let one : 0 < length (start_from kept.machine a.limits kept.start).states = omega arith in
+      let first : (t : Table) × (slice_get (network_of a).tables 0 ≡ Some t) = found (network_of a).tables 0 (omega arith) in
       let within = bank_within (network_of a).tables 0 first.0 first.1 in
       let states = modules.some_states 0 first.0 first.1 in
       let h : 1 * (first.0.inputs + 1) ≤ first.0.states * (first.0.inputs + 1) = mul-le-mul_right (first.0.inputs + 1) states in

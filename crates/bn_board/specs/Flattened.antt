@@ -16,18 +16,18 @@ use Rattle.bn_element.specs.declared.rotary.Rotary.{Rotary}
 use Rattle.bn_net.specs.Parts.{Parts}
 use Rattle.bn_net.specs.Order.{AreInOrder}
 use Rattle.bn_net.specs.RotaryNets.{rotary_circuit}
-use Rattle.bn_quad.specs.Quadruples.{Quadruples}
+use Rattle.bn_quad.specs.Quadruples.{Configuration, Quadruples}
 use Rattle.bn_realise.specs.Banks.{bank_input_line, column_at}
 use Rattle.bn_element.specs.Rotary.{east}
 use Rattle.bn_circuits.specs.Circuits.{line_at}
 use Rattle.bn_network.specs.declared.limits.TheConstants.{MOST_SYMBOLS}
 use Rattle.bn_control.specs.Controlled.{IsTapeAwaited}
 use Rattle.bn_network.specs.Controls.{ControlState}
-use Rattle.bn_network.specs.Networks.{network_start}
+use Rattle.bn_network.specs.Starts.{start_from}
 use Rattle.bn_board_spec.specs.Boards.{IsBoard, board_start}
 use Rattle.bn_board_spec.specs.Layouts.{Layout, IsLayout, lines_at, elements_of}
 use Rattle.bn_network.specs.Limits.{AreSmall}
-use Rattle.bn_assembly.specs.Assembled.{Assembled, IsAssembled, network_of}
+use Rattle.bn_assembly.specs.Assembled.{Assembled, IsAssembledFrom, network_of}
 use Rattle.bn_net.specs.declared.net.TheConstants.{MOST_ELEMENTS}
 
 -- a net, a configuration of it, the line by which the signal enters at the start, the line by which it leaves at the
@@ -118,13 +118,14 @@ start_line = bank_input_line 0 0
 abbrev pub end_line : Layout → Line
 end_line b = line_at (column_at 0 (lines_at b) (b.states - 1)) east
 
--- The board of an assembled network: for the machine, window and word for which the network was assembled, it is the
--- network's board at the start, and the layout is the machine's.
+-- The board of an assembled network: for the machine, the window and the configuration for which the network was
+-- assembled, it is the network's board at the start, and the layout is the machine's.
 pub record IsFlattened (a : Assembled) (b : Flattened) : Type 0 where
   pub board : IsBoard (network_of a) (rotary_circuit b.net)
-  pub layout : (m : Quadruples) (word : List ℕ) (names : List ControlState) → IsAssembled m a.limits word names a
-      → IsLayout m a.limits names b.layout
-  pub config : (m : Quadruples) (word : List ℕ) (names : List ControlState) → IsAssembled m a.limits word names a
-      → b.config ≡ board_start (network_of a).tables (network_start m a.limits word)
+  pub layout : (m : Quadruples) (c : Configuration ℕ) (names : List ControlState)
+      → IsAssembledFrom m a.limits c names a → IsLayout m a.limits names b.layout
+  pub config : (m : Quadruples) (c : Configuration ℕ) (names : List ControlState)
+      → IsAssembledFrom m a.limits c names a
+      → b.config ≡ board_start (network_of a).tables (start_from m a.limits c)
   pub start : b.start ≡ start_line
   pub end : b.end ≡ end_line b.layout

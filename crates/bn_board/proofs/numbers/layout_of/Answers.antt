@@ -10,8 +10,8 @@ new-requires c =
     kept-layout c.args.assembly.now _ kept (
     layout-read c.args.assembly.now c.windows.ensures.kept c.in-Control.control (search rules) c.in_ok-awaited.ensures.tapes
     (limits_of c.windows.result.now) c.windows.ensures.windows c.symbols.result c.symbols-2.result c.symbols-3.result c.states.result
-    (c.symbols.ensures kept.machine kept.word kept.names kept.assembled) (c.symbols-2.ensures kept.machine kept.word kept.names kept.assembled)
-    (c.symbols-3.ensures kept.machine kept.word kept.names kept.assembled)
+    (c.symbols.ensures kept.machine kept.start kept.names kept.assembled) (c.symbols-2.ensures kept.machine kept.start kept.names kept.assembled)
+    (c.symbols-3.ensures kept.machine kept.start kept.names kept.assembled)
     (search rules) c.in_ok-firsts.firsts.items c.in_ok-awaited.awaited.items c.in_ok-firsts.ensures c.in_ok-awaited.ensures.list
     )
 
@@ -21,7 +21,7 @@ returns-clause-numbers c =
     subst (IsLayoutOf c.args.assembly.now) (sym c.new.ensures) (
     layout-read c.args.assembly.now c.windows.ensures.kept c.in-Control.control (search rules) c.in_ok-awaited.ensures.tapes
     (limits_of c.windows.result.now) c.windows.ensures.windows c.symbols.result c.symbols-2.result c.symbols-3.result c.states.result
-    (c.symbols.ensures kept.machine kept.word kept.names kept.assembled) (c.symbols-2.ensures kept.machine kept.word kept.names kept.assembled)
-    (c.symbols-3.ensures kept.machine kept.word kept.names kept.assembled)
+    (c.symbols.ensures kept.machine kept.start kept.names kept.assembled) (c.symbols-2.ensures kept.machine kept.start kept.names kept.assembled)
+    (c.symbols-3.ensures kept.machine kept.start kept.names kept.assembled)
     (search rules) c.in_ok-firsts.firsts.items c.in_ok-awaited.awaited.items c.in_ok-firsts.ensures c.in_ok-awaited.ensures.list
     )
