@@ -1,6 +1,6 @@
 -- A build starts with each configuration that stands in its window.
 use Rattle.std.specs.Prelude.{◌≡◌, ℕ, ◌+◌, ◌*◌, ◌<◌, ◌≤◌, pos, ◌-ℤ◌, Bool, true, false, List, [], ◌∷◌}
-use Rattle.std.specs.Prelude.{◌++◌, length, All, map, replicate, Some, slice_get, if◌then◌else◌, refl}
+use Rattle.std.specs.Prelude.{◌++◌, length, map, replicate, Some, slice_get, if◌then◌else◌, refl}
 use Rattle.std.specs.List.{range_with_len}
 use Rattle.std.specs.Option.{option_map_or}
 use Rattle.std.specs.Ordering.{int_eq}
