@@ -18,9 +18,9 @@ use Rattle.bn_element.specs.Rotary.{rotary}
 use Rattle.bn_circuits.specs.declared.config.Config.{Config}
 use Rattle.bn_circuits.specs.declared.place.Place.{Place}
 use Rattle.bn_circuits.specs.declared.place.Place.TheVariants.{Enter, Left}
-use Rattle.bn_quad.specs.Quadruples.{Quadruples}
+use Rattle.bn_quad.specs.Quadruples.{Configuration, Quadruples}
 use Rattle.bn_network.specs.Controls.{ControlState}
-use Rattle.bn_network.specs.Networks.{network_start}
+use Rattle.bn_network.specs.Starts.{start_from}
 use Rattle.bn_board_spec.specs.Boards.{IsBoard, board_start}
 use Rattle.bn_board_spec.specs.Flats.{Flat, flat_start}
 use Rattle.bn_board_spec.specs.Layouts.{Layout}
@@ -88,10 +88,10 @@ module _ (net : Circuit) (layout : Layout) (at_start : Config) (b : Flattened) (
   }
 
 -- the board of a machine at its start is spelled so
-pub board-spells : (m : Quadruples) (l : Limits) (symbols : List ℕ) (names : List ControlState) (network : Circuit) (b : Flattened) →
-    IsBoardFor m l symbols names network b →
-    IsBoardSpelling network b.layout (board_start network.tables (network_start m l symbols)) (spelling_of_board b)
-board-spells m l symbols names network b h = record {
+pub board-spells : (m : Quadruples) (l : Limits) (c : Configuration ℕ) (names : List ControlState)
+    (network : Circuit) (b : Flattened) → IsBoardFor m l c names network b
+    → IsBoardSpelling network b.layout (board_start network.tables (start_from m l c)) (spelling_of_board b)
+board-spells m l c names network b h = record {
   elements = elements_are network b.net h.is_board;
   wires = h.is_board.wires;
   config = h.config;

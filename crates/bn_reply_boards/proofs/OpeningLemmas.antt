@@ -15,16 +15,16 @@ use Rattle.bn_machine.specs.Outcome.{Limits}
 use Rattle.bn_bennett.specs.Translation.{Translation, IsTranslation}
 use Rattle.bn_table.specs.Rows.{FitsTable, Named}
 use Rattle.bn_net.specs.declared.net.TheConstants.{MOST_ELEMENTS}
-use Rattle.bn_quad.specs.Quadruples.{Quadruples}
+use Rattle.bn_quad.specs.Quadruples.{Configuration, Quadruples}
 use Rattle.bn_network.specs.Controls.{ControlState, symbol_count}
-use Rattle.bn_network.specs.Networks.{network_start}
+use Rattle.bn_network.specs.Starts.{start_from, words_on}
 use Rattle.bn_control.specs.Controlled.{IsWithinLimits}
 use Rattle.bn_board_spec.specs.Boards.{IsBoard, size, board_start}
 use Rattle.bn_board_spec.specs.Layouts.{IsLayout}
 use Rattle.bn_board_spec.specs.Flats.{Flat, IsFlatOf}
 use Rattle.bn_board_spec.proofs.LetterLemmas.{some_symbols}
 use Rattle.bn_assembly.specs.Assembled as assembled
-use Rattle.bn_assembly.specs.Assembled.{Assembled, IsAssembled, IsWordOf, network_of}
+use Rattle.bn_assembly.specs.Assembled.{Assembled, IsAssembledFrom, IsWordOf, network_of}
 use Rattle.bn_board.specs.Flattened.{Flattened, IsFlattened, IsBoardKept}
 use Rattle.bn_reply.specs.Words.{IsLetterSymbol}
 use Rattle.bn_reply_boards_laws.specs.Windows.{CountsElements}
@@ -78,10 +78,10 @@ elements_are n net board =
     sym (length-map net.elements (λ _. rotary)) ∙ ap (λ ts. length ts) board.tables ∙ length-replicate (size n.tables) rotary
 
 -- what is assembled and flattened is the machine's board
-module _ (m : Quadruples) (l : Limits) (symbols : List ℕ) (a : Assembled) (b : Flattened) (names : List ControlState)
-    (is_assembled : IsAssembled m l symbols names a) (flat : IsFlattened a b) (kept : IsBoardKept b) where
-  in_limits : IsAssembled m a.limits symbols names a
-  in_limits = subst (λ w. IsAssembled m w symbols names a) (sym is_assembled.limits) is_assembled
+module _ (m : Quadruples) (l : Limits) (c : Configuration ℕ) (a : Assembled) (b : Flattened) (names : List ControlState)
+    (is_assembled : IsAssembledFrom m l c names a) (flat : IsFlattened a b) (kept : IsBoardKept b) where
+  in_limits : IsAssembledFrom m a.limits c names a
+  in_limits = subst (λ w. IsAssembledFrom m w c names a) (sym is_assembled.limits) is_assembled
 
   few_elements : size (network_of a).tables ≤ MOST_ELEMENTS
   few_elements =
@@ -90,15 +90,15 @@ module _ (m : Quadruples) (l : Limits) (symbols : List ℕ) (a : Assembled) (b :
       let same = kept.elements in
       omega arith
 
-  pub board_for : IsBoardFor m l symbols names (network_of a) b
+  pub board_for : IsBoardFor m l c names (network_of a) b
   board_for = record {
     numbering = is_assembled.is_control.numbering;
     is_network = is_assembled.network;
     is_board = flat.board;
-    is_layout = subst (λ w. IsLayout m w names b.layout) is_assembled.limits (flat.layout m symbols names in_limits);
+    is_layout = subst (λ w. IsLayout m w names b.layout) is_assembled.limits (flat.layout m c names in_limits);
     few = few_elements;
-    config = subst (λ w. b.config ≡ board_start (network_of a).tables (network_start m w symbols)) is_assembled.limits
-        (flat.config m symbols names in_limits);
+    config = subst (λ w. b.config ≡ board_start (network_of a).tables (start_from m w c)) is_assembled.limits
+        (flat.config m c names in_limits);
     start = flat.start;
     end = flat.end;
     kept = kept;
@@ -106,7 +106,8 @@ module _ (m : Quadruples) (l : Limits) (symbols : List ℕ) (a : Assembled) (b :
 
 -- so is that of a translation
 module _ (p : Program) (l : Limits) (symbols : List ℕ) (t : Translation) (is : IsTranslation p t) (fits : length symbols ≤ l.right) where
-  module _ (b : Flattened) (names : List ControlState) (network : Circuit) (h : IsBoardFor t.machine l symbols names network b) where
+  module _ (b : Flattened) (names : List ControlState) (network : Circuit)
+      (h : IsBoardFor t.machine l (words_on t.machine symbols [] []) names network b) where
     abbrev as_flat : Flat
     as_flat = record { translation = t; limits = l; word = symbols; names = names; network = network; circuit = rotary_circuit b.net; layout = b.layout }
 
@@ -133,7 +134,8 @@ module _ (p : Program) (l : Limits) (symbols : List ℕ) (t : Translation) (is :
       kept = h.kept;
     }
 
-  window_is : (opened : OpenedWindow) → IsOpenedBoard t.machine l symbols opened → IsOpenedWindow p l symbols t opened
+  window_is : (opened : OpenedWindow) → IsOpenedBoard t.machine l (words_on t.machine symbols [] []) opened
+      → IsOpenedWindow p l symbols t opened
   window_is (windows.Made b) h = (as_flat b h.0 h.1 h.2, is_made b h.0 h.1 h.2)
   window_is (windows.Refused reply) h = record {
     count = h.count;
@@ -143,7 +145,8 @@ module _ (p : Program) (l : Limits) (symbols : List ℕ) (t : Translation) (is :
     status = h.status;
   }
 
-pub window_opened : (l : Limits) (symbols : List ℕ) (t : Translation) → length symbols ≤ l.right → (r : Result OpenedWindow WantOfMemory) →
-    IfOk r (IsOpenedBoard t.machine l symbols) → IfOk r (λ opened. (p : Program) → IsTranslation p t → IsOpenedWindow p l symbols t opened)
+pub window_opened : (l : Limits) (symbols : List ℕ) (t : Translation) → length symbols ≤ l.right
+    → (r : Result OpenedWindow WantOfMemory) → IfOk r (IsOpenedBoard t.machine l (words_on t.machine symbols [] []))
+    → IfOk r (λ opened. (p : Program) → IsTranslation p t → IsOpenedWindow p l symbols t opened)
 window_opened l symbols t fits (Ok opened) h = λ p is. window_is p l symbols t is fits opened h
 window_opened l symbols t fits (Err e) h = tt

@@ -6,9 +6,10 @@ use Rattle.bn_net.specs.RotaryNets.{rotary_circuit}
 use Rattle.bn_machine.specs.Machine.{Program}
 use Rattle.bn_machine.specs.Outcome.{Limits}
 use Rattle.bn_netlist_laws.specs.Spelling.{Spelling}
-use Rattle.bn_quad.specs.Quadruples.{Quadruples}
+use Rattle.bn_quad.specs.Quadruples.{Configuration, Quadruples}
 use Rattle.bn_network.specs.Controls.{ControlState, IsNumbering}
-use Rattle.bn_network.specs.Networks.{IsNetwork, network_start}
+use Rattle.bn_network.specs.Networks.{IsNetwork}
+use Rattle.bn_network.specs.Starts.{start_from}
 use Rattle.bn_net.specs.declared.net.TheConstants.{MOST_ELEMENTS}
 use Rattle.bn_bennett.specs.Translation.{Translation, IsTranslation}
 use Rattle.bn_table.specs.Rows.{Named}
@@ -33,15 +34,15 @@ use Rattle.bn_reply_boards.specs.declared.opening.OpenedWindow.{OpenedWindow}
 use Rattle.bn_reply_boards.specs.declared.opening.OpenedWindow.TheVariants as windows
 
 -- This is the board of this network, which is that of the machine in these limits with these states of its control, at
--- its start with the word of these symbols; and it hasn't too many elements.
-pub record IsBoardFor (m : Quadruples) (l : Limits) (symbols : List ℕ) (names : List ControlState) (network : Circuit)
-    (b : Flattened) : Type 0 where
+-- the start of this configuration; and it hasn't too many elements.
+pub record IsBoardFor (m : Quadruples) (l : Limits) (c : Configuration ℕ) (names : List ControlState)
+    (network : Circuit) (b : Flattened) : Type 0 where
   pub numbering : IsNumbering m names
   pub is_network : IsNetwork m l names network
   pub is_board : IsBoard network (rotary_circuit b.net)
   pub is_layout : IsLayout m l names b.layout
   pub few : size network.tables ≤ MOST_ELEMENTS
-  pub config : b.config ≡ board_start network.tables (network_start m l symbols)
+  pub config : b.config ≡ board_start network.tables (start_from m l c)
   pub start : b.start ≡ start_line
   pub end : b.end ≡ end_line b.layout
   pub kept : IsBoardKept b
@@ -54,11 +55,11 @@ pub record IsTooLarge (m : Quadruples) (l : Limits) (reply : Reply) : Type 0 whe
   pub text : reply.text.items ≡ large_line count
   pub status : reply.status ≡ statuses.Size
 
--- the board of a machine, or what is answered where it is too large
-abbrev pub IsOpenedBoard : Quadruples → Limits → List ℕ → OpenedWindow → Type 0
-IsOpenedBoard m l symbols (windows.Made b) =
-    (names : List ControlState) × (network : Circuit) × IsBoardFor m l symbols names network b
-IsOpenedBoard m l symbols (windows.Refused reply) = IsTooLarge m l reply
+-- the board of a machine at the start of a configuration, or what is answered where it is too large
+abbrev pub IsOpenedBoard : Quadruples → Limits → Configuration ℕ → OpenedWindow → Type 0
+IsOpenedBoard m l c (windows.Made b) =
+    (names : List ControlState) × (network : Circuit) × IsBoardFor m l c names network b
+IsOpenedBoard m l c (windows.Refused reply) = IsTooLarge m l reply
 
 -- The machine, the word of these symbols and the limits come to f, whose reversible machine is this translation; and
 -- this is its board, at the start.

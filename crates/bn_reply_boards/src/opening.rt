@@ -5,11 +5,12 @@ ghost use Rattle.bn_machine.specs.Machine.{Program};
 ghost use Rattle.bn_bennett.specs.Translation.{IsTranslation};
 ghost use Rattle.bn_control.specs.Controlled.{IsWithinLimits};
 ghost use Rattle.bn_network.specs.Limits.{AreSmall};
+ghost use Rattle.bn_network.specs.Starts.{AreInputs, words_on};
 ghost use Rattle.bn_assembly.specs.Assembled.{IsWordOf, limits_of};
 ghost use Rattle.bn_reply_boards.specs.Opened.{IsOpenedBoard, IsOpenedInput, IsOpenedMachine, IsOpenedWindow};
 ghost use Rattle.bn_reply_boards_laws.specs.Windows.{large_line};
 
-use bn_assembly::{AssembleRefusal, Windows, assemble};
+use bn_assembly::{AssembleRefusal, TapeSymbols, Windows, assemble_words};
 use bn_bennett::{Translated, translate};
 use bn_board::{Board, flatten};
 use bn_quad::Uniform;
@@ -106,24 +107,30 @@ pub fn open_window(
     ensures { IfOk result (λ opened. (p : Program) → IsTranslation p translated.now
         → IsOpenedWindow p (limits_of windows.now) symbols.now translated.now opened) }
 {
-    open_board(alloc, translated.machine(), symbols, windows)
+    let words = TapeSymbols {
+        one: symbols,
+        two: &[],
+        three: &[],
+    };
+    open_board(alloc, translated.machine(), &words, windows)
 }
 
-/// The board of any uniform machine of quadruples for a word of these symbols on tape 1, which fits, and a window, at its
-/// start; or what is answered where the board would have too many elements.
+/// The board of any uniform machine of quadruples for words of these symbols on the three tapes, which fit, and a
+/// window, at its start; or what is answered where the board would have too many elements.
 pub fn open_board(
     alloc: Global,
     machine: &Uniform,
-    symbols: &[u32],
+    words: &TapeSymbols<'_>,
     windows: &Windows,
 ) -> Result<OpenedWindow, NoMemory>
     requires within { IsWithinLimits machine.now }
-    requires word { IsWordOf machine.now symbols.now }
     requires windows { AreSmall (limits_of windows.now) }
-    requires fits { length symbols.now ≤ (limits_of windows.now).right }
-    ensures { IfOk result (IsOpenedBoard machine.now (limits_of windows.now) symbols.now) }
+    requires words { AreInputs machine.now (limits_of windows.now)
+        words.now.one.now words.now.two.now words.now.three.now }
+    ensures { IfOk result (IsOpenedBoard machine.now (limits_of windows.now)
+        (words_on machine.now words.now.one.now words.now.two.now words.now.three.now)) }
 {
-    match assemble(alloc, machine, windows, symbols) {
+    match assemble_words(alloc, machine, windows, words) {
         Ok(assembly) => {
             let board = flatten(alloc, &assembly)?;
             Ok(OpenedWindow::Made(board))
