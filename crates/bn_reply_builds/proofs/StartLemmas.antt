@@ -14,13 +14,12 @@ use Rattle.bn_netlist_laws.specs.declared.version.Version.TheVariants.{Two}
 use Rattle.bn_netlist.specs.PackedText.{spelling_of_packed}
 use Rattle.bn_netlist.specs.declared.packed_config.PackedConfig.{PackedConfig}
 use Rattle.bn_network.specs.Controls.{ControlState}
-use Rattle.bn_network.specs.Networks.{network_start}
 use Rattle.bn_board_spec.specs.Boards.{board_start}
 use Rattle.bn_board_laws.proofs.NetworkReadLemmas.{networks-read}
 use Rattle.bn_board.specs.Flattened.{Flattened}
 use Rattle.bn_assembly.specs.Assembled.{IsWordOf}
 use Rattle.bn_build_laws.specs.Builds.{Build, IsBuild}
-use Rattle.bn_network.specs.Starts.{words_on}
+use Rattle.bn_network.specs.Starts.{start_from, words_on}
 use Rattle.bn_reply.specs.declared.reply.Reply.{Reply}
 use Rattle.bn_reply.specs.declared.status.Status.{Status}
 use Rattle.bn_reply_boards.specs.Opened.{IsBoardFor, IsTooLarge, spelling_of_board}
@@ -46,8 +45,8 @@ module _ (m : Quadruples) (l : Limits) (symbols : List ℕ) (is : IsBuildable m)
   pub large_answer : (r : Reply) → IsTooLarge m l r → Answers r.status r.text.items []
   large_answer r h = large few fits h.count h.counts h.great h.text h.status refl
 
-  module _ (names : List ControlState) (network : Circuit) (b : Flattened) (h : IsBoardFor m l symbols names network
-      b) where
+  module _ (names : List ControlState) (network : Circuit) (b : Flattened)
+      (h : IsBoardFor m l (words_on m symbols [] []) names network b) where
     abbrev as_build : Build
     as_build = record {
       machine = m;
@@ -83,8 +82,9 @@ module _ (m : Quadruples) (l : Limits) (symbols : List ℕ) (is : IsBuildable m)
         Answers (Packed c)
     board_will c two same =
         let some = build_spells m l symbols word as_build built_for in
-        will_tell network b.layout (board_start network.tables (network_start m l symbols)) b h.is_board h.kept
-        (board-spells m l symbols names network b h) some.0 some.1 some.2.1.admitted Answers c two same
+        let start = words_on m symbols [] [] in
+        will_tell network b.layout (board_start network.tables (start_from m l start)) b h.is_board h.kept
+        (board-spells m l start names network b h) some.0 some.1 some.2.1.admitted Answers c two same
         (λ text told. built few fits as_build built_for told)
 
 -- what is answered to the symbols that spell a word is answered to it

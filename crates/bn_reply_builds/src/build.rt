@@ -10,7 +10,7 @@ ghost use Rattle.bn_reply_circuits.specs.Unwritten.{WillReply};
 ghost use Rattle.bn_reply_builds.specs.BuildReply.{BuildReplies, IsCrowded, IsUncrowded, SizedReplies, TellsBuild, crowded_line};
 ghost use Rattle.bn_reply_builds.specs.Buildable.{IsBuildable};
 
-use bn_assembly::Windows;
+use bn_assembly::{TapeSymbols, Windows};
 use bn_io::Sink;
 use bn_network::MOST_SYMBOLS;
 use bn_quad::{QuadMachine, Uniform};
@@ -82,7 +82,12 @@ fn start_with(
     if symbols.len() > windows.right1 as usize {
         return Ok(Unwritten::Line(too_long(alloc, symbols.len())?));
     }
-    match open_board(alloc, machine, symbols, windows)? {
+    let words = TapeSymbols {
+        one: symbols,
+        two: &[],
+        three: &[],
+    };
+    match open_board(alloc, machine, &words, windows)? {
         OpenedWindow::Refused(reply) => Ok(Unwritten::Line(reply)),
         OpenedWindow::Made(board) => Ok(Unwritten::Packed(board_config(board))),
     }
