@@ -1,23 +1,21 @@
 -- A board that was flattened is a board as it is defined.
-use Rattle.std.specs.Prelude.{◌≡◌, ℕ, ◌<◌, ◌≤◌, List, All, refl}
-use Rattle.std.proofs.Common.{arith, sym, ap, subst, ◌∙◌}
+use Rattle.std.specs.Prelude.{◌≡◌, ℕ, ◌≤◌, List, [], refl}
+use Rattle.std.proofs.Common.{arith, sym, ap, subst}
 use Rattle.bn_circuits.specs.declared.line.Line.{Line}
 use Rattle.bn_circuits.specs.declared.place.Place.TheVariants.{Enter, Left}
 use Rattle.bn_net.specs.RotaryNets.{rotary_circuit}
 use Rattle.bn_net.specs.declared.net.TheConstants.{MOST_ELEMENTS}
-use Rattle.bn_machine.specs.Machine.{Program, IsMachine}
+use Rattle.bn_machine.specs.Machine.{Program}
 use Rattle.bn_machine.specs.Outcome.{Limits}
-use Rattle.bn_bennett_laws.specs.Stages.{IsStandardMachine, IsSpelledBy}
-use Rattle.bn_bennett.specs.Translation.{Translation, IsTranslation}
-use Rattle.bn_network.specs.Controls.{symbol_count}
+use Rattle.bn_bennett.specs.Translation.{Translation}
 use Rattle.bn_network.specs.Networks.{network_start}
+use Rattle.bn_network.specs.Starts.{words_on}
 use Rattle.bn_board_spec.specs.Boards.{size, board_start}
-use Rattle.bn_board_spec.specs.Layouts.{IsLayout, spelled_config}
-use Rattle.bn_board_spec.specs.Flats.{Flat, IsFlatOf, IsAccepted, machine_of, flat_start}
+use Rattle.bn_board_spec.specs.Layouts.{IsLayout}
+use Rattle.bn_board_spec.specs.Flats.{Flat, IsFlatOf, IsAccepted}
 use Rattle.bn_assembly.specs.Assembled.{Assembled, IsAssembled, network_of}
 use Rattle.bn_board.specs.Flattened.{Flattened}
 use Rattle.bn_board_laws.proofs.ClosedLemmas.{run_to_exit}
-use Rattle.bn_board_laws.specs.NetworkMoments.{IsUniformNetwork, machine_start}
 use Rattle.bn_headline_laws.specs.FlattenLaws.{MayBeAssembled, IsBoardAtStart, IsFlattenedFor, FlattenedBoardsAreFlats, FlattenedBoardsRunToTheirExit}
 use Rattle.bn_board_laws.proofs.NetworkReadLemmas.{networks-read}
 use Rattle.bn_board_laws.proofs.BoardReadLemmas.{uniform_of, word_low}
@@ -32,7 +30,8 @@ module _ (p : Program) (l : Limits) (word : List ℕ) (t : Translation) (a : Ass
   in_limits = subst (λ w. IsAssembled t.machine w word made.names a) (sym made.assembled.limits) made.assembled
 
   layout_is : IsLayout t.machine l made.names b.layout
-  layout_is = subst (λ w. IsLayout t.machine w made.names b.layout) made.assembled.limits (made.flattened.layout t.machine word made.names in_limits)
+  layout_is = subst (λ w. IsLayout t.machine w made.names b.layout) made.assembled.limits
+      (made.flattened.layout t.machine (words_on t.machine word [] []) made.names in_limits)
 
   is_flat : IsFlatOf p word l as_flat
   is_flat = record {
@@ -66,7 +65,8 @@ module _ (p : Program) (l : Limits) (word : List ℕ) (t : Translation) (a : Ass
   at_start = record {
     circuit = refl;
     layout = refl;
-    config = subst (λ w. b.config ≡ board_start (network_of a).tables (network_start t.machine w word)) made.assembled.limits (made.flattened.config t.machine word made.names in_limits);
+    config = subst (λ w. b.config ≡ board_start (network_of a).tables (network_start t.machine w word))
+        made.assembled.limits (made.flattened.config t.machine (words_on t.machine word [] []) made.names in_limits);
     start = ap (λ (x : Line). Enter x.element x.line) made.flattened.start;
     end = ap (λ (x : Line). Left x.element x.line) made.flattened.end;
   }
