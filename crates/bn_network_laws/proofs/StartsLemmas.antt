@@ -1,11 +1,11 @@
 -- Words that are of their tapes' symbols and have room stand in the window.
-use Rattle.std.specs.Prelude.{◌≡◌, ◌≢◌, ℕ, ◌+◌, ◌<◌, ◌≤◌, ℤ, pos, negsuc, List, All, length, refl}
+use Rattle.std.specs.Prelude.{◌≢◌, ℕ, ◌<◌, ◌≤◌, ℤ, pos, negsuc, List, All, length, refl}
 use Rattle.std.proofs.Common.{zero, suc, arith, inl, inr, sym, subst, ◌∙◌}
 use Rattle.std.proofs.lemmas.Int.{ints}
 use Rattle.std.proofs.lemmas.Bool.{cases_lt}
 use Rattle.std.proofs.lemmas.List.{get_or_past}
 use Rattle.bn_machine.specs.Outcome.{Limits}
-use Rattle.bn_machine.specs.Tape.{cell, letter_at, word_tape}
+use Rattle.bn_machine.specs.Tape.{letter_at, word_tape}
 use Rattle.bn_machine.specs.Window.{IsBetween}
 use Rattle.bn_machine.proofs.TapeLemmas.{cell-word}
 use Rattle.bn_quad.specs.Quadruples.{Quadruples}
