@@ -18,7 +18,7 @@ use Rattle.bn_board_spec.specs.Boards.{IsBoard, StandsFor, base, board_start, si
 use Rattle.bn_board_spec.specs.Layouts.{Layout, IsLayout, symbol_count_at}
 use Rattle.bn_board_laws.specs.NetworkMoments.{IsUniformNetwork}
 use Rattle.bn_board_laws.proofs.NetworkReadLemmas.{networks-read}
-use Rattle.bn_build_laws.proofs.StartLemmas.{start-stands}
+use Rattle.bn_board_laws.proofs.StartsLemmas.{start-stands}
 use Rattle.bn_assembly.specs.Assembled.{Assembled, IsKept, network_of}
 use Rattle.bn_board.specs.Flattened.{Flattened, IsBoardKept, IsOnNetwork, origin, origin_by}
 use Rattle.bn_board.specs.Starts.{IsLayoutOf, start_by}

@@ -16,7 +16,7 @@ use Rattle.bn_network.specs.Moments.{HasLetters}
 use Rattle.bn_board_spec.specs.Boards.{AreModules, StandsFor, bars_of, board_start, size, size_of}
 use Rattle.bn_board_spec.proofs.TabledLemmas.{whole}
 use Rattle.bn_board_laws.proofs.NetworkLemmas.{networks-modules}
-use Rattle.bn_build_laws.proofs.StartLemmas.{start-stands}
+use Rattle.bn_board_laws.proofs.StartsLemmas.{start-stands}
 use Rattle.bn_assembly.proofs.SymbolLemmas.{some_letters}
 use Rattle.std.proofs.lemmas.Bool.{cases_lt}
 use Rattle.std.proofs.lemmas.Bool.Decides.{eqb_tells}

@@ -24,3 +24,4 @@ pub mod NetworkMomentLemmas
 pub mod BoardReadLemmas
 pub mod StuckLemmas
 pub mod NoRoomLemmas
+pub mod StartsLemmas
