@@ -9,3 +9,4 @@ pub mod NameLemmas
 pub mod RunLemmas
 pub mod GenerateLemmas
 pub mod ClosedLemmas
+pub mod PieceLemmas

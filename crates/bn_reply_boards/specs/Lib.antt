@@ -3,3 +3,4 @@ pub mod Shown
 pub mod Running
 pub mod GenerateReply
 pub mod GenerateLaws
+pub mod LineNames

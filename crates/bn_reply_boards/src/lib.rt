@@ -5,6 +5,7 @@
 mod compile;
 mod generate;
 mod generate_laws;
+mod line_names;
 mod opening;
 mod run;
 mod run_text;
@@ -15,9 +16,10 @@ pub use generate::reply_generate;
 pub use generate_laws::{
     generate_has_one_reply, generated_runs_tell_outcomes, generated_tables_are_given,
 };
+pub use line_names::{push_cell_line, push_control_line};
 pub use opening::{
     OpenedInput, OpenedMachine, OpenedWindow, open_board, open_input, open_machine, open_window,
 };
 pub use run::{Ran, reply_run, run_to_exit, status_of};
-pub use run_text::{push_exit, text_of_run};
-pub use tape_text::push_tapes;
+pub use run_text::{push_exit, push_inside, push_window, text_of_run};
+pub use tape_text::{push_bounds, push_tapes};

@@ -79,8 +79,8 @@ fn line_of(place: Place) -> Line
     }
 }
 
-// Appends the line of a signal that is inside, about to enter this line.
-fn push_inside(text: &mut Vec<u8>, line: Line) -> Result<(), NoMemory>
+/// Appends the line of a signal that is inside, about to enter this line.
+pub fn push_inside(text: &mut Vec<u8>, line: Line) -> Result<(), NoMemory>
     requires { line.line < 4 }
     ensures { OnOk result (text.new.items ≡ text.old.items ++ (codes "inside " ++ (line_text line ++ 10 ∷ []))) }
 {
@@ -132,8 +132,8 @@ fn push_state(
     }
 }
 
-// Appends the line of a head that would leave a tape's window.
-fn push_window(text: &mut Vec<u8>, tape: u32, side: Side) -> Result<(), NoMemory>
+/// Appends the line of a head that would leave a tape's window.
+pub fn push_window(text: &mut Vec<u8>, tape: u32, side: Side) -> Result<(), NoMemory>
     ensures { OnOk result (text.new.items ≡ text.old.items ++ window_line tape side) }
 {
     push(text, b"exit window ")?;

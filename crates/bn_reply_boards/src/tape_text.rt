@@ -41,8 +41,8 @@ fn push_tape(
     push(text, b"\n")
 }
 
-// Appends the position of a tape's first cell, and of its head.
-fn push_bounds(text: &mut Vec<u8>, shown: &SpelledTape) -> Result<(), NoMemory>
+/// Appends the position of a tape's first cell, and of its head.
+pub fn push_bounds(text: &mut Vec<u8>, shown: &SpelledTape) -> Result<(), NoMemory>
     ensures { OnOk result (text.new.items ≡ text.old.items ++ bounds_text shown.now) }
 {
     push(text, b" from ")?;

@@ -1,3 +1,4 @@
+pub mod ClosedLemmas
 pub mod SizeLemmas
 pub mod SymbolLemmas
 pub mod RowLemmas

@@ -20,7 +20,7 @@ use Rattle.bn_board_spec.specs.Layouts.{lines_at}
 use Rattle.bn_board_laws.proofs.ClosedLemmas.{read_off}
 use Rattle.bn_board.specs.Flattened.{Flattened}
 use Rattle.bn_reply_boards.specs.Opened.{IsMade}
-use Rattle.bn_reply_views.proofs.ViewTextLemmas.{four_pieces}
+use Rattle.bn_reply_boards.proofs.PieceLemmas.{four_pieces}
 use Rattle.bn_reply_layout.specs.Modules.{shape}
 use Rattle.bn_reply_layout.specs.ModuleText.{module_lines}
 use Rattle.bn_reply_layout.specs.ControlText.{column_lines, control_line_line, state_names}

@@ -6,7 +6,7 @@ use Rattle.bn_bennett.specs.Printed.{bennett_state_text}
 use Rattle.bn_network.specs.Cells.{cell_line}
 use Rattle.bn_network.specs.Controls.{ControlState, Begin, End, Reads, Shifts, Writes, lines_before}
 use Rattle.bn_reply.specs.Lines.{line}
-use Rattle.bn_reply_views.specs.ViewText.{cell_line_text, control_line_text}
+use Rattle.bn_reply_boards.specs.LineNames.{cell_line_text, control_line_text}
 
 -- ---- columns of the control
 

@@ -7,10 +7,10 @@ ghost use Rattle.bn_cell.specs.Sizes.{IsCellSize};
 ghost use Rattle.bn_reply_boards_laws.specs.RunText.{number_text, symbol_text};
 ghost use Rattle.bn_reply_layout.specs.CellText.{cell_column_line, cell_line_line, cell_lines, cell_state_text};
 
-use crate::line_text::push_cell_line;
 use bn_base::push_u64;
 use bn_cell::line_of;
 use bn_reply::{NoMemory, push, push_letters};
+use bn_reply_boards::push_cell_line;
 use bn_table::Table;
 
 /// Appends the lines of the columns and the lines that each cell of a tape of so many symbols has.

@@ -10,13 +10,13 @@ ghost use Rattle.bn_reply_layout.specs.ControlText.{column_line, column_lines, c
 ghost use Rattle.bn_reply_layout.specs.ControlText.{numbers_text, output_text, state_text};
 ghost use Rattle.bn_reply_layout.specs.Made.{HasStateName};
 
-use crate::line_text::{push_cell_line, push_control_line};
 use crate::sizes::{history_of, letters_of};
 use bn_base::push_u64;
 use bn_cell::line_of;
 use bn_control_names::{StateName, Symbols};
 use bn_quad::QuadNames;
 use bn_reply::{NoMemory, push};
+use bn_reply_boards::{push_cell_line, push_control_line};
 use bn_table::Table;
 use std::cmp::Reverse;
 

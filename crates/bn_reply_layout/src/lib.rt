@@ -8,7 +8,6 @@ mod control_text;
 mod layout;
 mod layout_laws;
 mod layout_text;
-mod line_text;
 mod module_text;
 mod place_laws;
 mod sizes;

@@ -21,18 +21,10 @@ use Rattle.bn_board.specs.Flattened.{Flattened, IsBoardKept}
 use Rattle.bn_quad.specs.Names.{Naming}
 use Rattle.bn_reply_tables.proofs.FitLemmas.{AreSymbols, run_fits, start_fits}
 use Rattle.bn_reply_boards.specs.Shown.{HaveLetters}
-use Rattle.bn_reply.proofs.PieceLemmas.{three_pieces}
 use Rattle.bn_reply_boards.proofs.ShownLemmas.{line_within, shown_letters}
 use Rattle.bn_view.specs.Viewed.{IsBoardFor, IsViewOf, MachineIsAt, ShowsMachine}
 use Rattle.bn_view.specs.declared.layers.Layers.{Layers}
 use Rattle.bn_reply_views.specs.Showing.{CanBeWritten, IsNamedState, IsTableBoard}
-
--- four pieces one behind the other
-pub four_pieces : (first a b d e one two three four : List ℕ) → one ≡ first ++ a → two ≡ one ++ b → three ≡ two ++ d → four ≡ three ++ e
-    → four ≡ first ++ (a ++ (b ++ (d ++ e)))
-four_pieces first a b d e one two three four h1 h2 h3 h4 =
-    h4 ∙ ap (λ x. x ++ e) (three_pieces first a b d one two three h1 h2 h3) ∙ append_assoc first (a ++ (b ++ d)) e
-    ∙ ap (λ x. first ++ x) (append_assoc a (b ++ d) e ∙ ap (λ x. a ++ x) (append_assoc b d e))
 
 -- five pieces one behind the other
 pub five_pieces : (first a b d e g one two three four five : List ℕ) → first ≡ [] → one ≡ first ++ a → two ≡ one ++ b → three ≡ two ++ d → four ≡ three ++ e → five ≡ four ++ g

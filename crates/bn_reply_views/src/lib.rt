@@ -1,8 +1,8 @@
 //! What the commands `view` and `session` answer.
 #![tactic(auto)]
 
-mod line_text;
 mod place_laws;
+mod place_text;
 mod session;
 mod session_laws;
 mod view;

@@ -10,13 +10,13 @@ ghost use Rattle.bn_reply_views.specs.ViewText.{cell_text, element_line, machine
 ghost use Rattle.bn_reply_views.specs.ViewText.{stage_text, view_text};
 ghost use Rattle.bn_reply_views.specs.Showing.{CanBeWritten, IsNamedState};
 
-use crate::line_text::{push_cell_line, push_control_line, push_place};
+use crate::place_text::push_place;
 use bn_base::push_u64;
 use bn_bennett::{MachineState, Stage, Translated, names};
 use bn_net::Place;
 use bn_quad::QuadNames;
 use bn_reply::{NoMemory, push, push_position};
-use bn_reply_boards::{push_exit, push_tapes};
+use bn_reply_boards::{push_cell_line, push_control_line, push_exit, push_tapes};
 use bn_table::Table;
 use bn_view::{Layers, ModuleAt};
 use std::alloc::Global;

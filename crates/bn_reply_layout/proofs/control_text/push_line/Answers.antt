@@ -2,7 +2,7 @@ use Rattle.std.proofs.Common.{◌++◌, ap, ◌∙◌}
 use Rattle.std.specs.Prelude.{codes, decimal}
 use Rattle.std.proofs.lemmas.Result.{on_ok_weaker}
 use Rattle.bn_bennett_laws.specs.List.{symbols_of}
-use Rattle.bn_reply_views.proofs.ViewTextLemmas.{four_pieces}
+use Rattle.bn_reply_boards.proofs.PieceLemmas.{four_pieces}
 use Rattle.bn_reply_layout.specs.ControlText.{names_text}
 use Rattle.bn_reply_layout.proofs.control_text.push_line.Goals as goal
 

@@ -3,7 +3,7 @@ use Rattle.std.specs.Prelude.{codes, decimal}
 use Rattle.std.proofs.lemmas.Int.{to_z-of_z}
 use Rattle.std.proofs.lemmas.Result.{on_ok_weaker}
 use Rattle.bn_reply.specs.Lines.{position_text}
-use Rattle.bn_reply_views.proofs.ViewTextLemmas.{four_pieces}
+use Rattle.bn_reply_boards.proofs.PieceLemmas.{four_pieces}
 use Rattle.bn_reply_views.proofs.view_text.push_cell.Goals as goal
 
 pub returns : goal.returns

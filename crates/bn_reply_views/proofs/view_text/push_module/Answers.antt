@@ -2,8 +2,9 @@ use Rattle.std.proofs.Common.{rules, ◌≡◌, ◌++◌, ◌∷◌, [], sym, ap
 use Rattle.std.specs.Prelude.{codes}
 use Rattle.std.proofs.lemmas.Result.{on_ok_weaker}
 use Rattle.bn_view.specs.declared.layers.ModuleAt.{ModuleAt}
-use Rattle.bn_reply_views.specs.ViewText.{cell_line_text, cell_text, module_line}
-use Rattle.bn_reply_views.proofs.ViewTextLemmas.{four_pieces}
+use Rattle.bn_reply_boards.specs.LineNames.{cell_line_text}
+use Rattle.bn_reply_views.specs.ViewText.{cell_text, module_line}
+use Rattle.bn_reply_boards.proofs.PieceLemmas.{four_pieces}
 use Rattle.bn_reply_views.proofs.view_text.push_module.Goals as goal
 
 pub returns-in_ok-push_cell_line-in-CellLine : goal.returns-in_ok-push_cell_line-in-CellLine

@@ -1,16 +1,16 @@
-//! The names of lines, as `view` has them.
+//! The names of the lines of cells and of the control.
 
 ghost use Rattle.std.specs.Prelude.{◌≡◌, ◌<◌, ◌++◌, OnOk};
 ghost use Rattle.bn_bennett_laws.specs.List.{symbols_of};
-ghost use Rattle.bn_reply_views.specs.ViewText.{answer_line, answer_text, cell_line_text, control_line_text};
+ghost use Rattle.bn_reply_boards.specs.LineNames.{answer_line, answer_text, cell_line_text, control_line_text};
 
 use bn_base::push_u64;
-use bn_cell::CellLine;
+use bn_network::CellLine;
 use bn_reply::{NoMemory, push};
 use bn_table::Table;
 
 /// Appends the name of a cell's line.
-pub(crate) fn push_cell_line(text: &mut Vec<u8>, line: CellLine) -> Result<(), NoMemory>
+pub fn push_cell_line(text: &mut Vec<u8>, line: CellLine) -> Result<(), NoMemory>
     ensures { OnOk result (text.new.items ≡ text.old.items ++ cell_line_text line) }
 {
     match line {
@@ -33,12 +33,8 @@ pub(crate) fn push_cell_line(text: &mut Vec<u8>, line: CellLine) -> Result<(), N
     }
 }
 
-/// Appends the name of an input line of the control of a table's reversible machine.
-pub(crate) fn push_control_line(
-    text: &mut Vec<u8>,
-    table: &Table,
-    line: u32,
-) -> Result<(), NoMemory>
+/// Appends the name of an input line of the control of a table's reversible machine, counted from 0.
+pub fn push_control_line(text: &mut Vec<u8>, table: &Table, line: u32) -> Result<(), NoMemory>
     ensures { OnOk result (text.new.items ≡ text.old.items ++ control_line_text (symbols_of table.now.machine) line) }
 {
     // The table's own facts: its machine is within the limits of tables.
