@@ -12,16 +12,16 @@ use Rattle.bn_quad.specs.Quadruples.{Configuration, Quadruples}
 use Rattle.bn_netlist_laws.specs.Spelling.{Spelling, Spelled}
 use Rattle.bn_netlist_laws.specs.declared.version.Version.TheVariants.{Two}
 use Rattle.bn_network.specs.Controls.{ControlState, IsNumbering, symbol_count}
-use Rattle.bn_network.specs.Networks.{IsNetwork, elements_by, network_start}
+use Rattle.bn_network.specs.Networks.{IsNetwork, elements_by}
 use Rattle.bn_network.proofs.OccurringLemmas.{order_one}
 use Rattle.bn_board_spec.specs.Boards.{IsBoard, IsBoardWire, base, between, board_start, own}
 use Rattle.bn_board_spec.specs.Layouts.{IsLayout}
 use Rattle.bn_board_laws.proofs.LayoutLemmas.{layouts-there}
 use Rattle.bn_board_laws.proofs.NetworkLemmas.{networks-there}
 use Rattle.bn_board_laws.proofs.NetworkReadLemmas.{networks-read}
-use Rattle.bn_assembly.specs.Assembled.{IsWordOf}
-use Rattle.bn_build_laws.specs.Builds.{Build, build_elements}
-use Rattle.bn_network.specs.Starts.{start_from, words_on}
+use Rattle.bn_build_laws.specs.Builds.{Build, IsStart, build_elements}
+use Rattle.bn_build_laws.proofs.StartLemmas.{builds-start-words}
+use Rattle.bn_network.specs.Starts.{AreInputs, start_from, words_on}
 use Rattle.bn_reply.specs.declared.status.Status.{Status}
 use Rattle.bn_reply.specs.declared.status.Status.TheVariants as statuses
 use Rattle.bn_circuits.specs.declared.place.Place.{Place}
@@ -53,7 +53,7 @@ wire_alike n o alike from to (between out into t wire has leaves ends) =
     (subst (λ ts. from ≡ bank_output_line (base ts out.element) t out.line) alike.tables leaves)
     (subst (λ ts. to ≡ bank_input_line (base ts into.element) into.line) alike.tables ends)
 
-targets_alike : (n o k j : Circuit) → AreAlike n o → IsBoard n k → IsBoard o j → (from : Line) → target k.wires from
+pub targets_alike : (n o k j : Circuit) → AreAlike n o → IsBoard n k → IsBoard o j → (from : Line) → target k.wires from
     ≡ target j.wires from
 targets_alike n o k j alike a b from =
     let back : AreAlike o n =
@@ -63,29 +63,40 @@ targets_alike n o k j alike a b from =
     (λ to h. (b.wires from to).1 (wire_alike n o alike from to ((a.wires from to).0 h)))
     (λ to h. (a.wires from to).1 (wire_alike o n back from to ((b.wires from to).0 h)))
 
--- ---- a text
+-- ---- a start
 
-module _ (m : Quadruples) (l : Limits) (symbols : List ℕ) (word : IsWordOf m symbols) where
+module _ (m : Quadruples) (l : Limits) (one two three : List ℕ) (inputs : AreInputs m l one two three) where
   abbrev start : Configuration ℕ
-  start = words_on m symbols [] []
+  start = words_on m one two three
 
   abbrev at_start : Build → Config
   at_start f = board_start f.network.tables (start_from f.machine f.limits start)
 
-  on_machine : (f : Build) → f.machine ≡ m → All (λ s. s < symbol_count f.machine 1) symbols
-  on_machine f same = subst (λ (q : Quadruples). All (λ s. s < symbol_count q 1) symbols) (sym same) (λ k d low.
-      (word k d low).1)
+  -- a build starts with the words
+  pub build_begins : (f : Build) → IsBuiltFor m l f → IsStart f start (start_from f.machine f.limits start) (at_start f)
+  build_begins f h =
+      let own : AreInputs f.machine f.limits one two three =
+      subst (λ (q : Quadruples). AreInputs q f.limits one two three) (sym h.machine)
+      (subst (λ (w : Limits). AreInputs m w one two three) (sym h.limits) inputs) in
+      subst (λ (q : Quadruples). IsStart f (words_on q one two three) (start_from f.machine f.limits (words_on q one
+      two three)) (board_start f.network.tables (start_from f.machine f.limits (words_on q one two three))))
+      h.machine (builds-start-words f h.build one two three own)
+
+  -- ---- a text
+
+  none_low : (z : ℕ) → All (λ x. x < z) []
+  none_low z k d low = absurd (omega (arith, low))
 
   pub build_spells : (f : Build) → IsBuiltFor m l f →
       (u : Spelling) × IsBoardSpelling f.network f.layout (at_start f) u × ((text : List ℕ) × Spelled Two u text)
   build_spells f h =
       let b = h.build in
-      let read = networks-read f.machine f.limits symbols f.names f.network f.layout b.is_network b.is_layout
-      (on_machine f h.machine) in
+      let read = networks-read f.machine f.limits [] f.names f.network f.layout b.is_network b.is_layout
+      (none_low (symbol_count f.machine 1)) in
       let whole = read.1.whole in
       let few = h.few in
       start-spells f.machine f.limits f.names f.network b.is_network.network read.1.modules f.circuit b.is_board
-      (network_start f.machine f.limits symbols) refl read.1.starts (omega arith) f.layout b.is_layout
+      (start_from f.machine f.limits start) refl (build_begins f h).stands (omega arith) f.layout b.is_layout
 
   pub build_told : (f : Build) → IsBuiltFor m l f → (text : List ℕ) × TellsBuild start f statuses.Done text []
   build_told f h =

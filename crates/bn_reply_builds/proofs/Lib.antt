@@ -1,5 +1,6 @@
 pub mod TableFacts
 pub mod CrowdedLemmas
+pub mod LongLemmas
 pub mod BuiltLemmas
 pub mod SettledLemmas
-pub mod StartLemmas
+pub mod OpenedLemmas

@@ -1,23 +1,22 @@
--- What is known of the machine of a table that is read, and of a word on its tape 1.
-use Rattle.std.specs.Prelude.{◌≡◌, ◌≢◌, ℕ, zero, suc, ◌<◌, List, refl}
+-- What is known of the machine of a table that is read, and of words on its tapes.
+use Rattle.std.specs.Prelude.{◌≡◌, ℕ, zero, suc, ◌<◌, List}
 use Rattle.std.proofs.Common.{arith, ap}
 use Rattle.bn_csv.specs.Entries.{entries_of}
 use Rattle.bn_quad.specs.Calls.{IsUniformMachine}
 use Rattle.bn_qtable.specs.Reading.{ReadsQuadruples}
 use Rattle.bn_qtable.specs.Rows.{QuadTable, counts_of}
+use Rattle.bn_qtable.specs.TapeWords.{TapeWords}
 use Rattle.bn_qtable.proofs.Growing.{few-of}
 use Rattle.bn_named_laws.proofs.BackLemmas.{as_many, table_machine}
 use Rattle.bn_network.specs.Controls.{symbol_count}
 use Rattle.bn_network.specs.Networks.{IsTape}
-use Rattle.bn_assembly.specs.Assembled.{IsWordOf}
-use Rattle.bn_reply.specs.Words.{IsSpelledBy}
-use Rattle.bn_reply_quads.specs.QuadReply.{lettered}
-use Rattle.bn_reply_quads.proofs.AlphabetLemmas.{length-letters, read_alphabet, some_symbol}
-use Rattle.bn_reply_builds.specs.Buildable.{IsBuildable}
-
-positive : (n : ℕ) → n ≢ 0 → 0 < n
-positive zero h = absurd (h refl)
-positive (suc n) h = omega arith
+use Rattle.bn_network.specs.Starts.{AreInputs}
+use Rattle.bn_machine.specs.Outcome.{Limits}
+use Rattle.bn_quad.specs.Quadruples.{Quadruples}
+use Rattle.bn_reply_quads.specs.NamedWords.{AreNamedBy}
+use Rattle.bn_reply_quads.proofs.AlphabetLemmas.{read_alphabet, some_symbol}
+use Rattle.bn_reply_builds.specs.BuildReply.{HaveRoom}
+use Rattle.bn_reply_builds.specs.Buildable.{AreLettersOf, IsBuildable}
 
 module _ (bytes : List ℕ) (t : QuadTable) (reads : ReadsQuadruples bytes t) where
   -- as many symbols as names
@@ -56,10 +55,31 @@ module _ (bytes : List ℕ) (t : QuadTable) (reads : ReadsQuadruples bytes t) wh
         states = omega arith;
       }
 
-  pub word_of : (word symbols : List ℕ) → IsSpelledBy (lettered t.names.one) word symbols → IsWordOf t.machine symbols
-  word_of word symbols h k d inside =
-      let letter = h.symbols_known k d inside in
-      let known = letter.known in
-      let letters = length-letters 0 t.names.one in
-      let count = count_on 1 in
-      (positive _ letter.letter, omega arith)
+  pub letters_of : (words : TapeWords) (one two three : List ℕ) → AreNamedBy words t.names one two three →
+      AreLettersOf t.machine one two three
+  letters_of words one two three h = record {
+    on_one = λ k d inside. (
+        let known = (h.on_one.symbols_known k d inside).known in
+        let count = count_on 1 in
+        omega arith);
+    on_two = λ k d inside. (
+        let known = (h.on_two.symbols_known k d inside).known in
+        let count = count_on 2 in
+        omega arith);
+    on_three = λ k d inside. (
+        let known = (h.on_three.symbols_known k d inside).known in
+        let count = count_on 3 in
+        omega arith);
+  }
+
+-- words of their tapes' symbols that have room
+pub inputs_of : (m : Quadruples) (l : Limits) (one two three : List ℕ) → AreLettersOf m one two three →
+    HaveRoom l one two three → AreInputs m l one two three
+inputs_of m l one two three letters room = record {
+  one_letters = letters.on_one;
+  two_letters = letters.on_two;
+  three_letters = letters.on_three;
+  one_room = room.on_one;
+  two_room = room.on_two;
+  three_room = room.on_three;
+}

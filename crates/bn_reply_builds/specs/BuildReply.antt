@@ -1,12 +1,13 @@
 -- What the command `build` answers: the configuration text of the board of a uniform machine of quadruples in a window,
--- at its start with a word on tape 1 (Morita 2017 for the elements; the board, the window and the text are this
--- project's own profile). What is wrong with the bytes comes first, then with the machine, the word's letters, the
--- tapes' symbols, the word's length, and the number of elements.
+-- at its start with a word on tape 1, or on each tape (Morita 2017 for the elements; the board, the window and the text
+-- are this project's own profile). What is wrong with the bytes comes first, then with the machine, the words' letters,
+-- the tapes' symbols, the words' lengths, and the number of elements.
 use Rattle.std.specs.Prelude.{◌≡◌, ℕ, ◌<◌, ◌≤◌, List, [], ◌∷◌, length, codes, decimal}
 use Rattle.bn_circuits.specs.declared.place.Place.{Place}
 use Rattle.bn_machine.specs.Outcome.{Limits}
 use Rattle.bn_quad.specs.Quadruples.{Configuration, Quadruples}
 use Rattle.bn_qtable.specs.Rows.{QuadTable}
+use Rattle.bn_qtable.specs.TapeWords.{One, TapeWords, Three}
 use Rattle.bn_network.specs.Controls.{symbol_count}
 use Rattle.bn_network.specs.Networks.{IsTape}
 use Rattle.bn_network.specs.declared.limits.TheConstants.{MOST_SYMBOLS}
@@ -16,11 +17,12 @@ use Rattle.bn_assembly.specs.Assembled.{CountsElements}
 use Rattle.bn_build_laws.specs.Builds.{Build, IsBuild, build_elements}
 use Rattle.bn_network.specs.Starts.{start_from, words_on}
 use Rattle.bn_reply.specs.Answering.{IsSettled}
-use Rattle.bn_reply.specs.Lines.{foreign_line, line, long_line}
+use Rattle.bn_reply.specs.Lines.{line, long_line}
 use Rattle.bn_reply.specs.declared.status.Status.{Status}
 use Rattle.bn_reply.specs.declared.status.Status.TheVariants as statuses
-use Rattle.bn_reply_quads.specs.QuadReply.{QuadReplies, TapeWordReplies}
+use Rattle.bn_reply_quads.specs.QuadReply.{QuadReplies}
 use Rattle.bn_reply_quads.specs.UniformReply.{UniformReplies}
+use Rattle.bn_reply_quads.specs.WordsReply.{WordsReplies}
 use Rattle.bn_reply_boards_laws.specs.CompileReply.{TellsBoard}
 use Rattle.bn_reply_boards_laws.specs.Windows.{large_line}
 
@@ -48,35 +50,61 @@ pub record IsBuiltFor (m : Quadruples) (l : Limits) (f : Build) : Type 0 where
   pub build : IsBuild f
   pub few : build_elements f ≤ MOST_ELEMENTS
 
--- What is answered to a word of these symbols on tape 1, where `tells` is what is answered of what the machine is built
--- to: a tape has too many symbols; none has, and the word is too long; it isn't, and the board would have too many
+-- the word on tape t, counted from 1, is the first that is longer than its tape's right side, and it has n letters
+pub data IsFirstLong (l : Limits) (one two three : List ℕ) (t n : ℕ) : Type 0 where
+  first_long : l.right < length one → t ≡ 1 → n ≡ length one → IsFirstLong l one two three t n
+  second_long : length one ≤ l.right → l.steps < length two → t ≡ 2 → n ≡ length two → IsFirstLong l one two three t n
+  third_long : length one ≤ l.right → length two ≤ l.steps → l.output < length three → t ≡ 3 → n ≡ length three
+      → IsFirstLong l one two three t n
+
+-- no word is longer
+pub record HaveRoom (l : Limits) (one two three : List ℕ) : Type 0 where
+  pub on_one : length one ≤ l.right
+  pub on_two : length two ≤ l.steps
+  pub on_three : length three ≤ l.output
+
+-- the line of a word of n letters on tape t, which is too long
+abbrev pub tape_long_line : ℕ → ℕ → List ℕ
+tape_long_line t n = line (codes "size: word " ∷ decimal t ∷ codes " needs " ∷ decimal n ∷ [])
+
+-- the tape is told where there is a word on each
+abbrev pub long_word_line : TapeWords → ℕ → ℕ → List ℕ
+long_word_line (One word) t n = long_line n
+long_word_line (Three first second third) t n = tape_long_line t n
+
+-- What is answered to words of these symbols on the tapes, where `tells` is what is answered of what the machine is
+-- built to: a tape has too many symbols; none has, and a word is too long; none is, and the board would have too many
 -- elements; or that.
-pub data SizedReplies (tells : Build → Status → List ℕ → List Place → Type 0) (m : Quadruples) (l : Limits)
-    (symbols : List ℕ) (status : Status) (text : List ℕ) (told : List Place) : Type 0 where
+pub data SizedReplies (words : TapeWords) (tells : Build → Status → List ℕ → List Place → Type 0) (m : Quadruples)
+    (l : Limits) (one two three : List ℕ) (status : Status) (text : List ℕ) (told : List Place) : Type 0 where
   many : (t z : ℕ) → IsCrowded m t z → text ≡ crowded_line t z → status ≡ statuses.Size → told ≡ []
-      → SizedReplies tells m l symbols status text told
-  long : IsUncrowded m → l.right < length symbols → text ≡ long_line (length symbols) → status ≡ statuses.Size
-      → told ≡ [] → SizedReplies tells m l symbols status text told
-  large : IsUncrowded m → length symbols ≤ l.right → (count : ℕ) → CountsElements m l count → MOST_ELEMENTS < count
-      → text ≡ large_line count → status ≡ statuses.Size → told ≡ [] → SizedReplies tells m l symbols status text told
-  built : IsUncrowded m → length symbols ≤ l.right → (f : Build) → IsBuiltFor m l f → tells f status text told
-      → SizedReplies tells m l symbols status text told
+      → SizedReplies words tells m l one two three status text told
+  long : IsUncrowded m → (t n : ℕ) → IsFirstLong l one two three t n → text ≡ long_word_line words t n
+      → status ≡ statuses.Size → told ≡ [] → SizedReplies words tells m l one two three status text told
+  large : IsUncrowded m → HaveRoom l one two three → (count : ℕ) → CountsElements m l count → MOST_ELEMENTS < count
+      → text ≡ large_line count → status ≡ statuses.Size → told ≡ []
+      → SizedReplies words tells m l one two three status text told
+  built : IsUncrowded m → HaveRoom l one two three → (f : Build) → IsBuiltFor m l f → tells f status text told
+      → SizedReplies words tells m l one two three status text told
 
 -- ---- the answer
+
+-- What is answered to words, limits and bytes, where `tells` is what is answered of a table, the words' symbols and
+-- what its machine is built to: the first thing that is wrong with the bytes, the machine, the words or the sizes, or
+-- that.
+abbrev pub BuiltReplies : (QuadTable → List ℕ → List ℕ → List ℕ → Build → Status → List ℕ → List Place → Type 0)
+    → TapeWords → Limits → List ℕ → Status → List ℕ → List Place → Type 0
+BuiltReplies tells words l = QuadReplies (UniformReplies (λ t. WordsReplies words (λ one two three.
+    SizedReplies words (tells t one two three) t.machine l one two three) t.names))
 
 -- the text is that of the board at the start of this configuration
 abbrev pub TellsBuild : Configuration ℕ → Build → Status → List ℕ → List Place → Type 0
 TellsBuild c f = TellsBoard f.network f.layout (board_start f.network.tables (start_from f.machine f.limits c))
 
--- what `build` answers to a word on tape 1, limits and a table whose machine is uniform
-abbrev pub WordTells : List ℕ → Limits → QuadTable → Status → List ℕ → List Place → Type 0
-WordTells word l t = TapeWordReplies foreign_line
-    (λ one. SizedReplies (TellsBuild (words_on t.machine one [] [])) t.machine l one) t.names.one word
-
--- and to these bytes
-abbrev pub BuildReplies : List ℕ → Limits → List ℕ → Status → List ℕ → List Place → Type 0
-BuildReplies word l = QuadReplies (UniformReplies (WordTells word l))
+-- what `build` answers to words on the tapes, limits and bytes
+abbrev pub BuildReplies : TapeWords → Limits → List ℕ → Status → List ℕ → List Place → Type 0
+BuildReplies = BuiltReplies (λ t one two three. TellsBuild (words_on t.machine one two three))
 
 -- it has one answer to all words, limits and bytes
 abbrev pub BuildIsSettled : Type 0
-BuildIsSettled = (word : List ℕ) (l : Limits) (bytes : List ℕ) → IsSettled (BuildReplies word l bytes)
+BuildIsSettled = (words : TapeWords) (l : Limits) (bytes : List ℕ) → IsSettled (BuildReplies words l bytes)

@@ -1,7 +1,8 @@
--- What is known of the machine of a table that was read.
-use Rattle.std.specs.Prelude.{◌≤◌, length}
+-- What is known of the machine of a table that was read, and of the symbols of words on its tapes.
+use Rattle.std.specs.Prelude.{ℕ, ◌<◌, ◌≤◌, All, List, length}
 use Rattle.bn_quad.specs.Calls.{IsUniformMachine}
 use Rattle.bn_quad.specs.Quadruples.{IsQuadMachine, Quadruples}
+use Rattle.bn_network.specs.Controls.{symbol_count}
 use Rattle.bn_network.specs.Moments.{HasLetters}
 use Rattle.bn_control.specs.declared.make.TheConstants.{MOST_QUADRUPLES, MOST_STATES}
 
@@ -12,3 +13,9 @@ pub record IsBuildable (m : Quadruples) : Type 0 where
   pub letters : HasLetters m
   pub quadruples : length m.rules ≤ MOST_QUADRUPLES
   pub states : m.states ≤ MOST_STATES
+
+-- the symbols of the words are their tapes'
+pub record AreLettersOf (m : Quadruples) (one two three : List ℕ) : Type 0 where
+  pub on_one : All (λ x. x < symbol_count m 1) one
+  pub on_two : All (λ x. x < symbol_count m 2) two
+  pub on_three : All (λ x. x < symbol_count m 3) three

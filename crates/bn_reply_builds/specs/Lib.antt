@@ -1,2 +1,3 @@
 pub mod BuildReply
 pub mod Buildable
+pub mod Opened

@@ -3,6 +3,9 @@
 
 mod build;
 mod laws;
+mod opening;
+mod sizes;
 
 pub use build::answer_build;
 pub use laws::build_has_one_reply;
+pub use opening::{OpenedBuild, open_build};

@@ -16,7 +16,7 @@ use Rattle.bn_qtable.specs.Rows.{QuadTable, blank_name}
 use Rattle.bn_reply.specs.Words.{IsSpelledBy}
 use Rattle.bn_reply.proofs.LetterLemmas.{HasAlphabet}
 use Rattle.bn_reply_quads.specs.QuadReply.{letter_of, lettered, letters_from}
-use Rattle.bn_reply_quads.specs.Opened.{IsAlphabet, IsWordOn}
+use Rattle.bn_reply_quads.specs.Opened.{AreAlphabets, IsAlphabet, IsWordOn}
 
 -- ---- the letter of a symbol
 
@@ -195,3 +195,10 @@ read_alphabet bytes t (suc zero) h low = by_first t.names.one _ h.spelled.one_by
 read_alphabet bytes t (suc (suc zero)) h low = by_first t.names.two _ h.spelled.two_by_first h.spelled.two_form
 read_alphabet bytes t (suc (suc (suc k))) h low = by_first t.names.three _ h.spelled.three_by_first
     h.spelled.three_form
+
+pub read_alphabets : (bytes : List ℕ) (t : QuadTable) → ReadsQuadruples bytes t → AreAlphabets t.names
+read_alphabets bytes t h = record {
+  one = read_alphabet bytes t 1 h (omega arith);
+  two = read_alphabet bytes t 2 h (omega arith);
+  three = read_alphabet bytes t 3 h (omega arith);
+}

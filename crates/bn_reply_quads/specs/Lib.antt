@@ -1,3 +1,5 @@
+pub mod NamedWords
 pub mod QuadReply
+pub mod WordsReply
 pub mod UniformReply
 pub mod Opened

@@ -1,5 +1,5 @@
 use Rattle.bn_reply_builds.proofs.CrowdedLemmas.{AreFewBefore}
-use Rattle.bn_reply_builds.proofs.build.find_crowded.Given as goal
+use Rattle.bn_reply_builds.proofs.sizes.find_crowded.Given as goal
 
 abbrev pub invariant-loop-tape : goal.invariant-loop-tape
 invariant-loop-tape l = AreFewBefore l.machine l.tape
