@@ -1,0 +1,4 @@
+pub mod Outcomes
+pub mod Stopping
+pub mod Driven
+pub mod DriveReply
