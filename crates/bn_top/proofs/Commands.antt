@@ -5,8 +5,8 @@ use Rattle.bn_circuits.specs.declared.place.Place.{Place}
 use Rattle.bn_words.specs.Requests.{HasForm, IsAllowed, Request, of_configuration, of_whole, reads_input}
 use Rattle.bn_words.specs.Requests.{Step, Back, Check, Machine, Trace, Moments, ThreeMoments, Reversible, Inverse}
 use Rattle.bn_words.specs.Requests.{Bennett, Realise, Standard}
-use Rattle.bn_words.specs.Requests.{Build, Compile, Run, RunAuto, View, Session, Plan, Migrate, Mirror, Farm, Generate, Erase}
-use Rattle.bn_words.specs.Requests.{EraseRun}
+use Rattle.bn_words.specs.Requests.{Build, Compile, Drive, Layout, Run, RunAuto, View, Session, Plan, Migrate, Mirror, Farm}
+use Rattle.bn_words.specs.Requests.{Generate, Erase, EraseRun}
 use Rattle.bn_words.specs.declared.request.ConfigurationRequest as configuration
 use Rattle.bn_words.specs.declared.request.ConfigurationRequest.TheVariants as configuration_variants
 use Rattle.bn_words.specs.declared.request.WholeRequest as whole
@@ -38,6 +38,8 @@ use Rattle.bn_reply_boards_laws.proofs.ClosedLemmas.{compile_settled, run_settle
 use Rattle.bn_reply_traces.proofs.MomentsSettled.{moments_are_settled}
 use Rattle.bn_reply_traces.proofs.TraceLemmas.{all_settled}
 use Rattle.bn_reply_builds.proofs.SettledLemmas.{build_is_settled}
+use Rattle.bn_reply_drives.proofs.SettledLemmas.{drive_is_settled}
+use Rattle.bn_reply_layout.proofs.ClosedLemmas.{layout_is_settled}
 use Rattle.bn_reply_views.proofs.SessionClosedLemmas.{session_settled}
 use Rattle.bn_reply_views.proofs.ViewClosedLemmas.{view_settled}
 use Rattle.bn_top.specs.Answers.{Replies}
@@ -58,7 +60,9 @@ settled_by Bennett allowed = bennett_settled
 settled_by (Realise q i) allowed = λ bytes. realise_settled q i bytes allowed.0.0 allowed.1.0
 settled_by Standard allowed = standard_settled
 settled_by (Compile word l) allowed = λ bytes. compile_settled word l bytes allowed
-settled_by (Build word l) allowed = build_is_settled word l
+settled_by (Layout word l) allowed = λ bytes. layout_is_settled word l bytes allowed
+settled_by (Build words l) allowed = build_is_settled words l
+settled_by (Drive words l e) allowed = λ bytes. drive_is_settled words l e bytes allowed.1
 settled_by (Run word l given) allowed = λ bytes. run_settled given word l bytes allowed.0
 settled_by (RunAuto word) allowed = auto_settled word
 settled_by (View word l e) allowed = λ bytes. view_settled e word l bytes allowed.0
@@ -128,7 +132,9 @@ whole_reads whole_variants.Bennett = refl
 whole_reads (whole_variants.Realise q i) = refl
 whole_reads whole_variants.Standard = refl
 whole_reads (whole_variants.Compile word window) = refl
-whole_reads (whole_variants.Build word window) = refl
+whole_reads (whole_variants.Layout word window) = refl
+whole_reads (whole_variants.Build words window) = refl
+whole_reads (whole_variants.Drive words window e) = refl
 whole_reads (whole_variants.Run word window given) = refl
 whole_reads (whole_variants.RunAuto word) = refl
 whole_reads (whole_variants.View word window e) = refl

@@ -5,8 +5,8 @@ use Rattle.bn_circuits.specs.declared.place.Place.{Place}
 use Rattle.bn_words.specs.Requests.{Request, HasForm, HasNoForm, reads_input}
 use Rattle.bn_words.specs.Requests.{Step, Back, Check, Machine, Trace, Moments, ThreeMoments, Reversible, Inverse}
 use Rattle.bn_words.specs.Requests.{Bennett, Realise, Standard}
-use Rattle.bn_words.specs.Requests.{Build, Compile, Run, RunAuto, View, Session, Plan, Migrate, Mirror, Farm, Generate, Erase}
-use Rattle.bn_words.specs.Requests.{EraseRun}
+use Rattle.bn_words.specs.Requests.{Build, Compile, Drive, Layout, Run, RunAuto, View, Session, Plan, Migrate, Mirror, Farm}
+use Rattle.bn_words.specs.Requests.{Generate, Erase, EraseRun}
 use Rattle.bn_reply_boards_laws.specs.CompileReply.{CompileReplies}
 use Rattle.bn_reply.specs.declared.limits.TheConstants.{MOST_INPUT_BYTES}
 use Rattle.bn_reply_boards_laws.specs.RunReply.{RunReplies}
@@ -26,6 +26,8 @@ use Rattle.bn_reply_tables.specs.InverseReply.{InverseReplies}
 use Rattle.bn_reply_tables.specs.MachineReply.{MachineReplies}
 use Rattle.bn_reply_tables.specs.ReversibleReply.{ReversibleReplies}
 use Rattle.bn_reply_builds.specs.BuildReply.{BuildReplies}
+use Rattle.bn_reply_drives.specs.DriveReply.{DriveReplies}
+use Rattle.bn_reply_layout.specs.LayoutReply.{LayoutReplies}
 use Rattle.bn_reply_traces.specs.MomentsReply.{MomentsReplies, ThreeMomentsReplies}
 use Rattle.bn_reply_traces.specs.TraceReply.{TraceReplies}
 use Rattle.bn_reply_views.specs.SessionReply.{SessionReplies}
@@ -53,7 +55,9 @@ Replies Bennett = BennettReplies
 Replies (Realise q i) = RealiseReplies q i
 Replies Standard = StandardTableReplies
 Replies (Compile word l) = CompileReplies word l
-Replies (Build word l) = BuildReplies word l
+Replies (Layout word l) = LayoutReplies word l
+Replies (Build words l) = BuildReplies words l
+Replies (Drive words l e) = DriveReplies words l e
 Replies (Run word l given) = RunReplies given word l
 Replies (RunAuto word) = AutoReplies word
 Replies (View word l e) = ViewReplies e word l

@@ -19,7 +19,9 @@ use bn_reply_circuits::{
     answer_back, answer_migrate, answer_mirror, answer_plan, answer_realise, answer_step,
     reply_farm,
 };
+use bn_reply_drives::reply_drive;
 use bn_reply_erase::{reply_erase, reply_erase_run};
+use bn_reply_layout::answer_layout;
 use bn_reply_tables::{
     reply_bennett, reply_check, reply_inverse, reply_machine, reply_reversible, reply_standard,
 };
@@ -177,7 +179,16 @@ fn answer_bytes<K: Sink, W: Watch>(
         WholeRequest::Realise { state, line } => answer_realise(alloc, state, line, bytes, sink),
         WholeRequest::Standard => give_reply(sink, reply_standard(alloc, bytes)),
         WholeRequest::Compile { word, window } => answer_compile(alloc, word, &window, bytes, sink),
-        WholeRequest::Build { word, window } => answer_build(alloc, word, &window, bytes, sink),
+        WholeRequest::Layout { word, window } => answer_layout(alloc, word, &window, bytes, sink),
+        WholeRequest::Build { words, window } => answer_build(alloc, &words, &window, bytes, sink),
+        WholeRequest::Drive {
+            words,
+            window,
+            most_steps,
+        } => give_reply(
+            sink,
+            reply_drive(alloc, &words, &window, most_steps, bytes, watch),
+        ),
         WholeRequest::Run {
             word,
             window,

@@ -134,3 +134,96 @@ fn a_counter_runs_to_its_end_and_back(rt: HostRuntime) -> Result<(), Fail> {
     assert_eq!(rt; back.text.as_slice(), built.text.as_slice());
     Ok(())
 }
+
+#[test]
+fn words_stand_on_three_tapes_by_letters_or_by_names(rt: HostRuntime) -> Result<(), Fail> {
+    let pairs: [(&[&str], &[&str]); 3] = [
+        (
+            &["build", "=11", "0", "3", "0", "0"],
+            &["build", ":1,1", "0", "3", "0", "0"],
+        ),
+        (
+            &["build", "=11", "0", "3", "0", "0"],
+            &["build", "=11", "=", ":", "0", "3", "0", "0"],
+        ),
+        (
+            &["build", "=", "0", "3", "0", "0"],
+            &["build", ":", "0", "3", "0", "0"],
+        ),
+    ];
+    for (words, others) in &pairs {
+        let one = answer(rt.alloc(), words, COUNTER.as_bytes())?;
+        let other = answer(rt.alloc(), others, COUNTER.as_bytes())?;
+        assert_eq!(rt; one.status, Status::Done);
+        assert_eq!(rt; one.text.as_slice(), other.text.as_slice());
+    }
+    Ok(())
+}
+
+#[test]
+fn refuses_words_on_three_tapes_in_order(rt: HostRuntime) -> Result<(), Fail> {
+    let rows: [(&[&str], &str, u8, &str); 10] = [
+        (
+            &["build", ":1,", "0", "3", "0", "0"],
+            COUNTER,
+            5,
+            "word: 2\n",
+        ),
+        (
+            &["build", ":,1", "0", "3", "0", "0"],
+            COUNTER,
+            5,
+            "word: 1\n",
+        ),
+        (
+            &["build", ":1,0,10", "0", "3", "0", "0"],
+            COUNTER,
+            5,
+            "word: 3\n",
+        ),
+        (
+            &["build", ":1,_", "0", "3", "0", "0"],
+            COUNTER,
+            5,
+            "word: 2\n",
+        ),
+        // A word that is too long, and a later one with a foreign letter.
+        (
+            &["build", "=1111", "=", "=1", "0", "3", "0", "0"],
+            COUNTER,
+            5,
+            "word: 3 1\n",
+        ),
+        (
+            &["build", "=12", "=1", "=", "0", "3", "0", "0"],
+            COUNTER,
+            5,
+            "word: 1 2\n",
+        ),
+        (
+            &["build", "=1111", "=", "=", "0", "3", "0", "0"],
+            COUNTER,
+            6,
+            "size: word 1 needs 4\n",
+        ),
+        (
+            &["build", "=1", "=11", "=111", "0", "1", "1", "2"],
+            "S,/,/,/,+,+,+,A\nA,1,1,1,1,1,1,F\n",
+            6,
+            "size: word 2 needs 2\n",
+        ),
+        (
+            &["build", "=1", "=1", "=111", "0", "1", "1", "2"],
+            "S,/,/,/,+,+,+,A\nA,1,1,1,1,1,1,F\n",
+            6,
+            "size: word 3 needs 3\n",
+        ),
+        (
+            &["build", "=1", "=", "0", "3", "0", "0"],
+            COUNTER,
+            2,
+            "usage\n",
+        ),
+    ];
+    hold_each(&rt, rt.alloc(), &rows)
+}

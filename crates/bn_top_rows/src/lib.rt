@@ -17,6 +17,8 @@ mod desk;
 #[cfg(test)]
 mod devices;
 #[cfg(test)]
+mod drives;
+#[cfg(test)]
 mod erased;
 #[cfg(test)]
 mod farms;
@@ -26,6 +28,8 @@ mod faults;
 mod generated;
 #[cfg(test)]
 mod layers;
+#[cfg(test)]
+mod layouts;
 #[cfg(test)]
 mod machines;
 #[cfg(test)]

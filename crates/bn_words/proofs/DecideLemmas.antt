@@ -11,7 +11,8 @@ use Rattle.bn_machine.specs.Outcome.{Limits}
 use Rattle.bn_network.specs.Limits.{AreSmall}
 use Rattle.bn_words.specs.Laws.{WordsHaveAFormOrNone}
 use Rattle.bn_words.specs.Requests.{HasForm, HasNoForm, IsAllowed, IsOrdinal, Request, words_of}
-use Rattle.bn_words.specs.Requests.{Step, Back, Machine, Trace, Moments, ThreeMoments, Realise, Build, Compile, Run, View, Session, Generate, EraseRun}
+use Rattle.bn_words.specs.Requests.{Step, Back, Machine, Trace, Moments, ThreeMoments, Realise, Build, Compile, Drive, Layout, Run, View, Session, Generate, EraseRun}
+use Rattle.bn_words.specs.declared.request.TheConstants.{MOST_DRIVE_STEPS}
 use Rattle.bn_words.proofs.FormLemmas.{only, only_form}
 
 -- ---- whether words are the same
@@ -87,7 +88,9 @@ allowed_or_not (Moments w n) = low_or_not n MOST_COUNT
 allowed_or_not (ThreeMoments a b c n) = low_or_not n MOST_COUNT
 allowed_or_not (Realise q i) = both (IsOrdinal q) (IsOrdinal i) (ordinal_or_not q MOST_COUNT) (ordinal_or_not i MOST_COUNT)
 allowed_or_not (Compile w l) = small_or_not l
+allowed_or_not (Layout w l) = small_or_not l
 allowed_or_not (Build w l) = small_or_not l
+allowed_or_not (Drive w l e) = both (AreSmall l) (e ≤ MOST_DRIVE_STEPS) (small_or_not l) (low_or_not e MOST_DRIVE_STEPS)
 allowed_or_not (Run w l None) = both (AreSmall l) (Unit {0}) (small_or_not l) (inl tt)
 allowed_or_not (Run w l (Some e)) = both (AreSmall l) (e ≤ greatest) (small_or_not l) (low_or_not e greatest)
 allowed_or_not (View w l e) = both (AreSmall l) (e ≤ greatest) (small_or_not l) (low_or_not e greatest)

@@ -1,14 +1,15 @@
 -- Words have at most one form: by how many they are and what the first one names they are a case's, and what this case says is read off them.
-use Rattle.std.specs.Prelude.{◌≡◌, ℕ, ◌≤◌, List, [], ◌∷◌, Option, Some, None, Result, Ok, Err, codes, decimal, if◌then◌else◌, refl}
+use Rattle.std.specs.Prelude.{◌≡◌, ℕ, ◌≤◌, ◌==◌, List, [], ◌∷◌, Option, Some, None, Result, Ok, Err, codes, decimal, if◌then◌else◌, refl}
 use Rattle.std.specs.Str.{bytes_eq}
 use Rattle.std.proofs.Common.{arith, sym, ap, ◌∙◌}
 use Rattle.bn_base.specs.Number.{greatest, read_number}
 use Rattle.bn_base.specs.declared.numbers.Digits.{Digits}
 use Rattle.bn_machine.specs.Outcome.{Limits}
 use Rattle.bn_network.specs.Limits.{AreSmall}
-use Rattle.bn_words.specs.Requests.{HasForm, IsAllowed, Request, words_of}
+use Rattle.bn_qtable.specs.TapeWords.{TapeWord, Letters, Names, TapeWords, One, Three}
+use Rattle.bn_words.specs.Requests.{HasForm, IsAllowed, Request, word_argument, words_of}
 use Rattle.bn_words.specs.Requests.{Step, Back, Check, Machine, Trace, Moments, ThreeMoments, Reversible, Inverse, Bennett, Realise, Standard}
-use Rattle.bn_words.specs.Requests.{Build, Compile, Run, RunAuto}
+use Rattle.bn_words.specs.Requests.{Build, Compile, Drive, Layout, Run, RunAuto}
 use Rattle.bn_words.specs.Requests.{View, Session, Plan, Migrate, Mirror, Farm, Generate, Erase, EraseRun}
 use Rattle.bn_words.proofs.Numbers.{read-whole}
 
@@ -27,6 +28,24 @@ value_again n low = ap number_read (read-whole n low)
 abbrev letters : List ℕ → List ℕ
 letters [] = []
 letters (b ∷ word) = word
+
+abbrev tape_word : List ℕ → TapeWord
+tape_word [] = Letters []
+tape_word (b ∷ word) = if b == 58 then Names word else Letters word
+
+tape_word_again : (w : TapeWord) → tape_word (word_argument w) ≡ w
+tape_word_again (Letters bytes) = refl
+tape_word_again (Names bytes) = refl
+
+abbrev tape_words : List ℕ → List ℕ → List ℕ → TapeWords
+tape_words a b c = Three (tape_word a) (tape_word b) (tape_word c)
+
+tape_words_again : (u v w : TapeWord) → tape_words (word_argument u) (word_argument v) (word_argument w) ≡ Three u v w
+tape_words_again u v w =
+    let first = tape_word_again u in
+    let second = tape_word_again v in
+    let third = tape_word_again w in
+    λ t. Three (first t) (second t) (third t)
 
 abbrev limits : List ℕ → List ℕ → List ℕ → List ℕ → Limits
 limits a b c d = record { left = value a; right = value b; steps = value c; output = value d }
@@ -73,13 +92,15 @@ with_pair name a b =
 abbrev with_window : List ℕ → List ℕ → Limits → Option Request
 with_window name a l =
     if bytes_eq name (codes "compile") then Some (Compile (letters a) l)
-    else if bytes_eq name (codes "build") then Some (Build (letters a) l)
+    else if bytes_eq name (codes "layout") then Some (Layout (letters a) l)
+    else if bytes_eq name (codes "build") then Some (Build (One (tape_word a)) l)
     else if bytes_eq name (codes "run") then Some (Run (letters a) l None)
     else Some (Session (letters a) l)
 
 abbrev with_window_and_steps : List ℕ → List ℕ → Limits → List ℕ → Option Request
 with_window_and_steps name a l e =
     if bytes_eq name (codes "run") then Some (Run (letters a) l (Some (value e)))
+    else if bytes_eq name (codes "drive") then Some (Drive (One (tape_word a)) l (value e))
     else Some (View (letters a) l (value e))
 
 abbrev pub only : List (List ℕ) → Option Request
@@ -89,6 +110,8 @@ only (name ∷ a ∷ b ∷ []) = with_pair name a b
 only (name ∷ a ∷ b ∷ c ∷ d ∷ []) = Some (ThreeMoments (letters a) (letters b) (letters c) (value d))
 only (name ∷ a ∷ b ∷ c ∷ d ∷ e ∷ []) = with_window name a (limits b c d e)
 only (name ∷ a ∷ b ∷ c ∷ d ∷ e ∷ f ∷ []) = with_window_and_steps name a (limits b c d e) f
+only (name ∷ a ∷ b ∷ c ∷ d ∷ e ∷ f ∷ g ∷ []) = Some (Build (tape_words a b c) (limits d e f g))
+only (name ∷ a ∷ b ∷ c ∷ d ∷ e ∷ f ∷ g ∷ h ∷ []) = Some (Drive (tape_words a b c) (limits d e f g) (value h))
 only _ = None
 
 -- it is that of its own words
@@ -104,7 +127,25 @@ again (Realise q i) h =
     let line = value_again i (omega (arith, h.1.1)) in
     λ t. Some (Realise (state t) (line t))
 again (Compile w l) h = ap (λ m. Some (Compile w m)) (limits_again l h)
-again (Build w l) h = ap (λ m. Some (Build w m)) (limits_again l h)
+again (Layout w l) h = ap (λ m. Some (Layout w m)) (limits_again l h)
+again (Build (One w) l) h =
+    let word = tape_word_again w in
+    let window = limits_again l h in
+    λ t. Some (Build (One (word t)) (window t))
+again (Build (Three u v w) l) h =
+    let words = tape_words_again u v w in
+    let window = limits_again l h in
+    λ t. Some (Build (words t) (window t))
+again (Drive (One w) l e) h =
+    let word = tape_word_again w in
+    let window = limits_again l h.0 in
+    let steps = value_again e (omega (arith, h.1)) in
+    λ t. Some (Drive (One (word t)) (window t) (steps t))
+again (Drive (Three u v w) l e) h =
+    let words = tape_words_again u v w in
+    let window = limits_again l h.0 in
+    let steps = value_again e (omega (arith, h.1)) in
+    λ t. Some (Drive (words t) (window t) (steps t))
 again (Run w l None) h = ap (λ m. Some (Run w m None)) (limits_again l h.0)
 again (Run w l (Some e)) h =
     let window = limits_again l h.0 in

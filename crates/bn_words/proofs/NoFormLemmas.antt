@@ -6,10 +6,12 @@ use Rattle.bn_base.specs.Number.{greatest}
 use Rattle.bn_base.specs.declared.limits.TheConstants.{MOST_COUNT}
 use Rattle.bn_base.proofs.NumberLemmas.{decimal-once}
 use Rattle.bn_gen.specs.declared.machine.TheConstants.{MOST_INCREMENTS}
+use Rattle.bn_qtable.specs.TapeWords.{One, Three}
 use Rattle.bn_words.specs.Requests.{HasForm, HasNoForm}
-use Rattle.bn_words.specs.Requests.{Step, Back, Machine, Trace, Moments, ThreeMoments, Realise, Build, Compile, Run, RunAuto, View, Session}
+use Rattle.bn_words.specs.Requests.{Step, Back, Machine, Trace, Moments, ThreeMoments, Realise, Build, Compile, Drive, Layout, Run, RunAuto, View, Session}
 use Rattle.bn_words.specs.Requests.{Generate, EraseRun}
-use Rattle.bn_words.specs.Words.{IsCount, IsNoCount, IsNumber}
+use Rattle.bn_words.specs.Words.{AreNoDriveSteps, IsCount, IsNoCount, IsNumber}
+use Rattle.bn_words.specs.declared.request.TheConstants.{MOST_DRIVE_STEPS}
 use Rattle.bn_words.proofs.FormLemmas.{only_form, value}
 
 -- ---- one word
@@ -20,6 +22,13 @@ number_once word m n a b = decimal-once m n a.bound b.bound (sym a.spelled ∙ b
 -- a number that is out of the limit is no count
 pub no_count : (word : List ℕ) (n : ℕ) → IsNumber word n → MOST_COUNT < n → IsNoCount word
 no_count word n is over m h =
+    let low : m ≤ greatest = omega (arith, h.bound) in
+    let same = number_once word m n (record { spelled = h.spelled; bound = low }) is in
+    absurd (omega (arith, same, over, h.bound))
+
+-- a number of steps that is out of the limit of a drive is none
+pub no_drive_steps : (word : List ℕ) (n : ℕ) → IsNumber word n → MOST_DRIVE_STEPS < n → AreNoDriveSteps word
+no_drive_steps word n is over m h =
     let low : m ≤ greatest = omega (arith, h.bound) in
     let same = number_once word m n (record { spelled = h.spelled; bound = low }) is in
     absurd (omega (arith, same, over, h.bound))
@@ -66,32 +75,38 @@ no_ordinals name first second q i is state line out request h =
 
 -- ---- the words of a slice
 
-no_length : (words : List (List ℕ)) → length words ≢ 1 → length words ≢ 2 → length words ≢ 3 → length words ≢ 5 → length words ≢ 6 → length words ≢ 7 → HasNoForm words
-no_length words a b c k d e (Step n) h = b (ap length h.words_are)
-no_length words a b c k d e (Back n) h = b (ap length h.words_are)
-no_length words a b c k d e (Machine w n) h = c (ap length h.words_are)
-no_length words a b c k d e (Trace w n) h = c (ap length h.words_are)
-no_length words a b c k d e (Moments w n) h = c (ap length h.words_are)
-no_length words a b c k d e (ThreeMoments x y z n) h = k (ap length h.words_are)
-no_length words a b c k d e (Realise q i) h = c (ap length h.words_are)
-no_length words a b c k d e (Compile w l) h = d (ap length h.words_are)
-no_length words a b c k d e (Build w l) h = d (ap length h.words_are)
-no_length words a b c k d e (Run w l None) h = d (ap length h.words_are)
-no_length words a b c k d e (Run w l (Some n)) h = e (ap length h.words_are)
-no_length words a b c k d e (RunAuto w) h = c (ap length h.words_are)
-no_length words a b c k d e (View w l n) h = e (ap length h.words_are)
-no_length words a b c k d e (Session w l) h = d (ap length h.words_are)
-no_length words a b c k d e (Generate n) h = b (ap length h.words_are)
-no_length words a b c k d e (EraseRun w n) h = c (ap length h.words_are)
-no_length words a b c k d e r h = a (ap length h.words_are)
+no_length : (words : List (List ℕ)) → length words ≢ 1 → length words ≢ 2 → length words ≢ 3 → length words ≢ 5 → length words ≢ 6 → length words ≢ 7 → length words ≢ 8 →
+    length words ≢ 9 → HasNoForm words
+no_length words a b c k d e f g (Step n) h = b (ap length h.words_are)
+no_length words a b c k d e f g (Back n) h = b (ap length h.words_are)
+no_length words a b c k d e f g (Machine w n) h = c (ap length h.words_are)
+no_length words a b c k d e f g (Trace w n) h = c (ap length h.words_are)
+no_length words a b c k d e f g (Moments w n) h = c (ap length h.words_are)
+no_length words a b c k d e f g (ThreeMoments x y z n) h = k (ap length h.words_are)
+no_length words a b c k d e f g (Realise q i) h = c (ap length h.words_are)
+no_length words a b c k d e f g (Compile w l) h = d (ap length h.words_are)
+no_length words a b c k d e f g (Layout w l) h = d (ap length h.words_are)
+no_length words a b c k d e f g (Build (One w) l) h = d (ap length h.words_are)
+no_length words a b c k d e f g (Build (Three u v w) l) h = f (ap length h.words_are)
+no_length words a b c k d e f g (Drive (One w) l n) h = e (ap length h.words_are)
+no_length words a b c k d e f g (Drive (Three u v w) l n) h = g (ap length h.words_are)
+no_length words a b c k d e f g (Run w l None) h = d (ap length h.words_are)
+no_length words a b c k d e f g (Run w l (Some n)) h = e (ap length h.words_are)
+no_length words a b c k d e f g (RunAuto w) h = c (ap length h.words_are)
+no_length words a b c k d e f g (View w l n) h = e (ap length h.words_are)
+no_length words a b c k d e f g (Session w l) h = d (ap length h.words_are)
+no_length words a b c k d e f g (Generate n) h = b (ap length h.words_are)
+no_length words a b c k d e f g (EraseRun w n) h = c (ap length h.words_are)
+no_length words a b c k d e f g r h = a (ap length h.words_are)
 
 module _ {S : Type 0} (text : S → List ℕ) where
   -- another number of words
-  pub other_length : (ws : List S) → length ws ≢ 1 → length ws ≢ 2 → length ws ≢ 3 → length ws ≢ 5 → length ws ≢ 6 → length ws ≢ 7 → HasNoForm (map text ws)
-  other_length ws a b c k d e =
+  pub other_length : (ws : List S) → length ws ≢ 1 → length ws ≢ 2 → length ws ≢ 3 → length ws ≢ 5 → length ws ≢ 6 → length ws ≢ 7 →
+      length ws ≢ 8 → length ws ≢ 9 → HasNoForm (map text ws)
+  other_length ws a b c k d e f g =
       let all : length (map text ws) ≡ length ws = simp length-map in
       no_length (map text ws) (λ n. a (sym all ∙ n)) (λ n. b (sym all ∙ n)) (λ n. c (sym all ∙ n)) (λ n. k (sym all ∙ n))
-      (λ n. d (sym all ∙ n)) (λ n. e (sym all ∙ n))
+      (λ n. d (sym all ∙ n)) (λ n. e (sym all ∙ n)) (λ n. f (sym all ∙ n)) (λ n. g (sym all ∙ n))
 
   pub five_texts : (ws : List S) (a b c d e : S) → length ws ≡ 5 → a ≡ get_or ws 0 a → b ≡ get_or ws 1 b → c ≡ get_or ws 2 c →
       d ≡ get_or ws 3 d → e ≡ get_or ws 4 e → map text ws ≡ text a ∷ text b ∷ text c ∷ text d ∷ text e ∷ []
@@ -108,3 +123,15 @@ module _ {S : Type 0} (text : S → List ℕ) where
       map text ws ≡ text a ∷ text b ∷ text c ∷ text d ∷ text e ∷ text f ∷ text g ∷ []
   seven_texts (h ∷ u ∷ v ∷ w ∷ x ∷ y ∷ z ∷ []) a b c d e f g n p q r s t o i = cc
   seven_texts ws a b c d e f g n p q r s t o i = absurd (omega (arith, n))
+
+  pub eight_texts : (ws : List S) (a b c d e f g h : S) → length ws ≡ 8 → a ≡ get_or ws 0 a → b ≡ get_or ws 1 b → c ≡ get_or ws 2 c →
+      d ≡ get_or ws 3 d → e ≡ get_or ws 4 e → f ≡ get_or ws 5 f → g ≡ get_or ws 6 g → h ≡ get_or ws 7 h →
+      map text ws ≡ text a ∷ text b ∷ text c ∷ text d ∷ text e ∷ text f ∷ text g ∷ text h ∷ []
+  eight_texts (j ∷ k ∷ u ∷ v ∷ w ∷ x ∷ y ∷ z ∷ []) a b c d e f g h n p q r s t o i l = cc
+  eight_texts ws a b c d e f g h n p q r s t o i l = absurd (omega (arith, n))
+
+  pub nine_texts : (ws : List S) (a b c d e f g h i : S) → length ws ≡ 9 → a ≡ get_or ws 0 a → b ≡ get_or ws 1 b → c ≡ get_or ws 2 c →
+      d ≡ get_or ws 3 d → e ≡ get_or ws 4 e → f ≡ get_or ws 5 f → g ≡ get_or ws 6 g → h ≡ get_or ws 7 h → i ≡ get_or ws 8 i →
+      map text ws ≡ text a ∷ text b ∷ text c ∷ text d ∷ text e ∷ text f ∷ text g ∷ text h ∷ text i ∷ []
+  nine_texts (j ∷ k ∷ m ∷ u ∷ v ∷ w ∷ x ∷ y ∷ z ∷ []) a b c d e f g h i n p q r s t o l aa bb = cc
+  nine_texts ws a b c d e f g h i n p q r s t o l aa bb = absurd (omega (arith, n))

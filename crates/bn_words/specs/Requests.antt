@@ -6,6 +6,8 @@ use Rattle.bn_machine.specs.Outcome.{Limits}
 use Rattle.bn_gen.specs.Increments.{IsRoundCount}
 use Rattle.bn_network.specs.Limits.{AreSmall}
 use Rattle.bn_assembly.specs.Assembled.{limits_of}
+use Rattle.bn_qtable.specs.TapeWords.{TapeWord, Letters, Names, TapeWords, One, Three, tape_words_of}
+use Rattle.bn_words.specs.declared.request.TheConstants.{MOST_DRIVE_STEPS}
 use Rattle.bn_words.specs.declared.request.Request as declared
 use Rattle.bn_words.specs.declared.request.ConfigurationRequest as declared_configuration
 use Rattle.bn_words.specs.declared.request.WholeRequest as declared_whole
@@ -13,8 +15,8 @@ use Rattle.bn_words.specs.declared.request.Request.TheVariants as variants
 use Rattle.bn_words.specs.declared.request.ConfigurationRequest.TheVariants as config
 use Rattle.bn_words.specs.declared.request.WholeRequest.TheVariants as whole
 
--- What is asked for, a case a form: numbers, the letters of a word, the limits of a window, and a greatest number of
--- steps where there may be none.
+-- What is asked for, a case a form: numbers, the letters of a word, words on tapes, the limits of a window, and a
+-- greatest number of steps where there may be none.
 pub data Request : Type 0 where
   Step : ℕ → Request
   Back : ℕ → Request
@@ -29,7 +31,9 @@ pub data Request : Type 0 where
   Realise : ℕ → ℕ → Request
   Standard : Request
   Compile : List ℕ → Limits → Request
-  Build : List ℕ → Limits → Request
+  Layout : List ℕ → Limits → Request
+  Build : TapeWords → Limits → Request
+  Drive : TapeWords → Limits → ℕ → Request
   Run : List ℕ → Limits → Option ℕ → Request
   RunAuto : List ℕ → Request
   View : List ℕ → Limits → ℕ → Request
@@ -44,18 +48,32 @@ pub data Request : Type 0 where
 
 -- ---- its words
 
--- a word behind the byte `=`, the four limits of a window in decimal digits, and what stands behind them
+-- the four limits of a window in decimal digits, and what stands behind them
+abbrev pub limit_words : Limits → List (List ℕ) → List (List ℕ)
+limit_words l rest = decimal l.left ∷ decimal l.right ∷ decimal l.steps ∷ decimal l.output ∷ rest
+
+-- a word behind the byte `=`, the limits of a window, and what stands behind them
 abbrev pub window_words : List ℕ → Limits → List (List ℕ) → List (List ℕ)
-window_words word l rest =
-    (61 ∷ word) ∷ decimal l.left ∷ decimal l.right ∷ decimal l.steps ∷ decimal l.output ∷ rest
+window_words word l rest = (61 ∷ word) ∷ limit_words l rest
+
+-- a word on a tape: its letters behind the byte `=`, or its symbols' names behind the byte `:`
+abbrev pub word_argument : TapeWord → List ℕ
+word_argument (Letters bytes) = 61 ∷ bytes
+word_argument (Names bytes) = 58 ∷ bytes
+
+-- the word on tape 1, or those on all tapes, and what stands behind them
+abbrev pub tape_arguments : TapeWords → List (List ℕ) → List (List ℕ)
+tape_arguments (One word) rest = word_argument word ∷ rest
+tape_arguments (Three first second third) rest =
+    word_argument first ∷ word_argument second ∷ word_argument third ∷ rest
 
 -- the word of a greatest number of steps, or no word
 abbrev pub steps_words : Option ℕ → List (List ℕ)
 steps_words None = []
 steps_words (Some e) = decimal e ∷ []
 
--- the words that ask for it: the command's name, and behind it letters behind the byte `=`, numbers in decimal digits,
--- or the word `auto`
+-- the words that ask for it: the command's name, and behind it words on tapes, numbers in decimal digits, or the word
+-- `auto`
 abbrev pub words_of : Request → List (List ℕ)
 words_of (Step e) = codes "step" ∷ decimal e ∷ []
 words_of (Back e) = codes "back" ∷ decimal e ∷ []
@@ -71,7 +89,9 @@ words_of Bennett = codes "bennett" ∷ []
 words_of (Realise q i) = codes "realise" ∷ decimal q ∷ decimal i ∷ []
 words_of Standard = codes "standard" ∷ []
 words_of (Compile word l) = codes "compile" ∷ window_words word l []
-words_of (Build word l) = codes "build" ∷ window_words word l []
+words_of (Layout word l) = codes "layout" ∷ window_words word l []
+words_of (Build words l) = codes "build" ∷ tape_arguments words (limit_words l [])
+words_of (Drive words l e) = codes "drive" ∷ tape_arguments words (limit_words l (decimal e ∷ []))
 words_of (Run word l given) = codes "run" ∷ window_words word l (steps_words given)
 words_of (RunAuto word) = codes "run" ∷ (61 ∷ word) ∷ codes "auto" ∷ []
 words_of (View word l e) = codes "view" ∷ window_words word l (decimal e ∷ [])
@@ -90,8 +110,8 @@ words_of (EraseRun word n) = codes "erase" ∷ (61 ∷ word) ∷ decimal n ∷ [
 abbrev pub IsOrdinal : ℕ → Type 0
 IsOrdinal n = (1 ≤ n) × (n ≤ MOST_COUNT)
 
--- each of its numbers is within its limit: a circuit's steps are at most 2^62, what is counted of a machine at most the
--- greatest count, and there are from 1 to 4 increments
+-- each of its numbers is within its limit: a circuit's steps are at most 2^62, those of a drive 2^61, what is counted of
+-- a machine at most the greatest count, and there are from 1 to 4 increments
 abbrev pub IsAllowed : Request → Type 0
 IsAllowed (Step e) = e ≤ greatest
 IsAllowed (Back e) = e ≤ greatest
@@ -101,7 +121,9 @@ IsAllowed (Moments word n) = n ≤ MOST_COUNT
 IsAllowed (ThreeMoments first second third n) = n ≤ MOST_COUNT
 IsAllowed (Realise q i) = IsOrdinal q × IsOrdinal i
 IsAllowed (Compile word l) = AreSmall l
-IsAllowed (Build word l) = AreSmall l
+IsAllowed (Layout word l) = AreSmall l
+IsAllowed (Build words l) = AreSmall l
+IsAllowed (Drive words l e) = AreSmall l × (e ≤ MOST_DRIVE_STEPS)
 IsAllowed (Run word l given) = AreSmall l × IfSome given (λ e. e ≤ greatest)
 IsAllowed (View word l e) = AreSmall l × (e ≤ greatest)
 IsAllowed (Session word l) = AreSmall l
@@ -145,7 +167,9 @@ of_whole whole.Bennett = Bennett
 of_whole (whole.Realise q i) = Realise q i
 of_whole whole.Standard = Standard
 of_whole (whole.Compile word window) = Compile word.now (limits_of window)
-of_whole (whole.Build word window) = Build word.now (limits_of window)
+of_whole (whole.Layout word window) = Layout word.now (limits_of window)
+of_whole (whole.Build words window) = Build (tape_words_of words) (limits_of window)
+of_whole (whole.Drive words window e) = Drive (tape_words_of words) (limits_of window) e
 of_whole (whole.Run word window given) = Run word.now (limits_of window) given
 of_whole (whole.RunAuto word) = RunAuto word.now
 of_whole (whole.View word window e) = View word.now (limits_of window) e

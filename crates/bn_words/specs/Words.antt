@@ -4,8 +4,10 @@ use Rattle.bn_base.specs.Number.{greatest}
 use Rattle.bn_base.specs.declared.limits.TheConstants.{MOST_COUNT}
 use Rattle.bn_machine.specs.Outcome.{Limits}
 use Rattle.bn_network.specs.Limits.{AreSmall}
-use Rattle.bn_words.specs.Requests.{HasForm, HasNoForm, request_of}
+use Rattle.bn_qtable.specs.TapeWords.{TapeWord}
+use Rattle.bn_words.specs.Requests.{HasForm, HasNoForm, request_of, word_argument}
 use Rattle.bn_words.specs.declared.request.Request as declared
+use Rattle.bn_words.specs.declared.request.TheConstants.{MOST_DRIVE_STEPS}
 
 -- the word is the decimal text of this number, which is at most 2^62
 pub record IsNumber (word : List ℕ) (number : ℕ) : Type 0 where
@@ -25,6 +27,15 @@ pub record IsCount (word : List ℕ) (number : ℕ) : Type 0 where
 abbrev pub IsNoCount : List ℕ → Type 0
 IsNoCount word = (number : ℕ) → IsCount word number → ⊥
 
+-- the word is the decimal text of this number, which is at most that of a drive's steps
+pub record AreDriveSteps (word : List ℕ) (number : ℕ) : Type 0 where
+  pub spelled : word ≡ decimal number
+  pub bound : number ≤ MOST_DRIVE_STEPS
+
+-- the word is none
+abbrev pub AreNoDriveSteps : List ℕ → Type 0
+AreNoDriveSteps word = (number : ℕ) → AreDriveSteps word number → ⊥
+
 -- the word is these letters behind the byte `=`
 abbrev pub IsWord : List ℕ → List ℕ → Type 0
 IsWord word letters = word ≡ 61 ∷ letters
@@ -32,6 +43,14 @@ IsWord word letters = word ≡ 61 ∷ letters
 -- the word doesn't begin with this byte
 abbrev pub IsNoWord : List ℕ → Type 0
 IsNoWord word = (letters : List ℕ) → IsWord word letters → ⊥
+
+-- the word is this one on a tape, with its sign before it
+abbrev pub IsTapeWord : List ℕ → TapeWord → Type 0
+IsTapeWord word read = word ≡ word_argument read
+
+-- it is none
+abbrev pub IsNoTapeWord : List ℕ → Type 0
+IsNoTapeWord word = (read : TapeWord) → IsTapeWord word read → ⊥
 
 -- the four words are the limits of a window, each at most the greatest count
 pub record AreLimits (words : List (List ℕ)) (l : Limits) : Type 0 where

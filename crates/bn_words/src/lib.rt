@@ -8,4 +8,4 @@ mod word;
 
 pub use laws::{words_have_a_form_or_none, words_have_one_reading};
 pub use read::read_words;
-pub use request::{ConfigurationRequest, Request, WholeRequest};
+pub use request::{ConfigurationRequest, MOST_DRIVE_STEPS, Request, WholeRequest};

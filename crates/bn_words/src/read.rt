@@ -6,8 +6,9 @@ ghost use Rattle.bn_words.specs.Requests.{HasForm, HasNoForm, request_of};
 ghost use Rattle.bn_words.specs.Words.{AreRead};
 
 use crate::request::{ConfigurationRequest, Request, WholeRequest};
-use crate::word::{count_of, letters_of, number_of, window_of};
+use crate::word::{count_of, drive_steps_of, letters_of, number_of, tape_word, window_of};
 use bn_gen::MOST_INCREMENTS;
+use bn_qtable::TapeWords;
 
 /// What the words of a command line ask for; `None` exactly where no request that is allowed has these words.
 pub fn read_words(words: &[String]) -> Option<Request<'_>>
@@ -42,6 +43,39 @@ pub fn read_words(words: &[String]) -> Option<Request<'_>>
             output.as_str(),
             most_steps.as_str(),
         ),
+        [name, first, second, third, left, right, steps, output] => read_three_and_window(
+            name.as_str(),
+            first.as_str(),
+            second.as_str(),
+            third.as_str(),
+            left.as_str(),
+            right.as_str(),
+            steps.as_str(),
+            output.as_str(),
+        ),
+        [
+            name,
+            first,
+            second,
+            third,
+            left,
+            right,
+            steps,
+            output,
+            most_steps,
+        ] => {
+            read_three_window_and_steps(
+                name.as_str(),
+                first.as_str(),
+                second.as_str(),
+                third.as_str(),
+                left.as_str(),
+                right.as_str(),
+                steps.as_str(),
+                output.as_str(),
+                most_steps.as_str(),
+            )
+        }
         _ => None,
     }
 }
@@ -172,11 +206,44 @@ fn read_window<'a>(
 ) -> Option<Request<'a>>
     ensures { AreRead (name.now ∷ word.now ∷ left.now ∷ right.now ∷ steps.now ∷ output.now ∷ []) result }
 {
+    match name {
+        "build" => read_build(word, left, right, steps, output),
+        _ => read_letters_and_window(name, word, left, right, steps, output),
+    }
+}
+
+// The form of `build` with a word on tape 1.
+fn read_build<'a>(
+    word: &'a str,
+    left: &str,
+    right: &str,
+    steps: &str,
+    output: &str,
+) -> Option<Request<'a>>
+    ensures { AreRead (codes "build" ∷ word.now ∷ left.now ∷ right.now ∷ steps.now ∷ output.now ∷ []) result }
+{
+    let words = TapeWords::One(tape_word(word)?);
+    let window = window_of(left, right, steps, output)?;
+    Some(Request::OnWhole(WholeRequest::Build { words, window }))
+}
+
+// The forms of a name, letters and a window.
+fn read_letters_and_window<'a>(
+    name: &str,
+    word: &'a str,
+    left: &str,
+    right: &str,
+    steps: &str,
+    output: &str,
+) -> Option<Request<'a>>
+    requires other { name.now ≢ codes "build" }
+    ensures { AreRead (name.now ∷ word.now ∷ left.now ∷ right.now ∷ steps.now ∷ output.now ∷ []) result }
+{
     let word = letters_of(word)?;
     let window = window_of(left, right, steps, output)?;
     match name {
         "compile" => Some(Request::OnWhole(WholeRequest::Compile { word, window })),
-        "build" => Some(Request::OnWhole(WholeRequest::Build { word, window })),
+        "layout" => Some(Request::OnWhole(WholeRequest::Layout { word, window })),
         "run" => Some(Request::OnWhole(WholeRequest::Run {
             word,
             window,
@@ -200,6 +267,48 @@ fn read_window_and_steps<'a>(
     ensures { AreRead (name.now ∷ word.now ∷ left.now ∷ right.now ∷ steps.now ∷ output.now ∷ most_steps.now ∷ [])
         result }
 {
+    match name {
+        "drive" => read_drive(word, left, right, steps, output, most_steps),
+        _ => read_letters_window_and_steps(name, word, left, right, steps, output, most_steps),
+    }
+}
+
+// The form of `drive` with a word on tape 1.
+fn read_drive<'a>(
+    word: &'a str,
+    left: &str,
+    right: &str,
+    steps: &str,
+    output: &str,
+    most_steps: &str,
+) -> Option<Request<'a>>
+    ensures { AreRead (codes "drive" ∷ word.now ∷ left.now ∷ right.now ∷ steps.now ∷ output.now ∷ most_steps.now ∷ [])
+        result }
+{
+    let words = TapeWords::One(tape_word(word)?);
+    let window = window_of(left, right, steps, output)?;
+    let most_steps = drive_steps_of(most_steps)?;
+    Some(Request::OnWhole(WholeRequest::Drive {
+        words,
+        window,
+        most_steps,
+    }))
+}
+
+// The forms of a name, letters, a window and a number.
+fn read_letters_window_and_steps<'a>(
+    name: &str,
+    word: &'a str,
+    left: &str,
+    right: &str,
+    steps: &str,
+    output: &str,
+    most_steps: &str,
+) -> Option<Request<'a>>
+    requires other { name.now ≢ codes "drive" }
+    ensures { AreRead (name.now ∷ word.now ∷ left.now ∷ right.now ∷ steps.now ∷ output.now ∷ most_steps.now ∷ [])
+        result }
+{
     let word = letters_of(word)?;
     let window = window_of(left, right, steps, output)?;
     let most_steps = number_of(most_steps)?;
@@ -211,6 +320,56 @@ fn read_window_and_steps<'a>(
         })),
         "view" => Some(Request::OnWhole(WholeRequest::View {
             word,
+            window,
+            most_steps,
+        })),
+        _ => None,
+    }
+}
+
+// The forms of a name, a word on each tape and a window.
+fn read_three_and_window<'a>(
+    name: &str,
+    first: &'a str,
+    second: &'a str,
+    third: &'a str,
+    left: &str,
+    right: &str,
+    steps: &str,
+    output: &str,
+) -> Option<Request<'a>>
+    ensures { AreRead (name.now ∷ first.now ∷ second.now ∷ third.now
+        ∷ left.now ∷ right.now ∷ steps.now ∷ output.now ∷ []) result }
+{
+    let words = TapeWords::Three(tape_word(first)?, tape_word(second)?, tape_word(third)?);
+    let window = window_of(left, right, steps, output)?;
+    match name {
+        "build" => Some(Request::OnWhole(WholeRequest::Build { words, window })),
+        _ => None,
+    }
+}
+
+// The forms of a name, a word on each tape, a window and a number.
+fn read_three_window_and_steps<'a>(
+    name: &str,
+    first: &'a str,
+    second: &'a str,
+    third: &'a str,
+    left: &str,
+    right: &str,
+    steps: &str,
+    output: &str,
+    most_steps: &str,
+) -> Option<Request<'a>>
+    ensures { AreRead (name.now ∷ first.now ∷ second.now ∷ third.now
+        ∷ left.now ∷ right.now ∷ steps.now ∷ output.now ∷ most_steps.now ∷ []) result }
+{
+    let words = TapeWords::Three(tape_word(first)?, tape_word(second)?, tape_word(third)?);
+    let window = window_of(left, right, steps, output)?;
+    let most_steps = drive_steps_of(most_steps)?;
+    match name {
+        "drive" => Some(Request::OnWhole(WholeRequest::Drive {
+            words,
             window,
             most_steps,
         })),

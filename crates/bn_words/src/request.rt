@@ -4,6 +4,10 @@ ghost use Rattle.std.specs.Prelude.{◌≡◌};
 ghost use Rattle.bn_words.specs.Requests.{reads_input, request_of};
 
 use bn_assembly::Windows;
+use bn_qtable::TapeWords;
+
+/// The greatest number of element steps of a drive.
+pub const MOST_DRIVE_STEPS: u64 = 1 << 61;
 
 /// What the words of a command line ask for, by what their command does with an input. A word W stands behind the byte
 /// `=`, and a window is four words l1 r1 n r3: tape 1 reaches from -l1 to r1, the history holds n steps, and the output
@@ -101,12 +105,30 @@ pub enum WholeRequest<'a> {
         /// The window.
         window: Windows,
     },
-    /// `build =W l1 r1 r2 r3`: the text of the board of a uniform machine of quadruples and the word W in a window.
-    Build {
+    /// `layout =W l1 r1 n r3`: what the board of a machine and the word W in a window is made of.
+    Layout {
         /// The letters of the word.
         word: &'a [u8],
         /// The window.
         window: Windows,
+    },
+    /// `build W l1 r1 r2 r3` and `build W1 W2 W3 l1 r1 r2 r3`: the text of the board of a uniform machine of quadruples in
+    /// a window, with a word on tape 1 or one on each tape. A word is letters behind the byte `=`, or names of symbols
+    /// with commas between behind the byte `:`.
+    Build {
+        /// The words on the tapes.
+        words: TapeWords<'a>,
+        /// The window.
+        window: Windows,
+    },
+    /// `drive` with the same words and E: the run of that board up to its exit, of at most E steps.
+    Drive {
+        /// The words on the tapes.
+        words: TapeWords<'a>,
+        /// The window.
+        window: Windows,
+        /// The greatest number of steps.
+        most_steps: u64,
     },
     /// `run =W l1 r1 n r3` and `run =W l1 r1 n r3 E`: the run of that board up to its exit, or of at most E steps.
     Run {

@@ -2,11 +2,14 @@
 
 ghost use Rattle.std.specs.Prelude.{◌∷◌, [], MatchOption};
 ghost use Rattle.bn_assembly.specs.Assembled.{limits_of};
-ghost use Rattle.bn_words.specs.Words.{AreLimits, AreNoLimits, IsCount, IsNoCount};
-ghost use Rattle.bn_words.specs.Words.{IsNoNumber, IsNoWord, IsNumber, IsWord};
+ghost use Rattle.bn_qtable.specs.TapeWords.{tape_word_of};
+ghost use Rattle.bn_words.specs.Words.{AreDriveSteps, AreLimits, AreNoDriveSteps, AreNoLimits, IsCount, IsNoCount};
+ghost use Rattle.bn_words.specs.Words.{IsNoNumber, IsNoTapeWord, IsNoWord, IsNumber, IsTapeWord, IsWord};
 
+use crate::request::MOST_DRIVE_STEPS;
 use bn_assembly::Windows;
 use bn_base::{MOST_COUNT, read_u64};
+use bn_qtable::TapeWord;
 
 // The number that fills a word, `None` exactly where none of at most 2^62 does.
 pub(crate) fn number_of(word: &str) -> Option<u64>
@@ -35,12 +38,35 @@ pub(crate) fn count_of(word: &str) -> Option<u32>
     Some(number as u32)
 }
 
+// The number that fills a word, `None` exactly where none of at most the greatest number of steps of a drive does.
+pub(crate) fn drive_steps_of(word: &str) -> Option<u64>
+    ensures { MatchOption result (AreNoDriveSteps word.now) (AreDriveSteps word.now) }
+{
+    let number = number_of(word)?;
+    if number > MOST_DRIVE_STEPS {
+        return None;
+    }
+    Some(number)
+}
+
 // The letters behind the byte `=`, `None` exactly where the word doesn't begin with it.
 pub(crate) fn letters_of(word: &str) -> Option<&[u8]>
     ensures { MatchOption result (IsNoWord word.now) (λ letters. IsWord word.now letters.now) }
 {
     match word.as_bytes() {
         [b'=', letters @ ..] => Some(letters),
+        _ => None,
+    }
+}
+
+// The word on a tape: letters behind the byte `=`, or names behind the byte `:`; `None` exactly where it begins with
+// neither.
+pub(crate) fn tape_word(word: &str) -> Option<TapeWord<'_>>
+    ensures { MatchOption result (IsNoTapeWord word.now) (λ read. IsTapeWord word.now (tape_word_of read)) }
+{
+    match word.as_bytes() {
+        [b'=', letters @ ..] => Some(TapeWord::Letters(letters)),
+        [b':', names @ ..] => Some(TapeWord::Names(names)),
         _ => None,
     }
 }

@@ -74,12 +74,26 @@ returns-in-Compile-clause-ends g c =
     (g.W.Watch.told c.args.watch.now) (g.W.Watch.told c.args.watch.now)
     (c.answer_compile.ensures.ends (g.W.Watch.told c.args.watch.now))
 
+pub returns-in-Layout-clause-ends : goal.returns-in-Layout-clause-ends
+returns-in-Layout-clause-ends g c =
+    given c.args.asked.now _ c.in-Layout.is c.args.bytes.now c.answer_layout.result (g.K.Sink.taken c.args.sink.now)
+    (g.K.Sink.taken c.answer_layout.new.sink) (g.K.Sink.faults c.args.sink.now) (g.K.Sink.faults c.answer_layout.new.sink)
+    (g.W.Watch.told c.args.watch.now) (g.W.Watch.told c.args.watch.now)
+    (c.answer_layout.ensures.ends (g.W.Watch.told c.args.watch.now))
+
 pub returns-in-Build-clause-ends : goal.returns-in-Build-clause-ends
 returns-in-Build-clause-ends g c =
     given c.args.asked.now _ c.in-Build.is c.args.bytes.now c.answer_build.result (g.K.Sink.taken c.args.sink.now)
     (g.K.Sink.taken c.answer_build.new.sink) (g.K.Sink.faults c.args.sink.now) (g.K.Sink.faults c.answer_build.new.sink)
     (g.W.Watch.told c.args.watch.now) (g.W.Watch.told c.args.watch.now)
     (c.answer_build.ensures.ends (g.W.Watch.told c.args.watch.now))
+
+pub returns-in-Drive-clause-ends : goal.returns-in-Drive-clause-ends
+returns-in-Drive-clause-ends g c =
+    aloud c.args.asked.now _ c.in-Drive.is c.args.bytes.now c.give_reply-in-Drive.result (g.K.Sink.taken c.args.sink.now)
+    (g.K.Sink.taken c.give_reply-in-Drive.new.sink) (g.K.Sink.faults c.args.sink.now) (g.K.Sink.faults c.give_reply-in-Drive.new.sink)
+    c.reply_drive.result (g.W.Watch.told c.args.watch.now) (g.W.Watch.told c.reply_drive.new.watch) c.reply_drive.ensures.replied
+    c.reply_drive.ensures.interrupted c.give_reply-in-Drive.ensures.ends
 
 pub returns-in-Run-clause-ends : goal.returns-in-Run-clause-ends
 returns-in-Run-clause-ends g c =
