@@ -21,6 +21,7 @@ KINDS = {
     **dict.fromkeys(["=W", "=W1", "=W2", "=W3"], "Letters"),
     "auto": "Auto",
     "E": "Count greatest",
+    "drive E": "Count MOST_DRIVE_STEPS",
     "Q": "Ordinal MOST_COUNT",
     "I": "Ordinal MOST_COUNT",
     "k": "Ordinal MOST_INCREMENTS",
@@ -58,11 +59,17 @@ FAULTS = [
     (["realise", "0", "1"], "Q is at least 1"),
     (["generate", "5"], "k is at most 4"),
     (["moments", "=1", "=", "1", "5"], "the word needs a = before it: =1"),
+    (["build", "1", "0", "2", "1", "0"], "the word needs a = before it: =1"),
+    (["build", ":1,x", "0", "2", "1", "x"], "r3 is a number, and x is none"),
+    (["compile", ":1", "0", "2", "1", "1"], "the word needs a = before it: =:1"),
+    (["build", "=1", "=", "0", "2", "1", "0"],
+     "as many words are wanted as in `build =W l1 r1 r2 r3` or `build =W1 =W2 =W3 l1 r1 r2 r3`"),
+    (["drive", "=", ":", "=", "0", "2", "1", "0", "2305843009213693953"], "E is at most 2305843009213693952"),
     (["moments", "=1", "=", "5"], "as many words are wanted as in `moments =W n` or `moments =W1 =W2 =W3 n`"),
     (["machine", "=1011"], "as many words are wanted as in `machine =W n`"),
     (["erase", "=1"], "as many words are wanted as in `erase` or `erase =W n`"),
 ]
-GREATEST = {"greatest": 2**62, "MOST_COUNT": 2**20}
+GREATEST = {"greatest": 2**62, "MOST_DRIVE_STEPS": 2**61, "MOST_COUNT": 2**20}
 
 
 def kind_of(number, allowed):
@@ -92,8 +99,11 @@ def rows():
         if "AreSmall l" in allowed:
             allowed += "".join(f" × (l.{it} ≤ MOST_COUNT)" for it in ("left", "right", "steps", "output"))
         words = re.sub(r"window_words word l \(?(.*?)\)?$", rf"(61 ∷ word) ∷ {limits} ∷ \1", words)
+        words = re.sub(r"tape_arguments words \(limit_words l \(?(.*?)\)?\)$", rf"tape_arguments ∷ {limits} ∷ \1", words)
         given = re.sub(r"steps_words given$", "decimal e ∷ []", words)
-        for form in dict.fromkeys([re.sub(r"\(?steps_words given$", "[]", words), given]):
+        one = words.replace("tape_arguments", "(61 ∷ word)")
+        three = given.replace("tape_arguments", " ∷ ".join(["(61 ∷ word)"] * 3))
+        for form in dict.fromkeys([re.sub(r"\(?steps_words given$", "[]", one), three]):
             kinds = []
             for mark, number in re.findall(r'(\(61 ∷ \w+\)|codes "auto"|decimal ([\w.]+))', form):
                 kinds.append(kind_of(re.escape(number), allowed) if number else "Letters" if mark[0] == "(" else "Auto")
@@ -104,7 +114,7 @@ def rows():
 def forms_of(words):
     """The forms that one line of words tells: a word in [ ] may be left out."""
     words, may_lack = re.sub(r"\s*\[.*\]", "", words).split(), re.findall(r"\[(\w+)\]", words)
-    form = (words[0], *(KINDS.get(it, it) for it in words[1:]))
+    form = (words[0], *(KINDS.get(f"{words[0]} {it}", KINDS.get(it, it)) for it in words[1:]))
     return [form] + [(*form, KINDS.get(it, it)) for it in may_lack]
 
 
@@ -160,7 +170,7 @@ def limit_of(letter):
 def numbers_of(name):
     """The numbers of a table of tools/lib/front.sh by their letters."""
     table = re.search(rf"^declare -A {name}=\((.*?)\)", FRONT_TEXT, flags=re.M | re.S)[1]
-    return dict(re.findall(r"\[(\w+)\]=(\d+)", table))
+    return dict(re.findall(r"\[([\w ]+)\]=(\d+)", table))
 
 
 @pytest.mark.parametrize("letter", [it for it, kind in KINDS.items() if kind.split()[0] in ("Count", "Ordinal")])

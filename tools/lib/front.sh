@@ -20,7 +20,11 @@ forms=(
     "inverse|the machine of quadruples that takes the steps of this one back"
     "realise Q I|the circuit of a table of moves, in state Q, the signal at line I"
     "compile =W l1 r1 n r3|the circuit of a machine and a word in a window"
+    "layout =W l1 r1 n r3|what that circuit is made of: modules, columns and lines by name"
     "build =W l1 r1 r2 r3|the circuit of a reversible machine of quadruples and a word"
+    "build =W1 =W2 =W3 l1 r1 r2 r3|with a word on each tape"
+    "drive =W l1 r1 r2 r3 E|its run, of at most E element steps"
+    "drive =W1 =W2 =W3 l1 r1 r2 r3 E|with a word on each tape"
     "run =W l1 r1 n r3 [E]|its run, to its exit or of at most E element steps"
     "run =W auto|its run in a window that the program finds"
     "view =W l1 r1 n r3 E|every layer of it after at most E element steps"
@@ -37,10 +41,14 @@ forms=(
 # The commands that read nothing.
 inputless=" generate "
 
-# The least and the greatest number in place of each letter of the forms; without a least one it is 0.
+# The commands whose words may be names of symbols with commas between, behind `:`.
+named=" build drive "
+
+# The least and the greatest number in place of each letter of the forms, with a command before it where it has its own;
+# without a least one it is 0.
 declare -A least=([Q]=1 [I]=1 [k]=1)
 declare -A greatest=(
-    [E]=4611686018427387904 [n]=1048576 [l1]=1048576 [r1]=1048576 [r2]=1048576 [r3]=1048576 [Q]=1048576 [I]=1048576 [k]=4
+    [E]=4611686018427387904 [drive E]=2305843009213693952 [n]=1048576 [l1]=1048576 [r1]=1048576 [r2]=1048576 [r3]=1048576 [Q]=1048576 [I]=1048576 [k]=4
 )
 
 # Whether there is a command of this name.
@@ -62,9 +70,10 @@ show_forms() {
     local form
     say "the words are one of these; \`man $manual\` has them all"
     for form in "${forms[@]}"; do
-        printf '  %-29s %s\n' "${form%%|*}" "${form#*|}" >&2
+        printf '  %-33s %s\n' "${form%%|*}" "${form#*|}" >&2
     done
-    printf '%s\n' "All but \`generate\` read standard input. \`=W\` is \`=\` and the letters of the word." >&2
+    printf '%s\n' "All but \`generate\` read standard input. \`=W\` is \`=\` and the letters of the word; of \`build\` and \`drive\`" \
+        "also \`:\` and the names of its symbols with commas between." >&2
 }
 
 # Whether two words differ in one letter at most: one other, one more, one less, or two that have changed places.
@@ -111,10 +120,11 @@ is_above() {
 
 # What is wrong with a word behind a command where its form has this letter there: sets `fault`, or leaves it empty.
 find_fault_of_word() {
-    local letter=$1 word=$2 digits
+    local command=$1 letter=$2 word=$3 most digits
     fault=
+    most=${greatest["$command $letter"]-${greatest["$letter"]-}}
     if [[ $letter = =W* ]]; then
-        [[ $word = =* ]] || fault="the word needs a = before it: =$word"
+        [[ $word = =* || $word = :* && $named = *" $command "* ]] || fault="the word needs a = before it: =$word"
     elif [[ $letter = auto ]]; then
         [[ $word = auto ]] || fault="auto is the one word that may stand for $word"
     elif [[ $word =~ ^[+-][0-9]+$ ]]; then
@@ -124,8 +134,8 @@ find_fault_of_word() {
         fault="a number has no zero in front: write ${digits:-0} for $word"
     elif ! [[ $word =~ ^[0-9]+$ ]]; then
         fault="$letter is a number, and ${word:-the empty word} is none"
-    elif is_above "$word" "${greatest[$letter]}"; then
-        fault="$letter is at most ${greatest[$letter]}"
+    elif is_above "$word" "$most"; then
+        fault="$letter is at most $most"
     elif ((word < ${least[$letter]-0})); then
         fault="$letter is at least ${least[$letter]}"
     fi
@@ -136,7 +146,7 @@ find_fault_of_word() {
 find_fault_of_file() {
     local command=$1 word=$2
     fault=
-    [[ $word != =* && ! $word =~ ^[+-]?[0-9]+$ ]] || return
+    [[ $word != [=:]* && ! $word =~ ^[+-]?[0-9]+$ ]] || return
     if [[ -d $word ]]; then
         fault="$word is a folder: $command reads a file, by < FILE"
         reads_input "$command" || fault="$word is a folder, and $command reads none"
@@ -173,7 +183,7 @@ find_fault() {
         [[ $form = *\[* ]] && fewest=$((fewest - 1))
         (($# == ${#letters[@]} || $# == fewest)) || continue
         for ((i = 1; i < $#; i++)); do
-            find_fault_of_word "${letters[i]}" "${@:i+1:1}"
+            find_fault_of_word "$1" "${letters[i]}" "${@:i+1:1}"
             [ -z "$fault" ] || return
         done
     done
@@ -202,7 +212,7 @@ tell_refusal() {
     4)
         where="\`machine:\` and a demand"
         what="its machine isn't in standard form; where it starts on the first letter of its word, \`standard\` helps"
-        [[ $command =~ ^(standard|realise|moments|build)$ ]] && what="its machine isn't one that $command takes"
+        [[ $command =~ ^(standard|realise|moments|build|drive)$ ]] && what="its machine isn't one that $command takes"
         ;;
     5) what="the word has a letter that the table hasn't" where="\`word:\` and \`size:\`"
         [ "$command" = realise ] && what="the machine has no such state or line" ;;
