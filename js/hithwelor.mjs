@@ -8,6 +8,7 @@ const STATUSES = {
 };
 const DONE = 0, MACHINE = 4, NO_MEMORY = 9, STUCK = 10, WINDOW = 11, INSIDE = 12;
 const MOST_STEPS = 1048576;
+const MOST_DRIVE_STEPS = 2n ** 61n;
 const coder = new TextEncoder(), decoder = new TextDecoder();
 
 // The program refused the words or the input: `status` is its exit code, `text` the line that it printed.
@@ -67,6 +68,12 @@ const windowWords = window => {
   if (numbers.length !== 4) throw new RangeError(`a window is four numbers, l1, r1, n and r3, and not ${numbers.length}`);
   return numbers.map(spelled);
 };
+// A word on tape 1, or one on each of three tapes, as the program reads them: letters, or names of symbols.
+const tapeWords = words => {
+  const list = typeof words === "string" || words.names ? [words] : [...words];
+  if (list.length !== 1 && list.length !== 3) throw new TypeError(`a machine of quadruples starts with one word, or three, and not ${list.length}`);
+  return list.map(word => typeof word === "string" ? `=${word}` : `:${word.names.join(",")}`);
+};
 const behind = (text, front) => text.startsWith(front) ? text.slice(front.length) : text;
 const linesOf = text => text.split("\n").slice(0, -1);
 
@@ -96,7 +103,8 @@ function readOutcome(text) {
 
 function readExit(words) {
   const [kind, ...rest] = words.split(" ");
-  const none = {kind, state: null, letter: null, tape: null, side: null};
+  const none = {kind, state: null, letter: null, tape: null, side: null, symbols: []};
+  if (kind === "stuck" && rest.length === 4) return {...none, state: rest[0], symbols: rest.slice(1)};
   if (kind === "stuck") return {...none, state: rest[0], letter: rest[1]};
   if (kind === "window") return {...none, tape: Number(rest[0]), side: rest[1]};
   return none;
@@ -205,6 +213,11 @@ function machineClasses(answer) {
     compile(word, window) {
       return this.ask(["compile", `=${word}`, ...windowWords(window)]);
     }
+
+    // The lines of what that circuit is made of.
+    layout(word, window) {
+      return linesOf(this.ask(["layout", `=${word}`, ...windowWords(window)]));
+    }
   }
 
   // A machine of quadruples.
@@ -228,8 +241,14 @@ function machineClasses(answer) {
       return linesOf(this.ask(["moments", ...list.map(word => `=${word}`), spelled(steps)], [DONE, STUCK, INSIDE]));
     }
 
-    build(word, window) {
-      return this.ask(["build", `=${word}`, ...windowWords(window)]);
+    build(words, window) {
+      return this.ask(["build", ...tapeWords(words), ...windowWords(window)]);
+    }
+
+    // The run of that circuit, to its exit or of at most so many element steps.
+    drive(words, window, steps = MOST_DRIVE_STEPS) {
+      const list = ["drive", ...tapeWords(words), ...windowWords(window), spelled(steps)];
+      return readRun(this.ask(list, [DONE, STUCK, WINDOW, INSIDE]), list.slice(-5, -1).map(Number));
     }
   }
 

@@ -6,12 +6,13 @@ small classes over it with the texts read and a picture in notebooks. Nothing is
 from __future__ import annotations
 
 from .answers import NoMemory, Unavailable, answer, way
-from .machine import Machine, ReversibleMachine
+from .machine import Machine, Names, ReversibleMachine
 from .texts import Exit, Outcome, Refused, Run, Session, Tape, View, Window
 
 __all__ = [
     "Exit",
     "Machine",
+    "Names",
     "NoMemory",
     "Outcome",
     "Refused",

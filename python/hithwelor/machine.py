@@ -4,12 +4,31 @@ from __future__ import annotations
 import html
 import os
 from collections.abc import Iterable
-from typing import ClassVar, TypeVar
+from typing import ClassVar, TypeVar, Union
 
 from .answers import answer
 from .texts import Outcome, Refused, Run, Session, View, Window, checked
 
 DONE, TEXT, MACHINE, STUCK, WINDOW, INSIDE = 0, 3, 4, 10, 11, 12
+# The greatest number of element steps of a drive.
+MOST_DRIVE_STEPS = 2**61
+
+
+class Names(tuple[str, ...]):
+    """A word by the names of its symbols, which may have more than one byte: Names(["10", "11"])."""
+
+    __slots__ = ()
+
+
+Word = Union[str, Names]
+
+
+def spelled(words: Word | Iterable[Word]) -> list[str]:
+    """A word on tape 1, or one on each of the three tapes, as the program reads them."""
+    chosen = [words] if isinstance(words, (str, Names)) else list(words)
+    if len(chosen) not in (1, 3):
+        raise ValueError(f"a machine of quadruples starts with one word, or three, and not {len(chosen)}")
+    return [f":{','.join(word)}" if isinstance(word, Names) else f"={word}" for word in chosen]
 
 
 Kind = TypeVar("Kind", bound="Table")
@@ -119,6 +138,10 @@ class Machine(Table):
         """The configuration text of the machine's circuit at its start."""
         return self.ask(["compile", f"={word}", *self.window(window)])
 
+    def layout(self, word: str, window: Iterable[int]) -> list[str]:
+        """What that circuit is made of: the lines of `layout`."""
+        return self.ask(["layout", f"={word}", *self.window(window)]).splitlines()
+
 
 class ReversibleMachine(Table):
     """A machine of quadruples, by its table: `state`, what is read on three tapes, what is done there, and `next`, as
@@ -146,6 +169,13 @@ class ReversibleMachine(Table):
             raise ValueError(f"a run begins with one word, or three, and not {len(words)}")
         return self.ask(["moments", *(f"={word}" for word in words), steps], DONE, STUCK, INSIDE).splitlines()
 
-    def build(self, word: str, window: Iterable[int]) -> str:
-        """The configuration text of its circuit at the start, with a word on tape 1, in a window (l1, r1, r2, r3)."""
-        return self.ask(["build", f"={word}", *self.window(window)])
+    def build(self, words: Word | Iterable[Word], window: Iterable[int]) -> str:
+        """The configuration text of its circuit at the start, with a word on tape 1, or one on each of the three tapes, in
+        a window (l1, r1, r2, r3). A word is a text of letters, or Names."""
+        return self.ask(["build", *spelled(words), *self.window(window)])
+
+    def drive(self, words: Word | Iterable[Word], window: Iterable[int], steps: int = MOST_DRIVE_STEPS) -> Run:
+        """The run of that circuit, to its exit or of at most so many element steps."""
+        chosen = self.window(window)
+        told = self.ask(["drive", *spelled(words), *chosen, steps], DONE, STUCK, WINDOW, INSIDE)
+        return Run.read(told, chosen)

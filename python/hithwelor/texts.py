@@ -124,18 +124,22 @@ class Outcome:
 
 @dataclass(frozen=True)
 class Exit:
-    """By which exit the signal left: `kind` is `end`, `stuck` (with `state` and `letter`), `window` (with the number of the
-    `tape` and the `side`), or `inside`, where it hadn't left yet."""
+    """By which exit the signal left: `kind` is `end`, `stuck` (with `state` and `letter`, or of a machine of quadruples the
+    `symbols` under its three heads), `window` (with the number of the `tape` and the `side`), or `inside`, where it hadn't
+    left yet."""
 
     kind: str
     state: str | None = None
     letter: str | None = None
     tape: int | None = None
     side: str | None = None
+    symbols: tuple[str, ...] = ()
 
     @classmethod
     def read(cls, words: str) -> Exit:
         kind, *rest = words.split(" ")
+        if kind == "stuck" and len(rest) == 4:
+            return cls(kind, state=rest[0], symbols=tuple(rest[1:]))
         if kind == "stuck":
             return cls(kind, state=rest[0], letter=rest[1])
         if kind == "window":
@@ -146,7 +150,7 @@ class Exit:
 @dataclass(frozen=True)
 class Run:
     """A run of a machine's circuit: its `window` (l1, r1, n, r3), the number of `elements`, the `exit`, the element `steps`,
-    the `quadruple_steps` of Bennett's machine where they are told, the `tapes` and, at the end, the `output`."""
+    the `quadruple_steps` of the reversible machine where they are told, the `tapes` and, at the end, the `output`."""
 
     window: Window
     elements: int
