@@ -13,7 +13,7 @@ const NAMES: &str = "S,/,/,/,+,0,0,A\nA,ab,/,/,x,0,0,F\n";
 /// Goes one cell to the left.
 const LEFT: &str = "S,/,/,/,-,0,0,F\n";
 
-/// Adds the number on tape 1 to that on tape 2, the least digits first; tape 2 has one digit more.
+/// Adds the number on tape 1 to that on tape 2, the least digits first; tape 2 has a 0 behind its digits.
 const ADDER: &str =
     "S,_,_,_,_,_,_,K0\nK0,/,/,/,+,+,+,N0\nK1,/,/,/,+,+,+,N1\nN0,/,/,_,0,0,_,F\nN1,/,/,_,0,0,1,F\n\
     F,0,0,_,0,0,_,K0\nF,0,0,1,0,0,1,K0\nF,0,1,_,0,1,_,K0\nF,0,1,1,0,1,1,K1\nF,1,0,_,1,0,_,K0\n\
@@ -92,6 +92,79 @@ fn tells_each_exit(rt: HostRuntime) -> Result<(), Fail> {
             NAMES,
             6,
             "size: word needs 1\n",
+        ),
+    ];
+    hold_each(&rt, rt.alloc(), &rows)
+}
+
+#[test]
+fn tells_each_window_and_stops_that_are_no_first_reads(rt: HostRuntime) -> Result<(), Fail> {
+    let window = ["drive", "=", "0", "0", "0", "0", "1000"];
+    let rows: [(&[&str], &str, u8, &str); 9] = [
+        (
+            &window,
+            LEFT,
+            11,
+            "elements 108\nexit window 1 left\nsteps 74\nquadruple steps 0\ntape 1 from 0 head ?: _\n\
+             tape 2 from 0 head 0: _\ntape 3 from 0 head 0: _\n",
+        ),
+        (
+            &window,
+            "S,/,/,/,0,+,0,F\n",
+            11,
+            "elements 108\nexit window 2 right\nsteps 86\nquadruple steps 0\ntape 1 from 0 head 0: _\n\
+             tape 2 from 0 head ?: _\ntape 3 from 0 head 0: _\n",
+        ),
+        (
+            &window,
+            "S,/,/,/,0,-,0,F\n",
+            11,
+            "elements 108\nexit window 2 left\nsteps 74\nquadruple steps 0\ntape 1 from 0 head 0: _\n\
+             tape 2 from 0 head ?: _\ntape 3 from 0 head 0: _\n",
+        ),
+        (
+            &window,
+            "S,/,/,/,0,0,-,F\n",
+            11,
+            "elements 108\nexit window 3 left\nsteps 74\nquadruple steps 0\ntape 1 from 0 head 0: _\n\
+             tape 2 from 0 head 0: _\ntape 3 from 0 head ?: _\n",
+        ),
+        // Two heads would leave at once: the lesser tape is told.
+        (
+            &window,
+            "S,/,/,/,0,+,+,F\n",
+            11,
+            "elements 122\nexit window 2 right\nsteps 100\nquadruple steps 0\ntape 1 from 0 head 0: _\n\
+             tape 2 from 0 head ?: _\ntape 3 from 0 head 0: _\n",
+        ),
+        // No quadruple leaves state B.
+        (
+            &["drive", "=1", "0", "1", "0", "0", "100000"],
+            "S,/,/,/,+,0,0,A\nA,1,/,/,1,0,0,B\nC,_,/,/,_,0,0,F\n",
+            10,
+            "elements 268\nexit stuck B 1 _ _\nsteps 1860\nquadruple steps 2\ntape 1 from 0 head 1: _ _\n\
+             tape 2 from 0 head 0: _\ntape 3 from 0 head 0: _\n",
+        ),
+        // Tape 2 isn't read, and then tape 1.
+        (
+            &["drive", "=1", "=", "=", "0", "1", "1", "1", "10000"],
+            "S,/,/,/,+,+,+,A\nA,1,/,1,1,0,1,F\n",
+            10,
+            "elements 396\nexit stuck A 1 _ _\nsteps 1973\nquadruple steps 1\ntape 1 from 0 head 1: _ _\n\
+             tape 2 from 0 head 1: _ _\ntape 3 from 0 head 1: _ _\n",
+        ),
+        (
+            &["drive", "=", "=1", "=", "0", "1", "1", "1", "10000"],
+            "S,/,/,/,+,+,+,A\nA,/,1,1,0,1,1,F\n",
+            10,
+            "elements 396\nexit stuck A _ 1 _\nsteps 1925\nquadruple steps 1\ntape 1 from 0 head 1: _ _\n\
+             tape 2 from 0 head 1: _ _\ntape 3 from 0 head 1: _ _\n",
+        ),
+        (
+            &["drive", "=9", "0", "0", "0", "0", "10"],
+            "S,_,/,/,_,0,0,A\nS,_,/,/,_,0,0,B\n",
+            4,
+            "machine: domain 1 2\n",
         ),
     ];
     hold_each(&rt, rt.alloc(), &rows)
