@@ -1,5 +1,5 @@
 """What is put beside the modules of the Python package in a wheel, for pyproject.toml: the forms of the words, which are
-tools/lib/front.sh, and what answers. That is the module for node, bin/hithwelor, or, where HITHWELOR_WHEEL is `library`, the
+tools/lib/forms.tsv, and what answers. That is the module for node, bin/hithwelor, or, where HITHWELOR_WHEEL is `library`, the
 shared library, embed/out/libhithwelor.so or the file that HITHWELOR_LIBRARY names.
 
 A wheel with the module is for any machine. One with the library is for the systems whose C library is no older than the
@@ -32,7 +32,7 @@ class Beside(BuildHookInterface):
             path, name = named or os.path.join(self.root, "embed", "out", "libhithwelor.so"), "libhithwelor.so"
         else:
             raise ValueError(f"HITHWELOR_WHEEL is module or library, and not {what}")
-        for source, target in ((path, name), (os.path.join(self.root, "tools", "lib", "front.sh"), "front.sh")):
+        for source, target in ((path, name), (os.path.join(self.root, "tools", "lib", "forms.tsv"), "forms.tsv")):
             if not os.path.isfile(source):
                 raise FileNotFoundError(f"{source} isn't here: embed/build makes it")
             build_data["force_include"][source] = f"hithwelor/{target}"

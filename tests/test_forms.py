@@ -1,20 +1,21 @@
 """The forms of the words are told alike wherever they are told.
 
 The program's own table is `words_of` in crates/bn_words/specs/Requests.antt, with the limits of `IsAllowed` there; contracts
-cite both. With it are compared: the table of tools/lib/front.sh, from which ./workbench and ./try help, with its numbers' limits
-and the commands that read nothing; what these say to words that have no form; the names that tools/completion.bash
-completes; the first column of docs/FORMATS.md's table of commands; and the synopsis and the list of commands of the man page.
+cite both. With it is compared tools/lib/forms.tsv, the one place beside it where the forms are written by hand: the forms, the
+limits of their numbers, the commands that read nothing and those that take names. With that file are compared what is made of
+it, and what ./workbench and ./try say to words that have no form, the names that are completed, and the list of commands of
+the man page.
 """
 import re
 import subprocess
 
+import places
 import pytest
+from hithwelor.forms import commands, forms, numbers
 from places import TOP, text_of
 
 TABLE = "crates/bn_words/specs/Requests.antt"
 INCREMENTS = "crates/bn_gen/src/machine.rt"
-FRONT = "tools/lib/front.sh"
-FORMATS = "docs/FORMATS.md"
 MAN_PAGE = "docs/workbench.1"
 # The kind of word that stands for each letter of a form.
 KINDS = {
@@ -55,6 +56,10 @@ FAULTS = [
     (["machine", "=1011", "1048577"], "n is at most 1048576"),
     (["step", "4611686018427387905"], "E is at most 4611686018427387904"),
     (["step", "99999999999999999999"], "E is at most 4611686018427387904"),
+    (
+        ["run", "=1", "0", "2", "1"],
+        "as many words are wanted as in `run =W l1 r1 n r3` or `run =W l1 r1 n r3 E` or `run =W auto`",
+    ),
     (["run", "=1011", "0"], "auto is the one word that may stand for 0"),
     (["realise", "0", "1"], "Q is at least 1"),
     (["generate", "5"], "k is at most 4"),
@@ -62,8 +67,10 @@ FAULTS = [
     (["build", "1", "0", "2", "1", "0"], "the word needs a = before it: =1"),
     (["build", ":1,x", "0", "2", "1", "x"], "r3 is a number, and x is none"),
     (["compile", ":1", "0", "2", "1", "1"], "the word needs a = before it: =:1"),
-    (["build", "=1", "=", "0", "2", "1", "0"],
-     "as many words are wanted as in `build =W l1 r1 r2 r3` or `build =W1 =W2 =W3 l1 r1 r2 r3`"),
+    (
+        ["build", "=1", "=", "0", "2", "1", "0"],
+        "as many words are wanted as in `build =W l1 r1 r2 r3` or `build =W1 =W2 =W3 l1 r1 r2 r3`",
+    ),
     (["drive", "=", ":", "=", "0", "2", "1", "0", "2305843009213693953"], "E is at most 2305843009213693952"),
     (["moments", "=1", "=", "5"], "as many words are wanted as in `moments =W n` or `moments =W1 =W2 =W3 n`"),
     (["machine", "=1011"], "as many words are wanted as in `machine =W n`"),
@@ -99,7 +106,9 @@ def rows():
         if "AreSmall l" in allowed:
             allowed += "".join(f" × (l.{it} ≤ MOST_COUNT)" for it in ("left", "right", "steps", "output"))
         words = re.sub(r"window_words word l \(?(.*?)\)?$", rf"(61 ∷ word) ∷ {limits} ∷ \1", words)
-        words = re.sub(r"tape_arguments words \(limit_words l \(?(.*?)\)?\)$", rf"tape_arguments ∷ {limits} ∷ \1", words)
+        words = re.sub(
+            r"tape_arguments words \(limit_words l \(?(.*?)\)?\)$", rf"tape_arguments ∷ {limits} ∷ \1", words
+        )
         given = re.sub(r"steps_words given$", "decimal e ∷ []", words)
         one = words.replace("tape_arguments", "(61 ∷ word)")
         three = given.replace("tape_arguments", " ∷ ".join(["(61 ∷ word)"] * 3))
@@ -111,16 +120,10 @@ def rows():
     return found
 
 
-def forms_of(words):
-    """The forms that one line of words tells: a word in [ ] may be left out."""
-    words, may_lack = re.sub(r"\s*\[.*\]", "", words).split(), re.findall(r"\[(\w+)\]", words)
-    form = (words[0], *(KINDS.get(f"{words[0]} {it}", KINDS.get(it, it)) for it in words[1:]))
-    return [form] + [(*form, KINDS.get(it, it)) for it in may_lack]
-
-
-def told(lines):
-    """The forms that lines of words tell."""
-    return sorted(form for line in lines for form in forms_of(line))
+def form_of(words):
+    """The form that a line of words tells."""
+    name, *letters = words.split()
+    return (name, *(KINDS.get(f"{name} {it}", KINDS.get(it, it)) for it in letters))
 
 
 def unquoted(macro, rest):
@@ -130,15 +133,6 @@ def unquoted(macro, rest):
     return re.sub(r"\\f.", "", text)
 
 
-def synopsis(page):
-    """The lines of the man page's synopsis."""
-    part = re.search(r"^\.SH SYNOPSIS\n(.*?)^\.SH", page, flags=re.M | re.S)[1]
-    for form in part.split(".br\n"):
-        yield " ".join(unquoted(*it) for it in re.findall(r"^\.(\w+) (.*)$", form, flags=re.M)).replace(
-            "./workbench ", ""
-        )
-
-
 def described(page):
     """The names of the commands that the man page describes."""
     part = re.search(r"^\.SH DESCRIPTION\n(.*?)^\.SH", page, flags=re.M | re.S)[1]
@@ -146,19 +140,12 @@ def described(page):
     return {word for macro, rest in heads for word in re.findall(r"[a-z]{2,}", unquoted(macro, rest.split(" =")[0]))}
 
 
-def front_forms():
-    """The table of tools/lib/front.sh: the words of each form, and what it does."""
-    table = re.search(r"^forms=\(\n(.*?)^\)", text_of(FRONT), flags=re.M | re.S)[1]
-    return re.findall(r'^    "([^"|]+)\|([^"]+)"$', table, flags=re.M)
+NAMES = {row[0] for row in rows()}
+LIMITS = {tuple(it.split()): (least, greatest) for it, least, greatest in numbers()}
 
 
-WANTED = sorted(rows())
-NAMES = {row[0] for row in WANTED}
-FRONT_TEXT = text_of(FRONT)
-
-
-def test_the_table_of_the_scripts_is_the_programs():
-    assert told([words for words, _ in front_forms()]) == WANTED
+def test_the_forms_are_the_programs():
+    assert sorted(form_of(it.words) for it in forms()) == sorted(rows())
 
 
 def limit_of(letter):
@@ -167,25 +154,40 @@ def limit_of(letter):
     return {**GREATEST, "MOST_INCREMENTS": most}[KINDS[letter].split()[1]]
 
 
-def numbers_of(name):
-    """The numbers of a table of tools/lib/front.sh by their letters."""
-    table = re.search(rf"^declare -A {name}=\((.*?)\)", FRONT_TEXT, flags=re.M | re.S)[1]
-    return dict(re.findall(r"\[([\w ]+)\]=(\d+)", table))
+def told_limits(letter):
+    """The limits of this letter, with a command's name before it where it has its own."""
+    if letter.split()[0] in NAMES:
+        return LIMITS[tuple(letter.split())]
+    return next(it for letters, it in LIMITS.items() if letter in letters and letters[0] not in NAMES)
 
 
 @pytest.mark.parametrize("letter", [it for it, kind in KINDS.items() if kind.split()[0] in ("Count", "Ordinal")])
-def test_the_greatest_number_is_the_programs(letter):
-    assert numbers_of("greatest").get(letter) == str(limit_of(letter))
-
-
-def test_the_least_numbers_are_the_programs():
-    assert numbers_of("least") == {it: "1" for it, kind in KINDS.items() if kind.startswith("Ordinal")}
+def test_the_limits_of_the_numbers_are_the_programs(letter):
+    assert told_limits(letter) == (1 if KINDS[letter].startswith("Ordinal") else 0, limit_of(letter))
 
 
 def test_the_commands_that_read_nothing_are_the_programs():
     names = {case: name for case, name, _, _ in cases()}
     inputless = [names[it] for it in re.findall(r"^reads_input \((\w+) \w+\) = false$", text_of(TABLE), flags=re.M)]
-    assert re.search(r'^inputless="(.*)"$', FRONT_TEXT, flags=re.M)[1].split() == inputless
+    assert commands("unread") == inputless
+
+
+def test_the_commands_that_take_names_are_the_programs():
+    assert commands("named") == [name for _, name, words, _ in cases() if words.startswith("tape_arguments")]
+
+
+PAGES = places.tool("build/pages")
+
+
+@pytest.mark.parametrize("path", PAGES.made_of_forms())
+def test_what_is_made_of_the_forms_is_made_of_those_that_stand(path):
+    assert PAGES.is_there(path, PAGES.made_of_forms()[path]), f"tools/build/pages --write makes {path} anew"
+
+
+def test_each_row_of_the_formats_says_what_is_read_and_answered():
+    table = text_of(PAGES.FORMATS).split("\n## Commands\n")[1]
+    told = re.findall(r"^\| `([^`]+)` \| \S.* \| \S.* \|$", table, flags=re.M)
+    assert told == [it.words for it in forms()]
 
 
 def said_by_bash(script, *words):
@@ -215,15 +217,6 @@ def test_the_names_are_completed(script, own, begin):
     complete = 'source tools/completion.bash; COMP_WORDS=("$1" "$2") COMP_CWORD=1; _hithwelor; echo "${COMPREPLY[*]}"'
     wanted = sorted(it for it in [*NAMES, "help", *own] if it.startswith(begin))
     assert sorted(said_by_bash(complete, script, begin).split()) == wanted
-
-
-def test_the_table_of_the_formats_is_the_programs():
-    table = text_of(FORMATS).split("\n## Commands\n")[1]
-    assert told(re.findall(r"^\| `([^`]+)` \|", table, flags=re.M)) == WANTED
-
-
-def test_the_synopsis_of_the_man_page_is_the_programs():
-    assert told(synopsis(text_of(MAN_PAGE))) == WANTED
 
 
 def test_the_man_page_describes_each_command():

@@ -152,7 +152,7 @@ def test_all_modules_are_in_the_wheels(released):
         with zipfile.ZipFile(path) as file:
             names = {name for name in file.namelist() if name.startswith("hithwelor/")}
         answers = "hithwelor.cjs" if path.name.endswith("any.whl") else "libhithwelor.so"
-        beside = {"hithwelor/front.sh", f"hithwelor/{answers}"}
+        beside = {"hithwelor/forms.tsv", f"hithwelor/{answers}"}
         assert known <= names and names - known == beside, path.name
 
 

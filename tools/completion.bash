@@ -1,14 +1,16 @@
 # Completion for bash: `source tools/completion.bash`, here or in ~/.bashrc, and then the names of commands are completed
-# behind ./workbench, ./try and a link to either; files are, behind `<`. The names are those of tools/lib/front.sh. Behind
+# behind ./workbench, ./try and a link to either; files are, behind `<`. The names are those of tools/lib/forms.tsv. Behind
 # `hithwelor` the two words of the Python package are completed too: ./workbench and ./try don't know them.
 # shellcheck shell=bash
 
-_hithwelor_front=$(cd "$(dirname "${BASH_SOURCE[0]}")" && pwd)/lib/front.sh
+_hithwelor_forms=$(cd "$(dirname "${BASH_SOURCE[0]}")" && pwd)/lib/forms.tsv
 
 # The names of the commands, each once.
 _hithwelor_names() {
-    bash -c '. "$1"; for form in "${forms[@]}"; do form=${form%%|*}; printf "%s\n" "${form%% *}"; done' - "$_hithwelor_front" |
-        sort -u
+    local kind words
+    while IFS=$'\t' read -r kind words _; do
+        [[ $kind = form ]] && printf '%s\n' "${words%% *}"
+    done <"$_hithwelor_forms" | sort -u
 }
 
 _hithwelor() {

@@ -11,9 +11,9 @@ import sys
 
 from . import version
 from .answers import NoMemory, Unavailable, answer
+from .forms import commands
 from .help import help_text
 
-INPUTLESS = ["generate"]
 OWN = {"sweep": "hithwelor.sweep.command", "plot": "hithwelor.plot"}
 HELPING = (["--help"], ["-h"], ["help"])
 DONE, USAGE, READ_FAULT, WRITE_FAULT, NO_MEMORY = 0, 2, 7, 8, 9
@@ -31,7 +31,7 @@ def main(words: list[str]) -> int:
     given = [word.encode(errors="surrogateescape") for word in words]
     try:
         code, text = answer(given)
-        if code != USAGE and words[0] not in INPUTLESS:
+        if code != USAGE and words[0] not in commands("unread"):
             if sys.stdin is None:
                 raise OSError("standard input is closed")
             code, text = answer(given, sys.stdin.buffer.read())

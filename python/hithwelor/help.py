@@ -1,14 +1,8 @@
-"""What `hithwelor --help` says: the package's own words, and the forms of the program's.
-
-The forms stand once, in tools/lib/front.sh, as ./workbench shows them; a wheel and an installation have that file too.
-"""
+"""What `hithwelor --help` says: the package's own words, and the forms of the program's."""
 from __future__ import annotations
 
-import os
+from .forms import commands, forms, quoted
 
-from .answers import HERE, TOP, first_that_stands
-
-FRONTS = [os.path.join(HERE, "front.sh"), os.path.join(TOP, "tools", "lib", "front.sh"), os.path.join(TOP, "front.sh")]
 OWN = {
     "sweep MACHINE.. --out TABLE": "counts of many machines, words and windows; `sweep --help` has the options",
     "sweep join TABLE": "the parts of such a table, put together",
@@ -16,19 +10,7 @@ OWN = {
     "--version": "the version",
     "--help": "this",
 }
-WIDTH = 29
-
-
-def forms() -> dict[str, str]:
-    """The forms of the program's words, each with what it does."""
-    path, found = first_that_stands(FRONTS), {}
-    if path:
-        with open(path, encoding="utf-8") as file:
-            for line in file:
-                form, bar, what = line.strip().strip('"').partition("|")
-                if line.startswith('    "') and bar:
-                    found[form] = what
-    return found
+WIDTH = 33
 
 
 def help_text(version: str) -> str:
@@ -40,9 +22,10 @@ def help_text(version: str) -> str:
         "",
         "The words are one of these:",
     ]
-    lines += [f"  {form:{WIDTH}} {what}" for form, what in forms().items()]
+    lines += [f"  {it.words:{WIDTH}} {it.what}" for it in forms()]
     lines += [
-        "All but `generate` read standard input. `=W` is `=` and the letters of the word.",
+        f"All but {quoted(commands('unread'))} read standard input. `=W` is `=` and the letters of the word;",
+        f"of {quoted(commands('named'))} also `:` and the names of its symbols with commas between.",
         "",
         "The package's own:",
     ]

@@ -1,55 +1,39 @@
 # shellcheck shell=bash disable=SC2154,SC2034
 # The forms of the words, and words that help: what ./workbench and ./try say on standard error beside the program.
-# Sourced where it is needed, behind tools/lib/built.sh, with the top of the repository in `top`; where it is installed,
-# `manual` and `help_page` name the two pages.
+# Sourced where it is needed, behind tools/lib/built.sh, with forms.tsv beside it and the top of the repository in `top`; where
+# it is installed, `manual` and `help_page` name the two pages.
 manual=${manual-$top/docs/workbench.1}
 help_page=${help_page-$top/docs/HELP.md}
 
-# The forms of the words, and what each command does. tests/test_forms.py compares them with the program's own table.
-forms=(
-    "step E|a configuration text, at most E element steps on"
-    "back E|the same, back"
-    "check|is the machine of this table in standard form?"
-    "machine =W n|its own run from the word W, of at most n steps"
-    "trace =W n|each moment of that run, a line a moment"
-    "moments =W n|the same of a machine of quadruples, on three tapes"
-    "moments =W1 =W2 =W3 n|with a word on each tape"
-    "standard|a machine that starts on the first letter, in standard form"
-    "bennett|Bennett's reversible machine of this machine"
-    "reversible|are the quadruples of this table deterministic, and reversible?"
-    "inverse|the machine of quadruples that takes the steps of this one back"
-    "realise Q I|the circuit of a table of moves, in state Q, the signal at line I"
-    "compile =W l1 r1 n r3|the circuit of a machine and a word in a window"
-    "layout =W l1 r1 n r3|what that circuit is made of: modules, columns and lines by name"
-    "build =W l1 r1 r2 r3|the circuit of a reversible machine of quadruples and a word"
-    "build =W1 =W2 =W3 l1 r1 r2 r3|with a word on each tape"
-    "drive =W l1 r1 r2 r3 E|its run, of at most E element steps"
-    "drive =W1 =W2 =W3 l1 r1 r2 r3 E|with a word on each tape"
-    "run =W l1 r1 n r3 [E]|its run, to its exit or of at most E element steps"
-    "run =W auto|its run in a window that the program finds"
-    "view =W l1 r1 n r3 E|every layer of it after at most E element steps"
-    "session =W l1 r1 n r3|a script, behind the table and a line %, played on it"
-    "plan|the wires of a circuit on as few tracks as can be"
-    "migrate|a configuration text in version 2, in which a column is one entry"
-    "mirror|a circuit whose steps are the steps back of this one"
-    "farm|several circuits under a schedule, and the schedule that undoes it"
-    "generate k|the run of a machine that adds one k times, k from 1 to 4"
-    "erase|the machine of two tables that leaves only its output"
-    "erase =W n|its run from the word W, of at most n steps"
-)
+# The forms of the words, each with what the command does behind `|`; the commands that read nothing, and those whose words
+# may be names of symbols with commas between, behind `:`; and the least and the greatest number in place of each letter,
+# with a command before it where it has its own. All of it is read of the file beside this one.
+forms=() inputless=' ' named=' '
+declare -A least=() greatest=()
 
-# The commands that read nothing.
-inputless=" generate "
-
-# The commands whose words may be names of symbols with commas between, behind `:`.
-named=" build drive "
-
-# The least and the greatest number in place of each letter of the forms, with a command before it where it has its own;
-# without a least one it is 0.
-declare -A least=([Q]=1 [I]=1 [k]=1)
-declare -A greatest=(
-    [E]=4611686018427387904 [drive E]=2305843009213693952 [n]=1048576 [l1]=1048576 [r1]=1048576 [r2]=1048576 [r3]=1048576 [Q]=1048576 [I]=1048576 [k]=4
-)
+# Takes in one line of that file.
+take_form() {
+    local command letter
+    command=${2-} command=${command%% *}
+    case ${1-} in
+    form)
+        forms+=("$2|$3")
+        case ${4-} in
+        unread) [[ $inputless = *" $command "* ]] || inputless+="$command " ;;
+        named) [[ $named = *" $command "* ]] || named+="$command " ;;
+        esac
+        ;;
+    number)
+        if is_command "$command"; then
+            least[$2]=$3 greatest[$2]=$4
+        else
+            for letter in $2; do
+                least[$letter]=$3 greatest[$letter]=$4
+            done
+        fi
+        ;;
+    esac
+}
 
 # Whether there is a command of this name.
 is_command() {
@@ -61,9 +45,22 @@ is_command() {
     return 1
 }
 
+while IFS=$'\t' read -ra form_parts; do
+    take_form "${form_parts[@]}"
+done <"${BASH_SOURCE[0]%/*}/forms.tsv"
+unset form_parts
+
 # Whether the words' command reads an input.
 reads_input() {
     is_command "${1-}" && [[ $inputless != *" $1 "* ]]
+}
+
+# A list of names as a sentence has it.
+quoted_names() {
+    local names
+    read -ra names <<<"$1"
+    printf " \`%s\`" "${names[0]}"
+    ((${#names[@]} < 2)) || printf " and \`%s\`" "${names[@]:1}"
 }
 
 show_forms() {
@@ -72,8 +69,8 @@ show_forms() {
     for form in "${forms[@]}"; do
         printf '  %-33s %s\n' "${form%%|*}" "${form#*|}" >&2
     done
-    printf '%s\n' "All but \`generate\` read standard input. \`=W\` is \`=\` and the letters of the word; of \`build\` and \`drive\`" \
-        "also \`:\` and the names of its symbols with commas between." >&2
+    printf '%s\n' "All but$(quoted_names "$inputless") read standard input. \`=W\` is \`=\` and the letters of the word;" \
+        "of$(quoted_names "$named") also \`:\` and the names of its symbols with commas between." >&2
 }
 
 # Whether two words differ in one letter at most: one other, one more, one less, or two that have changed places.
@@ -120,8 +117,9 @@ is_above() {
 
 # What is wrong with a word behind a command where its form has this letter there: sets `fault`, or leaves it empty.
 find_fault_of_word() {
-    local command=$1 letter=$2 word=$3 most digits
+    local command=$1 letter=$2 word=$3 few most digits
     fault=
+    few=${least["$command $letter"]-${least["$letter"]-}}
     most=${greatest["$command $letter"]-${greatest["$letter"]-}}
     if [[ $letter = =W* ]]; then
         [[ $word = =* || $word = :* && $named = *" $command "* ]] || fault="the word needs a = before it: =$word"
@@ -136,8 +134,8 @@ find_fault_of_word() {
         fault="$letter is a number, and ${word:-the empty word} is none"
     elif is_above "$word" "$most"; then
         fault="$letter is at most $most"
-    elif ((word < ${least[$letter]-0})); then
-        fault="$letter is at least ${least[$letter]}"
+    elif ((word < few)); then
+        fault="$letter is at least $few"
     fi
 }
 
@@ -161,7 +159,7 @@ find_fault_of_file() {
 
 # What is wrong with words that have no form, in one line: sets `fault`.
 find_fault() {
-    local form letters fewest shown='' word i
+    local form letters shown='' word i
     if [ $# = 0 ]; then
         fault="no command is named"
         return
@@ -178,10 +176,8 @@ find_fault() {
         form=${form%%|*}
         [[ ${form%% *} = "$1" ]] || continue
         shown+="${shown:+ or }\`$form\`"
-        read -ra letters <<<"${form//[\[\]]/}"
-        fewest=${#letters[@]}
-        [[ $form = *\[* ]] && fewest=$((fewest - 1))
-        (($# == ${#letters[@]} || $# == fewest)) || continue
+        read -ra letters <<<"$form"
+        (($# == ${#letters[@]})) || continue
         for ((i = 1; i < $#; i++)); do
             find_fault_of_word "$1" "${letters[i]}" "${@:i+1:1}"
             [ -z "$fault" ] || return
