@@ -36,13 +36,29 @@ def clone(tmp_path_factory):
     return places.clone_to(str(tmp_path_factory.mktemp("clone") / "it's a clone"))
 
 
+@pytest.fixture(scope="session")
+def restored_clone(clone, tmp_path_factory):
+    """Gives a clone that tests change one after another: what a test changed is taken back by git before the next one has
+    it, since copying some thousand files for each takes far longer. Where a test took .git away it is copied anew."""
+    folder = str(tmp_path_factory.mktemp("own") / "own clone")
+    commit = places.git("rev-parse", "HEAD", cwd=clone).strip()
+
+    def restored():
+        if os.path.isdir(os.path.join(folder, ".git")):
+            places.git("reset", "-q", "--hard", commit, cwd=folder)
+            places.git("clean", "-ffdxq", cwd=folder)
+        else:
+            shutil.rmtree(folder, ignore_errors=True)
+            subprocess.run(["cp", "-a", clone, folder], check=True)
+        return folder
+
+    return restored
+
+
 @pytest.fixture
-def own_clone(clone, tmp_path):
-    """A clean clone that a test may change."""
-    to = str(tmp_path / "own clone")
-    subprocess.run(["cp", "-a", clone, to], check=True)
-    yield to
-    shutil.rmtree(to, ignore_errors=True)
+def own_clone(restored_clone):
+    """A clean clone of the repository that a test may change."""
+    return restored_clone()
 
 
 @pytest.fixture(scope="session")
@@ -101,6 +117,23 @@ def pytest_addoption(parser):
     parser.addoption(
         "--every", action="store_true", help="refuse every allocation, of larger inputs too: some ten minutes"
     )
+
+
+@pytest.hookimpl(tryfirst=True)
+def pytest_cmdline_main(config):
+    """Where pytest-xdist is here and nothing else is asked of it, several files are run on all cores, a file by one process,
+    since what is made once for a file is shared there. -n 0 and -p no:xdist keep to one process."""
+    options, of_one = config.option, ("usepdb", "collectonly", "looponfail")
+    if hasattr(config, "workerinput") or not config.pluginmanager.hasplugin("xdist"):
+        return
+    if options.numprocesses is not None or options.dist != "no" or options.tx or options.capture == "no":
+        return
+    files = {it.partition("::")[0] for it in config.args}
+    if any(getattr(options, it, False) for it in of_one) or len(files) == 1 and not os.path.isdir(min(files)):
+        return
+    options.numprocesses, options.dist = "auto", "loadfile"
+    if not any(map(os.path.isdir, files)):
+        options.maxprocesses = len(files)
 
 
 def pytest_configure(config):

@@ -52,21 +52,17 @@ def test_a_planted_circle_is_seen(copy):
     assert made.returncode == 1 and made.stdout.count("\n") == 1 and "state.js" in made.stdout, made.stdout
 
 
-def test_a_planted_type_fault_is_seen(copy):
+def test_a_planted_type_fault_and_a_planted_null_are_seen(copy):
     needs("tsc")
     plant(copy, "page/src/texts.js", "readPlace = word => 4 * parseInt(word)", "readPlace = word => 4 + word")
-    made = run("tsc", "-p", "page/tsconfig.json", cwd=copy)
-    assert made.returncode and "texts.js" in made.stdout, made.stdout
-
-
-def test_a_planted_null_is_seen(copy):
-    needs("tsc")
     begin = "export function zoomBy(factor) {\n"
     plant(copy, "page/src/bank.js", f"{begin}  if (!seen.view) return;\n", begin)
     made = run("tsc", "-p", "page/tsconfig.json", cwd=copy)
-    assert made.returncode and "bank.js" in made.stdout, made.stdout
+    assert made.returncode and "texts.js" in made.stdout and "bank.js" in made.stdout, made.stdout
 
 
+# Slow: two more runs of tsc, of about nine seconds; the types themselves are held by test_page.py, which runs by itself.
+@pytest.mark.slow
 def test_a_planted_parameter_without_a_type_is_seen(copy):
     """In the modules of page/tsconfig.typed.json every parameter has a type; the others know at least what may be null."""
     needs("tsc")

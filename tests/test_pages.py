@@ -27,12 +27,18 @@ def test_the_page_of_a_crate_has_its_form(faults, crate):
     assert not faults[crate], "\n".join(f"crates/{crate}/README.md: {it}" for it in faults[crate])
 
 
-MADE = sorted(pages.made({}))
+@pytest.fixture(scope="module")
+def made():
+    return pages.made(pages.read_pages())
 
 
-@pytest.mark.parametrize("path", MADE)
-def test_a_page_is_what_the_files_say_of_which_it_is_made(path):
-    assert pages.is_there(path, pages.made(pages.read_pages())[path]), f"tools/build/pages --write makes {path} anew"
+@pytest.mark.parametrize("path", sorted(pages.paths_made()))
+def test_a_page_is_what_the_files_say_of_which_it_is_made(made, path):
+    assert pages.is_there(path, made[path]), f"tools/build/pages --write makes {path} anew"
+
+
+def test_what_is_made_is_what_is_told_to_be(made):
+    assert sorted(made) == sorted(pages.paths_made())
 
 
 def test_the_calls_of_the_crates_are_told_in_full():
