@@ -202,6 +202,26 @@ def answering():
         pytest.skip(str(fault))
 
 
+@pytest.fixture(scope="session")
+def asks(pytestconfig, request):
+    """`asks(words, data)` gives a status and a text, both as they come: of the program that is named by --program, else of what
+    answers the package of Python."""
+    named = pytestconfig.getoption("--program")
+    if not named:
+        request.getfixturevalue("answering")
+        from hithwelor import answers
+
+        return lambda words, data: answers.answer([str(it) for it in words], data)
+
+    def ask(words, data):
+        words = [os.path.abspath(named), *map(str, words)]
+        ran = subprocess.run(words, input=data, stdout=subprocess.PIPE, stderr=subprocess.PIPE)
+        assert ran.stderr == b"", ran.stderr
+        return ran.returncode, ran.stdout
+
+    return ask
+
+
 def wanted(*commands):
     """Skips the test where a command isn't here."""
     for it in commands:

@@ -47,9 +47,9 @@ REFUSALS = {
     USAGE: "usage",
     3: rf"text: (?:line {N} {FAULT}|(?:second )?{RECORD}|no script|no second|no schedule|script line {N} (?:form|no state|same break"
     rf"|no break)|board {N} line {N} {FAULT}|schedule line {N} (?:form|board))",
-    4: rf"machine: (?:(?:second )?{FORM}|halting {N}|domain {N} {N}|range {N} {N})",
+    4: rf"machine: (?:(?:second )?{FORM}|halting {N}|(?:domain|range|reads|writes) {N} {N}|(?:silent|initial|final) {N})",
     5: rf"word: (?:{N}|{N} {N}|state|line)",
-    6: rf"size: (?:input|word needs {N}|elements {N}|quintuples {N}|quadruples {N})",
+    6: rf"size: (?:input|word needs {N}|word [123] needs {N}|symbols [123] {N}|elements {N}|quintuples {N}|quadruples {N})",
 }
 TEXT = rf"rotary [12]\nelements {N}\nstart {PLACE}\nend {PLACE}\nsteps {N}\n(?:at|left) {PLACE}\n(?:[ecr] [^\n]+\n)+"
 TAPES = rf"(?:tape [123] from -?{N} head (?:-?{N}|\?):[^\n]*\n){{3}}"
@@ -58,6 +58,13 @@ RUN = (
 )
 QUADRUPLES = rf"(?:[^,\n]+(?:,[^,\n]+){{7}}\n)+"
 VIEW = rf"element (?:at|left) {PLACE} steps {N}\n[^\n]+\nquadruple [^\n]+\n{TAPES}machine [^\n]+\n"
+LAYOUT = (
+    rf"elements {N}\nmodules {N}\n(?:module {N} (?:control|tape [123] cell -?{N}) from {N} columns {N} lines {N}\n)+"
+    rf"(?:column {N} of control (?:begin|end|reads [^\n]+|shifts {N} [123]|writes [^\n]+)\n)+"
+    rf"(?:line {N} of control in [^\n]+ out [^\n]+\n)+"
+    rf"(?:(?:column {N} of tape [123] (?:plain|head) [!-~]+\n)+(?:line {N} of tape [123] [^\n]+\n)+){{3}}"
+)
+DRIVE = rf"elements {N}\n(?:%s)\nsteps {N}\nquadruple steps {N}\n{TAPES}"
 # The form of a command's text, by its statuses.
 FORMS = {
     "step": {DONE: TEXT},
@@ -67,6 +74,17 @@ FORMS = {
     "plan": {DONE: rf"elements {N}\nwires {N}\ntracks {N}\ndensest {N}\n(?:wire {PLACE} {PLACE} track {N}\n)*"},
     "realise": {DONE: TEXT},
     "compile": {DONE: TEXT},
+    "layout": {DONE: LAYOUT},
+    "build": {DONE: TEXT},
+    "drive": {
+        status: DRIVE % exit
+        for status, exit in (
+            (DONE, "exit end"),
+            (STUCK, r"exit stuck [^ \n]+(?: [!-~]+){3}"),
+            (WINDOW, "exit window [123] (?:left|right)"),
+            (INSIDE, f"inside {PLACE}"),
+        )
+    },
     "check": {DONE: rf"standard states {N} symbols {N} quintuples {N}\n"},
     "machine": {DONE: rf"halted {N}\noutput ={WORD}\n", STUCK: rf"stuck [^\n]+ [!-~] {N}\n", INSIDE: rf"running {N}\n"},
     "trace": {
@@ -107,6 +125,9 @@ TABLE_COMMANDS = [
     "run",
     "view",
     "compile",
+    "layout",
+    "build",
+    "drive",
     "reversible",
     "inverse",
     "realise",
@@ -138,6 +159,17 @@ def drawn_table(draw):
         if draw.random() < 0.8
     ]
     return "\n".join(["S,_,_,+,A", *rows, "H,_,_,0,F"]).encode() + b"\n"
+
+
+def drawn_quadruples(draw):
+    """A table of quadruples: one that is uniform and reversible, or its rows with some drawn anew."""
+    rows = ["S,/,/,/,+,0,-,A", "A,a,/,_,b,0,_,A", "A,b,/,_,a,0,_,B", "B,/,_,/,+,x,0,C", "C,_,/,_,_,0,_,F"]
+    rows = rows[: draw.randrange(1, 6)]
+    while draw.random() < 0.5:
+        acts = [draw.choice([("/", draw.choice("-0+")), (draw.choice("_ab"), draw.choice("_ab"))]) for _ in range(3)]
+        row = [draw.choice("SABC"), *(read for read, _ in acts), *(act for _, act in acts), draw.choice("ABCF")]
+        rows[draw.randrange(len(rows))] = ",".join(row)
+    return "\n".join(rows).encode() + b"\n"
 
 
 def drawn_text(draw):
@@ -214,6 +246,8 @@ def drawn_words(draw, name):
     number = lambda *limits: str(draw.choice(limits))
     word = "=" + "".join(draw.choice("01") for _ in range(draw.randrange(4)))
     window = [number(0, 1), number(1, 2, 3), number(0, 1, 2, 3, 5), number(1, 2, 3)]
+    tape = lambda: draw.choice([word, "=", ":", ":0", ":a,b", "=a", "=ab", ":a,", ":_", ":x", "=" + "\x7f", ":,,"])
+    tapes = [tape() for _ in range(draw.choice([1, 3]))]
     forms = {
         "step": [number(0, 1, 2, 7, 100)],
         "back": [number(0, 1, 5)],
@@ -222,6 +256,9 @@ def drawn_words(draw, name):
         "moments": [word, number(0, 1, 7, 40)],
         "realise": [number(1, 2, 3), number(1, 2)],
         "compile": [word, *window],
+        "layout": [word, *window],
+        "build": [*tapes, *window],
+        "drive": [*tapes, *window, number(0, 1, 1000, 99999)],
         "run": [word, *window],
         "view": [word, *window, number(0, 1, 1000, 9999)],
         "session": [word, *window],
@@ -250,6 +287,8 @@ def drawn_case(draw):
             draw.choice([*ARE_TABLES, drawn_table(draw), drawn_table(draw)]),
             ARE_TABLES,
         )
+        if name in ("moments", "build", "drive", "reversible", "inverse"):
+            base = draw.choice([base, drawn_quadruples(draw), drawn_quadruples(draw)])
     else:
         name = draw.choice(["session", "erase", "farm"])
         base, others = (
@@ -272,6 +311,8 @@ def drawn_case(draw):
 # The least machine in standard form, and a signal at one element.
 LEAST = b"S,_,_,+,T\nT,_,_,0,F\n"
 ELEMENT = b"rotary 1\nelements 1\nstart 0.n\nend 0.s\nsteps 0\nat 0.n\ne 0 V - - - -\n"
+# The least machine of quadruples.
+QUADRUPLES_LEAST = b"S,/,/,/,+,0,0,F\n"
 # Words, an input, and the answer.
 HOSTILE = [
     ("step 1", ELEMENT + b"\n", 3, "text: line 8 syntax"),
@@ -298,6 +339,17 @@ HOSTILE = [
     ("farm", ELEMENT + b"%\n+ 1 1", 3, "text: schedule line 1 form"),
     ("machine =12 5", EXAMPLES["increment.csv"], 5, "word: 2"),
     ("realise 3 1", EXAMPLES["two-moves.csv"], 5, "word: state"),
+    ("layout = 0 2 2 1", b"", 3, "text: empty"),
+    ("layout =1 0 2 2 1", LEAST, 5, "word: 1"),
+    ("build = 0 2 2 1", b"S,/,/,/,+,0,0\n", 3, "text: record 1 fields"),
+    ("build = 0 2 2 1", b"S,/,/,/,+,0,2,F\n", 3, "text: record 1 field 7 shift"),
+    ("build =" + "1" * 70000 + " = = 0 2 2 1", QUADRUPLES_LEAST, 5, "word: 1 1"),
+    ("build = :, = 0 2 2 1", QUADRUPLES_LEAST, 5, "word: 2 1"),
+    ("build :" + "," * 70000 + " 0 2 2 1", QUADRUPLES_LEAST, 5, "word: 1"),
+    ("build = 0 2 2 1048576", QUADRUPLES_LEAST, 6, "size: elements 23068868"),
+    ("drive = = :a" + ",a" * 70000 + " 0 2 2 1 5", QUADRUPLES_LEAST, 5, "word: 3 1"),
+    ("drive = 0 2 2 1 2305843009213693953", QUADRUPLES_LEAST, 2, "usage"),
+    ("drive = 0 2 2 1 5", b"S,/,/,/,0,0,0,F\n", 4, "machine: silent 1"),
 ]
 # Commands whose input is tried with each of its fronts.
 CUT = [
@@ -313,6 +365,9 @@ CUT = [
     ("reversible", "reversible.csv"),
     ("realise 1 1", "two-moves.csv"),
     ("compile = 0 2 2 1", "least.csv"),
+    ("layout = 0 2 2 1", "least.csv"),
+    ("build =11 =110 = 0 3 4 3", "adder.csv"),
+    ("drive =11 :1,1,0 = 0 3 4 3 1000", "adder.csv"),
     ("run = 0 2 2 1", "least.csv"),
     ("view = 0 2 2 1 6539", "least.csv"),
     ("session = 0 2 2 1", "least-session.txt"),

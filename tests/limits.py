@@ -10,6 +10,7 @@ import subprocess
 import sys
 import time
 
+import quadruple_rules as rules
 from places import TOP
 
 sys.path.append(os.path.join(TOP, "bench"))
@@ -18,7 +19,7 @@ from generate import EXPECTED, expected_lines
 from run import increments
 
 # The statuses of an answer.
-DONE, USAGE, TEXT, SIZE, STUCK, INSIDE = 0, 2, 3, 6, 10, 12
+DONE, USAGE, TEXT, WORD, SIZE, STUCK, INSIDE = 0, 2, 3, 5, 6, 10, 12
 
 MOST_INPUT = 256 << 20
 MOST_STEPS = 1 << 62
@@ -384,6 +385,88 @@ def runs_in_the_widest_window(by):
         ["session", *WIDEST],
         table + b"%\n" + f"break e element {last}\ngo {MOST_STEPS}\n".encode(),
         lambda lines: lines[1].startswith(f"at {last}.") and lines[1].endswith(" break e"),
+    )
+
+
+@case
+def a_layout_of_the_widest_window(by):
+    table = increments(1)
+    by.expect(
+        "layout",
+        ["layout", *WIDEST],
+        table,
+        lambda lines: lines[:2] == [f"elements {WIDEST_ELEMENTS}", "modules 6154"]
+        and lines[6155].startswith("module 6153 tape 3 cell 5 from ")
+        and lines[-1].endswith(" of tape 3 TakeL"),
+    )
+    by.expect(
+        "one element too many", ["layout", "=1011", "0", "5", "6141", "5"], table, ["size: elements 4194796"], SIZE
+    )
+    by.expect(
+        "layout of 100 quintuples",
+        ["layout", "=", "0", "1", "1", "1"],
+        chain(100, LETTERS[:3]),
+        lambda lines: lines[0] == "elements 278888",
+    )
+    by.expect(
+        "layout of 4,000 quintuples",
+        ["layout", "=", "0", "1", "1", "1"],
+        chain(MOST_QUINTUPLES, LETTERS[:3]),
+        ["size: elements 385513088"],
+        SIZE,
+    )
+
+
+# It goes over words of one letter on all three tapes at once, and halts behind them.
+GOING = b"S,_,_,_,_,_,_,R\nR,/,/,/,+,+,+,A\nA,a,a,a,a,a,a,R\nA,_,_,_,_,_,_,F\n"
+GOING_ROWS = [line.split(",") for line in GOING.decode().splitlines()]
+MOST_DRIVE_STEPS = 1 << 61
+
+
+def window_of(cells):
+    """A window with so many cells right of position 0 on each tape, as words; and how many elements the board has there."""
+    return ["0", *[str(cells)] * 3], rules.count_of(GOING_ROWS, (0, cells, cells, cells))
+
+
+@case
+def boards_with_long_words_on_three_tapes(by):
+    window, count = window_of(26_000)
+    by.hold("about as many elements as may be", 4_000_000 < count < 4_194_304, str(count))
+    letters = by.expect(
+        "by letters",
+        ["build", *["=" + "a" * 26_000] * 3, *window],
+        GOING,
+        lambda lines: lines[1] == f"elements {count}",
+    )
+    names = by.expect("by names", ["build", *[":" + ",".join("a" * 26_000)] * 3, *window], GOING, lambda lines: True)
+    by.hold("letters and names are the same words", letters == names)
+    longer = ["=", "=", ":" + ",".join("a" * 26_001)]
+    by.expect("one letter too many", ["build", *longer, *window], GOING, ["size: word 3 needs 26001"], SIZE)
+    foreign = ["=", "=" + "a" * 26_000 + "b", "="]
+    by.expect("a foreign letter behind many", ["build", *foreign, *window], GOING, ["word: 2 26001"], WORD)
+    window, count = window_of(27_000)
+    by.expect("too many elements", ["build", "=", *window], GOING, [f"size: elements {count}"], SIZE)
+
+
+@case
+def drives_of_the_most_steps(by):
+    window, count = window_of(26_000)
+    words = ["=" + "a" * 300, ":" + ",".join("a" * 300), "=" + "a" * 300]
+    ended = rules.ended(GOING_ROWS, ["a" * 300] * 3, (0, *[26_000] * 3), 1000)
+    by.expect(
+        "a drive of at most 2^61 steps",
+        ["drive", *words, *window, str(MOST_DRIVE_STEPS)],
+        GOING,
+        lambda lines: lines[:2] == [f"elements {count}", "exit end"]
+        and lines[3:] == [f"quadruple steps {ended.steps}", *rules.tape_lines(ended.tapes, (0, *[26_000] * 3))],
+    )
+    by.expect("one step more", ["drive", *words, *window, str(MOST_DRIVE_STEPS + 1)], GOING, ["usage"], USAGE)
+    by.expect(
+        "no step",
+        ["drive", *words, *window, "0"],
+        GOING,
+        lambda lines: lines[1:4] == ["inside 0.w", "steps 0", "quadruple steps 0"],
+        INSIDE,
     )
 
 

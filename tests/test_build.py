@@ -6,16 +6,18 @@ left, and its cells are read: they show the tapes that `moments` tells where the
 lead to the text that was built. And of the tables that `bennett` prints of drawn machines, the circuit is `compile`'s, byte for
 byte.
 
-The answers are the library's, or those of node by bin/hithwelor; where neither is here all is skipped. `--drawn N` draws so
-many, and `--seed S` others.
+With a word on each tape, by letters, by names or both, what is refused is compared with quadruple_rules.py, and so is where the
+words stand; a circuit that is started with three words ends as `moments` does.
+
+The answers are those of the program that --program names, else the library's, or those of node by bin/hithwelor. `--drawn N`
+draws so many, and `--seed S` others.
 """
 import random
 import re
 
 import pytest
-from hithwelor import answers
 
-from test_ends import BLANK
+import quadruple_rules as rules
 from test_moments import applies, places, rows_of, told
 from test_traces import drawn_quadruples, drawn_run, table_of
 
@@ -105,12 +107,6 @@ def refusal(rows):
 # ---- a circuit's cells
 
 
-def symbols_of(rows, tape):
-    """The symbols of a tape by their numbers: the blank, and then as they come in the table."""
-    said = [row[field] for row in rows for field in (tape, tape + 3) if row[tape] != "/"]
-    return list(dict.fromkeys([BLANK, *said]))
-
-
 def marked_columns(text):
     """The elements that are the bottoms of marked columns: each column is an entry, with its first element and its rows."""
     return {int(first) + int(rows) for first, rows, bar in re.findall(r"^c (\d+) (\d+) (\S)", text, re.M) if bar == "H"}
@@ -118,7 +114,7 @@ def marked_columns(text):
 
 def shown_tapes(rows, window, text):
     """What the cells show: of each tape the place of its head, or none, and the symbols but for the blank by their places."""
-    symbols = [symbols_of(rows, tape) for tape in (1, 2, 3)]
+    symbols = [rules.symbols_of(rows, tape) for tape in (1, 2, 3)]
     lines = 1 + sum(len(it) + 3 for it in symbols)
     end = int(re.search(r"^end (\d+)\.e$", text, re.M)[1])
     first = end + lines + 1
@@ -147,7 +143,7 @@ def uniform_case(draw):
     while True:
         rows = drawn_quadruples(draw)
         if refusal(rows) is None:
-            letters = [it for it in symbols_of(rows, 1)[1:] if len(it) == 1]
+            letters = [it for it in rules.symbols_of(rows, 1)[1:] if len(it) == 1]
             return rows, "".join(draw.choice(letters) for _ in range(draw.randrange(4) if letters else 0))
 
 
@@ -158,12 +154,45 @@ def made_case(draw):
     return rows_of(table.encode()), word
 
 
+def renamed(draw, rows):
+    """The rows with longer names for some symbols of each tape."""
+    for tape in (1, 2, 3):
+        names = {it: f"{it}{it}" for it in rules.symbols_of(rows, tape)[1:] if draw.random() < 0.3}
+        for field in (tape, tape + 3):
+            rows = [
+                [names.get(it, it) if row[tape] != "/" and at == field else it for at, it in enumerate(row)]
+                for row in rows
+            ]
+    return rows
+
+
+def spelled(draw, symbols, wrong):
+    """A word of these symbols in one of the two ways, in which now and then something is wrong."""
+    names = [draw.choice(symbols) for _ in range(draw.randrange(4) if symbols else 0)]
+    if names and draw.random() < wrong:
+        names[draw.randrange(len(names))] = draw.choice(["_", "z", "", "ab"])
+    if draw.random() < 0.5 and all(len(it) == 1 for it in names):
+        return "=" + "".join(names)
+    return ":" + ",".join(names)
+
+
+def worded_case(draw, wrong=0.15):
+    """A uniform machine, a word on tape 1 or on each tape, and a window."""
+    rows = renamed(draw, uniform_case(draw)[0] if draw.random() < 0.5 else made_case(draw)[0])
+    arguments = [spelled(draw, rules.symbols_of(rows, tape)[1:], wrong) for tape in (1, 2, 3)]
+    window = [draw.randrange(3), *(draw.randrange(2 if draw.random() < wrong else 4, 6) for _ in range(3))]
+    if draw.random() < wrong / 3:
+        window[draw.randrange(4)] = 1_048_576
+    return rows, arguments[: draw.choice([1, 3, 3])], tuple(window)
+
+
 def pytest_generate_tests(metafunc):
     draw = random.Random(metafunc.config.getoption("--seed"))
     for name, drawn in (
         ("quadruples", drawn_quadruples),
         ("uniform", uniform_case),
         ("made", made_case),
+        ("worded", worded_case),
         ("run", drawn_run),
     ):
         if name in metafunc.fixturenames:
@@ -171,17 +200,23 @@ def pytest_generate_tests(metafunc):
             metafunc.parametrize(name, cases, ids=[f"{number}" for number in range(1, len(cases) + 1)])
 
 
-def ask(words, data, status=0):
-    found, text = answers.answer([str(it) for it in words], data if isinstance(data, bytes) else data.encode())
-    assert found == status, (words, text[:200])
-    return text.decode()
+@pytest.fixture(scope="session")
+def ask(asks):
+    """The text of an answer that has this status."""
+
+    def answer(words, data, status=0):
+        found, text = asks(words, data if isinstance(data, bytes) else data.encode())
+        assert found == status, (words, text[:200])
+        return text.decode()
+
+    return answer
 
 
-def hold_circuit(rows, word):
+def hold_circuit(ask, rows, arguments):
     """The circuit's run is the machine's, where that halts or is stuck soon; and it is taken back."""
-    built = ask(["build", f"={word}", *WINDOW], table_of(rows))
+    built = ask(["build", *arguments, *WINDOW], table_of(rows))
     stepped = ask(["step", MOST_STEPS], built)
-    status, lines = told(rows, [word, "", ""], 60)
+    status, lines = told(rows, [names for names, _ in rules.words_of(arguments, rows)], 60)
     if not re.search(r"^left ", stepped, re.M):
         assert status == 12 or ask(["step", MOST_STEPS], stepped) != stepped
         return
@@ -199,9 +234,9 @@ def within(line):
 
 
 @pytest.mark.engine
-def test_a_machine_is_refused_at_its_first_fault(quadruples, answering):
+def test_a_machine_is_refused_at_its_first_fault(quadruples, asks):
     wanted = refusal(quadruples)
-    status, text = answers.answer(["build", "=", "0", "1", "1", "1"], table_of(quadruples).encode())
+    status, text = asks(["build", "=", "0", "1", "1", "1"], table_of(quadruples).encode())
     if wanted is None:
         assert status == 0 and text.startswith(b"rotary 2\n")
     else:
@@ -209,17 +244,19 @@ def test_a_machine_is_refused_at_its_first_fault(quadruples, answering):
 
 
 @pytest.mark.engine
-def test_a_drawn_circuit_does_what_its_machine_does(uniform, answering):
-    hold_circuit(*uniform)
+def test_a_drawn_circuit_does_what_its_machine_does(uniform, ask):
+    rows, word = uniform
+    hold_circuit(ask, rows, [f"={word}"])
 
 
 @pytest.mark.engine
-def test_a_made_circuit_does_what_its_machine_does(made, answering):
-    hold_circuit(*made)
+def test_a_made_circuit_does_what_its_machine_does(made, ask):
+    rows, word = made
+    hold_circuit(ask, rows, [f"={word}"])
 
 
 @pytest.mark.engine
-def test_the_inverse_leads_back(made, answering):
+def test_the_inverse_leads_back(made, ask):
     """What the circuit left is a start of the inverse's circuit, which leaves the word."""
     rows, word = made
     status, lines = told(rows, [word, "", ""], 60)
@@ -234,7 +271,7 @@ def test_the_inverse_leads_back(made, answering):
 
 
 @pytest.mark.engine
-def test_bennetts_table_is_built_as_its_machine_is_compiled(run, answering):
+def test_bennetts_table_is_built_as_its_machine_is_compiled(run, ask):
     rows, word, _ = run
     table = table_of(rows)
     window = (1, max(1, len(word)), 3, 3)
@@ -243,22 +280,70 @@ def test_bennetts_table_is_built_as_its_machine_is_compiled(run, answering):
 
 
 @pytest.mark.engine
-def test_a_tape_has_4001_symbols_and_no_more(answering):
+def test_a_tape_has_4001_symbols_and_no_more(asks):
     """The blank and 4,000 others stand there; one more is refused with its tape."""
 
     def table(others):
         return "".join(f"A{k},/,s{k},/,0,s{k},0,A{k + 1}\n" for k in range(others))
 
-    status, text = answers.answer(["build", "=", "0", "0", "0", "0"], table(4001).encode())
+    status, text = asks(["build", "=", "0", "0", "0", "0"], table(4001).encode())
     assert (status, text) == (6, b"size: symbols 2 4002\n")
-    status, text = answers.answer(["build", "=", "0", "0", "0", "0"], table(4000).encode())
+    status, text = asks(["build", "=", "0", "0", "0", "0"], table(4000).encode())
     assert status == 6 and text.startswith(b"size: elements ")
 
 
 @pytest.mark.slow
 @pytest.mark.engine
-def test_a_table_of_20000_quadruples(answering):
+def test_a_table_of_20000_quadruples(asks):
     """The largest table is judged, and built."""
     table = "".join(f"A{k},/,/,/,+,0,0,A{k + 1}\n" for k in range(20_000))
-    status, text = answers.answer(["build", "=", "0", "0", "0", "0"], table.encode())
+    status, text = asks(["build", "=", "0", "0", "0", "0"], table.encode())
     assert status == 0 and text.startswith(b"rotary 2\nelements 280094\n")
+
+
+@pytest.mark.engine
+def test_words_are_refused_or_stand_on_their_tapes(worded, asks):
+    rows, arguments, window = worded
+    status, text = asks(["build", *arguments, *window], table_of(rows).encode())
+    refused = rules.refusal(arguments, window, rows)
+    if refused:
+        assert (status, text.decode()) == refused
+        return
+    built = text.decode()
+    assert status == 0 and built.startswith(f"rotary 2\nelements {rules.count_of(rows, window)}\n")
+    words = [names for names, _ in rules.words_of(arguments, rows)]
+    shown = shown_tapes(rows, window, built)
+    assert shown == {str(tape): (0, dict(enumerate(names, 1))) for tape, names in enumerate(words, 1)}
+    again = [":" + ",".join(names) for names in words]
+    assert asks(["build", *again, *window], table_of(rows).encode()) == (0, text)
+
+
+@pytest.mark.engine
+def test_a_circuit_with_three_words_does_what_its_machine_does(request, ask, comparisons):
+    draw, held = random.Random(request.config.getoption("--seed")), 0
+    for _ in range(request.config.getoption("--drawn") or NUMBER):
+        rows, arguments, _ = worded_case(draw, 0)
+        hold_circuit(ask, rows, arguments)
+        held += 1
+    comparisons(held)
+
+
+@pytest.mark.engine
+def test_the_first_refusal_is_told(asks):
+    """The letters of all words before any length, the lengths before the elements, tape 1 first."""
+    table = COPIER.encode()
+    for words, status, line in [
+        (["=2", "=", "=0", 0, 0, 0, 0], 5, "word: 1 1"),
+        (["=0", "=1", "=2", 0, 0, 0, 0], 5, "word: 2 1"),
+        (["=0", "=", "=02", 0, 0, 0, 0], 5, "word: 3 2"),
+        (["=00", "=", "=0", 0, 1, 0, 0], 6, "size: word 1 needs 2"),
+        (["=0", "=", "=000", 1048576, 1, 0, 2], 6, "size: word 3 needs 3"),
+        (["=02", 0, 0, 0, 0], 5, "word: 2"),
+        ([":0,0", 0, 1, 0, 0], 6, "size: word needs 2"),
+        ([":0,", 0, 2, 0, 0], 5, "word: 2"),
+        ([":,0", 0, 2, 0, 0], 5, "word: 1"),
+        ([":00", 0, 2, 0, 0], 5, "word: 1"),
+        ([":0,_", 0, 2, 0, 0], 5, "word: 2"),
+    ]:
+        assert asks(["build", *words], table) == (status, f"{line}\n".encode())
+        assert asks(["drive", *words, 5], table) == (status, f"{line}\n".encode())
