@@ -73,9 +73,9 @@ interface View {
 interface Outcome {
   elements: number; exit: string | null; steps: number; quadruples: number | null; output: string | null; tapes: Tape[];
 }
-/** A circuit: a bar lies (1) or stands (0); for each output line the input to which it leads, and for each input line the
+/** A circuit: the place of the signal at the start; a bar lies (1) or stands (0); for each output line the input to which it leads, and for each input line the
     output from which it is fed, as places, or -1. */
-interface Circuit { count: number; bars: Uint8Array; targets: Int32Array; sources: Int32Array }
+interface Circuit { count: number; start: number; bars: Uint8Array; targets: Int32Array; sources: Int32Array }
 /** How a machine runs by itself, in its own steps. */
 interface Own { outcome: string; steps: number; output: string | null; state: string; letter: string }
 /** What was found of a machine and a word: `isOpen` where the run is long, and its end isn't asked for at first. */
@@ -92,10 +92,32 @@ interface Moment {
 /** What the commands that tell have told of a run: rules from 1 on, or null, by the machine's steps; places in Bennett's table from 0
     on, or -1, by the moments. */
 interface RunTold { rules: (number | null)[]; rows: number[] }
-/** A module of the circuit as it is laid out: its first element, rows and columns of elements, and how many it has. */
+/** A module of the circuit, as `layout` tells it: its number, its first element, how many columns it has, of how many rows beside the
+    bottom, and how many elements; of a cell its tape and its position. */
 interface Bank {
   kind: "control" | "cell"; base: number; rows: number; columns: number; count: number; number: number;
   tape?: number; cell?: number;
+}
+/** A state of the control. Symbols are numbers of letters of the tapes to which they belong. */
+type ControlState = { kind: "begin" } | { kind: "end" } | { kind: "reads"; state: string; symbols: number[] }
+  | { kind: "shifts"; quadruple: number; tape: number } | { kind: "writes"; state: string; tape: number; symbols: number[] };
+/** A state of a cell. */
+interface CellState { letter: string; hasHead: boolean }
+/** What all cells of a tape have alike: a state a column, a name a line, and the letters in the order of their numbers; and the
+    cells themselves by their positions. */
+interface TapeLayout { columns: CellState[]; lines: string[]; letters: string[]; cells: Map<number, Bank> }
+/** What the board of a run is made of, as `layout` tells it: docs/FORMATS.md, Layout. `tapes` has those of tape 1, 2 and 3; `bases` and
+    `rows` are those of the banks, in their order. */
+interface Layout {
+  count: number; banks: Bank[]; control: { columns: ControlState[]; lines: { into: string; out: string }[] }; tapes: TapeLayout[];
+  bases: Int32Array; rows: Int32Array;
+}
+/** A line of a module in words: its name, what it means, whether it comes back from a tape or a right neighbour, and of the control's
+    the tape from which it comes. */
+interface LineSaid { name: string; words: string; isBack: boolean; tape: number | null }
+/** A state of the control with what Bennett's table says of it: the tape that is asked, the letters that are kept, which way a head goes. */
+interface ControlSaid {
+  kind: "begin" | "end" | "reads" | "shifts" | "writes"; state?: string; tape?: number; symbols?: string[]; quadruple?: number; way?: string;
 }
 /** Places of the signal that were fetched together, from step `from` on: piece `c` of the run; `bounds` are the steps at
     which moves begin. */
