@@ -101,10 +101,9 @@ function tapeWords({moment, q}) {
 function circuitWords({e, at, bank, move}) {
   const {run} = current;
   if (isEarly()) return [run.lacking];
-  const cells = run.window,
-    count = `${number(run.circuit.count)} elements in ${number(run.banks.length)} modules.`;
-  const window = `The work tape has ${cells[0] + cells[1] + 1} cells, the history ${cells[2] + 1}, `
-    + `the output tape ${cells[3] + 1}.`;
+  const {banks, tapes} = run.layout, [work, history, output] = tapes.map(it => it.cells.size);
+  const count = `${number(run.circuit.count)} elements in ${number(banks.length)} modules.`;
+  const window = `The work tape has ${work} cells, the history ${history}, the output tape ${output}.`;
   if (!at) return [count, window];
   const where = at.hasLeft ? exitWords(run.outcome.exit, nameOf)
     : `The signal is in ${bankName(bank)}, at element ${number(at.place >> 2)}.`;

@@ -2,10 +2,12 @@
 import {bankPicture, overviewPicture, TOP, WIDE} from "./bank_picture.js";
 import {mapPicture} from "./map_picture.js";
 import {controlSaid} from "./control.js";
+import {cellState, lineInto, markedIn, placeIn} from "./layout.js";
+import {lineSaid} from "./module_words.js";
 import {redraw} from "./notices.js";
 import {forgetSizes, heightOf, put, widthOf} from "./sizes.js";
 import {byId, current, escaped, nameOf, state} from "./state.js";
-import {bankName, exitWords, lineOf, number} from "./words.js";
+import {bankName, exitWords, number} from "./words.js";
 
 // How wide the second part is, at least, and the room before its column.
 const LEAST_SLICE = 64, SLICE_LEFT = 6;
@@ -25,7 +27,7 @@ export function renderBank(f) {
   const {bank} = f, bars = run.bankBars(bank, f.e);
   const size = `${bank.columns} columns of ${bank.rows} rows, ${number(bank.count)} elements`;
   put("where", escaped(bankName(bank)[0].toUpperCase() + bankName(bank).slice(1))
-    + ` <span class="quiet state" title="${size}">${escaped(bankState(bank, bars))}</span>`);
+    + ` <span class="quiet state" title="${size}">${escaped(markSaid(bank, bars))}</span>`);
   put("what", moveWords(f, hasLeft));
   const trail = f.move.from !== null ? run.trail(f.e, f.move.from, MOST_TRAIL) : [f.at.place];
   const view = viewOf(f), width = widthOf("bankbox"), place = f.at.place;
@@ -53,23 +55,22 @@ function moveWords(f, hasLeft) {
   const {run} = current;
   if (hasLeft) return escaped(exitWords(run.outcome.exit, nameOf));
   const entry = f.move.from !== null ? run.placeAt(f.move.from)?.place : f.row >= 0 ? f.at.place : null;
-  if (entry === null || entry === undefined || run.entryOf(entry) < 0) return "on its way";
-  const line = `<b>${escaped(lineOf(run, f.bank, run.entryOf(entry)).words)}</b>`;
+  const row = entry === null || entry === undefined ? -1 : lineInto(run.layout, entry);
+  if (row < 0) return "on its way";
+  const line = `<b>${escaped(lineSaid(run.layout, f.bank, row).words)}</b>`;
   if (f.row >= 0) return line + " · about to come in";
   if (f.move.from === null || f.move.to === null) return line;
   return line + ` · step ${number(f.e - f.move.from)} of ${number(f.move.to - f.move.from)}`;
 }
 
 // The state of a module: its marked column.
-function bankState(bank, bars) {
+function markSaid(bank, bars) {
   if (!bars) return "";
-  for (let c = 0; c < bank.columns; c++) {
-    if (bars[c * (bank.rows + 1) + bank.rows] !== 1) continue;
-    if (bank.kind === "control") return `state ${c + 1} of ${bank.columns}`;
-    const z = current.run.symbols[bank.tape - 1], symbol = current.run.symbolOf(bank.tape, c % z);
-    return `holds ${symbol === "_" ? "a blank" : symbol}${c >= z ? " and the head" : ""}`;
-  }
-  return "no mark: on its way";
+  const column = markedIn(bank, bars);
+  if (column < 0) return "no mark: on its way";
+  if (bank.kind === "control") return `state ${column + 1} of ${bank.columns}`;
+  const {letter, hasHead} = cellState(current.run.layout, bank, column);
+  return `holds ${letter === "_" ? "a blank" : letter}${hasHead ? " and the head" : ""}`;
 }
 
 // Which part of the bank is seen, how large; and whether the whole in little is wanted beside it.
@@ -97,7 +98,7 @@ function viewOf({bank, at}) {
 }
 // The window moves only where the signal would leave its inner part, so that the picture stays calm.
 function followed(bank, place, pitch, columns, rows) {
-  const element = (place >> 2) - bank.base, c = Math.floor(element / (bank.rows + 1)), r = element % (bank.rows + 1);
+  const {column: c, row: r} = placeIn(bank, place >> 2);
   const {view} = seen, isSame = view !== null && view.bank === bank.number && view.pitch === pitch;
   const kept = isSame ? view : {x: c - columns / 2, y: r - rows / 2};
   const edge = Math.min(2.2, columns / 4);

@@ -1,9 +1,9 @@
 // A bank of rotary elements: its columns with their bars and wires, the mark, the signal and the way behind it.
 import {escaped} from "./state.js";
 import {n1, svg} from "./svg.js";
-import {controlInFull, controlLabel, controlStates} from "./control.js";
-import {symbolWord} from "./table.js";
-import {bankName, lineOf} from "./words.js";
+import {placeIn} from "./layout.js";
+import {columnSaid, lineSaid} from "./module_words.js";
+import {bankName} from "./words.js";
 
 // How much wider than high a place of the grid is, at least; and the room above it.
 export const WIDE = 1.5, TOP = 27;
@@ -40,8 +40,8 @@ class Grid {
   cy(row) { return this.Y0 + row * this.P; }
   // The column and the row of an element.
   at(element) {
-    const number = element - this.bank.base;
-    return [Math.floor(number / (this.rows + 1)), number % (this.rows + 1)];
+    const {column, row} = placeIn(this.bank, element);
+    return [column, row];
   }
   has(line) {
     const number = (line >> 2) - this.bank.base;
@@ -135,18 +135,13 @@ function signalPicture(grid, place, hasLeft) {
   return `<circle class="ring" ${at} r="${n1(Math.max(5, P * .24))}"/><circle class="signal" ${at} r="${n1(Math.max(3, P * .14))}"/>`;
 }
 
-// The state for which a column stands: a cell's symbol, with a mark where the head is; of the control its name, and what
-// it is about in words.
-function columnLabel(run, bank, column) {
-  if (bank.kind === "cell") {
-    const z = run.symbols[bank.tape - 1], symbol = run.symbolOf(bank.tape, column % z), hasHead = column >= z;
-    const told = hasHead ? ", and the head is there" : "";
-    return [`${hasHead ? "▾" : ""}${symbol}`, `the cell holds ${symbolWord(symbol)}${told}`];
-  }
-  const it = controlStates(run)[column];
-  return it ? [controlLabel(it), `state ${column + 1}: ${controlInFull(it)}`] : [String(column + 1)];
+// The label above a column, and what is said of it.
+function labelOf(run, bank, column) {
+  const {label, words} = columnSaid(run, bank, column);
+  return [label, bank.kind === "control" ? `state ${column + 1}: ${words}` : words];
 }
-const longestLabel = run => run.longestLabel ??= Math.max(...controlStates(run).map(it => controlLabel(it).length), 3);
+const longestLabel = (run, bank) => run.longestLabel ??= Array.from({length: bank.columns}, (_, column) => columnSaid(run, bank, column).label.length)
+  .reduce((longest, it) => Math.max(longest, it), 3);
 // Above each column its state; beside each row the name of its line.
 function labelsPicture(grid, bars, place, isSlice) {
   const {run, bank, rows, width, height, left, P} = grid;
@@ -154,19 +149,19 @@ function labelsPicture(grid, bars, place, isSlice) {
   const label = ([text, title], isNow, anchor, x, y) => `<text class="small mono${isNow ? "" : " quiet"}" ${isNow ? 'font-weight="700"' : ""} text-anchor="${anchor}" x="${n1(x)}" y="${n1(y)}">`
     + `${title ? `<title>${escaped(title)}</title>` : ""}${escaped(text)}</text>`;
   // Names of the control's states stand on two lines in turn, and as many as have room.
-  const isControl = bank.kind === "control", every = isControl ? Math.max(1, Math.ceil((longestLabel(run) * LETTER_WIDTH + 3) / (2 * grid.X))) : 1;
+  const isControl = bank.kind === "control", every = isControl ? Math.max(1, Math.ceil((longestLabel(run, bank) * LETTER_WIDTH + 3) / (2 * grid.X))) : 1;
   const high = c => isControl && Math.floor(c / every) % 2 ? LABEL_LINES[0] : LABEL_LINES[1];
   let body = "", marked = -Infinity;
   for (let c = grid.first[0]; c <= grid.last[0]; c++) if (bars?.[c * (rows + 1) + rows] === 1) marked = c;
   for (let c = grid.first[0]; c <= grid.last[0]; c++) {
     const x = grid.cx(c), isNow = c === marked, isOut = c % every !== 0 || every > 1 && Math.abs(c - marked) < 2 * every;
     if (x <= left - P * .2 || x >= width || !isNow && (isOut || isSlice)) continue;
-    const words = columnLabel(run, bank, c);
+    const words = labelOf(run, bank, c);
     if (x + words[0].length * LETTER_WIDTH / 2 < width) body += label(words, isNow, "middle", x, high(c));
   }
   for (let r = grid.first[1]; r <= Math.min(grid.last[1], rows - 1) && !isSlice; r++) {
     const y = grid.cy(r), isNow = place === 4 * (bank.base + r) + WEST;
-    const line = lineOf(run, bank, r);
+    const line = lineSaid(run.layout, bank, r);
     if (y > TOP && y < height - 6) body += label([line.name, `port ${r + 1}: ${line.words}`], isNow, "end", left - P * .32 - 3, y + 3);
   }
   return body;
@@ -175,7 +170,7 @@ function labelsPicture(grid, bars, place, isSlice) {
 // The whole bank in little: columns, the mark, bars that lie, the signal, and the part that is seen.
 export function overviewPicture(run, {bank, bars, place, trail, width, height, seen: view}) {
   const w = width / bank.columns, h = height / (bank.rows + 1), column = k => Math.floor(k / (bank.rows + 1)), row = k => k % (bank.rows + 1);
-  const numberOf = line => line === null || (line >> 2) < bank.base || (line >> 2) >= bank.base + bank.count ? null : (line >> 2) - bank.base;
+  const inBank = line => line === null || (line >> 2) < bank.base || (line >> 2) >= bank.base + bank.count ? null : (line >> 2) - bank.base;
   const middle = k => [n1((column(k) + .5) * w), n1((row(k) + .5) * h)];
   let body = `<rect class="column" width="${width}" height="${height}" rx="3"/>`, lying = "", way = "", last = null;
   bars?.forEach((bar, k) => {
@@ -184,12 +179,12 @@ export function overviewPicture(run, {bank, bars, place, trail, width, height, s
     else lying += `M${n1(column(k) * w)},${n1(row(k) * h)}h${n1(Math.max(1.5, w * .8))}v${n1(Math.max(1.2, h * .8))}h${n1(-Math.max(1.5, w * .8))}z`;
   });
   for (const line of trail) {
-    const k = numberOf(line), point = k === null ? null : middle(k).join();
+    const k = inBank(line), point = k === null ? null : middle(k).join();
     if (point !== null && point !== last) way += (last === null ? "M" : "L") + point;
     last = point;
   }
   body += `<path d="${lying}" fill="var(--markline)"/><path class="trail" stroke-width="1" opacity=".55" d="${way}"/>`;
-  const now = numberOf(place);
+  const now = inBank(place);
   if (now !== null) body += `<circle class="signal" cx="${middle(now)[0]}" cy="${middle(now)[1]}" r="3.4"/>`;
   const [x, y] = [view.x * w, view.y * h], wide = Math.min(width - 1.2 - x, view.columns * w), high = Math.min(height - 1.2 - y, view.rows * h);
   body += `<rect class="frame" x="${n1(Math.max(.6, x))}" y="${n1(Math.max(.6, y))}" width="${n1(wide)}" height="${n1(high)}" rx="2"/>`;

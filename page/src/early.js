@@ -100,8 +100,6 @@ export class Early extends Moments {
                      tapes: []}});
     this.word = word;
     this.letters = lettersOf(this.rules);
-    const z = this.letters.length;
-    this.symbols = [z, this.rules.length + 1, z];
     this.end = lines.length - 1;
   }
   // The cells that are shown of each tape: those that are told at any moment, and those of the word.

@@ -44,9 +44,10 @@ function cellsPicture(run, columns, band, k) {
   }
   return [...shades].map(([shade, path]) => `<path class="ink${k + 1}" opacity="${shade}" d="${path}"/>`).join("");
 }
-function shadeOf(run, k, symbol) {
-  const number = k === 1 ? Number(symbol) : run.letters.indexOf(symbol);
-  return n1(.3 + .6 * number / Math.max(1, run.symbols[k] - 1));
+// The later a letter or a rule stands in the table, the darker it is.
+function shadeOf({letters, rules}, k, symbol) {
+  const [at, last] = k === 1 ? [Number(symbol), rules.length] : [letters.indexOf(symbol), letters.length - 1];
+  return n1(.3 + .6 * at / Math.max(1, last));
 }
 function headLine(columns, band, k) {
   const high = band.height / band.count;

@@ -1,12 +1,13 @@
 // The lens: what an element or a state is that was clicked, what it has done so far, and the way to stop there. All of it is
 // looked up in the answers; when the signal came to an element last, and when it comes next, is asked of the program.
 import {sameBreak, toggleBreak} from "./breaks.js";
-import {controlInFull, controlStates} from "./control.js";
 import {frame} from "./frame.js";
+import {moduleWith, placeIn} from "./layout.js";
+import {columnSaid, lineSaid} from "./module_words.js";
 import {goTo, pause} from "./play.js";
 import {byId, current, escaped, nameOf, state} from "./state.js";
 import {SHIFT_WORDS, symbolWord} from "./table.js";
-import {bankName, lineOf, number} from "./words.js";
+import {bankName, number} from "./words.js";
 
 const GAP = 12, MOST_RULES = 6;
 /** @type {{what: Break | null, came: (() => void) | null, at: number[]}} */
@@ -97,25 +98,13 @@ function addMoments(name, add) {
 
 // ---- an element
 
-// Where an element stands in its module: the column's state and the row's line, in words.
-export function elementPlace(run, element) {
-  const bank = run.bankOf(element), at = element - bank.base, column = Math.floor(at / (bank.rows + 1)), row = at % (bank.rows + 1);
-  return {bank, column, row, isMark: row === bank.rows};
-}
-export function columnWords(run, bank, column) {
-  if (bank.kind === "cell") {
-    const z = run.symbols[bank.tape - 1], symbol = symbolWord(run.symbolOf(bank.tape, column % z));
-    return `“the cell holds ${symbol}${column >= z ? ", and the head is here" : ""}”`;
-  }
-  const it = controlStates(run)[column];
-  return it ? `“${controlInFull(it)}”` : `state ${column + 1}`;
-}
 function elementWords({element}) {
-  const {run} = current, {bank, column, row, isMark} = elementPlace(run, element), bars = run.bankBars(bank, state.e);
+  const {run} = current, bank = moduleWith(run.layout, element), {column, row} = placeIn(bank, element), isMark = row === bank.rows;
+  const bars = run.bankBars(bank, state.e);
   const bar = bars?.[element - bank.base], lies = bar === undefined ? "" : bar ? "lies, west to east" : "stands, north to south";
-  const column_ = `column ${column + 1} of ${bank.columns}, for ${escaped(columnWords(run, bank, column))}`;
+  const column_ = `column ${column + 1} of ${bank.columns}, for “${escaped(columnSaid(run, bank, column).words)}”`;
   const row_ = isMark ? "the mark below it: where its bar lies, that is the module's state"
-    : `in the row of port ${row + 1} of ${bank.rows}: <b>${escaped(lineOf(run, bank, row).words)}</b>`;
+    : `in the row of port ${row + 1} of ${bank.rows}: <b>${escaped(lineSaid(run.layout, bank, row).words)}</b>`;
   const before = run.circuit.bars[element], changed = bar === undefined ? "" : bar === before ? "as at the start" : "turned since the start";
   return {title: `Element ${number(element)}`, words: [`A rotary element of the module ${escaped(bankName(bank))}: ${column_}, ${row_}.`,
     lies ? `Its bar ${lies}, ${changed}. Along it the signal goes straight on; across it, it turns right and turns the bar.` : ""].filter(Boolean)};

@@ -401,6 +401,6 @@ export function showOutcome() {
     return;
   }
   const byHand = state.window ? " · window by hand" : "";
-  byId("size").textContent = `${number(run.circuit.count)} elements · ${number(run.banks.length)} modules${byHand}`;
+  byId("size").textContent = `${number(run.circuit.count)} elements · ${number(run.layout.banks.length)} modules${byHand}`;
   byId("size").title = `window ${run.window.join(" ")}: work tape from ${-l1} to ${r1}, history to ${n}, output to ${r3}`;
 }

@@ -1,8 +1,9 @@
 // The map: the control, three rows of cells, and the signal's place.
 import {escaped} from "./state.js";
+import {lineSaid} from "./module_words.js";
 import {svg} from "./svg.js";
 import {shownPart} from "./tape_picture.js";
-import {bankName, lineOf, number, TAPES} from "./words.js";
+import {bankName, number, TAPES} from "./words.js";
 
 const MAP_LEFT = 104, MAP_GAP = 6;
 
@@ -10,11 +11,11 @@ export function mapPicture(run, {bank, row, moment, hasLeft: isOut, width, heigh
   // By the end the signal has left the control; by another exit the module is shown where that was.
   const hasLeft = isOut && run.outcome.exit === "end", exit = isOut ? /^window \d (left|right)$/.exec(run.outcome.exit)?.[1] : null;
   const inControl = bank?.kind === "control" && !hasLeft, rowHeight = height / 3, cellHeight = Math.min(30, rowHeight - 14);
-  let body = controlPicture(run.banks[0], inControl, height);
+  let body = controlPicture(run.layout.banks[0], inControl, height);
   moment.tapes.forEach((tape, k) => {
     const top = k * rowHeight + (rowHeight - cellHeight) / 2;
     body += rowPicture(run, {tape, k, bank, row, hasLeft, exit, width, top, cellHeight});
-    if (inControl && row > 0 && lineOf(run, bank, row).tape === k + 1) body += answerTip(top + cellHeight * .68);
+    if (inControl && row > 0 && lineSaid(run.layout, bank, row).tape === k + 1) body += answerTip(top + cellHeight * .68);
   });
   if (inControl && row === 0) body += `<path class="tip" d="M13,${height / 2} l-10,-6 v12 z"/>`;
   if (hasLeft) body += `<path class="tip" d="M1,${height / 2} l11,-7 v14 z"/>`;
@@ -44,7 +45,7 @@ function rowPicture(run, {tape, k, bank, row, hasLeft, exit, width, top, cellHei
     const cell = tape.first + c, x = MAP_LEFT + (c - part.from) * pitch, isHere = isBankOf && bank.cell === cell && !hasLeft;
     body += mapCell(tape, k + 1, cell, isHere, {x, top, wide, cellHeight});
     if (isHere && exit) body += exitTip(exit, x, wide, top + cellHeight / 2);
-    if (isHere && row >= 0) body += entryTip(lineOf(run, bank, row).isBack, x, wide, top, cellHeight);
+    if (isHere && row >= 0) body += entryTip(lineSaid(run.layout, bank, row).isBack, x, wide, top, cellHeight);
   }
   if (part.from > 0) body += `<text class="quiet" text-anchor="end" x="${MAP_LEFT - 3}" y="${base}">…</text>`;
   if (part.to < tape.symbols.length) body += `<text class="quiet" x="${end + 2}" y="${base}">…</text>`;

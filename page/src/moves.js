@@ -1,8 +1,10 @@
 // The circuit's moves for the quadruple that is at work: a list with what each costs, and a strip as wide as they cost. Of
 // very many moves those near the one at work are listed.
+import {lineInto, moduleWith} from "./layout.js";
+import {lineSaid} from "./module_words.js";
 import {put} from "./sizes.js";
 import {byId, current, escaped, state} from "./state.js";
-import {lineOf, number, shortBank} from "./words.js";
+import {number, shortBank} from "./words.js";
 
 // The moves that are listed: from and to which step, the list, and the place of the one at work.
 /** @type {{moves: {from: number, to: number, list: Moves} | null, at: number | null, key: string | null}} */
@@ -48,7 +50,7 @@ function tableOf({from, to, list}, first) {
   }
   const shown = list.slice(first, first + MOST_ROWS), behind = list.length - first - shown.length;
   const rows = shown.map((it, k) => {
-    const {run} = current, bank = run.bankOf(it.place >> 2), line = lineOf(run, bank, run.entryOf(it.place));
+    const {layout} = current.run, bank = moduleWith(layout, it.place >> 2), line = lineSaid(layout, bank, lineInto(layout, it.place));
     const next = list[first + k + 1]?.step ?? (list.isPart ? null : to), cost = next === null ? "" : number(next - it.step);
     return `<tr data-step="${it.step}"><td><i class="m${bank.tape ?? 0}"></i><button class="link">${escaped(shortBank(bank))}</button></td>`
       + `<td>${escaped(line.words)}</td><td class="no">${cost}</td></tr>`;
@@ -59,7 +61,7 @@ function tableOf({from, to, list}, first) {
 }
 function stripOf({from, to, list}) {
   const share = steps => steps / (to - from) * 100;
-  const tapeOf = it => current.run.bankOf(it.place >> 2).tape ?? 0, isDense = list.length > MOST_PIECES_OF_STRIP;
+  const tapeOf = it => moduleWith(current.run.layout, it.place >> 2).tape ?? 0, isDense = list.length > MOST_PIECES_OF_STRIP;
   // Of very many moves neighbours on one tape are one piece.
   const drawn = isDense ? list.filter((it, k) => k === 0 || tapeOf(it) !== tapeOf(list[k - 1])) : list;
   const pieces = drawn.map((it, k) => {

@@ -1,5 +1,7 @@
 // For the worker: reads the places that a script of lines `step 1` was answered with, so that the page doesn't stand
 // still for it. A place is the number 4E + side of a line E.L. It judges nothing: the text is the program's own.
+import {lastUpTo} from "./layout.js";
+
 const POINT = 46, LINE_END = 10, LEFT = 108;
 /** @type {Record<number, number>} */
 const SIDE_OF = {110: 0, 101: 1, 115: 2, 119: 3};
@@ -28,17 +30,8 @@ export function boundsOf({places, hasLeft}, {bases, rows}) {
   const found = [], last = places.length - (hasLeft ? 1 : 0);
   for (let k = 0; k < last; k++) {
     if ((places[k] & 3) !== 3) continue;
-    const element = places[k] >> 2, bank = bankOfElement(bases, element);
+    const element = places[k] >> 2, bank = lastUpTo(bases, element);
     if (element - bases[bank] < rows[bank]) found.push(k);
   }
   return Int32Array.from(found);
-}
-/** @type {(bases: Int32Array, element: number) => number} */
-function bankOfElement(bases, element) {
-  let low = 0, high = bases.length;
-  while (high - low > 1) {
-    const middle = (low + high) >> 1;
-    if (bases[middle] <= element) low = middle; else high = middle;
-  }
-  return low;
 }

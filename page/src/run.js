@@ -3,8 +3,10 @@
 // follows from the places that were answered, since an element's bar lies along the line by which the signal last came in.
 import {answer, answerPlaces, LANES, STATUS} from "./answer.js";
 import {limits, Moments} from "./moments.js";
+import {bottomOf, columnWith, markedIn} from "./layout.js";
+import {readLayout} from "./layout_text.js";
 import {lettersOf} from "./table.js";
-import {GREATEST, readBars, readCircuit, readPlace, readRun} from "./texts.js";
+import {GREATEST, readBars, readCircuit, readRun} from "./texts.js";
 import {whole} from "./window.js";
 
 // How many places a piece has at most, and how many bytes of pieces and bars are kept.
@@ -13,6 +15,12 @@ const MOST_AHEAD = 4;
 // The elements and the steps up to which a piece has the least length.
 const PLAIN_COUNT = 14000, PLAIN_STEPS = 4e6;
 
+// Before they are told.
+/** @type {Layout} */
+const NO_LAYOUT = {count: 0, banks: [], control: {columns: [], lines: []}, tapes: [], bases: new Int32Array(), rows: new Int32Array()};
+/** @type {Circuit} */
+const NO_CIRCUIT = {count: 0, start: 0, bars: new Uint8Array(), targets: new Int32Array(), sources: new Int32Array()};
+
 export class Run extends Moments {
   // The pieces of the signal's way by their numbers, and the bars where a piece begins.
   /** @type {Map<number, Asked>} */ chunks = new Map();
@@ -20,14 +28,10 @@ export class Run extends Moments {
   // How many places a piece has; Bennett's table, row by row, field by field.
   piece = 0;
   /** @type {string[][]} */ quadruples = [];
-  // The modules in the order of their elements; their first elements and how many rows they have, to look them up.
-  /** @type {Bank[]} */ banks = [];
-  bases = new Int32Array();
-  rowCounts = new Int32Array();
-  /** @type {number[]} */ tapeBanks = [];
-  /** @type {number[]} */ symbols = [];
+  // What the circuit is made of.
+  layout = NO_LAYOUT;
   compiled = "";
-  /** @type {Circuit} */ circuit = {count: 0, bars: new Uint8Array(), targets: new Int32Array(), sources: new Int32Array()};
+  circuit = NO_CIRCUIT;
   /** @type {{start: Uint8Array, last: number, bars: Uint8Array} | null} */ now = null;
   /** @type {Promise<void> | null} */ going = null;
   // A table, a word, and what `findRun` found of them.
@@ -46,16 +50,17 @@ export class Run extends Moments {
   async open() {
     // Of a long run the end is where its last moment is, once that is known.
     this.end = this.isOpen ? Infinity : this.outcome.steps;
-    const bennett = await answer(["bennett"], this.table);
+    const told = this.askLayout(), bennett = await answer(["bennett"], this.table);
     this.quadruples = whole(bennett).text.split("\n").filter(Boolean).map(line => line.split(","));
     this.names = [...new Set(this.quadruples.flatMap(row => [row[0], row[7]]))];
     const {elements} = this.outcome;
     // To build the circuit and to come to a piece costs time in each call: the more, the longer the pieces.
     const far = Math.max(elements / PLAIN_COUNT, this.end / PLAIN_STEPS);
     this.piece = Math.min(MOST_CHUNK, limits.chunk * 2 ** Math.max(0, Math.round(Math.log2(far))));
-    this.layOut();
     this.beginMoments();
-    const [compiled] = await Promise.all([answer(["compile", ...this.words], this.table), this.more(), this.chunk(0, {lane: LANES.ahead})]);
+    // Where moves begin is read of the layout.
+    const chunk = told.then(() => this.chunk(0, {lane: LANES.ahead}));
+    const [compiled] = await Promise.all([answer(["compile", ...this.words], this.table), this.more(), chunk]);
     this.compiled = whole(compiled).text;
     if (!this.moments.length) whole(this.cut);
     this.circuit = readCircuit(this.compiled);
@@ -64,47 +69,11 @@ export class Run extends Moments {
     return this;
   }
 
-  // Which elements are which bank: docs/FORMATS.md, Board.
-  layOut() {
-    const z = this.letters.length, h = this.rules.length + 1, [l1, r1, n, r3] = this.window;
-    this.symbols = [z, h, z];
-    const size = k => 2 * k * (2 * k + 9), cells = [l1 + r1 + 1, n + 1, r3 + 1], rows = 2 * (z + 3) + h + 4;
-    const inCells = cells.reduce((sum, count, tape) => sum + count * size(this.symbols[tape]), 0), control = this.outcome.elements - inCells;
-    this.banks = [{kind: "control", base: 0, rows, columns: control / (rows + 1), count: control, number: 0}];
-    let base = control;
-    // At which number the banks of each tape begin.
-    this.tapeBanks = [1, 1 + cells[0], 1 + cells[0] + cells[1]];
-    cells.forEach((count, tape) => {
-      for (let k = 0; k < count; k++) {
-        const symbols = this.symbols[tape];
-        this.banks.push({kind: "cell", tape: tape + 1, cell: k - (tape === 0 ? l1 : 0), base, rows: 2 * symbols + 8, columns: 2 * symbols,
-                         count: size(symbols), number: this.banks.length});
-        base += size(symbols);
-      }
-    });
-    this.bases = Int32Array.from(this.banks, bank => bank.base);
-    this.rowCounts = Int32Array.from(this.banks, bank => bank.rows);
+  // Asked beside the circuit, so that neither waits for the other.
+  async askLayout() {
+    const reply = await answer(["layout", ...this.words], this.table, {lane: LANES.beside});
+    this.layout = readLayout(whole(reply).text);
   }
-  bankOf(element) {
-    let low = 0, high = this.banks.length;
-    while (high - low > 1) {
-      const middle = (low + high) >> 1;
-      if (this.bases[middle] <= element) low = middle; else high = middle;
-    }
-    return this.banks[low];
-  }
-  bankAt(tape, cell) {
-    const before = this.tapeBanks[tape - 1] + cell + (tape === 1 ? this.window[0] : 0), it = this.banks[before];
-    return it?.tape === tape && it.cell === cell ? it : null;
-  }
-  // The row of a bank's first column by which the signal is about to come in, or -1: there a move begins.
-  entryOf(place) {
-    if ((place & 3) !== 3) return -1;
-    const bank = this.bankOf(place >> 2), row = (place >> 2) - bank.base;
-    return row < bank.rows ? row : -1;
-  }
-  numberOf(tape, symbol) { return symbol === "_" ? 0 : tape === 2 ? Number(symbol) : this.letters.indexOf(symbol); }
-  symbolOf(tape, number) { return tape === 2 ? (number === 0 ? "_" : String(number)) : this.letters[number] ?? "?"; }
 
   // ---- the places of the signal, in pieces
 
@@ -141,7 +110,7 @@ export class Run extends Moments {
   }
   async fetchPlaces(c, many, how) {
     const count = Math.min(many * this.piece, this.end - c * this.piece), input = this.inputOf(`step ${c * this.piece}\n${"step 1\n".repeat(count)}`);
-    const reading = {count: count + 1, bases: this.bases, rows: this.rowCounts};
+    const reading = {count: count + 1, bases: this.layout.bases, rows: this.layout.rows};
     const {status, places, bounds, hasLeft} = await answerPlaces(["session", ...this.words], input, reading, how);
     return status === STATUS.done ? {places, bounds, hasLeft} : null;
   }
@@ -231,7 +200,7 @@ export class Run extends Moments {
     }
     const moment = this.moments[this.momentIndex(e)];
     if (moment.steps === e) return {place: moment.place, hasLeft: moment.hasLeft};
-    if (e === 0) return {place: readPlace("0.w"), hasLeft: false};
+    if (e === 0) return {place: this.circuit.start, hasLeft: false};
     if (e === this.end && this.leaves) return {place: this.leaves.place, hasLeft: true};
     return null;
   }
@@ -258,19 +227,16 @@ export class Run extends Moments {
     const moment = this.moments[this.momentIndex(e)];
     if (e === 0) return this.circuit.bars.subarray(bank.base, bank.base + bank.count);
     if (bank.kind === "cell" && moment.tapes && (moment.steps === e || (e === this.end && this.leaves))) {
-      const tape = moment.tapes[bank.tape - 1], symbol = tape.symbols[bank.cell - tape.first];
-      const column = this.numberOf(bank.tape, symbol) + (tape.head === bank.cell ? this.symbols[bank.tape - 1] : 0), alone = new Uint8Array(bank.count);
-      alone[column * (bank.rows + 1) + bank.rows] = 1;
+      const tape = moment.tapes[bank.tape - 1], letter = tape.symbols[bank.cell - tape.first], alone = new Uint8Array(bank.count);
+      alone[bottomOf(bank, columnWith(this.layout, bank, {letter, hasHead: tape.head === bank.cell}))] = 1;
       return alone;
     }
     return null;
   }
   // The marked column of a bank, -1 where none is, or null where its bars aren't there yet.
   markedColumn(bank, e) {
-    const bars = this.bankBars(bank, e), high = bank.rows + 1;
-    if (!bars) return null;
-    for (let c = 0; c < bank.columns; c++) if (bars[c * high + bank.rows] === 1) return c;
-    return -1;
+    const bars = this.bankBars(bank, e);
+    return bars ? markedIn(bank, bars) : null;
   }
   // The move in which step e is: where it begins, and where the next one does; null where that piece isn't there.
   moveAt(e) {
@@ -337,8 +303,8 @@ export class Run extends Moments {
       const add = (line, n) => { const label = `b${k}x${n}`; lines.push(`break ${label} ${line}`); labels.set(label, it); };
       if (it.kind === "element") add(`element ${it.element}`, 0);
       if (it.kind === "state") {
-        const number = this.states.indexOf(it.state) + 1;
-        ["A", "C"].filter(letter => this.names.includes(letter + number)).forEach((letter, n) => add(`state ${letter}${number}`, n));
+        const isShown = name => (({stage, state}) => state === it.state && stage !== "copy")(this.kindOf(name));
+        this.names.filter(isShown).forEach((name, n) => add(`state ${name}`, n));
       }
     });
     let best = null, hit = null;

@@ -51,7 +51,7 @@ export function readRun(text) {
   return it;
 }
 
-// Of a configuration text of either version: its bars (1 lies, 0 stands), for each output line the input to which it
+// Of a configuration text of either version: where the signal is, its bars (1 lies, 0 stands), for each output line the input to which it
 // leads, or -1, and for each input line the output from which it is fed. In version 2 a column is one entry, and its own
 // wires and upright bars aren't written.
 /** @type {(text: string) => Circuit} */
@@ -89,7 +89,7 @@ export function readCircuit(text) {
     bars[bottom] = words[3] === "H" ? 1 : 0;
     element = bottom + 1;
   }
-  return {count, bars, targets, sources};
+  return {count, start: readPlace(lines[5].split(" ")[1]), bars, targets, sources};
 }
 
 // The bars of a configuration text alone, of either version.

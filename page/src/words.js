@@ -27,34 +27,6 @@ export function counterWords({run, found}, {e, q, moment}, {moves, at}, isShort)
   };
 }
 
-// The line by which the signal comes into a bank: its short name and what it means.
-export function lineOf(run, bank, row) {
-  if (bank.kind === "cell") {
-    const z = run.symbols[bank.tape - 1], symbol = c => symbolWord(run.symbolOf(bank.tape, c));
-    if (row === 0) return {name: "Rd", words: "read"};
-    if (row <= z) return {name: `W ${row - 1}`, words: `write ${symbol(row - 1)}`};
-    if (row === z + 1) return {name: "SR", words: "hand the head to the right"};
-    if (row === z + 2) return {name: "SL", words: "hand the head to the left"};
-    if (row === z + 3) return {name: "TakeR", words: "take the head from the left"};
-    if (row < 2 * z + 4) return {name: `A ${row - z - 4}`, words: `the answer “${symbol(row - z - 4)}” on its way back`, isBack: true};
-    if (row === 2 * z + 4) return {name: "DoneW", words: "“written” on its way back", isBack: true};
-    if (row === 2 * z + 5) return {name: "DoneR", words: "“moved right” on its way back", isBack: true};
-    if (row === 2 * z + 6) return {name: "DoneL", words: "“moved left” on its way back", isBack: true};
-    return {name: "TakeL", words: "take the head from the right", isBack: true};
-  }
-  if (row === 0) return {name: "Start", words: "begin"};
-  let rest = row - 1;
-  for (let tape = 1; tape <= 3; tape++) {
-    const z = run.symbols[tape - 1];
-    if (rest < z + 3) {
-      const what = rest < z ? `answers “${symbolWord(run.symbolOf(tape, rest))}”` : `has ${["written", "moved right", "moved left"][rest - z]}`;
-      const name = rest < z ? `A ${rest}` : ["DoneW", "DoneR", "DoneL"][rest - z];
-      return {name: `${name} ${tape}`, words: `the ${TAPES[tape]} tape ${what}`, isBack: true, tape};
-    }
-    rest -= z + 3;
-  }
-  return {name: "?", words: ""};
-}
 export const bankName = bank => bank.kind === "control" ? "control" : `${TAPES[bank.tape]} tape, cell ${minus(bank.cell)}`;
 export const shortBank = bank => bank.kind === "control" ? "control" : `${TAPES[bank.tape]} ${minus(bank.cell)}`;
 

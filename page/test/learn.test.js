@@ -8,8 +8,7 @@ import {namesOf, STEPS} from "../src/learn/steps.js";
 import {Run} from "../src/run.js";
 import {readBars} from "../src/texts.js";
 import {findRun} from "../src/window.js";
-import {controlLabel, controlStates} from "../src/control.js";
-import {lineOf} from "../src/words.js";
+import {columnSaid, lineSaid} from "../src/module_words.js";
 import {answer, example} from "./program.js";
 
 test("the eight cases of an element are what the program does with one", () => {
@@ -44,15 +43,15 @@ test("among the pasts of each moment is the one that was, and somewhere there ar
 
 test("every kind of name that a bank's picture has is told in words", async () => {
   const table = example("increment.csv"), run = await new Run(table, "1011", await findRun(table, "1011")).open();
-  for (const bank of run.banks) {
+  for (const bank of run.layout.banks) {
     const told = namesOf(run, bank), names = told.map(([name]) => name);
     for (let row = 0; row < bank.rows; row++) {
-      const kind = lineOf(run, bank, row).name.split(" ")[0];
+      const kind = lineSaid(run.layout, bank, row).name.split(" ")[0];
       assert.ok(names.some(it => it.split(" ")[0] === kind), `bank ${bank.number}: ${kind}`);
     }
     assert.ok(told.every(([name, words]) => name && words.length > 3), `bank ${bank.number}: ${told}`);
   }
-  const labels = controlStates(run).map(controlLabel), [control] = run.banks;
+  const [control] = run.layout.banks, labels = run.layout.control.columns.map((_, column) => columnSaid(run, control, column).label);
   assert.ok(namesOf(run, control).filter(([name]) => labels.includes(name)).length >= 5);
 });
 

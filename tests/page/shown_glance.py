@@ -163,13 +163,13 @@ def check_marked(page, count):
         goTo(e);
         await run.ready(e);
         render(false);
-        const bank = run.bankOf(run.placeAt(e).place >> 2), marked = run.markedColumn(bank, e);
+        const bank = bench.moduleWith(run.layout, run.placeAt(e).place >> 2), marked = run.markedColumn(bank, e);
         if (marked !== null && marked >= 0 && !inSight()) missing.push([e, marked]);
       }
       goTo(700000);
       await run.ready(700000);
       render(false);
-      return [run.banks[0].columns, missing];
+      return [run.layout.banks[0].columns, missing];
     })()"""
         % MARKED
     )

@@ -155,7 +155,7 @@ def check_moves(page, program, told, where, draw, count):
     given = page.ask(
         f"bench.current.run.movesBetween({starts[q]}, {starts[q + 1]}).map(it => [it.step, bench.placeName(it.place)])"
     )
-    banks = page.ask("bench.current.run.banks.map(it => [it.base, it.rows, it.count])")
+    banks = page.ask("bench.current.run.layout.banks.map(it => [it.base, it.rows, it.count])")
     entries = {f"{base + row}.w" for base, rows, _ in banks for row in range(rows)}
     lines = program.text(
         ["session", *told.words], f"{told.table}%\nstep {starts[q]}\n" + "step 1\n" * (starts[q + 1] - starts[q] - 1)
@@ -241,7 +241,8 @@ def check_control(page, program, draw, count):
         told = told_of(page, program)
         quadruples = [line.split(",") for line in program.text(["bennett"], told.table).splitlines()]
         names, columns, labels = page.ask(
-            "(it => [it, bench.current.run.banks[0].columns, it.map(bench.controlLabel)])(bench.controlStates(bench.current.run))"
+            "(run => (it => [it, run.layout.banks[0].columns, it.map(bench.controlLabel)])"
+            "(run.layout.control.columns.map((_, k) => bench.controlState(run, k))))(bench.current.run)"
         )
         count.hold(
             len(names) == columns == len(set(labels)) and names[0]["kind"] == "begin" and names[1]["kind"] == "end",
@@ -252,9 +253,9 @@ def check_control(page, program, draw, count):
             found = page.wait(
                 f"""(async () => {{ const run = bench.current.run, found = []; await run.ready({steps});
               const to = run.starts[{q} + 1] ?? run.end; for (let c = run.chunkNumber({steps}); c <= run.chunkNumber(to); c++) {{ await run.chunk(c); await run.bars(c); }}
-              const named = e => bench.controlStates(run)[run.markedColumn(run.banks[0], e)];
+              const named = e => bench.controlState(run, run.markedColumn(run.layout.banks[0], e));
               found.push([{steps}, named({steps})]);
-              for (const it of run.movesBetween({steps} + 1, to)) if (run.bankOf(it.place >> 2).kind === "control") found.push([it.step, named(it.step)]);
+              for (const it of run.movesBetween({steps} + 1, to)) if (bench.moduleWith(run.layout, it.place >> 2).kind === "control") found.push([it.step, named(it.step)]);
               return found; }})()"""
             )
             first = found[0][1]
@@ -375,7 +376,7 @@ def check_marks(page, program, draw, count):
     """Marks of breakpoints: on an element those that the program comes to, in the window that is seen, and whether there are more."""
     page.visit(f"file://{PAGE}#m=increment")
     told = told_of(page, program)
-    elements = [0, page.ask("bench.current.run.bankAt(2, 3).base + 2"), page.ask("bench.current.run.banks[0].rows")]
+    elements = [0, page.ask("bench.cellModule(bench.current.run.layout, 2, 3).base + 2"), page.ask("bench.current.run.layout.banks[0].rows")]
     elements += [draw.randrange(page.ask("bench.current.run.circuit.count")) for _ in range(2)]
     for element in elements:
         for span in (None, [20.0, 26.0]):

@@ -16,15 +16,15 @@ MACHINES = [
 # One that runs on.
 RUNS_ON = "#t=S,_,_,%2B,T%0AT,_,1,%2B,T%0AT,1,1,%2B,T%0AU,_,_,0,F%0A&w=1"
 SHOWN = """(async () => {
-  const e = %d, {current, goTo, lineOf, placeName, render} = bench, run = current.run;
+  const e = %d, {current, goTo, lineInto, lineSaid, moduleWith, placeName, render} = bench, run = current.run, {layout} = run;
   await run.ready(e); goTo(e); await run.ready(e); render(false);
-  const at = run.placeAt(e), bank = run.bankOf(at.place >> 2), row = at.hasLeft ? -1 : run.entryOf(at.place);
+  const at = run.placeAt(e), bank = moduleWith(layout, at.place >> 2), row = at.hasLeft ? -1 : lineInto(layout, at.place);
   const m = run.moments[run.momentIndex(e)], name = bank.kind === "control" ? "control" : `tape ${bank.tape} cell ${bank.cell}`;
   const cells = svg => [...svg.querySelectorAll("g[data-cell]")].map(g =>
     [Number(g.dataset.cell), g.querySelector(".symbol").textContent.replace("·", "_")]);
   return {
     element: `element ${at.hasLeft ? "left" : "at"} ${placeName(at.place)} steps ${e}`,
-    module: at.hasLeft ? "exit " + run.outcome.exit : `module ${name}${row >= 0 ? " line " + lineOf(run, bank, row).name : " inside"}`,
+    module: at.hasLeft ? "exit " + run.outcome.exit : `module ${name}${row >= 0 ? " line " + lineSaid(layout, bank, row).name : " inside"}`,
     quadruple: "quadruple " + m.name, tapes: [...document.querySelectorAll("#three svg")].map(cells),
     machine: `machine ${m.stage} ${m.state !== null ? "state " + m.state : "quintuple " + m.rule} step ${m.step}`,
     marked: [...document.querySelectorAll("#quadruples tr.now td")].map(it => it.textContent),

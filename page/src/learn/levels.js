@@ -2,12 +2,14 @@
 import {bankPicture} from "../bank_picture.js";
 import {betweenAt} from "../between.js";
 import {diagramPicture} from "../diagram_picture.js";
+import {lineInto, moduleWith, placeIn} from "../layout.js";
 import {mapPicture} from "../map_picture.js";
+import {lineSaid} from "../module_words.js";
 import {quadrupleAt, rowWords} from "../quadruples.js";
 import {current, escaped, nameOf, state} from "../state.js";
 import {tapePicture} from "../tape_picture.js";
 import {markOf} from "../verdicts.js";
-import {bankName, lineOf, number, ruleAt, ruleWords, shortBank, TAPES} from "../words.js";
+import {bankName, number, ruleAt, ruleWords, shortBank, TAPES} from "../words.js";
 import {casesTable, elementPicture} from "./element.js";
 import {pastsOf} from "./pasts.js";
 
@@ -114,7 +116,7 @@ export function rowLevel(f, {width, height}) {
   const map = mapPicture(run, {bank: f.bank, row: f.row, moment: f.moment, hasLeft: Boolean(f.at?.hasLeft), width, height: Math.min(200, Math.max(118, height * .34))});
   const at = list.findLastIndex(it => it.step <= f.e), first = Math.max(0, Math.min(list.length - MOST_MOVES, at - MOST_MOVES / 2));
   const rows = list.slice(first, first + MOST_MOVES).map((it, k) => {
-    const bank = run.bankOf(it.place >> 2), line = lineOf(run, bank, run.entryOf(it.place)), isNow = first + k === at;
+    const bank = moduleWith(run.layout, it.place >> 2), line = lineSaid(run.layout, bank, lineInto(run.layout, it.place)), isNow = first + k === at;
     return `<li class="${isNow ? "now" : ""}"${isNow ? ' aria-current="step"' : ""}><button class="link" data-go="${it.step}"><i class="m${bank.tape ?? 0}"></i>${escaped(shortBank(bank))}</button>: ${escaped(line.words)}</li>`;
   });
   const open = list.isPart && !list.length ? '<p class="quiet">The program lists them …</p>' : "";
@@ -127,8 +129,8 @@ export function columnLevel(f, {width, height}) {
   const {run} = current, {bank} = f;
   if (isOver(run, f.e)) return overWords(run);
   if (!bank || !f.at) return '<p class="quiet">fetching the way of the signal …</p>';
-  const bars = run.bankBars(bank, f.e), place = f.at.place, free = Math.max(160, height - 74), inBank = (place >> 2) - bank.base;
-  const column = Math.floor(inBank / (bank.rows + 1)), row = inBank % (bank.rows + 1), fit = (free - 34) / (bank.rows + 1);
+  const bars = run.bankBars(bank, f.e), place = f.at.place, free = Math.max(160, height - 74);
+  const {column, row} = placeIn(bank, place >> 2), fit = (free - 34) / (bank.rows + 1);
   const pitch = Math.max(20, Math.min(44, fit)), wide = 1.7, columns = (width - NAMES_WIDTH) / (pitch * wide), rows = (free - 33) / pitch;
   const clamp = (it, most) => Math.max(0, Math.min(Math.max(0, most), it));
   const how = {bank, bars, place, hasLeft: Boolean(f.at.hasLeft), trail: f.move.from !== null ? run.trail(f.e, f.move.from, MOST_TRAIL) : [place], width, height: free,
@@ -143,8 +145,8 @@ const moveWords = f => f.move.from !== null && f.move.to !== null ? `step ${numb
 export function entryLine(run, f) {
   if (!f.bank) return null;
   const entry = f.move.from !== null ? run.placeAt(f.move.from)?.place : f.row >= 0 ? f.at?.place : null;
-  const row = entry === null || entry === undefined ? -1 : run.entryOf(entry);
-  return row < 0 ? null : lineOf(run, run.bankOf(entry >> 2), row);
+  const row = entry === null || entry === undefined ? -1 : lineInto(run.layout, entry);
+  return row < 0 ? null : lineSaid(run.layout, moduleWith(run.layout, entry >> 2), row);
 }
 
 // ---- one element
@@ -153,7 +155,7 @@ export function elementLevel(f, {width, height}) {
   const {run} = current, {at} = f;
   if (isOver(run, f.e)) return overWords(run);
   if (!at) return '<p class="quiet">fetching the way of the signal …</p>';
-  const element = at.place >> 2, bank = run.bankOf(element), bars = run.bankBars(bank, f.e), side = "nesw"[at.place & 3];
+  const element = at.place >> 2, bank = moduleWith(run.layout, element), bars = run.bankBars(bank, f.e), side = "nesw"[at.place & 3];
   if (!bars) return '<p class="quiet">asking how its bar lies …</p>';
   const bar = bars[element - bank.base] ? "H" : "V", isBeside = width >= LEAST_BESIDE;
   const size = isBeside ? Math.max(.6, Math.min(1.5, (width - CASES_WIDTH) / 335, (height - 50) / 295)) : LITTLE_ELEMENT;

@@ -1,23 +1,28 @@
 // The steps of the lesson: for each its level, two sentences, and a thing to try. `done` says whether that was tried, so that it
 // is ticked off. What is said is of the machine that runs, whichever it is.
-import {controlInFull, controlLabel, controlStates} from "../control.js";
+import {columnSaid, lineSaid} from "../module_words.js";
 import {SHIFT_WORDS, symbolWord} from "../table.js";
-import {lineOf} from "../words.js";
 
 // The names that a bank's picture has beside its rows and above its columns: one of each kind, in words.
 export function namesOf(run, bank) {
   const found = new Map();
   for (let row = 0; row < bank.rows; row++) {
-    const {name, words} = lineOf(run, bank, row), kind = name.split(" ")[0];
+    const {name, words} = lineSaid(run.layout, bank, row), kind = name.split(" ")[0];
     if (!found.has(kind)) found.set(kind, [name, words]);
   }
-  for (const it of bank.kind === "control" ? controlStates(run) : []) {
-    const many = it.symbols?.length, known = found.get(it.kind);
+  for (const {kind, label, words, many} of bank.kind === "control" ? columnsSaid(run) : [headSaid(run, bank)]) {
+    const known = found.get(kind);
     // One that keeps a symbol in mind tells more.
-    if (!known || many && !known[2]) found.set(it.kind, [controlLabel(it), controlInFull(it), many]);
+    if (!known || many && !known[2]) found.set(kind, [label, words, many]);
   }
-  if (bank.kind === "cell") found.set("head", ["▾1", "the column of a cell that holds 1 and has the head"]);
   return [...found.values()].map(it => it.slice(0, 2));
+}
+const columnsSaid = run => run.layout.control.columns.map((it, column) =>
+  ({kind: it.kind, many: it.symbols?.length ?? 0, ...columnSaid(run, run.layout.banks[0], column)}));
+// The column of a letter with the head.
+function headSaid(run, bank) {
+  const letter = run.layout.tapes[bank.tape - 1].letters.find(it => it !== "_") ?? "_";
+  return {kind: "head", many: 0, label: `▾${letter}`, words: `the column of a cell that holds ${symbolWord(letter)} and has the head`};
 }
 // The signs of the machine's picture: the blank, and a rule at its arrow.
 const SHIFT_LETTERS = {"+": "R", "-": "L", "0": "N"};
