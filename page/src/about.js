@@ -70,7 +70,7 @@ export function openAbout(panel) {
 export function openAboutPage({key, title}) {
   const seen = [...document.querySelectorAll(`#page-${key} .e-place, #page-${key} .e-said`)].map(it =>
     it.textContent).filter(Boolean);
-  const now = seen.length ? `<h3>Now</h3>${seen.map(it => `<p>${escaped(it)}</p>`).join("")}` : "";
+  const now = seen.length ? `<h3>Now</h3>${seen.map(it => `<p>${escaped(it ?? "")}</p>`).join("")}` : "";
   dialog(`<h2>${title}</h2>${PAGES_ABOUT[key].map(it => `<p>${it}</p>`).join("")}${now}`);
 }
 

@@ -28,17 +28,19 @@ export function provide(it) { Object.assign(given, it); }
 const moduleOf = () => compiledModule ??= Promise.resolve(given.module).then(it => WebAssembly.compile(it));
 
 // The compiled module is handed to a worker, or its bytes, where a browser hands over no compiled ones.
+/** @type {(bench: Bench) => Promise<any>} */
 async function givenModule(bench) {
   const bytes = async () => bench.call({kind: "module", bytes: await given.module});
   try {
     const it = await bench.call({kind: "module", module: await moduleOf()});
     return it.kind === "unread" ? bytes() : it;
   } catch (fault) {
-    if (fault.name !== "DataCloneError") throw fault;
+    if (!(fault instanceof Error) || fault.name !== "DataCloneError") throw fault;
     return bytes();
   }
 }
 
+/** @type {(lane: number) => Bench} */
 function beginBench(lane) {
   const source = new Blob([given.worker], {type: "text/javascript"});
   const bench = /** @type {Bench} */ ({waiting: new Map(), count: 0, worker: new Worker(URL.createObjectURL(source))});
@@ -68,6 +70,7 @@ function beginBench(lane) {
 }
 
 // Ends a worker: each waiting answer becomes status -1, and the next call begins a new one.
+/** @type {(lane: number, text: string) => void} */
 function endLane(lane, text) {
   const bench = benches[lane];
   if (!bench) return;
@@ -75,19 +78,23 @@ function endLane(lane, text) {
   benches[lane] = null;
   for (const done of bench.waiting.values()) done({kind: "fault", text, ms: 0});
 }
+/** @type {(lane: number) => void} */
 export function stopLane(lane) { endLane(lane, STOPPED); }
 // What is asked there for a machine that isn't wanted any more is given up, so that nothing queues behind it.
+/** @type {(lane: number) => void} */
 export function stopBusy(lane) { if (benches[lane]?.waiting.size) stopLane(lane); }
 export function stopAll() { benches.forEach((_, lane) => stopLane(lane)); }
 
 // Whether an answer was cut off, and isn't the program's; what is said of it.
 /** @type {(reply: Reply) => boolean} */
 export const isCutOff = reply => Boolean(reply.words);
+/** @type {(status: number, text: string) => string} */
 function cutWords(status, text) {
   if (status === STATUS.noMemory) return "There was no memory for this answer. A shorter word, or a smaller window, needs less.";
   return status === -1 && text !== STOPPED ? `This answer was cut off: ${text}. The next one begins anew.` : "";
 }
 
+/** @type {(lane: number, words: any[], input: string, more?: {reading?: Reading}) => Promise<any>} */
 async function callLane(lane, words, input, more = {}) {
   const began = performance.now(), bench = benches[lane] ?? beginBench(lane);
   await bench.ready;

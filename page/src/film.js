@@ -100,7 +100,7 @@ export function renderTime(f) {
   const values = counterWords(current, f, listed, isPhone());
   for (const button of byId("layers").children) {
     button.setAttribute("aria-pressed", button.dataset.layer === layerNow());
-    button.disabled = !hasLayer(button.dataset.layer);
+    button.disabled = !hasLayer(/** @type {Layer} */ (button.dataset.layer));
     const span = button.querySelector("span"), value = values[button.dataset.layer ?? ""];
     if (span && span.textContent !== value) span.textContent = value;
   }

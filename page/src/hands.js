@@ -317,7 +317,7 @@ function fitBank() {
 // Panels: the tabs below the tapes, and the texts behind each picture.
 function onPanels() {
   takeTabs(byId("middle"), it => {
-    chooseMiddle(it.dataset.middle);
+    chooseMiddle(it.dataset.middle ?? "moves");
     if (current.run) redraw(false);
   });
   for (const it of document.querySelectorAll("[data-about]")) it.onclick = () => { pause(); openAbout(it.dataset.about); };

@@ -295,7 +295,7 @@ function turnTo(turn) {
 /** @param {Partial<Judged>} judged */
 function showFault({fault, also, lines = [], turn, standard, blanks = [], again = false, read = false, isLong = false}) {
   const box = byId("verdict");
-  box.innerHTML = `<span class="fault">${escaped(fault)}</span>`;
+  box.innerHTML = `<span class="fault">${escaped(fault ?? "")}</span>`;
   if (also) box.innerHTML += `<p class="note">${escaped(also)}</p>`;
   if (turn) {
     box.innerHTML += `<p class="note">The page can turn:</p><ul>${turn.said.map(it => `<li>${escaped(it)}</li>`).join("")}</ul>`;

@@ -20,6 +20,7 @@ export const limits = {
   chunk: LEAST_CHUNK, far: FAR_STEP,
 };
 
+/** @type {(name: string) => number} */
 const digitsOf = name => Number(matchOf(/\d+/, name)[0]);
 
 export class Moments {
@@ -109,13 +110,14 @@ export class Moments {
     this.many = Math.round(Math.max(LEAST_BLOCK, Math.min(MOST_MOMENTS, this.many * Math.max(.5, Math.min(4, share)))));
     return true;
   }
+  /** @type {(lines: string[]) => void} */
   takeMoments(lines) {
     const wide = this.isSmall ? 8 : 1;
     for (let at = this.names.length + 1; at + wide < lines.length && !this.isWhole; at += wide) {
       const [, where, line, steps, label] = matchOf(/^(at|left) (\S+) steps (\d+)(?: break s(\d+))?$/, lines[at]);
       const place = readPlace(line), hasLeft = where === "left";
       if (label === undefined) this.leaves = {place};
-      else this.addMoment({...this.kindOf(this.names[label]), steps: Number(steps), place, hasLeft, tapes: null, step: null});
+      else this.addMoment({...this.kindOf(this.names[Number(label)]), steps: Number(steps), place, hasLeft, tapes: null, step: null});
       this.isWhole = hasLeft;
       if (label !== undefined && this.isSmall) this.takeView(this.moments.length - 1, readView(lines, at + 1));
     }
@@ -131,6 +133,7 @@ export class Moments {
     this.end = steps;
     Object.assign(this.outcome, {exit: "end", steps, quadruples: this.moments.length - 1, output: this.own.output});
   }
+  /** @type {(it: Moment) => void} */
   addMoment(it) {
     const q = this.moments.push(it) - 1, start = q === 0 ? 0 : it.steps, isCopy = it.stage === "copy";
     this.starts.push(start);
@@ -140,6 +143,7 @@ export class Moments {
     if (isCopy) this.copyAt ??= q;
   }
   // What the name of a state of Bennett's machine says: docs/FORMATS.md, Bennett's table.
+  /** @type {(name: string) => Pick<Moment, "name" | "stage" | "state" | "rule">} */
   kindOf(name) {
     if (name.startsWith("B")) return {name, stage: "copy", state: this.rules.at(-1)?.next ?? null, rule: null};
     const stage = name.startsWith("A") ? "compute" : "retrace", isRule = name.endsWith("'");
@@ -147,10 +151,14 @@ export class Moments {
   }
   // Which rule is followed next at a moment in which the machine by itself is in a state: null where none is, undefined where it
   // isn't told.
-  ruleNext({step, stage, rule}) { return stage === "compute" && rule === null ? this.told.rules[step] : undefined; }
+  /** @type {(moment: Moment) => number | null | undefined} */
+  ruleNext({step, stage, rule}) { return stage === "compute" && rule === null ? this.told.rules[step ?? -1] : undefined; }
+  /** @type {(e: number) => boolean} */
   isKnown(e) { return this.isWhole || (this.starts.at(-1) ?? 0) > e; }
   // The moments up to a step, up to one of them, or all; false where the asking was stopped.
+  /** @type {(e: number) => Promise<boolean>} */
   async momentsTo(e) { return this.moreUntil(() => this.isKnown(e)); }
+  /** @type {(q: number) => Promise<boolean>} */
   async momentsUpTo(q) { return this.moreUntil(() => this.moments.length > q); }
   /** @type {(isDone: () => boolean, told?: () => void) => Promise<boolean>} */
   async moreUntil(isDone, told = () => {}) {
@@ -160,6 +168,7 @@ export class Moments {
     }
     return true;
   }
+  /** @type {(e: number) => number} */
   momentIndex(e) {
     let low = 0, high = this.starts.length;
     while (high - low > 1) {
@@ -169,6 +178,7 @@ export class Moments {
     return low;
   }
   // The first of rising steps behind one, or the last before it.
+  /** @type {(layer: "quadruple" | "machine", e: number, direction: number) => number | null} */
   stopNear(layer, e, direction) {
     const stops = this.stops[layer];
     let low = 0, high = stops.length;
@@ -179,10 +189,12 @@ export class Moments {
     return direction > 0 ? stops[low] ?? null : stops[low - 1] ?? null;
   }
   // A place on the time line, in moments, with the share of the way to the next one; and back.
+  /** @type {(e: number) => number} */
   timeOf(e) {
     const q = this.momentIndex(e), from = this.starts[q], to = this.starts[q + 1] ?? this.end;
     return q + (to > from ? Math.min(1, (e - from) / (to - from)) : 0);
   }
+  /** @type {(time: number) => number} */
   stepAt(time) {
     const q = Math.max(0, Math.min(this.starts.length - 1, Math.floor(time))), from = this.starts[q], to = this.starts[q + 1] ?? this.end;
     return Number.isFinite(to) ? Math.round(from + (to - from) * Math.min(1, Math.max(0, time - q))) : from;
@@ -201,12 +213,15 @@ export class Moments {
 
   // ---- what the tapes show at them
 
+  /** @type {(q: number) => boolean} */
   hasView(q) { return Boolean(this.moments[q]?.tapes); }
+  /** @type {(q: number, view: View) => void} */
   takeView(q, {tapes, step}) {
     Object.assign(this.moments[q], {tapes, step});
     this.kept.add(q);
   }
   // The views of some moments, in rising order, by one call; false where it was stopped.
+  /** @type {(list: number[], how?: {lane?: number}) => Promise<boolean>} */
   async askViews(list, how) {
     if (!list.length) return true;
     let at = 0, script = "";
@@ -223,8 +238,11 @@ export class Moments {
   }
   // Those near a moment that is wanted, and a block of them in the direction of play; the copy's first one, at which the
   // machine by itself has halted.
+  /** @type {(q: number) => number[]} */
   viewsWanted(q) { return [q - 1, q, this.moments[q]?.stage === "compute" ? q : this.copyAt ?? q].filter(k => k >= 0); }
+  /** @type {(q: number) => boolean} */
   hasViews(q) { return this.viewsWanted(q).every(k => this.hasView(k)); }
+  /** @type {(q: number, direction?: number, how?: {lane?: number}) => Promise<boolean>} */
   async viewsNear(q, direction = 0, how = {}) {
     this.at = q;
     if (this.hasViews(q)) return true;
@@ -234,11 +252,14 @@ export class Moments {
     this.viewing = it;
     return it.promise;
   }
+  /** @type {(q: number, direction: number, how: {lane?: number}) => Promise<boolean>} */
   askNear(q, direction, how) {
     const from = direction < 0 ? q - this.block : q - 2, to = direction > 0 ? q + this.block : q + 2;
     return this.askViews(this.missing([...this.viewsWanted(q), ...this.range(from, to)]), how);
   }
+  /** @type {(from: number, to: number) => number[]} */
   range(from, to) { return Array.from({length: to - from + 1}, (_, k) => from + k); }
+  /** @type {(list: number[]) => number[]} */
   missing(list) {
     const known = list.filter(q => q >= 0 && q < this.moments.length && !this.hasView(q));
     return [...new Set(known)].sort((a, b) => a - b);
@@ -256,6 +277,7 @@ export class Moments {
   }
   // The moments of a part of the time line that are drawn: each, or each second, fourth, ... so that they are no more
   // than `most`.
+  /** @type {(from: number, to: number, most: number) => {stride: number, list: number[]}} */
   drawn(from, to, most) {
     const stride = 2 ** Math.max(0, Math.ceil(Math.log2((to - from) / most))), list = [];
     for (let q = Math.floor(from / stride) * stride; q < Math.min(to, this.moments.length); q += stride) list.push(q);
@@ -264,24 +286,29 @@ export class Moments {
 
   // ---- cells of the tapes at the moments
 
+  /** @type {(q: number, tape: number, cell: number) => string} */
   cellAt(q, tape, cell) { const it = this.tapesAt(q)[tape - 1]; return it.symbols[cell - it.first]; }
   // What the tapes show at a moment of which that is known.
+  /** @type {(q: number) => Tape[]} */
   tapesAt(q) {
     const {tapes} = this.moments[q];
     if (!tapes) throw new Error(`moment ${q} has no tapes yet`);
     return tapes;
   }
   // Whether a cell is otherwise than at the moment before; false where that isn't known.
+  /** @type {(q: number, tape: number, cell: number) => boolean} */
   isChange(q, tape, cell) {
     return q > 0 && this.hasView(q) && this.hasView(q - 1) && this.cellAt(q, tape, cell) !== this.cellAt(q - 1, tape, cell);
   }
   // Where a cell changes next, or changed last, as far as it is known.
+  /** @type {(tape: number, cell: number, e: number, direction: number) => number | null} */
   cellChange(tape, cell, e, direction) {
     for (let q = this.changeFrom(e, direction); q > 0 && q < this.moments.length; q += direction) {
       if (this.isChange(q, tape, cell)) return this.starts[q];
     }
     return null;
   }
+  /** @type {(e: number, direction: number) => number} */
   changeFrom(e, direction) {
     const q = this.momentIndex(e);
     return direction > 0 ? q + 1 : this.starts[q] < e ? q : q - 1;
@@ -304,12 +331,14 @@ export class Moments {
     }
     return null;
   }
+  /** @type {(tape: number, cell: number) => number | null} */
   firstWritten(tape, cell) {
     for (let q = 1; q < this.moments.length; q++) if (this.isChange(q, tape, cell)) return q;
     return null;
   }
   // The first change, with what isn't known asked of the program. Cells of the history and of the output are blank until
   // they are written, so moments that are known spare what is before them.
+  /** @type {(tape: number, cell: number, told: Told) => Promise<number | null | undefined>} */
   async findFirst(tape, cell, told) {
     if (this.isSmall) return this.firstWritten(tape, cell);
     let from = 1;

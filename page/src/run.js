@@ -43,7 +43,9 @@ export class Run extends Moments {
     this.words = ["=" + word, ...window.map(String)];
   }
   // The input of `session` with a script.
+  /** @type {(script: string) => string} */
   inputOf(script) { return `${this.table.endsWith("\n") ? this.table : this.table + "\n"}%\n${script}`; }
+  /** @type {(script: string, how?: {lane?: number}) => Promise<Reply>} */
   session(script, how = {}) { return answer(["session", ...this.words], this.inputOf(script), how); }
 
   // Fetches the circuit and the first moments; how the run ended is known from the answer that found its window.
@@ -77,9 +79,11 @@ export class Run extends Moments {
 
   // ---- the places of the signal, in pieces
 
+  /** @type {(e: number) => number} */
   chunkNumber(e) { return Math.floor(Math.min(e, Math.max(0, this.end - 1)) / this.piece); }
   /** @type {(c: number) => Piece | null} */
   loaded(c) { const it = this.chunks.get(c); return it?.places ? /** @type {Piece} */ (it) : null; }
+  /** @type {(c: number) => boolean} */
   hasPiece(c) { return c >= 0 && c * this.piece < Math.max(1, this.end); }
   /** @type {(c: number, how?: {lane?: number}) => Promise<Piece | null>} */
   async chunk(c, how = {}) {
@@ -88,6 +92,7 @@ export class Run extends Moments {
     return there ?? (asked ? asked.promise : this.fetchChunks(c, 1, how)[0].promise);
   }
   // So many pieces from one on by one call, since the way to the first costs as much for all as for one.
+  /** @type {(first: number, many: number, how: {lane?: number}) => Asked[]} */
   fetchChunks(first, many, how) {
     const entries = Array.from({length: many}, (_, k) => (/** @type {Asked} */ ({c: first + k})));
     const reply = this.fetchPlaces(first, many, how);
@@ -103,11 +108,13 @@ export class Run extends Moments {
     return entries;
   }
   // One piece of what was fetched from a first one on.
+  /** @type {(found: {places: Int32Array, bounds: Int32Array, hasLeft: boolean}, c: number, first: number) => Omit<Piece, "c">} */
   pieceOf({places, bounds, hasLeft}, c, first) {
     const from = (c - first) * this.piece, to = Math.min(places.length, from + this.piece + 1), isLast = to === places.length;
     const begun = bounds.filter(k => k >= from && (isLast || k < to));
     return {places: places.slice(from, to), bounds: Float64Array.from(begun, k => first * this.piece + k), hasLeft: hasLeft && isLast, from: c * this.piece};
   }
+  /** @type {(c: number, many: number, how: {lane?: number}) => Promise<{places: Int32Array, bounds: Int32Array, hasLeft: boolean} | null>} */
   async fetchPlaces(c, many, how) {
     const count = Math.min(many * this.piece, this.end - c * this.piece), input = this.inputOf(`step ${c * this.piece}\n${"step 1\n".repeat(count)}`);
     const reading = {count: count + 1, bases: this.layout.bases, rows: this.layout.rows};
@@ -116,6 +123,7 @@ export class Run extends Moments {
   }
   // Fetches the pieces between two that aren't there: one by one where they are soon come to, else as many as stand side
   // by side by one call. `isOff` says that they aren't wanted any more.
+  /** @type {(first: number, last: number, how: {lane?: number}, isOff?: () => boolean) => Promise<void>} */
   async chunksBetween(first, last, how, isOff = () => false) {
     for (let c = first; c <= last && !isOff(); c++) {
       if (!this.hasPiece(c) || this.chunks.has(c)) {
@@ -129,6 +137,7 @@ export class Run extends Moments {
     }
   }
   // Lets go of the pieces that are farthest from one, and of their bars.
+  /** @type {(near: number) => void} */
   forget(near) {
     const most = Math.max(LEAST_PIECES, MOST_KEPT / (4 * this.piece + this.outcome.elements));
     if (this.chunks.size <= most) return;
@@ -137,7 +146,8 @@ export class Run extends Moments {
     if (far !== 0) this.barsAt.delete(far);
   }
   // The bars where a piece begins: handed on from a neighbour that is there, else asked of the program.
-  async bars(c, how) {
+  /** @type {(c: number, how?: {lane?: number}) => Promise<Uint8Array | null>} */
+  async bars(c, how = {}) {
     const known = this.barsAt.get(c), left = this.barsAt.get(c - 1), right = this.barsAt.get(c + 1);
     if (known) return known;
     const before = this.loaded(c - 1), here = this.loaded(c);
@@ -158,9 +168,12 @@ export class Run extends Moments {
     return bars;
   }
   // Sides n, e, s, w are 0 to 3, so an odd side is one along west and east: a bar that lies is 1.
+  /** @type {(place: number, next: number, hasLeft: boolean) => boolean} */
   isStraight(place, next, hasLeft) { return ((place & 3) ^ ((hasLeft ? next : this.circuit.sources[next]) & 3)) === 2; }
+  /** @type {(place: number, next: number, hasLeft: boolean) => number} */
   barBefore(place, next, hasLeft) { return this.isStraight(place, next, hasLeft) ? place & 1 : 1 - (place & 1); }
   // The first step from one on at which the signal turns a bar, or that one, where none is near.
+  /** @type {(e: number) => Promise<number>} */
   async turnFrom(e) {
     const it = await this.chunk(this.chunkNumber(e)), last = (it?.places.length ?? 0) - 1;
     for (let k = e - (it?.from ?? 0); it && k < last; k++) {
@@ -169,6 +182,7 @@ export class Run extends Moments {
     return e;
   }
   // Everything for a frame at step e, and for those near it in the direction of play.
+  /** @type {(e: number, direction?: number) => Promise<void>} */
   async ready(e, direction = 0) {
     if (!(await this.momentsTo(e))) return;
     const q = this.momentIndex(e), c = this.chunkNumber(e), isNear = [c - 1, c, c + 1].some(k => this.barsAt.has(k));
@@ -182,6 +196,7 @@ export class Run extends Moments {
     this.ahead(c, direction || 1, direction ? MOST_AHEAD : 1);
   }
   // A few pieces ahead, and one behind.
+  /** @type {(c: number, direction: number, many: number) => void} */
   ahead(c, direction, many) {
     if (this.going) return;
     const how = {lane: LANES.ahead}, next = c + direction, far = c + many * direction;
@@ -192,6 +207,7 @@ export class Run extends Moments {
       for (let k = 1; k <= many; k++) if (this.loaded(c + k * direction)) await this.bars(c + k * direction, how);
     })().catch(() => {}).finally(() => { this.going = null; });
   }
+  /** @type {(e: number) => Place | null} */
   placeAt(e) {
     const it = this.loaded(this.chunkNumber(e));
     if (it) {
@@ -206,6 +222,7 @@ export class Run extends Moments {
   }
   // All bars at step e: those at the begin of its piece, and along the places since; null where they aren't there yet.
   // What is handed out is changed by the next call.
+  /** @type {(e: number) => Uint8Array | null} */
   barsNow(e) {
     const c = this.chunkNumber(e), it = this.loaded(c), start = this.barsAt.get(c);
     if (!it || !start) return null;
@@ -221,24 +238,27 @@ export class Run extends Moments {
     return now.bars;
   }
   // The bars of one bank at step e, or null where they aren't there yet.
+  /** @type {(bank: Bank, e: number) => Uint8Array | null} */
   bankBars(bank, e) {
     const bars = this.barsNow(e);
     if (bars) return bars.subarray(bank.base, bank.base + bank.count);
     const moment = this.moments[this.momentIndex(e)];
     if (e === 0) return this.circuit.bars.subarray(bank.base, bank.base + bank.count);
     if (bank.kind === "cell" && moment.tapes && (moment.steps === e || (e === this.end && this.leaves))) {
-      const tape = moment.tapes[bank.tape - 1], letter = tape.symbols[bank.cell - tape.first], alone = new Uint8Array(bank.count);
-      alone[bottomOf(bank, columnWith(this.layout, bank, {letter, hasHead: tape.head === bank.cell}))] = 1;
+      const {tape: which = 1, cell = 0} = bank, tape = moment.tapes[which - 1], letter = tape.symbols[cell - tape.first], alone = new Uint8Array(bank.count);
+      alone[bottomOf(bank, columnWith(this.layout, bank, {letter, hasHead: tape.head === cell}))] = 1;
       return alone;
     }
     return null;
   }
   // The marked column of a bank, -1 where none is, or null where its bars aren't there yet.
+  /** @type {(bank: Bank, e: number) => number | null} */
   markedColumn(bank, e) {
     const bars = this.bankBars(bank, e);
     return bars ? markedIn(bank, bars) : null;
   }
   // The move in which step e is: where it begins, and where the next one does; null where that piece isn't there.
+  /** @type {(e: number) => {from: number | null, to: number | null}} */
   moveAt(e) {
     const c = this.chunkNumber(e), here = this.loaded(c);
     if (!here) return {from: null, to: null};
@@ -257,6 +277,7 @@ export class Run extends Moments {
     return {from, to};
   }
   // The moves that are known between two steps, the first one's beginning at or behind the first step.
+  /** @type {(from: number, to: number) => Moves} */
   movesBetween(from, to) {
     /** @type {Moves} */
     const found = [];
@@ -271,6 +292,7 @@ export class Run extends Moments {
     return found;
   }
   // The way of the signal: the last places before step e, with e's own last.
+  /** @type {(e: number, from: number | null, most: number) => number[]} */
   trail(e, from, most) {
     const places = [];
     for (let k = Math.max(from ?? 0, e - most, 0); k <= e; k++) {
@@ -280,10 +302,11 @@ export class Run extends Moments {
     return places;
   }
   // The next place to stop at on a layer, forward or back.
+  /** @type {(layer: Layer, e: number, direction: number) => Promise<number>} */
   async nextStop(layer, e, direction) {
     if (layer === "element") return Math.max(0, Math.min(this.end, e + direction));
     if (layer !== "module") {
-      await this.moreUntil(() => direction > 0 ? this.stops[layer].at(-1) > e : this.isKnown(e));
+      await this.moreUntil(() => direction > 0 ? (this.stops[layer].at(-1) ?? 0) > e : this.isKnown(e));
       return this.stopNear(layer, e, direction) ?? (direction < 0 ? 0 : this.isWhole ? this.end : e);
     }
     for (let c = this.chunkNumber(direction > 0 ? e : Math.max(0, e - 1)); ; c += direction) {
@@ -297,12 +320,16 @@ export class Run extends Moments {
   // ---- breakpoints
 
   // On or back to the next breakpoint, by one `session`; cells are looked up in the moments. `told` hears where that is.
+  /** @type {(e: number, direction: number, breaks: Break[], told?: (q: number) => void) => Promise<{step: number, hit: Break | null}>} */
   async runTo(e, direction, breaks, told = () => {}) {
+    /** @type {string[]} */
     const lines = [], labels = new Map();
     breaks.forEach((it, k) => {
+      /** @type {(line: string, n: number) => void} */
       const add = (line, n) => { const label = `b${k}x${n}`; lines.push(`break ${label} ${line}`); labels.set(label, it); };
       if (it.kind === "element") add(`element ${it.element}`, 0);
       if (it.kind === "state") {
+        /** @type {(name: string) => boolean} */
         const isShown = name => (({stage, state}) => state === it.state && stage !== "copy")(this.kindOf(name));
         this.names.filter(isShown).forEach((name, n) => add(`state ${name}`, n));
       }

@@ -25,6 +25,7 @@ export const current = /** @type {{run: import("./run.js").Run, found: Found, ma
 
 // Whether what runs has no circuit yet, or none at all; whether it has a layer, and on which its steps are.
 export const isEarly = () => current.run?.circuit.count === 0;
+/** @type {(layer: Layer) => boolean} */
 export const hasLayer = layer => !current.run || current.run.layers.includes(layer);
 export const layerNow = () => hasLayer(state.layer) ? state.layer : current.run.layers[current.run.layers.length - 1];
 
@@ -33,13 +34,18 @@ export const byId = id => /** @type {Box} */ (document.getElementById(id));
 // A part of a box, by its name.
 /** @type {(box: HTMLElement, id: string) => Box} */
 export const partOf = (box, id) => /** @type {Box} */ (box.querySelector("#" + id));
-export const escaped = it => String(it).replace(/[&<>"]/g, c => ({"&": "&amp;", "<": "&lt;", ">": "&gt;", '"': "&quot;"})[c]);
+/** @type {Record<string, string>} */
+const ENTITIES = {"&": "&amp;", "<": "&lt;", ">": "&gt;", '"': "&quot;"};
+/** @type {(it: string | number) => string} */
+export const escaped = it => String(it).replace(/[&<>"]/g, c => ENTITIES[c]);
+/** @type {(it: string | number) => string} */
 export const minus = it => String(it).replace("-", "−");
 
 const STOP_AFTER = 1200, TIME_AFTER = 2;
 /** @type {{since: number | null, ticking: ReturnType<typeof setInterval> | undefined}} */
 const work = {since: null, ticking: undefined};
 // Says what is waited for; where that takes long, for how long by now, and a button offers to stop it.
+/** @type {(words: string) => void} */
 export function busy(words) {
   const isOn = words.endsWith("…"), now = performance.now();
   byId("busy").textContent = words;
@@ -56,12 +62,14 @@ function tellTime() {
   byId("stop").hidden = spent < STOP_AFTER;
   byId("busytime").textContent = seconds >= TIME_AFTER ? `${seconds} s` : "";
 }
+/** @type {(words: string) => void} */
 export function toast(words) {
   byId("toast")?.remove();
   const it = Object.assign(document.createElement("div"), {id: "toast", textContent: words});
   document.body.append(it);
   setTimeout(() => it.remove(), 2600);
 }
+/** @type {(html: string) => void} */
 export function dialog(html) {
   byId("dialogbody").innerHTML = html;
   const head = byId("dialogbody").querySelector("h2");
@@ -70,6 +78,7 @@ export function dialog(html) {
 }
 
 // The names that are shown: those that were typed, through what was turned and through `standard`.
+/** @type {(name: string) => string} */
 export function nameOf(name) {
   const {machine} = current;
   let it = name;
@@ -81,6 +90,7 @@ export function nameOf(name) {
   return state.names[it] ?? it;
 }
 // The line in the editor of a rule of the machine that runs, or null where `standard` added the rule.
+/** @type {(rule: number | null) => number | null} */
 export function editorLine(rule) {
   const {machine} = current;
   if (!machine || !rule) return null;

@@ -1,5 +1,6 @@
 // The table that was typed: its lines, what can be turned into the program's own form, names that are kept, and faults in words.
 
+/** @type {(text: string) => {line: string, number: number}[]} */
 const nonblank = text => text.split(/\r\n|\r|\n/).map((line, number) => ({line, number: number + 1})).filter(it => it.line.trim() !== "");
 
 const LINE = /\r\n|\r|\n/g;
@@ -18,6 +19,7 @@ function recordsOf(text) {
     }
   };
 }
+/** @type {(text: string) => number} */
 const countOf = text => (text.match(/[^\r\n]*\S[^\r\n]*/g) ?? []).length;
 
 // The records of a table that the program has read, with the text line of each.
@@ -45,14 +47,17 @@ export function lettersOf(rules) {
   return [...found];
 }
 
+/** @type {Record<string, string>} */
 const SHIFTS = {R: "+", r: "+", ">": "+", "→": "+", right: "+", L: "-", l: "-", "<": "-", "←": "-", left: "-", N: "0", n: "0", S: "0", s: "0",
                 "↓": "0", "=": "0", stay: "0", none: "0", "−": "-", "–": "-", "+1": "+", "-1": "-"};
 // Signs that stand for the blank, the surest first: a small b does only where there is no a.
 const BLANKS = ["□", "␣", "▢", "⊔", "⎵", "␢", "blank", "Blank", "Δ", "B", "ε", "λ", "Λ", "∅", "⊥", "#", " ", "b"];
+/** @type {(letters: Set<string>) => (it: string) => boolean} */
 const isBlankOf = letters => it => letters.has(it) && !(it === "b" && letters.has("a"));
 // What begins a comment behind a rule, and what stands between the fields of a rule in any of the forms that are turned.
 const COMMENT = /\s+(?:\/\/|#|%|;)|\/\//g, BETWEEN = /\s*(?:->|→|⇒|=>|[,;|\t()=:{}])\s*|\s+/;
 // A rule without the comment behind it: where a comment may begin, five fields have to stand before.
+/** @type {(line: string) => string} */
 function withoutComment(line) {
   for (const {index} of line.matchAll(COMMENT)) {
     const front = line.slice(0, index), fields = front.split(BETWEEN).filter(it => it !== "").length;
@@ -60,6 +65,7 @@ function withoutComment(line) {
   }
   return line;
 }
+/** @type {(name: string) => boolean} */
 const isName = name => /^[A-Za-z0-9'.-]{1,32}$/.test(name);
 
 // What would be turned so that the program can read the table: the new text, what was done, in words, and the names that
@@ -77,11 +83,12 @@ export function turned(text, blank = null, known = {}) {
   // Brackets around a whole rule, or the function's name before it: (q0,1,0,R,q1), d(q0,1) = (q1,0,R).
   const bare = rows.map(line => line.replace(/^\s*(?:δ|delta|d)?\s*[({]/, "").replace(/[)}]\s*[,;.]?\s*$/, ""));
   if (bare.every((line, k) => line !== rows[k])) { rows = bare; said.push("brackets taken away"); }
+  /** @type {(pattern: RegExp) => number} */
   const rate = pattern => rows.filter(line => line.split(pattern).filter(it => it !== "").length >= 5).length;
   /** @type {[RegExp, string][]} */
   const others = [[/;/, "semicolons"], [/\t+/, "tabs"], [/\|/, "bars"],
     [/\s*(?:->|→|⇒|=>|:|=)\s*|[\s,;()]+/, "arrows and spaces"], [/\s+/, "spaces"]];
-  let split = /,/, how = null;
+  let split = /,/, how = /** @type {string | null} */ (null);
   if (rate(/,/) < rows.length) for (const [pattern, words] of others)
     if (rate(pattern) > rate(split)) { split = pattern; how = words; }
   if (how) said.push(`${how} to commas`);
@@ -91,15 +98,18 @@ export function turned(text, blank = null, known = {}) {
     return whole.map(it => it.trim() === "" && it !== "" ? " " : it.trim());
   });
   if (!how && rows.some((line, k) => line.split(",").some((it, j) => it !== fields[k][j]))) said.push("spaces taken away");
+  /** @type {(it: string) => boolean} */
   const isShift = it => it in SHIFTS || ["+", "-", "0"].includes(it);
   if (fields.length > 1 && fields[0].length === 5 && !isShift(fields[0][3]) && !isShift(fields[0][4]) && (fields[0][1] ?? "").length > 1) {
     said.push("the header line dropped");
     fields.shift();
   }
   // state, read, next, write, shift, or state, read, write, next, shift
+  /** @type {(it: string) => boolean} */
   const letterShift = it => it in SHIFTS;
   if (fields.length && fields.every(it => it.length === 5 && isShift(it[4])) && !fields.every(it => isShift(it[3])) && fields.some(it => letterShift(it[4]))) {
     const first = new Set(fields.map(it => it[0]));
+    /** @type {(place: number) => number} */
     const score = place => fields.filter(it => first.has(it[place]) || it[place].length > 1).length;
     const next = score(2) >= score(3) ? 2 : 3, write = 5 - next;
     fields = fields.map(it => [it[0], it[1], it[write], it[4], it[next]]);
@@ -124,6 +134,7 @@ export function turned(text, blank = null, known = {}) {
 // ---- names that the program can't read: `names` has for each spelling the name as it was typed
 
 // Gives a name that the program can't read a spelling that no other state has.
+/** @type {(name: string, names: Record<string, string>, taken: Set<string>) => void} */
 export function spell(name, names, taken) {
   if (isName(name) || name === "" || Object.values(names).includes(name)) return;
   const plain = name.normalize("NFKD").replace(/[_\s]+/g, "-").replace(/[^A-Za-z0-9'.-]/g, "").slice(0, 28) || "q";
@@ -132,6 +143,7 @@ export function spell(name, names, taken) {
   names[made] = name;
 }
 // The same names, where none is the name of another state that was typed as well.
+/** @type {(text: string, names: Record<string, string>) => Record<string, string>} */
 export function freeNames(text, names) {
   const rules = rulesOf(text), taken = new Set(rules.flatMap(it => [it.state, it.next]));
   const entries = Object.entries(names), found = Object.fromEntries(entries.filter(([made, name]) => !(taken.has(made) && taken.has(name))));
@@ -139,30 +151,38 @@ export function freeNames(text, names) {
   return found;
 }
 // The table as the program gets it: line by line the same, with the names spelled.
+/** @type {(text: string, names: Record<string, string>) => string} */
 export function spelled(text, names) {
   const made = new Map(Object.entries(names).map(([key, name]) => [name, key]));
   if (!made.size) return text;
   return text.split("\n").map(line => {
     const fields = line.split(",");
-    for (const place of [0, 4]) if (made.has(unquoted(fields[place]))) fields[place] = made.get(unquoted(fields[place]));
+    for (const place of [0, 4]) if (made.has(unquoted(fields[place]))) fields[place] = made.get(unquoted(fields[place])) ?? "";
     return fields.join(",");
   }).join("\n");
 }
-const unquoted = field => field?.replace(/\r$/, "").replace(/^"(.*)"$/, "$1");
+/** @type {(field: string | undefined) => string} */
+const unquoted = field => (field ?? "").replace(/\r$/, "").replace(/^"(.*)"$/, "$1");
 
 // Candidates for a blank: the letters of a table without `_`.
+/** @type {(text: string) => string[]} */
 export function blankCandidates(text) {
   const rules = rulesOf(text).filter(it => it.next !== undefined);
   const letters = new Set(rules.flatMap(it => [it.read, it.write]));
   return letters.has("_") ? [] : [...letters].filter(it => [...it].length <= 1);
 }
 
+/** @type {(it: string) => string} */
 const quoted = it => `“${it}”`;
 // A refusal of a table, in words, with the text lines that it is about.
+/** @type {(answer: string, text: string) => {lines: number[], text: string, standard?: boolean}} */
 export function faultOf(answer, text) {
   // Of a long text few lines are wanted, and it isn't taken apart for them.
-  const at = recordsOf(text), line = record => /** @type {number} */ (at(record)?.number ?? null);
-  const fields = record => (at(record)?.line ?? "").split(","), last = () => countOf(text);
+  /** @type {(record: number) => number} */
+  const line = record => /** @type {number} */ (at(record)?.number ?? null);
+  /** @type {(record: number) => string[]} */
+  const fields = record => (at(record)?.line ?? "").split(",");
+  const at = recordsOf(text), last = () => countOf(text);
   let found = /^text: record (\d+) (fields|too many|field (\d) (\S+))/.exec(answer);
   if (found) {
     const record = Number(found[1]), number = line(record), place = Number(found[3] ?? 0), given = fields(record)[place - 1] ?? "";
@@ -208,6 +228,9 @@ export function refusalWords(answer, word, rules) {
   return `Letter ${place[1]}, “${letter}”, isn't in the table. Its letters: ${known}.`;
 }
 
+/** @type {Record<string, string>} */
 export const SHIFT_WORDS = {"+": "go right", "-": "go left", "0": "stay"};
+/** @type {Record<string, string>} */
 export const SHIFT_BACK = {"+": "go left", "-": "go right", "0": "stay"};
+/** @type {(it: string) => string} */
 export const symbolWord = it => it === "_" ? "blank" : it;

@@ -10,6 +10,7 @@ const MOST_OWN_STEPS = 100000, SHOWN_STEPS = 40;
 export const longRuns = {above: 200};
 
 export class Refused extends Error {
+  /** @param {Reply} reply */
   constructor(reply) {
     super(reply.text.trim());
     this.reply = reply;
@@ -53,14 +54,18 @@ export async function ownRun(table, word) {
 
 // The ends of the work tape that were too near, and were put farther, by machine and word.
 const widened = new Map();
+/** @type {(table: string, word: string) => string} */
 const widenedAs = (table, word) => JSON.stringify([table, word]);
 // The history wants a cell for each step, the output one behind its end. How far the machine goes on its own tape shows;
 // at first there is room for its word and its output, one behind the other.
-function longWindow(table, word, {steps, output}) {
+/** @type {(table: string, word: string, own: Own) => Window4} */
+function longWindow(table, word, {steps, output: told}) {
+  const output = told ?? "";
   const [left, right] = widened.get(widenedAs(table, word)) ?? [1, word.length + output.length + 2];
   return [left, right, steps, output.length + 1];
 }
 // Where the signal has left a window by an end of the work tape, that end is put twice as far. Whether it was so.
+/** @type {(run: import("./run.js").Run) => Promise<boolean>} */
 export async function widen(run) {
   const ran = await answer(["run", ...run.words], run.table, {lane: LANES.long}), side = /^exit window 1 (left|right)$/m.exec(ran.text)?.[1];
   if (!side) return false;

@@ -1,14 +1,20 @@
 // What stands there, in words. Everything is looked up in the program's answers and in the table.
 import {minus} from "./state.js";
-import {SHIFT_BACK, SHIFT_WORDS, symbolWord} from "./table.js";
+import {finalOf, SHIFT_BACK, SHIFT_WORDS, symbolWord} from "./table.js";
 
 export const TAPES = ["", "work", "history", "output"];
 export const STAGES = {compute: "compute, and keep a history", copy: "copy the output", retrace: "retrace, and take the history back"};
 const numbers = new Intl.NumberFormat("en");
+/** @type {(it: number) => string} */
 export const number = it => numbers.format(it);
+/** @typedef {import("./moments.js").Moments} Moments
+ * @typedef {(state: string) => string} Naming
+ * @typedef {{rule: number | null, isBack?: boolean, head: string, more: string}} RuleSaid */
 // How many element steps a run has, where that is known by now.
+/** @type {(run: Moments) => string} */
 export const endWords = run => Number.isFinite(run.end) ? number(run.end) : "…";
 // How many quadruples it has, or has at least.
+/** @type {(run: Moments) => string} */
 export const countWords = run => run.total || run.isWhole ? number(run.count - 1) : `${number(run.count - 1)} …`;
 
 // The four counters at a step. Beyond the moments that are known only the element step is.
@@ -20,25 +26,30 @@ export function counterWords({run, found}, {e, q, moment}, {moves, at}, isShort)
   if (!run.isKnown(e)) return {machine: `… of ${steps}`, quadruple: `… of ${countWords(run)}`, module: "·", element};
   const isWhole = !moves?.list.isPart && (moves?.to ?? 0) > (moves?.from ?? 0), step = moment.step ?? "…";
   return {
-    machine: {compute: `${step} of ${steps}`, copy: "copying"}[moment.stage] ?? `back at ${step}`,
+    machine: {compute: `${step} of ${steps}`, copy: "copying", retrace: `back at ${step}`}[moment.stage],
     quadruple: `${number(q)} of ${countWords(run)}`,
     module: isWhole ? `${(at ?? -1) + 1} of ${moves.list.length}` : "·",
     element: run.circuit.count ? element : "…",
   };
 }
 
-export const bankName = bank => bank.kind === "control" ? "control" : `${TAPES[bank.tape]} tape, cell ${minus(bank.cell)}`;
-export const shortBank = bank => bank.kind === "control" ? "control" : `${TAPES[bank.tape]} ${minus(bank.cell)}`;
+/** @type {(bank: Bank) => string} */
+export const bankName = ({kind, tape = 0, cell = 0}) => kind === "control" ? "control" : `${TAPES[tape]} tape, cell ${minus(cell)}`;
+/** @type {(bank: Bank) => string} */
+export const shortBank = ({kind, tape = 0, cell = 0}) => kind === "control" ? "control" : `${TAPES[tape]} ${minus(cell)}`;
 
+/** @type {(exit: string | null, name: Naming) => string} */
 export const exitWords = (exit, name) => {
+  if (exit === null) return "";
   if (exit === "end") return "The machine has halted, and the signal has left by the end.";
   const stuck = /^stuck (\S+) (\S+)$/.exec(exit);
   if (stuck) return `Stuck: no rule for ${name(stuck[1])} on ${symbolWord(stuck[2])}.`;
   const window = /^window ([123]) (left|right)$/.exec(exit);
-  return window ? `The head of the ${TAPES[window[1]]} tape would leave its window to the ${window[2]}.` : exit;
+  return window ? `The head of the ${TAPES[Number(window[1])]} tape would leave its window to the ${window[2]}.` : exit;
 };
 
 // The rule that is at work at a moment: its number in the table, and sentences about what comes next.
+/** @type {(run: Moments, q: number, name: Naming) => RuleSaid} */
 export function ruleAt(run, q, name) {
   const it = run.moments[q];
   if (it.hasLeft && run.outcome.exit === "end") {
@@ -47,14 +58,21 @@ export function ruleAt(run, q, name) {
   }
   return {compute: computing, copy: copying, retrace: retracing}[it.stage](run, it, name);
 }
-const scannedOn = tape => tape.symbols[(tape.head ?? 0) - tape.first];
+/** @type {(it: Moment, tape: number) => string} */
+function scannedOn({tapes}, tape) {
+  const {symbols, head, first} = (tapes ?? [])[tape - 1];
+  return symbols[(head ?? 0) - first];
+}
+/** @type {(rule: Rule) => boolean} */
 const isKept = rule => rule.write === rule.read;
+/** @type {(rule: Rule, name: Naming) => string} */
 export function ruleWords(rule, name) {
   const write = isKept(rule) ? "" : `write ${symbolWord(rule.write)}, `, then = rule.next === rule.state ? "" : `, then ${name(rule.next)}`;
   return `In ${name(rule.state)}, on ${symbolWord(rule.read)}: ${write}${SHIFT_WORDS[rule.shift]}${then}.`;
 }
+/** @type {(run: Moments, it: Moment, name: Naming) => RuleSaid} */
 function computing(run, it, name) {
-  const scanned = scannedOn(it.tapes[0]);
+  const scanned = scannedOn(it, 1);
   if (it.rule !== null) {
     const rule = run.rules[it.rule - 1];
     return {rule: it.rule, head: ruleWords(rule, name), more: `Now: note ${it.rule} in the history, ${SHIFT_WORDS[rule.shift]}.`};
@@ -66,43 +84,50 @@ function computing(run, it, name) {
     const does = isKept(rule) ? `leave the ${symbolWord(rule.read)}` : `write ${symbolWord(rule.write)}`;
     return {rule: number, head: ruleWords(rule, name), more: `Now: ${does}, move on in the history.`};
   }
-  if (it.state === run.rules.at(-1).next) {
-    return {rule: null, head: `${name(it.state)}: the machine halts.`, more: "Its output is copied next, then everything is undone."};
+  const state = it.state ?? "";
+  if (state === finalOf(run.rules)) {
+    return {rule: null, head: `${name(state)}: the machine halts.`, more: "Its output is copied next, then everything is undone."};
   }
-  return {rule: null, head: `Stuck: no rule for ${name(it.state)} on ${symbolWord(scanned)}.`, more: ""};
+  return {rule: null, head: `Stuck: no rule for ${name(state)} on ${symbolWord(scanned)}.`, more: ""};
 }
+/** @type {(run: Moments, it: Moment) => RuleSaid} */
 function copying(run, it) {
-  const scanned = scannedOn(it.tapes[0]), isEnd = scanned === "_";
-  const [head, more] = {
+  const scanned = scannedOn(it, 1), isEnd = scanned === "_";
+  /** @type {Record<string, string[]>} */
+  const sentences = {
     "B1'": ["Copy the output: on to the next letter.", "Both heads go right."],
     B1: isEnd ? ["The end of the output.", "The copy is done; the heads go back."]
       : [`Copy the letter ${scanned}.`, "It is written on the blank output tape: nothing is forgotten."],
     "B2'": ["Back to the start of the output.", "Both heads go left."],
     B2: isEnd ? ["The copy is done.", "Next the history is taken back."]
       : ["Back over the output.", "Work and output hold the same letter here."],
-  }[it.name] ?? ["Copy the output.", ""];
+  };
+  const [head, more] = sentences[it.name] ?? ["Copy the output.", ""];
   return {rule: null, head, more};
 }
+/** @type {(run: Moments, it: Moment, name: Naming) => RuleSaid} */
 function retracing(run, it, name) {
   if (it.rule !== null) {
     const rule = run.rules[it.rule - 1], was = rule.read === "_" ? "a blank" : rule.read;
     const more = isKept(rule) ? `Now: the ${symbolWord(rule.read)} stays as it was.` : `Now: where it wrote ${symbolWord(rule.write)} there was ${was}.`;
     return {rule: it.rule, isBack: true, head: `Undo rule ${it.rule}: back to ${name(rule.state)}.`, more};
   }
-  const last = Number(scannedOn(it.tapes[1]));
+  const last = Number(scannedOn(it, 2));
   if (!last) return {rule: null, head: "Back at the start.", more: "The history is blank again."};
   const more = `Now: take the ${last} out of the history, ${SHIFT_BACK[run.rules[last - 1].shift]}.`;
   return {rule: last, isBack: true, head: "Undo the last rule in the history.", more};
 }
 // Of a long tape the cells near its head are heard.
 const MOST_HEARD = 120, HEARD_NEAR = 20;
+/** @type {(tape: Tape) => {first: number, symbols: string[]}} */
 export function heardOf({symbols, first, head}) {
   if (symbols.length <= MOST_HEARD) return {first, symbols};
   const from = Math.max(0, (head ?? first) - first - HEARD_NEAR);
   return {first: first + from, symbols: symbols.slice(from, from + 2 * HEARD_NEAR + 1)};
 }
+/** @type {(run: Moments, e: number, q: number, name: Naming) => string} */
 export const spoken = (run, e, q, name) => {
   const it = run.moments[q], words = ruleAt(run, q, name);
   return `${it.stage}, row step ${q} of ${run.count - 1}, element step ${number(e)}. ${words.head} ${words.more} ` +
-    it.tapes.map((tape, k) => `${TAPES[k + 1]}: ${heardOf(tape).symbols.map(symbolWord).join(" ")}, head at ${tape.head ?? "no cell"}`).join(". ");
+    (it.tapes ?? []).map((tape, k) => `${TAPES[k + 1]}: ${heardOf(tape).symbols.map(symbolWord).join(" ")}, head at ${tape.head ?? "no cell"}`).join(". ");
 };
