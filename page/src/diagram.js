@@ -22,7 +22,7 @@ const DRAWING = `<div class="e-head"><h2>State diagram</h2><p id="d-said" role="
     <div id="d-one"><div class="row"><label for="d-name">its name</label><input id="d-name" size="10" spellcheck="false" autocomplete="off"><button id="d-rename">Rename</button></div>
       <div class="row"><label for="d-kind">it</label><select id="d-kind"><option value="">says nothing</option><option value="accept">accepts</option><option value="reject">rejects</option></select>
       <button id="d-stop">Stop there</button></div></div>
-    <div class="row"><label for="d-letter">Letter</label><select id="d-letter"></select><label for="d-other">becomes</label><input id="d-other" size="1" maxlength="1" spellcheck="false" autocomplete="off"><button id="d-change">Change</button></div>
+    <div class="row"><label for="d-letter">Letter</label><select id="d-letter"></select><label for="d-other">becomes</label><input id="d-other" size="1" maxlength="2" spellcheck="false" autocomplete="off"><button id="d-change">Change</button></div>
     <p id="d-fault" class="e-fault" role="status"></p>
     <h3 id="d-head"></h3><div id="d-rules"></div><button id="d-add">Add a rule</button></div>
     <div class="e-right"><div id="d-picture" class="e-picture"></div>
@@ -167,7 +167,7 @@ function rename() {
 function changeLetter() {
   const old = part("d-letter").value, made = part("d-other").value;
   fault("");
-  if (!/^[^\s",]$/.test(made)) return fault("One character is wanted; _ is the blank.");
+  if (!/^[^\s",]$/u.test(made)) return fault("One character is wanted; _ is the blank.");
   if (typedRules().some(it => it.read === made || it.write === made)) return fault(`${made} is a letter of the table already.`);
   const isInWord = state.word.includes(old);
   write(withLetter(state.text, old, made));

@@ -2,7 +2,7 @@
 // the output; the machine that `erase` makes of both leaves the output alone.
 import {answer, STATUS} from "./answer.js";
 import {escaped, partOf} from "./state.js";
-import {faultOf} from "./table.js";
+import {faultOf, letterAt} from "./table.js";
 import {exampleTable} from "./task_tools.js";
 import {readRun} from "./texts.js";
 import {inTurn} from "./turns.js";
@@ -30,11 +30,11 @@ const eraser = /** @type {{box: HTMLElement, input: string, word: string, first:
   {input: "", word: "", first: ""});
 const eraserPart = id => partOf(eraser.box, id);
 
-function eraseFault({status, text, words: cut}, first, second) {
+export function eraseFault({status, text, words: cut}, first, second, letters) {
   if (cut) return cut;
   if (status === STATUS.done || status === STATUS.stuck || status === STATUS.inside) return "";
   const inSecond = /^(text|machine): second /.test(text), word = /^word: (\d+)/.exec(text);
-  if (word) return `Letter ${word[1]} of the word isn't in the tables.`;
+  if (word) return `Letter ${word[1]} of the word, “${letterAt(letters, Number(word[1]))}”, isn't in the tables.`;
   const words = faultOf(text.replace(/^(text|machine): second /, "$1: "), inSecond ? second : first).text;
   return `The ${inSecond ? "second" : "first"} machine. ${words}`;
 }
@@ -46,7 +46,7 @@ async function takePair() {
     await Promise.all([answer(["erase"], input), answer(["erase", "=" + word, MOST_ERASING], input),
                                                 answer(["run", "=" + word, "auto"], first)]);
   Object.assign(eraser, {input, word, first});
-  eraserPart("x-fault").textContent = eraseFault(made, first, second) || eraseFault(ended, first, second);
+  eraserPart("x-fault").textContent = eraseFault(made, first, second, word) || eraseFault(ended, first, second, word);
   if (made.status !== STATUS.done) return;
   const rows = made.text.split("\n").filter(Boolean);
   eraserPart("x-count").textContent = `The erasing machine: ${number(rows.length)} rows`;

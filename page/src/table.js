@@ -22,6 +22,12 @@ function recordsOf(text) {
 /** @type {(text: string) => number} */
 const countOf = text => (text.match(/[^\r\n]*\S[^\r\n]*/g) ?? []).length;
 
+// A letter outside the first plane of Unicode is two units of a text: how many letters a text has, and one of them, counted from 1.
+/** @type {(text: string) => number} */
+const lengthOf = text => [...text].length;
+/** @type {(text: string, number: number) => string} */
+export const letterAt = (text, number) => [...text][number - 1];
+
 // The records of a table that the program has read, with the text line of each.
 /** @type {(text: string) => Rule[]} */
 export function rulesOf(text) {
@@ -100,7 +106,7 @@ export function turned(text, blank = null, known = {}) {
   if (!how && rows.some((line, k) => line.split(",").some((it, j) => it !== fields[k][j]))) said.push("spaces taken away");
   /** @type {(it: string) => boolean} */
   const isShift = it => it in SHIFTS || ["+", "-", "0"].includes(it);
-  if (fields.length > 1 && fields[0].length === 5 && !isShift(fields[0][3]) && !isShift(fields[0][4]) && (fields[0][1] ?? "").length > 1) {
+  if (fields.length > 1 && fields[0].length === 5 && !isShift(fields[0][3]) && !isShift(fields[0][4]) && lengthOf(fields[0][1] ?? "") > 1) {
     said.push("the header line dropped");
     fields.shift();
   }
@@ -110,7 +116,7 @@ export function turned(text, blank = null, known = {}) {
   if (fields.length && fields.every(it => it.length === 5 && isShift(it[4])) && !fields.every(it => isShift(it[3])) && fields.some(it => letterShift(it[4]))) {
     const first = new Set(fields.map(it => it[0]));
     /** @type {(place: number) => number} */
-    const score = place => fields.filter(it => first.has(it[place]) || it[place].length > 1).length;
+    const score = place => fields.filter(it => first.has(it[place]) || lengthOf(it[place]) > 1).length;
     const next = score(2) >= score(3) ? 2 : 3, write = 5 - next;
     fields = fields.map(it => [it[0], it[1], it[write], it[4], it[next]]);
     said.push("columns put in order: state, read, write, move, next");
@@ -169,7 +175,7 @@ const unquoted = field => (field ?? "").replace(/\r$/, "").replace(/^"(.*)"$/, "
 export function blankCandidates(text) {
   const rules = rulesOf(text).filter(it => it.next !== undefined);
   const letters = new Set(rules.flatMap(it => [it.read, it.write]));
-  return letters.has("_") ? [] : [...letters].filter(it => [...it].length <= 1);
+  return letters.has("_") ? [] : [...letters].filter(it => lengthOf(it) <= 1);
 }
 
 /** @type {(it: string) => string} */
@@ -189,7 +195,7 @@ export function faultOf(answer, text) {
     const words = {
       fields: `five fields are wanted (state, read, write, move, next); this line has ${fields(record).length}.`,
       name: `${quoted(given)} can't name a state. A name has letters, digits, ', . or -, 32 at most.`,
-      symbol: [...given].length > 1 ? `${quoted(given)} is no symbol: one character is wanted. Is this a header?` : `${quoted(given)} can't be a symbol.`,
+      symbol: lengthOf(given) > 1 ? `${quoted(given)} is no symbol: one character is wanted. Is this a header?` : `${quoted(given)} can't be a symbol.`,
       shift: `${quoted(given)} is no move: + is right, - is left, 0 is stay.`,
     }[found[4] ?? found[2]] ?? "the table is too long: 4,000 rules at most.";
     return {lines: [number], text: `Line ${number}: ${words}`};
@@ -223,8 +229,7 @@ export function refusalWords(answer, word, rules) {
   const told = size?.[1].replace(/\d+/g, it => Number(it).toLocaleString("en")).replace(/^elements (.*)/, "$1 elements");
   if (told) return `Too large: ${told}. A circuit has at most 4,194,304 elements.`;
   if (!place) return null;
-  // A letter outside the first plane of Unicode is two units of a text.
-  const letter = [...word][Number(place[1]) - 1], known = lettersOf(rules).slice(1).join(" ") || "none";
+  const letter = letterAt(word, Number(place[1])), known = lettersOf(rules).slice(1).join(" ") || "none";
   return `Letter ${place[1]}, “${letter}”, isn't in the table. Its letters: ${known}.`;
 }
 

@@ -100,7 +100,7 @@ function matrix(text) {
   }
   if (!found.length) return null;
   const columns = heads.map(markOf), told = new Set(found.flatMap(it => it.parts).filter(it => !MOVES.has(it)));
-  const share = list => list.filter(it => told.has(it.name) && it.name.length > 0).length / list.length + (list.some(it => it.name.length > 1) ? .5 : 0);
+  const share = list => list.filter(it => told.has(it.name) && it.name.length > 0).length / list.length + (list.some(it => [...it.name].length > 1) ? .5 : 0);
   const isLetter = list => list.every(it => [...it.name].length <= 1) && list.some(it => /^[01_⊔□B]$/.test(it.name));
   const inRows = isLetter(columns) && !isLetter(rows) || !(isLetter(rows) && !isLetter(columns)) && share(rows) >= share(columns);
   const made = found.map(({row, column, parts}) => inRows ? [rows[row].name, columns[column].name, ...parts] : [columns[column].name, rows[row].name, ...parts]);
@@ -118,7 +118,7 @@ export function inOrder(rows) {
   const move = [3, 4, 2].filter(at => moves[at - 2] === rows.length).sort((a, b) => sure[b - 2] - sure[a - 2])[0];
   if (move === undefined) return rows;
   const [one, other] = spots.filter(at => at !== move);
-  const isState = at => rows.reduce((sum, it) => sum + (states.has(it[at]) ? 1 : 0) + (it[at].length > 1 ? .5 : 0) - (reads.has(it[at]) ? 1 : 0), 0);
+  const isState = at => rows.reduce((sum, it) => sum + (states.has(it[at]) ? 1 : 0) + ([...it[at]].length > 1 ? .5 : 0) - (reads.has(it[at]) ? 1 : 0), 0);
   // Where both may be: behind the move stands the next state, before a move that is last it stands first.
   const next = isState(one) === isState(other) ? (move === 3 ? 4 : one) : isState(one) > isState(other) ? one : other;
   const write = one === next ? other : one;

@@ -1,5 +1,6 @@
 import assert from "node:assert/strict";
 import {test} from "node:test";
+import {eraseFault} from "../src/erase.js";
 import {blankCandidates, faultOf, freeNames, lettersOf, refusalWords, rulesOf, spelled, statesOf, turned} from "../src/table.js";
 import {answer, example} from "./program.js";
 
@@ -60,6 +61,18 @@ test("a letter that isn't in the table is shown whole, outside the first plane t
   const {text} = answer(["run", "=1011", 900, 1000000, 1000000, 1000000], table);
   assert.match(refusalWords(text, "1011", []), /^Too large: /);
   assert.equal(refusalWords("machine: S5 2\n", "", []), null);
+});
+
+test("a letter that no table of the erasing machine has is shown whole", () => {
+  const input = `${table}%\n${table}`;
+  for (const [word, letter] of [["1😀1", "😀"], ["0𝛼𝛽", "𝛼"]]) {
+    assert.equal(eraseFault({...answer(["erase", `=${word}`, 9], input), words: ""}, table, table, word), `Letter 2 of the word, “${letter}”, isn't in the tables.`);
+  }
+});
+
+test("a first rule with a letter outside the first plane is no header line", () => {
+  const {text, said} = turned("s0,𝟙,s1,𝟘,R\ns1,𝟘,s0,𝟙,L\n");
+  assert.equal(text, "s0,𝟙,𝟘,+,s1\ns1,𝟘,𝟙,-,s0\n", said.join());
 });
 
 test("a symbol outside the first plane is one character", () => {
