@@ -55,6 +55,10 @@ const PAGES_ABOUT = {
   erase: ["Bennett's machine leaves its input beside the output. Where a second machine leads from the output back " +
     "to the input, both together leave the output alone.",
       "The table at the right is the machine that does so; the two lines above say what each of the two leaves."],
+  reversible: ["A machine of quadruples, each a row: in a state, where three tapes show what is read, it writes or moves, and goes on. " +
+    "No two rows begin alike and no two end alike, so each step can be taken back.",
+      "At the left is its run, at the right that of its inverse, in which each row is turned round, from what the first one " +
+        "left. Below stands what the signal does in the circuit that is built of the table."],
   plan: ["The elements stand in one line. Each wire goes up to its track, along it, and down again.",
     "Two wires share a track where they cover no place both. The broken line marks the place that most wires cover: " +
       "so many tracks are needed, and no more are used."],

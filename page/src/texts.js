@@ -29,6 +29,20 @@ export function readView(lines, at = 0) {
   };
 }
 
+// A text line of `moments`: the step, the state, the three tapes, and which row of the table is applied next, from 1. No name has a
+// space, and each tape says how many of its symbols follow.
+/** @type {(line: string) => MomentTold} */
+export function readMoment(line) {
+  const words = line.split(" "), tapes = [];
+  let at = 2;
+  while (words[at] === "tape") {
+    const [, tape, , first, , head, , cells] = words.slice(at, at + 8), end = at + 8 + parseInt(cells);
+    tapes.push({tape: Number(tape), first: Number(first), head: Number(head), symbols: words.slice(at + 8, end)});
+    at = end;
+  }
+  return {step: Number(words[0]), state: words[1], tapes, row: words[at] === "rule" ? Number(words[at + 1]) : null};
+}
+
 // A line E.L as one number, 4E + its side.
 /** @type {(word: string) => number} */
 export const readPlace = word => 4 * parseInt(word) + SIDES.indexOf(word.slice(-1));

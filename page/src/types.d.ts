@@ -61,6 +61,10 @@ interface Reply { status: number; text: string; words: string }
 interface PlacesReply extends Reply { places: Int32Array; bounds: Int32Array; hasLeft: boolean }
 /** A tape: its number from 1, its first cell, the head's cell, and the symbols from the first cell on. */
 interface Tape { tape: number; first: number; head: number | null; symbols: string[] }
+/** A text line of `moments`. A row is one of the table of quadruples, from 1; null where none is applied next. */
+interface MomentTold { step: number; state: string; tapes: Tape[]; row: number | null }
+/** How `drive` says that the signal ran: the exit, or null where it is inside, and null for what isn't told. */
+interface Driven { elements: number; exit: string | null; steps: number; quadruples: number | null; tapes: Tape[] }
 type Stage = "compute" | "copy" | "retrace";
 /** What `view` prints. A place is 4E + side of a line E.L, with the sides n, e, s, w as 0 to 3; `steps` are element steps,
     `step` is the machine's, `rule` is counted from 1. */

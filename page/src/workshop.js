@@ -7,12 +7,13 @@ import {farmPage} from "./farm.js";
 import {mirrorPage} from "./mirror.js";
 import {planPage} from "./plan.js";
 import {openPicture} from "./picture.js";
+import {reversiblePage} from "./reversible.js";
 import {openSaid} from "./said.js";
 import {byId, partOf} from "./state.js";
 import {markTab, takeTabs} from "./tabs.js";
 
 /** @type {WorkshopPage[]} */
-const PAGES = [elementsPage, mirrorPage, farmPage, erasePage, planPage];
+const PAGES = [elementsPage, mirrorPage, farmPage, erasePage, reversiblePage, planPage];
 // The box is there once the workshop was opened, and the page that is shown.
 const workshop = /** @type {{box: HTMLDialogElement, page: WorkshopPage, made: Set<WorkshopPage>}} */ ({made: new Set()});
 const part = id => partOf(workshop.box, id);
