@@ -133,6 +133,7 @@ SCENES = [
     ("a bank", "#m=increment&learn=column&e=500500", ""),
     ("one element", "#m=increment&learn=element&e=500500", ""),
     ("erase", "#m=least", "bench.openWorkshop('erase')"),
+    ("reversible", "#m=least", "bench.openWorkshop('reversible')"),
     ("floor plan", "#m=least", "bench.openWorkshop('plan')"),
 ]
 

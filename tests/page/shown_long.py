@@ -376,7 +376,11 @@ def check_marks(page, program, draw, count):
     """Marks of breakpoints: on an element those that the program comes to, in the window that is seen, and whether there are more."""
     page.visit(f"file://{PAGE}#m=increment")
     told = told_of(page, program)
-    elements = [0, page.ask("bench.cellModule(bench.current.run.layout, 2, 3).base + 2"), page.ask("bench.current.run.layout.banks[0].rows")]
+    elements = [
+        0,
+        page.ask("bench.cellModule(bench.current.run.layout, 2, 3).base + 2"),
+        page.ask("bench.current.run.layout.banks[0].rows"),
+    ]
     elements += [draw.randrange(page.ask("bench.current.run.circuit.count")) for _ in range(2)]
     for element in elements:
         for span in (None, [20.0, 26.0]):

@@ -1,4 +1,4 @@
-"""The workshop of the page: elements, a mirror, two boards, erasing and a floor plan, with what the program says."""
+"""The workshop of the page, each of its six pages, with what the program says."""
 import json
 
 from counting import text_of
@@ -148,6 +148,86 @@ def check_erase(page, program, count):
             )
 
 
+# The symbols that aren't blank and the head of each tape, as they are drawn.
+TAPES = """(id => [...document.querySelectorAll(`#${id} svg`)].map(svg => [...svg.querySelectorAll("g[data-cell]")].flatMap(g => {
+  const symbol = g.querySelector(".symbol").textContent;
+  return symbol === "·" ? [] : [[Number(g.dataset.cell), symbol]];
+})))(%s)"""
+
+
+def told_tapes(line):
+    """The same of a text line of `moments`."""
+    words, tapes, at = line.split(), [], 2
+    while words[at : at + 1] == ["tape"]:
+        first, count = int(words[at + 3]), int(words[at + 7].rstrip(":"))
+        symbols = words[at + 8 : at + 8 + count]
+        tapes.append([[first + k, it] for k, it in enumerate(symbols) if it != "_"])
+        at += 8 + count
+    return tapes
+
+
+def check_side(page, name, lines, count, what):
+    """Each moment of a run, as it is stepped to."""
+    for k, line in enumerate(lines):
+        words, place = line.split(), said(page, f"r-{name}-place")
+        row = f" · row {words[-1]} is next" if words[-2] == "rule" else ""
+        count.hold(
+            place == f"moment {k} of {len(lines) - 1} · state {words[1]}{row}"
+            and page.ask(TAPES % json.dumps(f"r-{name}")) == told_tapes(line),
+            f"{what}, moment {k}: {place}, and the program says {line}",
+        )
+        if k < len(lines) - 1:
+            press(page, f"r-{name}-forth")
+
+
+def check_reversible(page, program, count):
+    """A machine of quadruples and its inverse, moment by moment, and the circuit that is built; what is refused, in words."""
+    for name, words, back, window in (
+        ("counter.csv", ["110", "", ""], ["001", "", ""], ["0", "3", "1", "1"]),
+        ("adder.csv", ["11", "110", ""], ["11", "011", ""], ["0", "3", "4", "4"]),
+    ):
+        table, tapes = text_of("examples", name), [f"={it}" for it in words]
+        fill(
+            page,
+            "reversible",
+            r_table=table,
+            r_word1=words[0],
+            r_word2=words[1],
+            r_word3=words[2],
+            r_window=" ".join(window),
+        )
+        page.wait(
+            "(async () => { for (let k = 0; k < 600 && !/has .* elements/.test(document.getElementById('r-circuit').textContent); k++)"
+            " await new Promise(done => setTimeout(done, 50)); })()"
+        )
+        run = program.text(["moments", *tapes, "2000"], table).splitlines()
+        inverse = program.text(
+            ["moments", *(f"={it}" for it in back), "2000"], program.text(["inverse"], table)
+        ).splitlines()
+        check_side(page, "on", run[:-1], count, name)
+        check_side(page, "back", inverse[:-1], count, f"the inverse of {name}")
+        count.hold("comes back to the start" in said(page, "r-said"), f"{name}: {said(page, 'r-said')}")
+        driven = program.text(["drive", *tapes, *window, "1000000000"], table).splitlines()
+        given = said(page, "r-circuit")
+        numbers = [f"{int(driven[at].split()[-1]):,}" for at in (0, 2, 3)]
+        count.hold(
+            driven[1] == "exit end"
+            and all(it in given for it in numbers)
+            and "show the tapes" in given,
+            f"{name}: the circuit's words are {given}, and the program says {driven}",
+        )
+    for at in range(4):
+        page.wait(
+            f"(async () => {{ const it = document.getElementById('r-examples'); it.value = '{at}'; await it.onchange(); }})()"
+        )
+        count.hold(
+            not said(page, "r-fault") and "comes back to the start" in said(page, "r-said"),
+            f"the machine {at} to begin with: {said(page, 'r-fault')} {said(page, 'r-said')}",
+        )
+    fill(page, "reversible", r_table=text_of("examples", "irreversible.csv"), r_word1="")
+    count.hold("alike" in said(page, "r-fault"), f"a table that isn't reversible: {said(page, 'r-fault')!r}")
+
+
 def check_plan(page, program, count):
     for given in (
         text_of("examples", "two-elements.txt"),
@@ -174,6 +254,6 @@ def check_plan(page, program, count):
 
 def check_workshop(page, program, count):
     page.visit(f"file://{PAGE}#m=least")
-    for check in (check_elements, check_mirror, check_farm, check_erase, check_plan):
+    for check in (check_elements, check_mirror, check_farm, check_erase, check_reversible, check_plan):
         check(page, program, count)
     count.hold(not page.faults(), f"the workshop: {page.faults()}")
