@@ -149,7 +149,8 @@ def check_erase(page, program, count):
 
 
 # The symbols that aren't blank and the head of each tape, as they are drawn.
-TAPES = """(id => [...document.querySelectorAll(`#${id} svg`)].map(svg => [...svg.querySelectorAll("g[data-cell]")].flatMap(g => {
+TAPES = """(id => [...document.querySelectorAll(`#${id} svg`)].map(svg =>
+  [...svg.querySelectorAll("g[data-cell]")].flatMap(g => {
   const symbol = g.querySelector(".symbol").textContent;
   return symbol === "·" ? [] : [[Number(g.dataset.cell), symbol]];
 })))(%s)"""
@@ -181,7 +182,7 @@ def check_side(page, name, lines, count, what):
 
 
 def check_reversible(page, program, count):
-    """A machine of quadruples and its inverse, moment by moment, and the circuit that is built; what is refused, in words."""
+    """A machine of quadruples and its inverse, moment by moment, the circuit that is built, and refusals in words."""
     for name, words, back, window in (
         ("counter.csv", ["110", "", ""], ["001", "", ""], ["0", "3", "1", "1"]),
         ("adder.csv", ["11", "110", ""], ["11", "011", ""], ["0", "3", "4", "4"]),
@@ -197,7 +198,8 @@ def check_reversible(page, program, count):
             r_window=" ".join(window),
         )
         page.wait(
-            "(async () => { for (let k = 0; k < 600 && !/has .* elements/.test(document.getElementById('r-circuit').textContent); k++)"
+            "(async () => { const it = document.getElementById('r-circuit');"
+            " for (let k = 0; k < 600 && !/has .* elements/.test(it.textContent); k++)"
             " await new Promise(done => setTimeout(done, 50)); })()"
         )
         run = program.text(["moments", *tapes, "2000"], table).splitlines()
@@ -211,14 +213,13 @@ def check_reversible(page, program, count):
         given = said(page, "r-circuit")
         numbers = [f"{int(driven[at].split()[-1]):,}" for at in (0, 2, 3)]
         count.hold(
-            driven[1] == "exit end"
-            and all(it in given for it in numbers)
-            and "show the tapes" in given,
+            driven[1] == "exit end" and all(it in given for it in numbers) and "show the tapes" in given,
             f"{name}: the circuit's words are {given}, and the program says {driven}",
         )
     for at in range(4):
         page.wait(
-            f"(async () => {{ const it = document.getElementById('r-examples'); it.value = '{at}'; await it.onchange(); }})()"
+            "(async () => { const it = document.getElementById('r-examples');"
+            f" it.value = '{at}'; await it.onchange(); }})()"
         )
         count.hold(
             not said(page, "r-fault") and "comes back to the start" in said(page, "r-said"),
