@@ -38,7 +38,9 @@ def status_of(exit):
 
 def cells_of(rows, window, text):
     """The lines of the three tapes that the cells of a configuration text show."""
-    marked, found = marked_columns(text), {tape: [None, []] for tape in (1, 2, 3)}
+    # Where the signal is within a column, its elements have entries of their own.
+    marked = marked_columns(text) | {int(number) for number in re.findall(r"^e (\d+) H ", text, re.M)}
+    found = {tape: [None, []] for tape in (1, 2, 3)}
     for place, first, columns, lines in rules.modules(rows, window)[1:]:
         tape, names = found[place[0]], rules.symbols_of(rows, place[0])
         column = next((it for it in range(columns) if first + it * (lines + 1) + lines in marked), None)
