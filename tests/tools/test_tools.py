@@ -233,6 +233,7 @@ class Layers(Tools):
             "module tape 1 cell 0 line Rd",
             "quadruple A1",
             "machine compute state S step 0",
+            "It is row 0 of column 0 of tape 1 cell 0, which stands for: plain _.",
         ):
             self.assertIn(line, words)
 
