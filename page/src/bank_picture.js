@@ -1,7 +1,7 @@
 // A bank of rotary elements: its columns with their bars and wires, the mark, the signal and the way behind it.
 import {escaped} from "./state.js";
 import {n1, svg} from "./svg.js";
-import {placeIn} from "./layout.js";
+import {bottomOf, markedIn, placeIn} from "./layout.js";
 import {columnSaid, lineSaid} from "./module_words.js";
 import {bankName} from "./words.js";
 
@@ -91,7 +91,7 @@ function columnsPicture(grid, bars, place, hasLeft) {
   const {run, bank, rows, P, X, h, a} = grid, {targets, sources} = run.circuit, last = bank.columns - 1;
   const it = {ground: "", wires: "", stubs: "", boxes: "", standing: "", plain: ""};
   for (let c = grid.first[0]; c <= grid.last[0]; c++) {
-    const top = bank.base + c * (rows + 1), bottom = top + rows, isMarked = bars?.[bottom - bank.base] === 1;
+    const bottom = bank.base + bottomOf(bank, c), top = bottom - rows, isMarked = bars?.[bottom - bank.base] === 1;
     it.ground += `<rect class="column${isMarked ? " marked" : ""}" x="${n1(grid.cx(c) - P * .56)}" y="${n1(grid.cy(0) - P * .47)}" width="${n1(P * 1.12)}" height="${n1((rows + .96) * P)}" rx="${n1(P * .2)}"/>`;
     for (const out of [4 * bottom + WEST, 4 * bottom + SOUTH, 4 * top + NORTH]) if (grid.has(targets[out])) it.wires += grid.whole(out, targets[out]);
     for (let r = grid.first[1]; r <= grid.last[1]; r++) {
@@ -151,8 +151,8 @@ function labelsPicture(grid, bars, place, isSlice) {
   // Names of the control's states stand on two lines in turn, and as many as have room.
   const isControl = bank.kind === "control", every = isControl ? Math.max(1, Math.ceil((longestLabel(run, bank) * LETTER_WIDTH + 3) / (2 * grid.X))) : 1;
   const high = c => isControl && Math.floor(c / every) % 2 ? LABEL_LINES[0] : LABEL_LINES[1];
-  let body = "", marked = -Infinity;
-  for (let c = grid.first[0]; c <= grid.last[0]; c++) if (bars?.[c * (rows + 1) + rows] === 1) marked = c;
+  const at = bars ? markedIn(bank, bars) : -1, marked = grid.isSeen(at) ? at : -Infinity;
+  let body = "";
   for (let c = grid.first[0]; c <= grid.last[0]; c++) {
     const x = grid.cx(c), isNow = c === marked, isOut = c % every !== 0 || every > 1 && Math.abs(c - marked) < 2 * every;
     if (x <= left - P * .2 || x >= width || !isNow && (isOut || isSlice)) continue;

@@ -19,12 +19,15 @@ function heldIn(run, bank, e) {
 export function betweenAt(run, {e, moment, bank, at}) {
   if (!at || at.hasLeft || e <= moment.steps) return [];
   const tapes = moment.tapes ?? [];
-  const near = tapes.flatMap(({tape, head}) => head === null ? [] : [-1, 0, 1].map(by => cellModule(run.layout, tape, head + by)));
+  const near = tapes.flatMap(({tape, head}) =>
+    head === null ? [] : [-1, 0, 1].map(by => cellModule(run.layout, tape, head + by)));
   const found = [...new Set([...near, bank?.kind === "cell" ? bank : null])].flatMap(it => {
     const now = it && heldIn(run, it, e), {tape = 1, cell = 0} = it ?? {}, {symbols, first, head} = tapes[tape - 1];
-    return now ? [{tape, cell, symbol: now.letter, hasHead: now.hasHead, was: symbols[cell - first], hadHead: head === cell}] : [];
+    const before = {was: symbols[cell - first], hadHead: head === cell};
+    return now ? [{tape, cell, symbol: now.letter, hasHead: now.hasHead, ...before}] : [];
   });
-  return found.filter(it => it.symbol !== it.was || it.hasHead !== it.hadHead).sort((a, b) => a.tape - b.tape || a.cell - b.cell);
+  const isOther = (/** @type {Between} */ it) => it.symbol !== it.was || it.hasHead !== it.hadHead;
+  return found.filter(isOther).sort((a, b) => a.tape - b.tape || a.cell - b.cell);
 }
 
 /** @type {(list: Between[]) => string} */

@@ -54,7 +54,7 @@ export function controlWords(it) {
 export function controlInFull(it) {
   const symbols = it.symbols?.map(symbolWord).join(" and ");
   if (!symbols) return controlWords(it);
-  return it.kind === "reads" ? `${controlWords(it)}, has read ${symbols}` : `${controlWords(it)}, has still to write ${symbols}`;
+  return `${controlWords(it)}, has ${it.kind === "reads" ? "read" : "still to write"} ${symbols}`;
 }
 /** @type {(it: ControlSaid) => string} */
 export function controlLabel(it) {
@@ -68,9 +68,11 @@ export function controlLabel(it) {
 /** @type {(run: Run, f: Pick<Frame, "e" | "q" | "at">) => {short: string, full: string}} */
 export function controlSaid(run, {e, q, at}) {
   if (at?.hasLeft) return {short: "", full: ""};
-  const column = run.markedColumn(run.layout.banks[0], e), number = quadrupleAt(run, q), row = run.quadruples[number];
-  const state = controlState(run, column), words = column === -1 ? "the signal is in it" : state ? controlWords(state) : "";
-  const work = row ? `row ${number + 1} of Bennett's table: ${row[0]} ${actText(row)} ${row[7]}` : "", full = state ? controlInFull(state) : words;
+  const column = run.markedColumn(run.layout.banks[0], e), state = controlState(run, column);
+  const number = quadrupleAt(run, q), row = run.quadruples[number];
+  const words = column === -1 ? "the signal is in it" : state ? controlWords(state) : "";
+  const full = state ? controlInFull(state) : words;
+  const work = row ? `row ${number + 1} of Bennett's table: ${row[0]} ${actText(row)} ${row[7]}` : "";
   const place = row && state?.kind !== "shifts" ? `row ${number + 1} of the table` : "";
   return {short: [words, place].filter(Boolean).join(" · "), full: [full, work].filter(Boolean).join(" · ")};
 }

@@ -1,5 +1,6 @@
 // Reads what `layout` tells of a board: its modules by their elements, the states of the control and of the cells by their
-// columns, and the names of their lines. docs/FORMATS.md, Layout, has its text. It judges nothing: the text is the program's own.
+// columns, and the names of their lines. docs/FORMATS.md, Layout, has its text. It judges nothing: the text is the program's
+// own.
 import {matchOf} from "./texts.js";
 
 const MODULE = /^module (\d+) (?:control|tape ([123]) cell (-?\d+)) from (\d+) columns (\d+) lines (\d+)$/;
@@ -14,7 +15,8 @@ class Lines {
   constructor(text) { this.lines = text.split("\n"); }
   /** @param {RegExp} pattern */
   next(pattern) { return matchOf(pattern, this.lines[this.at++] ?? ""); }
-  /** @template T @param {number} count @param {RegExp} pattern @param {(found: RegExpExecArray) => T} made @returns {T[]} */
+  /** @template T @param {number} count @param {RegExp} pattern @param {(found: RegExpExecArray) => T} made
+   * @returns {T[]} */
   many(count, pattern, made) { return Array.from({length: count}, () => made(this.next(pattern))); }
 }
 
@@ -34,15 +36,16 @@ function controlState(words) {
 }
 /** @type {(lines: Lines, banks: Bank[]) => TapeLayout} */
 function tapeOf(lines, banks) {
-  const columns = lines.many(banks[0].columns, CELL_COLUMN, ([, kind, letter]) => ({letter, hasHead: kind === "head"}));
-  const names = lines.many(banks[0].rows, CELL_LINE, ([, name]) => name);
-  return {columns, lines: names, letters: columns.filter(it => !it.hasHead).map(it => it.letter), cells: new Map(banks.map(it => [it.cell ?? 0, it]))};
+  const [{columns: wide, rows}] = banks, cells = new Map(banks.map(it => [it.cell ?? 0, it]));
+  const columns = lines.many(wide, CELL_COLUMN, ([, kind, letter]) => ({letter, hasHead: kind === "head"}));
+  const names = lines.many(rows, CELL_LINE, ([, name]) => name);
+  return {columns, lines: names, letters: columns.filter(it => !it.hasHead).map(it => it.letter), cells};
 }
 
 /** @type {(text: string) => Layout} */
 export function readLayout(text) {
-  const lines = new Lines(text), count = Number(lines.next(/^elements (\d+)$/)[1]), many = Number(lines.next(/^modules (\d+)$/)[1]);
-  const banks = lines.many(many, MODULE, bankOfLine), [control] = banks;
+  const lines = new Lines(text), count = Number(lines.next(/^elements (\d+)$/)[1]);
+  const banks = lines.many(Number(lines.next(/^modules (\d+)$/)[1]), MODULE, bankOfLine), [control] = banks;
   const columns = lines.many(control.columns, CONTROL_COLUMN, ([, words]) => controlState(words));
   const named = lines.many(control.rows, CONTROL_LINE, ([, into, out]) => ({into, out}));
   const tapes = Array.from({length: TAPES_TOLD}, (_, k) => tapeOf(lines, banks.filter(it => it.tape === k + 1)));

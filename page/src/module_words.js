@@ -31,7 +31,8 @@ function controlLine({control, tapes}, row) {
   const name = control.lines[row].into, words = name.split(" "), [kind] = words;
   if (kind === "Start") return {name, words: "begin", isBack: false, tape: null};
   const tape = Number(words[words.length - 1]), letter = symbolWord(tapes[tape - 1].letters[Number(words[1])]);
-  return {name, words: `the ${TAPES[tape]} tape ${kind === "A" ? `answers “${letter}”` : DONE_WORDS[kind]}`, isBack: true, tape};
+  const does = kind === "A" ? `answers “${letter}”` : DONE_WORDS[kind];
+  return {name, words: `the ${TAPES[tape]} tape ${does}`, isBack: true, tape};
 }
 
 // The state for which a column stands: short as it stands above it, and in words.
@@ -42,5 +43,6 @@ export function columnSaid(run, bank, column) {
     return it ? {label: controlLabel(it), words: controlInFull(it)} : {label: "", words: ""};
   }
   const {letter, hasHead} = cellState(run.layout, bank, column);
-  return {label: `${hasHead ? "▾" : ""}${letter}`, words: `the cell holds ${symbolWord(letter)}${hasHead ? ", and the head is there" : ""}`};
+  const [tip, more] = hasHead ? ["▾", ", and the head is there"] : ["", ""];
+  return {label: `${tip}${letter}`, words: `the cell holds ${symbolWord(letter)}${more}`};
 }

@@ -71,9 +71,9 @@ export class Run extends Moments {
     return this;
   }
 
-  // Asked beside the circuit, so that neither waits for the other.
+  // Asked beside the circuit, where the first piece of the way is asked next.
   async askLayout() {
-    const reply = await answer(["layout", ...this.words], this.table, {lane: LANES.beside});
+    const reply = await answer(["layout", ...this.words], this.table, {lane: LANES.ahead});
     this.layout = readLayout(whole(reply).text);
   }
 
