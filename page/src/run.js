@@ -52,7 +52,10 @@ export class Run extends Moments {
   async open() {
     // Of a long run the end is where its last moment is, once that is known.
     this.end = this.isOpen ? Infinity : this.outcome.steps;
-    const told = this.askLayout(), bennett = await answer(["bennett"], this.table);
+    const told = this.askLayout();
+    // Where the table is cut off first, nobody waits for it any more.
+    told.catch(() => {});
+    const bennett = await answer(["bennett"], this.table);
     this.quadruples = whole(bennett).text.split("\n").filter(Boolean).map(line => line.split(","));
     this.names = [...new Set(this.quadruples.flatMap(row => [row[0], row[7]]))];
     const {elements} = this.outcome;
