@@ -86,9 +86,16 @@ def drawn():
         "migrate",
         "generate",
         "erase",
+        "trace",
+        "moments",
+        "inverse",
+        "layout",
+        "build",
+        "drive",
     ]
     numbers = lambda k: [str(draw.choice([0, 1, 2, 3, 5, 8, 13, 40])) for _ in range(k)]
     word = lambda: "=" + "".join(draw.choice("01") for _ in range(draw.randrange(6)))
+    tape_word = lambda: draw.choice([word(), ":" + ",".join(draw.choice("01") for _ in range(draw.randrange(4)))])
     forms = {
         "machine": lambda: [word(), str(draw.randrange(200))],
         "step": lambda: numbers(1),
@@ -100,6 +107,15 @@ def drawn():
         "view": lambda: [word(), *numbers(5)],
         "session": lambda: [word(), *numbers(4)],
         "erase": lambda: draw.choice([[], [word(), str(draw.randrange(400))]]),
+        "trace": lambda: [word(), str(draw.randrange(200))],
+        "moments": lambda: [*(word() for _ in range(draw.choice([1, 3]))), str(draw.randrange(200))],
+        "layout": lambda: [word(), *numbers(4)],
+        "build": lambda: [*(tape_word() for _ in range(draw.choice([1, 3]))), *numbers(4)],
+        "drive": lambda: [
+            *(tape_word() for _ in range(draw.choice([1, 3]))),
+            *numbers(4),
+            str(draw.randrange(100_000)),
+        ],
     }
     found = []
     for _ in range(DRAWN):
@@ -162,6 +178,26 @@ def test_drawn_words_and_inputs(request, kind, cases, comparisons):
 
 
 # ---- the shared library
+
+WALKING = b"S,_,_,+,R\nR,1,1,+,R\nR,_,_,0,F\n"
+
+
+@pytest.mark.engine
+def test_a_trace_of_the_widest_tape(library, comparisons):
+    """A tape of 2,097,152 cells: a word of so many letters can't be given to a process, and can to a library."""
+    cells = 2_097_152
+    code, text = library.answer(b"trace\0=" + b"1" * (cells - 1) + b"\0" + b"2", WALKING)
+    assert code == 12
+    fronts = [
+        b"0 S from 0 head 0 cells %d: _" % cells,
+        *(b"%d R from 1 head %d cells %d:" % (i, i, cells - 1) for i in (1, 2)),
+    ]
+    rules, lines = [b" rule 1", b" rule 2", b" rule 2"], text.splitlines()
+    for front, rule, line in zip(fronts, rules, lines):
+        assert line == front + b" 1" * (cells - 1) + rule
+        comparisons(1)
+    assert lines[3:] == [b"running 2"]
+
 
 IN_ROOMS = [
     (b"check", "increment.csv"),
