@@ -136,6 +136,9 @@ export function pause() {
   redraw();
   fetchFrame();
 }
+// Plays in a direction, or stops where it plays in that already.
+/** @param {number} direction */
+export const togglePlay = direction => Math.sign(state.playing) === direction ? pause() : play(direction);
 export function showButtons() {
   byId("play").innerHTML = state.playing > 0 ? PAUSE : PLAY;
   byId("play").setAttribute("aria-label", state.playing > 0 ? "pause" : "play");

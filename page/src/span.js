@@ -5,6 +5,8 @@ import {byId, current, state} from "./state.js";
 import {number} from "./words.js";
 
 const LEAST_SPAN = 1, EDGE = .08;
+// By how much a button or a key makes the window larger or smaller.
+export const TIME_FACTOR = 2;
 // The step that the window has followed last.
 const seenStep = {e: null};
 
