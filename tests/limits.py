@@ -471,6 +471,25 @@ def drives_of_the_most_steps(by):
 
 
 @case
+def a_drive_that_is_stuck_at_the_last_of_the_most_quadruples(by):
+    """The control's states are named once more where a machine is stuck."""
+    last = MOST_QUADRUPLES - 1
+    rows = [
+        f"q{i},{'1' if i == last else '_'},/,/,_,0,0,q{i + 1}"
+        if i % 2
+        else f"q{i},/,/,/,{'+-'[i // 2 % 2]},0,0,q{i + 1}"
+        for i in range(MOST_QUADRUPLES)
+    ]
+    by.expect(
+        "stuck after 19,999 steps",
+        ["drive", "=", "0", "1", "0", "0", str(MOST_DRIVE_STEPS)],
+        ("\n".join(rows) + "\n").encode(),
+        lambda lines: lines[1] == f"exit stuck q{last} _ _ _" and lines[3] == f"quadruple steps {last}",
+        STUCK,
+    )
+
+
+@case
 def boards_of_long_tapes(by):
     table = increments(1)
     by.expect(
